@@ -1,0 +1,12 @@
+//! The ledger of file numbers: which device sealed under which number, and how each number ended.
+//!
+//! A number makes the prefix of every nonce of one sealing, so no number may be issued twice. This crate has the words of
+//! that promise (device, range, prefix, entry, legal history), the ledger of one thread, its journal and the journal's audit,
+//! and the readers and writers over which the whole product works.
+#![tactic(auto)]
+
+pub mod device;
+pub mod range;
+
+pub use crate::device::{Device, prefix};
+pub use crate::range::{BadRange, Range};
