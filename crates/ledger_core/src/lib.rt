@@ -6,7 +6,9 @@
 #![tactic(auto)]
 
 pub mod device;
+pub mod entry;
 pub mod range;
 
 pub use crate::device::{Device, prefix};
+pub use crate::entry::{Entry, Event, Tally, Way};
 pub use crate::range::{BadRange, Range};
