@@ -1,3 +1,4 @@
 pub mod History
 pub mod Range
+pub mod Streams
 pub mod Text
