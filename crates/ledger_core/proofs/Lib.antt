@@ -2,3 +2,5 @@ pub mod Bounds
 pub mod Fronts
 pub mod Histories
 pub mod Owners
+pub mod Texts
+pub mod Tracking

@@ -1,4 +1,6 @@
 pub mod History
+pub mod Journal
 pub mod Range
+pub mod Standing
 pub mod Streams
 pub mod Text
