@@ -5,6 +5,7 @@
 //! and the readers and writers over which the whole product works.
 #![tactic(auto)]
 
+pub mod book;
 pub mod device;
 pub mod entry;
 pub mod journal;
@@ -13,6 +14,7 @@ pub mod range;
 pub mod standing;
 pub mod stream;
 
+pub use crate::book::{Book, BookFault};
 pub use crate::device::{Device, prefix};
 pub use crate::entry::{Entry, Event, Tally, Way};
 pub use crate::journal::Journal;
