@@ -2,6 +2,8 @@ pub mod Books
 pub mod Bounds
 pub mod Fronts
 pub mod Histories
+pub mod Lines
+pub mod Numbers
 pub mod Owners
 pub mod Texts
 pub mod Tracking

@@ -1,8 +1,11 @@
+pub mod Audit
 pub mod Book
 pub mod Booked
 pub mod History
 pub mod Journal
+pub mod Line
 pub mod Range
 pub mod Standing
 pub mod Streams
 pub mod Text
+pub mod Verdict

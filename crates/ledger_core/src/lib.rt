@@ -5,15 +5,20 @@
 //! and the readers and writers over which the whole product works.
 #![tactic(auto)]
 
+pub mod audit;
+mod auditor;
 pub mod book;
 pub mod device;
 pub mod entry;
 pub mod journal;
+mod line;
 pub mod memory;
 pub mod range;
 pub mod standing;
 pub mod stream;
+pub mod verdict;
 
+pub use crate::audit::AuditFault;
 pub use crate::book::{Book, BookFault};
 pub use crate::device::{Device, prefix};
 pub use crate::entry::{Entry, Event, Tally, Way};
@@ -21,3 +26,4 @@ pub use crate::journal::Journal;
 pub use crate::memory::{FromMemory, Schedule, ToMemory};
 pub use crate::range::{BadRange, Range};
 pub use crate::stream::{Failed, FromRead, Sink, Source, ToWrite, write_all};
+pub use crate::verdict::Verdict;
