@@ -16,7 +16,7 @@ use Rattle.ledger_core.specs.Line.{HasNoSpace}
 use Rattle.ledger_core.specs.Text.{way_text, event_text, terms_text}
 use Rattle.ledger_core.specs.Verdict.{IsNumberOf32Bits}
 
-both_true : (a b : Bool) → a && b ≡ true → (a ≡ true) × (b ≡ true)
+pub both_true : (a b : Bool) → a && b ≡ true → (a ≡ true) × (b ≡ true)
 both_true true true h = (refl, refl)
 both_true true false h = absurd (cc)
 both_true false b h = absurd (cc)

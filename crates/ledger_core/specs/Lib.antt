@@ -1,8 +1,10 @@
 pub mod Audit
+pub mod AuditFaults
 pub mod Book
 pub mod Booked
 pub mod History
 pub mod Journal
+pub mod Judged
 pub mod Line
 pub mod Range
 pub mod Standing

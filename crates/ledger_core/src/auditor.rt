@@ -3,26 +3,14 @@
 //! It keeps the state of the lines so far, and of the line under way at most 35 bytes: the longest line of a journal has 34, so a
 //! longer beginning is malformed whatever follows.
 ghost use Rattle.std.specs.Prelude.{◌≡◌, ℕ, ◌+◌, ◌≤◌, ◌<◌, List, [], ◌∷◌, ◌++◌, length, take, drop, IfOk, IfSome, MatchOption};
-ghost use Rattle.ledger_core.specs.Verdict.{IsLine};
+ghost use Rattle.ledger_core.specs.Verdict.{IsLine, IsVerdict};
 
-use crate::line::{entry_in, terms_in};
-use crate::standing::Standing;
+use crate::state::State;
 use crate::verdict::Verdict;
 use std::alloc::{AllocError, Global};
 
 /// How many bytes of a line are kept: one more than the longest line of a journal has.
 const KEPT: usize = 35;
-
-// What the lines so far are.
-#[derive(Drop)]
-enum State {
-    // No line yet.
-    Start,
-    // A range line and a legal history, which left this.
-    Sound(Standing),
-    // A journal that has this fault, whatever follows.
-    Wrong(Verdict),
-}
 
 #[derive(Drop)]
 pub(crate) struct Auditor {
@@ -41,38 +29,10 @@ fn line_end(bytes: &[u8]) -> Option<usize>
     bytes.iter().position(|byte| *byte == b'\n')
 }
 
-// The state after the first line.
-fn first_line(alloc: Global, line: &[u8]) -> Result<State, AllocError>
-    ensures { IfOk result (λ state. (whole : List ℕ) → SameFront line.now whole → Judged state (whole ∷ [])) }
-{
-    let Ok(text) = str::from_utf8(line) else {
-        return Ok(State::Wrong(Verdict::Malformed(1)));
-    };
-    match terms_in(text) {
-        Some((range, seats)) => Ok(State::Sound(Standing::new(alloc, range, seats)?)),
-        None => Ok(State::Wrong(Verdict::Malformed(1))),
-    }
-}
-
-// Takes the entry of a later line, or says what is wrong with the line of this number.
-fn later_line(standing: &mut Standing, line: &[u8], number: u64) -> Option<Verdict>
-    ensures { (lines : List (List ℕ)) (whole : List ℕ) → SameFront line.now whole → number ≡ length lines + 1 → Judged (Sound standing.old) lines
-        → MatchOption result (Judged (Sound standing.new) (lines ++ whole ∷ [])) (λ verdict. Judged (Wrong verdict) (lines ++ whole ∷ [])) }
-{
-    let Ok(text) = str::from_utf8(line) else {
-        return Some(Verdict::Malformed(number));
-    };
-    let Some(entry) = entry_in(text) else {
-        return Some(Verdict::Malformed(number));
-    };
-    if !standing.can_follow(entry) {
-        return Some(Verdict::Illegal(number));
-    }
-    standing.take(entry);
-    None
-}
-
 impl Auditor {
+    ghost use Rattle.ledger_core.specs.Audit.{Audits, HasRead};
+    ghost use Rattle.ledger_core.specs.Judged.{SameFront};
+
     pub(crate) fn new(alloc: Global) -> Auditor
         ensures lines { result.lines ≡ 0 }
         ensures read { HasRead result [] }
@@ -105,16 +65,63 @@ impl Auditor {
             → Audits self.new (lines ++ whole ∷ []) []) }
     {
         let number = self.lines + 1;
-        match &mut self.state {
-            State::Start => self.state = first_line(self.alloc, line)?,
-            State::Sound(standing) => {
-                if let Some(verdict) = later_line(standing, line, number) {
-                    self.state = State::Wrong(verdict);
-                }
-            }
-            State::Wrong(_) => {}
-        }
+        self.state.step(self.alloc, line, number)?;
         self.lines = number;
         Ok(())
+    }
+
+    // Takes the end of a line: what stands before its line feed.
+    fn end(&mut self, piece: &[u8]) -> Result<(), AllocError>
+        requires { self.old.lines < 18446744073709551615 }
+        ensures count { IfOk result (λ _. self.new.lines ≡ self.old.lines + 1) }
+        ensures read { IfOk result (λ _. (lines : List (List ℕ)) (rest : List ℕ) → Audits self.old lines rest → IsLine piece.now
+            → Audits self.new (lines ++ (rest ++ piece.now) ∷ []) []) }
+    {
+        if self.kept_len == 0 {
+            return self.judge(piece);
+        }
+        self.keep(piece);
+        self.judge_kept()
+    }
+
+    // Judges the line under way, which has ended.
+    fn judge_kept(&mut self) -> Result<(), AllocError>
+        requires { self.old.lines < 18446744073709551615 }
+        ensures count { IfOk result (λ _. self.new.lines ≡ self.old.lines + 1) }
+        ensures read { IfOk result (λ _. (lines : List (List ℕ)) (rest : List ℕ) → Audits self.old lines rest → Audits self.new (lines ++ rest ∷ []) []) }
+    {
+        let kept = self.kept;
+        let line = &kept[..self.kept_len];
+        self.kept_len = 0;
+        self.judge(line)?;
+        Ok(())
+    }
+
+    /// Takes the next bytes of the journal.
+    pub(crate) fn take(&mut self, bytes: &[u8]) -> Result<(), AllocError>
+        requires { self.old.lines + length bytes.now < 18446744073709551615 }
+        ensures count { IfOk result (λ _. self.new.lines ≤ self.old.lines + length bytes.now) }
+        ensures read { IfOk result (λ _. (before : List ℕ) → HasRead self.old before → HasRead self.new (before ++ bytes.now)) }
+    {
+        let mut rest = bytes;
+        while let Some(at) = line_end(rest) {
+            self.end(&rest[..at])?;
+            rest = &rest[at + 1..];
+        }
+        self.keep(rest);
+        Ok(())
+    }
+
+    /// The verdict, where the bytes taken are all.
+    pub(crate) fn verdict(&self) -> Verdict
+        requires { self.now.lines < 18446744073709551615 }
+        ensures { (bytes : List ℕ) → HasRead self.now bytes → IsVerdict bytes result }
+    {
+        match &self.state {
+            State::Start => Verdict::Malformed(1),
+            State::Sound(_) if self.kept_len > 0 => Verdict::Malformed(self.lines + 1),
+            State::Sound(standing) => Verdict::Legal(standing.tally()),
+            State::Wrong(verdict) => *verdict,
+        }
     }
 }

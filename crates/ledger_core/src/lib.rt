@@ -5,7 +5,7 @@
 //! and the readers and writers over which the whole product works.
 #![tactic(auto)]
 
-pub mod audit;
+pub mod auditing;
 mod auditor;
 pub mod book;
 pub mod device;
@@ -15,10 +15,11 @@ mod line;
 pub mod memory;
 pub mod range;
 pub mod standing;
+mod state;
 pub mod stream;
 pub mod verdict;
 
-pub use crate::audit::AuditFault;
+pub use crate::auditing::{AuditFault, audit};
 pub use crate::book::{Book, BookFault};
 pub use crate::device::{Device, prefix};
 pub use crate::entry::{Entry, Event, Tally, Way};
