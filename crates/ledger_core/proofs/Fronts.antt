@@ -22,6 +22,7 @@ kept_more most k n rest piece long fits = ⊎_elim short whole (cases_lt (length
   where
     count : min most (length rest) ≡ k
     count = sym (length-take most rest) ∙ long
+
     short : length rest < most → take most rest ++ take n piece ≡ take most (rest ++ piece)
     short less =
         let all : take most rest ≡ rest = take_all most rest (let c = count in omega arith) in
@@ -32,8 +33,10 @@ kept_more most k n rest piece long fits = ⊎_elim short whole (cases_lt (length
       where
         cut : n ≡ most - k → take n piece ≡ take (most - k) piece
         cut e = ap (λ m. take m piece) e
+
         all_of : length piece ≤ n → length piece ≤ most - k → take n piece ≡ take (most - k) piece
         all_of a b = take_all n piece a ∙ sym (take_all (most - k) piece b)
+
     whole : most ≤ length rest → take most rest ++ take n piece ≡ take most (rest ++ piece)
     whole more =
         let c = count in

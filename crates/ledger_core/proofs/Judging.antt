@@ -145,8 +145,13 @@ illegal_later s lines whole n e sound at writable is cannot later rest =
       history,
       sound.2,
       sound.3,
-      (e, later, append_assoc lines (whole ∷ []) later ∙ ap (λ l. l ++ whole ∷ later) sound.1 ∙ ap (λ w. journal_lines s.terms history ++ w ∷ later) is, writable,
-        (λ may. cannot ((can-may s history e sound.4 sound.2 sound.3).1 may))),
+      (
+        e,
+        later,
+        append_assoc lines (whole ∷ []) later ∙ ap (λ l. l ++ whole ∷ later) sound.1 ∙ ap (λ w. journal_lines s.terms history ++ w ∷ later) is,
+        writable,
+        (λ may. cannot ((can-may s history e sound.4 sound.2 sound.3).1 may)),
+      ),
       (let l = ap (length {A = List ℕ}) sound.1 in let m = length_lines s.terms history in omega arith),
     )
 
@@ -157,7 +162,7 @@ sound_later s next lines whole e sound is can steps =
     let may : MayFollow s.terms history e = (can-may s history e sound.4 sound.2 sound.3).0 can in
     let grown = legal_push s.terms history e sound.3 may in
     let all : lines ++ whole ∷ [] ≡ journal_lines s.terms (history ++ e ∷ []) =
-        ap (λ l. l ++ whole ∷ []) sound.1 ∙ ap (λ w. journal_lines s.terms history ++ w ∷ []) is ∙ sym (journal_push s.terms history e) in
+    ap (λ l. l ++ whole ∷ []) sound.1 ∙ ap (λ w. journal_lines s.terms history ++ w ∷ []) is ∙ sym (journal_push s.terms history e) in
     let is_next = steps (small s history sound.4 sound.2 sound.3) in
     let same : next.terms ≡ s.terms = ap (λ (z : StandingView). z.terms) is_next ∙ terms_after s e in (
       history ++ e ∷ [],

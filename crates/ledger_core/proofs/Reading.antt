@@ -19,7 +19,7 @@ use Rattle.ledger_core.proofs.Texts.{ended_lines-append}
 pub wrong_more : (verdict : Verdict) (state : State) (lines : List (List ℕ)) (whole : List ℕ) → state ≡ Wrong verdict → Judged state lines → Judged state (lines ++ whole ∷ [])
 wrong_more verdict state lines whole is judged =
     subst (λ z. Judged z (lines ++ whole ∷ [])) (sym is) (λ later rest.
-        subst (λ l. Judges l rest verdict) (sym (append_assoc lines (whole ∷ []) later)) (subst (λ z. Judged z lines) is judged (whole ∷ later) rest))
+    subst (λ l. Judges l rest verdict) (sym (append_assoc lines (whole ∷ []) later)) (subst (λ z. Judged z lines) is judged (whole ∷ later) rest))
 
 pub start_more : (state next : State) (lines : List (List ℕ)) (whole : List ℕ) → state ≡ Start → Judged state lines → Judged next (whole ∷ []) → Judged next (lines ++ whole ∷ [])
 start_more state next lines whole is judged first = subst (λ l. Judged next (l ++ whole ∷ [])) (sym (subst (λ z. Judged z lines) is judged)) first

@@ -136,8 +136,12 @@ cut_history (b ∷ bs) later line [] is = absurd (cc)
 cut_history (b ∷ bs) later line (e ∷ es) is =
     let head : b ≡ entry_text e = cc in
     let tail : bs ++ line ∷ later ≡ map entry_text es = cc in
-    let rest = cut_history bs later line es tail in
-    (e ∷ rest.0, rest.1, rest.2, ap (λ l. e ∷ l) rest.3, (λ i. head i ∷ rest.4 i), rest.5)
+    one_more b bs line e es head (cut_history bs later line es tail)
+  where
+    one_more : (c : List ℕ) (cs : List (List ℕ)) (l : List ℕ) (x : Entry) (xs : List Entry) → c ≡ entry_text x
+        → (front : List Entry) × (y : Entry) × (back : List Entry) × (xs ≡ front ++ y ∷ back) × (cs ≡ map entry_text front) × (l ≡ entry_text y)
+        → (front : List Entry) × (y : Entry) × (back : List Entry) × (x ∷ xs ≡ front ++ y ∷ back) × (c ∷ cs ≡ map entry_text front) × (l ≡ entry_text y)
+    one_more c cs l x xs first rest = (x ∷ rest.0, rest.1, rest.2, ap (λ z. x ∷ z) rest.3, (λ i. first i ∷ rest.4 i), rest.5)
 
 -- a sound list has no malformed line, and no entry that may not follow
 

@@ -11,6 +11,7 @@ pub mod book;
 pub mod device;
 pub mod entry;
 pub mod journal;
+pub mod laws;
 mod line;
 pub mod memory;
 pub mod range;
@@ -28,3 +29,6 @@ pub use crate::memory::{FromMemory, Schedule, ToMemory};
 pub use crate::range::{BadRange, Range};
 pub use crate::stream::{Failed, FromRead, Sink, Source, ToWrite, write_all};
 pub use crate::verdict::Verdict;
+
+#[cfg(test)]
+mod tests;

@@ -51,12 +51,7 @@ fn later_line(standing: &mut Standing, line: &[u8], number: u64) -> Option<Verdi
 
 impl State {
     // The state after one line more, of this number, whose first 35 bytes are those of `line`.
-    pub(crate) fn step(
-        &mut self,
-        alloc: Global,
-        line: &[u8],
-        number: u64,
-    ) -> Result<(), AllocError>
+    pub(crate) fn step(&mut self, alloc: Global, line: &[u8], number: u64) -> Result<(), AllocError>
         ensures { IfOk result (λ _. (lines : List (List ℕ)) (whole : List ℕ) → SameFront line.now whole → number ≡ length lines + 1 → Judged self.old lines
             → Judged self.new (lines ++ whole ∷ [])) }
     {

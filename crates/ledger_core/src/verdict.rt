@@ -22,7 +22,14 @@ impl fmt::Display for Verdict {
 
     fn fmt<W: fmt::Write>(&self, f: &mut fmt::Formatter<W>) -> fmt::Result {
         match *self {
-            Verdict::Legal(Tally { granted, refused, sealed, void }) => {
+            Verdict::Legal(
+                Tally {
+                    granted,
+                    refused,
+                    sealed,
+                    void,
+                },
+            ) => {
                 let open = granted.saturating_sub(sealed).saturating_sub(void);
                 write!(f, "legal: {granted} granted, {sealed} sealed, ")?;
                 write!(f, "{void} void, {open} open, {refused} refused")

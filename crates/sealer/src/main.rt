@@ -44,8 +44,9 @@ fn read_command_line<R: Env + AllocGlobal + Print + Eprint>(rt: &R) -> Result<()
 }
 
 fn parse(alloc: Global, words: &[String]) -> Result<(), Error> {
-    let audit = Command::new(alloc, "audit")
-        .about("Audits the journal on standard input and prints the verdict: status 0 where it is legal, else 1");
+    let audit = Command::new(alloc, "audit").about(
+        "Audits the journal on standard input and prints the verdict: status 0 where it is legal, else 1",
+    );
     let sealer = Command::new(alloc, "sealer")
         .about("Seals, opens and verifies many files under one key, each under a number of its own")
         .subcommand_required(true)

@@ -47,8 +47,7 @@ input-preserved g c =
     let same = c.read.auto.buffer in
     let taken = ap (take c.in-Ok-read.n) c.deref.ensures.value ∙ front_of c.in-Ok-read.n _ c.read.new.buffer _ more.0 (same ∙ len) in
     let count = c.in-Ok-take.ensures.count in
-    let few = ap (length {A = ℕ}) taken in
-    (
+    let few = ap (length {A = ℕ}) taken in (
       before.0 ++ read,
       Consumes-trans _ _ _ before.0 read before.1 c.in-Ok-read.ensures.bytes.0,
       subst (λ l. HasRead c.take.new.self (before.0 ++ l)) taken (c.in-Ok-take.ensures.read before.0 before.2),

@@ -8,7 +8,7 @@ use Rattle.ledger_core.proofs.state.first_line.Goals as goal
 pub returns-in_default : goal.returns-in_default
 returns-in_default c = λ whole same.
     wrong_first whole (λ terms lawful is.
-        c.in_default.ensures.cases.0 (subst IsUtf8 (sym (same_text c.args.line.now whole (terms_text terms) same (short_terms terms lawful) is)) (utf8_terms terms lawful)))
+    c.in_default.ensures.cases.0 (subst IsUtf8 (sym (same_text c.args.line.now whole (terms_text terms) same (short_terms terms lawful) is)) (utf8_terms terms lawful)))
 
 pub returns-in_ok-new-in-Some : goal.returns-in_ok-new-in-Some
 returns-in_ok-new-in-Some c = λ whole same.
@@ -19,4 +19,4 @@ returns-in_ok-new-in-Some c = λ whole same.
 pub returns-in-None : goal.returns-in-None
 returns-in-None c = λ whole same.
     wrong_first whole (λ terms lawful is.
-        c.in-None.ensures.complete terms lawful (c.in-Ok.ensures.cases.0 ∙ same_text c.args.line.now whole (terms_text terms) same (short_terms terms lawful) is))
+    c.in-None.ensures.complete terms lawful (c.in-Ok.ensures.cases.0 ∙ same_text c.args.line.now whole (terms_text terms) same (short_terms terms lawful) is))

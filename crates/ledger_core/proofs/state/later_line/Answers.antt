@@ -8,12 +8,12 @@ use Rattle.ledger_core.proofs.state.later_line.Goals as goal
 pub returns-in_default : goal.returns-in_default
 returns-in_default c = λ lines whole same at sound.
     malformed_later c.args.standing.now lines whole c.args.number sound at (λ e writable is.
-        c.in_default.ensures.cases.0 (subst IsUtf8 (sym (same_text c.args.line.now whole (entry_text e) same (short_entry e writable) is)) (utf8_entry e writable)))
+    c.in_default.ensures.cases.0 (subst IsUtf8 (sym (same_text c.args.line.now whole (entry_text e) same (short_entry e writable) is)) (utf8_entry e writable)))
 
 pub returns-in_default-entry_in : goal.returns-in_default-entry_in
 returns-in_default-entry_in c = λ lines whole same at sound.
     malformed_later c.args.standing.now lines whole c.args.number sound at (λ e writable is.
-        let none = c.in_default-entry_in.ensures.complete e writable (c.in-Ok.ensures.cases.0 ∙ same_text c.args.line.now whole (entry_text e) same (short_entry e writable) is) in cc)
+    let none = c.in_default-entry_in.ensures.complete e writable (c.in-Ok.ensures.cases.0 ∙ same_text c.args.line.now whole (entry_text e) same (short_entry e writable) is) in cc)
 
 pub returns-then-not-can_follow : goal.returns-then-not-can_follow
 returns-then-not-can_follow c = λ lines whole same at sound.

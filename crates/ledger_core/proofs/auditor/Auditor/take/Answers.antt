@@ -11,8 +11,7 @@ loop-at-preserved c =
     let found = c.in-Some.ensures in
     let line = take at rest ++ 10 ∷ [] in
     let count = c.in_ok-end.ensures.count in
-    let behind = take_rest rest (at + 1) in
-    (
+    let behind = take_rest rest (at + 1) in (
       (let l = length-drop (at + 1) rest in let m = ap (length {A = ℕ}) behind in let f = found.0 in let i = c.loop-at.invariant.0 in omega arith),
       (λ before read.
           let so_far = c.loop-at.invariant.1 before read in
