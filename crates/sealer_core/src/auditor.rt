@@ -36,6 +36,3 @@ pub fn run_audit<R: Source, W: Sink>(
         Err(fault) => Err(fault),
     }
 }
-
-#[cfg(test)]
-mod tests;

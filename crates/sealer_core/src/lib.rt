@@ -4,3 +4,6 @@
 pub mod auditor;
 
 pub use crate::auditor::run_audit;
+
+#[cfg(test)]
+mod tests;
