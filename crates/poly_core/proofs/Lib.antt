@@ -1,0 +1,3 @@
+mod AbsorbedLemmas
+mod LittleLemmas
+mod SumLemmas
