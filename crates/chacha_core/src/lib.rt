@@ -16,6 +16,8 @@ mod state;
 mod stream;
 #[cfg(test)]
 mod tests;
+#[cfg(test)]
+mod vectors;
 
 // The bytes of a block.
 const BLOCK: usize = 64;

@@ -13,6 +13,8 @@ mod limbs;
 mod mac;
 #[cfg(test)]
 mod tests;
+#[cfg(test)]
+mod vectors;
 
 pub use mac::Mac;
 
