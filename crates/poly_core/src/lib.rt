@@ -9,6 +9,7 @@
 ghost use Rattle.std.specs.Prelude.{◌≡◌, ◌↔◌, IsTrue};
 
 mod blocks;
+mod lanes;
 mod limbs;
 mod mac;
 #[cfg(test)]
