@@ -18,6 +18,8 @@ pub fn opened_was_sealed()
 
 /// A ciphertext is as long as its plaintext, and a tag has 16 bytes.
 pub fn lengths()
-    ensures ciphertext { (key nonce text : List ℕ) → length (enciphered key nonce text) ≡ length text }
-    ensures tag { (key nonce aad ciphertext : List ℕ) → length (tag_of key nonce aad ciphertext) ≡ 16 }
+    ensures ciphertext { (key nonce text : List ℕ) → length (enciphered key nonce text)
+        ≡ length text }
+    ensures tag { (key nonce aad ciphertext : List ℕ)
+        → length (tag_of key nonce aad ciphertext) ≡ 16 }
 {}

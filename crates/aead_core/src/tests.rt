@@ -23,8 +23,8 @@ fn pairs_of_the_rfc(rt: HostRuntime) -> Result<(), Fail> {
     Ok(())
 }
 
-// A tag that is wrong in one byte doesn't open, nor do other associated data or another text, and the
-// text stays as it was.
+// A tag that is wrong in one byte doesn't open, nor do other associated data or another text, and
+// the text stays as it was.
 #[test]
 fn altered_pairs_stay_shut(rt: HostRuntime) -> Result<(), Fail> {
     let (_, key, nonce, aad, _, ciphertext, tag) = PAIRS[0];

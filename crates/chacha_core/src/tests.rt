@@ -30,8 +30,8 @@ fn texts_of_the_rfc(rt: HostRuntime) -> Result<(), Fail> {
     Ok(())
 }
 
-// For each length to 130, `apply` is the XOR with the blocks one behind the other, and twice gives the
-// text back.
+// For each length to 130, `apply` is the XOR with the blocks one behind the other, and twice gives
+// the text back.
 #[test]
 fn apply_is_the_xor_with_joined_blocks(rt: HostRuntime) -> Result<(), Fail> {
     let (_, key, _, nonce, _) = BLOCKS[0];

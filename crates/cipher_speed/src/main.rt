@@ -1,5 +1,5 @@
-//! Measures the cipher: nanoseconds a byte of ChaCha20, of Poly1305 and of the AEAD's sealing, over a
-//! text of 64 KiB.
+//! Measures the cipher: nanoseconds a byte of ChaCha20, of Poly1305 and of the AEAD's sealing, over
+//! a text of 64 KiB.
 //!
 //! Without an argument it works each once over zeros and prints what comes out. With the argument
 //! `measure` it prints for each the time of its best sample.
@@ -11,9 +11,10 @@ use aead_core::seal_in_place;
 use anyhow::Result;
 use chacha_core::apply;
 use poly_core::Mac;
+use std::alloc::Global;
+use std::env;
 use std::io::{self, Print};
 use std::time::{Clock, Instant};
-use std::{alloc::Global, env};
 
 /// The bytes of the text.
 const TEXT: usize = 65_536;

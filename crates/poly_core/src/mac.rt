@@ -36,7 +36,8 @@ impl Model for Mac {
       rest = take m.filled m.rest;
     } };
 
-    ghost invariant = { λ m. AllBelow (2 ^ 26) m.r × AllBelow (2 ^ 26) m.square × AllBelow (2 ^ 27) m.sum × (m.filled < 16)
+    ghost invariant = { λ m. AllBelow (2 ^ 26) m.r × AllBelow (2 ^ 26) m.square
+        × AllBelow (2 ^ 27) m.sum × (m.filled < 16)
         × (value m.square % prime ≡ (value m.r * value m.r) % prime) };
 }
 
@@ -81,7 +82,8 @@ impl Mac {
 
     /// The tag of the bytes absorbed, 16 bytes.
     pub fn finish(self) -> [u8; 16]
-        ensures { (key message : List ℕ) → Absorbed self key message → result ≡ poly1305 key message }
+        ensures { (key message : List ℕ) → Absorbed self key message
+            → result ≡ poly1305 key message }
     {
         let Mac {
             r,

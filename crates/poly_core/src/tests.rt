@@ -14,7 +14,8 @@ fn tags_of_the_rfc(rt: HostRuntime) {
     }
 }
 
-// The RFC's message of 34 bytes in two pieces, at each cut; its key's s is the tag of the empty message.
+// The RFC's message of 34 bytes in two pieces, at each cut; its key's s is the tag of the empty
+// message.
 #[test]
 fn cuts_make_no_difference(rt: HostRuntime) {
     let (_, key, message, want) = TAGS[0];
