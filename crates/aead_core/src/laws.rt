@@ -6,7 +6,8 @@ ghost use Rattle.aead_core.specs.Aead.{aead, enciphered, tag_of, opened};
 /// Opening what was sealed gives the plaintext back.
 pub fn sealed_opens()
     ensures { (key nonce aad plaintext : List ℕ)
-        → opened key nonce aad (aead key nonce aad plaintext).0 (aead key nonce aad plaintext).1 ≡ Some plaintext }
+        → opened key nonce aad (aead key nonce aad plaintext).0 (aead key nonce aad plaintext).1
+        ≡ Some plaintext }
 {}
 
 /// What opens is what sealing its plaintext gives.
