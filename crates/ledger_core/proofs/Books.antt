@@ -1,12 +1,12 @@
 -- A book's journal and what stands beside it, before the first call and after each.
-use Rattle.std.proofs.Common.{◌≡◌, ◌↔◌, ◌⊎◌, ℕ, ◌<◌, ◌≤◌, Bool, true, false, nat_lt, if◌then◌else◌, List, [], ◌∷◌, ◌++◌, length, sym, ap, ◌∙◌, subst, arith, refl, ◌+◌, IsTrue}
+use Rattle.std.proofs.Common.{◌≡◌, ◌↔◌, ℕ, ◌<◌, ◌≤◌, Bool, true, false, nat_lt, if◌then◌else◌, [], ◌∷◌, ◌++◌, length, sym, ap, ◌∙◌, subst, arith, refl, ◌+◌, IsTrue}
 use Rattle.std.proofs.lemmas.Bool.Decides.{nat_tests}
 use Rattle.ledger_core.specs.declared.entry.Event.TheVariants.{Granted, Exhausted, Settled}
 use Rattle.ledger_core.specs.declared.entry.Entry.{Entry}
 use Rattle.ledger_core.specs.declared.entry.Way.{Way}
 use Rattle.ledger_core.specs.History.{Terms, IsLawful, IsOpen, MayFollow, Legal, entry}
 use Rattle.ledger_core.specs.Journal.{JournalView, IsJournal, adds}
-use Rattle.ledger_core.specs.Standing.{StandingView, fresh, is_closed, answer_of, CanReply, CanFollow, IsSmall, after, Tracks}
+use Rattle.ledger_core.specs.Standing.{StandingView, fresh, is_closed, answer_of, CanReply, CanFollow, IsSmall, after}
 use Rattle.ledger_core.specs.Booked.{IsBook}
 use Rattle.ledger_core.proofs.Histories.{legal_none, legal_push, reply_of, follows}
 use Rattle.ledger_core.proofs.Bounds.{within}

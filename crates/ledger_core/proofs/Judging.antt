@@ -1,5 +1,5 @@
 -- From the lines so far to one line more.
-use Rattle.std.proofs.Common.{◌≡◌, ◌⊎◌, ℕ, ◌+◌, ◌-◌, ◌<◌, ◌≤◌, ◌^◌, min, List, [], ◌∷◌, ◌++◌, length, take, map, Bool, true, nat_lt, refl, sym, ap, ◌∙◌, subst, inl, inr, arith, append_assoc, append-nil, length-append, codes}
+use Rattle.std.proofs.Common.{◌≡◌, ℕ, ◌+◌, ◌<◌, ◌≤◌, ◌^◌, min, List, [], ◌∷◌, ◌++◌, length, take, true, nat_lt, refl, sym, ap, ◌∙◌, subst, inl, arith, append_assoc, length-append, codes}
 use Rattle.std.specs.Fmt.{decimal}
 use Rattle.std.specs.Str.{IsUtf8, IsAscii}
 use Rattle.std.specs.List.{list_all}
@@ -8,18 +8,16 @@ use Rattle.std.proofs.lemmas.Fmt.{length-decimal-le, IsAscii-decimal}
 use Rattle.std.proofs.lemmas.Str.{IsUtf8-from_ascii, IsAscii-append}
 use Rattle.std.proofs.lemmas.Str.Ascii.{IsAscii-nil, IsAscii-cons}
 use Rattle.std.proofs.lemmas.List.{map-append, length-take, take_all, length-map}
-use Rattle.ledger_core.specs.declared.entry.Way.{Way}
 use Rattle.ledger_core.specs.declared.entry.Way.TheVariants.{Sealed, Void}
 use Rattle.ledger_core.specs.declared.entry.Event.{Event}
 use Rattle.ledger_core.specs.declared.entry.Event.TheVariants.{Granted, Exhausted, Settled}
 use Rattle.ledger_core.specs.declared.entry.Entry.{Entry}
-use Rattle.ledger_core.specs.declared.state.State.TheVariants.{Start, Sound, Wrong}
-use Rattle.ledger_core.specs.declared.verdict.Verdict.TheVariants.{Legal as IsLegal, Malformed, Illegal}
+use Rattle.ledger_core.specs.declared.state.State.TheVariants.{Sound, Wrong}
+use Rattle.ledger_core.specs.declared.verdict.Verdict.TheVariants.{Malformed, Illegal}
 use Rattle.ledger_core.specs.History.{Terms, IsLawful, MayFollow, Legal}
-use Rattle.ledger_core.specs.Journal.{terms_of}
 use Rattle.ledger_core.specs.Standing.{StandingView, fresh, CanFollow, IsSmall, after, Tracks}
-use Rattle.ledger_core.specs.Text.{way_text, event_text, terms_text, entry_text, journal_lines}
-use Rattle.ledger_core.specs.Verdict.{IsWellFormed, IsWritable, IsNumberOf32Bits, IsSound, IsMalformed, IsIllegal, Judges}
+use Rattle.ledger_core.specs.Text.{event_text, terms_text, entry_text, journal_lines}
+use Rattle.ledger_core.specs.Verdict.{IsWritable, IsNumberOf32Bits}
 use Rattle.ledger_core.specs.Judged.{Judged, SameFront}
 use Rattle.ledger_core.proofs.Histories.{legal_none, legal_push}
 use Rattle.ledger_core.proofs.Lines.{both_true, four_small, terms_split, event_split, word_of, rest_of}

@@ -1,6 +1,5 @@
 -- What an audit has read, piece by piece, and its verdict at the end.
-use Rattle.std.proofs.Common.{◌≡◌, ◌≢◌, ℕ, ◌+◌, ◌-◌, ◌<◌, ◌≤◌, min, List, [], ◌∷◌, ◌++◌, length, take, drop, refl, sym, ap, ◌∙◌, subst, inl, inr, arith, append_assoc, append-nil, length-take-le}
-use Rattle.std.proofs.lemmas.List.Elements.{All-nil}
+use Rattle.std.proofs.Common.{◌≡◌, ℕ, ◌+◌, ◌<◌, ◌≤◌, List, [], ◌∷◌, ◌++◌, length, take, refl, sym, ap, ◌∙◌, subst, inr, arith, append_assoc, append-nil, length-take-le}
 use Rattle.std.proofs.lemmas.List.{length-take, take_all}
 use Rattle.ledger_core.specs.declared.auditor.Auditor.{Auditor}
 use Rattle.ledger_core.specs.declared.state.State.{State}
@@ -8,8 +7,8 @@ use Rattle.ledger_core.specs.declared.state.State.TheVariants.{Start, Sound, Wro
 use Rattle.ledger_core.specs.declared.verdict.Verdict.{Verdict}
 use Rattle.ledger_core.specs.declared.verdict.Verdict.TheVariants.{Malformed}
 use Rattle.ledger_core.specs.Standing.{StandingView}
-use Rattle.ledger_core.specs.Text.{ended_lines, journal_lines}
-use Rattle.ledger_core.specs.Verdict.{IsLine, IsCut, IsSound, Judges, IsVerdict}
+use Rattle.ledger_core.specs.Text.{ended_lines}
+use Rattle.ledger_core.specs.Verdict.{IsLine, IsSound, Judges, IsVerdict}
 use Rattle.ledger_core.specs.Judged.{Judged, SameFront}
 use Rattle.ledger_core.specs.Audit.{Audits, HasRead}
 use Rattle.ledger_core.proofs.Texts.{ended_lines-append}

@@ -1,5 +1,5 @@
 -- A list is cut at the first separator in one way.
-use Rattle.std.proofs.Common.{◌≡◌, ◌≢◌, ℕ, zero, suc, ◌+◌, ◌<◌, ◌≤◌, List, [], ◌∷◌, ◌++◌, length, get_or, refl, sym, ap, ◌∙◌, subst, All, arith, append_assoc, length-append}
+use Rattle.std.proofs.Common.{◌≡◌, ◌≢◌, ℕ, suc, ◌<◌, List, [], ◌∷◌, ◌++◌, length, get_or, refl, sym, ◌∙◌, subst, All, arith, append_assoc}
 use Rattle.ledger_core.specs.Text.{ended_lines}
 use Rattle.ledger_core.specs.Verdict.{IsLine, IsCut}
 use Rattle.std.proofs.lemmas.List.Elements.{All-head, All-tail}

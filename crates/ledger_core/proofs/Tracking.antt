@@ -1,5 +1,5 @@
 -- What a running ledger keeps decides what may follow its history, and follows it step by step.
-use Rattle.std.proofs.Common.{◌≡◌, ◌≢◌, ◌↔◌, ℕ, ◌+◌, ◌-◌, ◌<◌, ◌≤◌, Bool, true, false, nat_eq, nat_lt, List, [], ◌∷◌, ◌++◌, length, replicate, get_or, set, refl, sym, ap, ◌∙◌, subst, arith, eq-eqb, ne_eqb, length-append, length-set, get_or-set_same, get_or-set_other}
+use Rattle.std.proofs.Common.{◌≡◌, ◌≢◌, ◌↔◌, ℕ, ◌+◌, ◌-◌, ◌<◌, ◌≤◌, Bool, true, false, nat_lt, List, [], ◌∷◌, ◌++◌, length, refl, sym, ap, ◌∙◌, subst, arith, eq-eqb, ne_eqb, length-append, length-set, get_or-set_same, get_or-set_other}
 use mathlib.Core.Logic.{dite}
 use native.Mathlib.Decide.{ℕ_discrete}
 use Rattle.std.proofs.lemmas.List.{get_or-replicate}
@@ -15,7 +15,7 @@ use Rattle.ledger_core.specs.declared.entry.Tally.{Tally}
 use Rattle.ledger_core.specs.declared.standing.Issued.{Issued}
 use Rattle.ledger_core.specs.History.{Terms, IsLawful, entry, is_granted, is_exhausted, is_sealed, is_void, grants, settles, granted, refused, times_granted, times_settled, calls_of, tally_of, MayFollow, Legal}
 use Rattle.ledger_core.specs.Standing.{StandingView, issued, number_at, is_closed, fresh, CanReply, CanFollow, IsSmall, tally_after, after, Tracks}
-use Rattle.ledger_core.proofs.Histories.{MayReply, reply_of, follows, count_push}
+use Rattle.ledger_core.proofs.Histories.{MayReply, reply_of, follows}
 use Rattle.ledger_core.proofs.Bounds.{within, few_refusals}
 use Rattle.ledger_core.proofs.Owners.{in_range, owned, few_settled, calls_same, calls_other, calls_more, count_same, count_more}
 

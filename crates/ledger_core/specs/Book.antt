@@ -1,5 +1,5 @@
 -- The ledger of one thread.
-use Rattle.std.specs.Prelude.{◌≡◌, ℕ, ⊤}
+use Rattle.std.specs.Prelude.{ℕ, ⊤}
 use Rattle.ledger_core.specs.declared.book.BookFault.{BookFault}
 use Rattle.ledger_core.specs.declared.book.BookFault.TheVariants.{Exhausted, SeatClosed, NotOpen, OutOfMemory, BadSeats}
 

@@ -1,5 +1,5 @@
 -- What a journal, and a ledger of one thread, stand for: what the ledger was opened with, and its history.
-use Rattle.std.specs.Prelude.{◌≡◌, ℕ, List, [], ◌∷◌, ◌++◌}
+use Rattle.std.specs.Prelude.{ℕ, List, [], ◌∷◌, ◌++◌}
 use Rattle.ledger_core.specs.declared.entry.Entry.{Entry}
 use Rattle.ledger_core.specs.declared.entry.Event.{Event}
 use Rattle.ledger_core.specs.Range.{Numbers}

@@ -7,7 +7,7 @@ use Rattle.ledger_core.specs.declared.entry.Event.TheVariants.{Granted, Exhauste
 use Rattle.ledger_core.specs.declared.entry.Entry.{Entry}
 use Rattle.ledger_core.specs.declared.entry.Tally.{Tally}
 use Rattle.ledger_core.specs.declared.standing.Issued.{Issued}
-use Rattle.ledger_core.specs.History.{Terms, refused, granted, calls_of, times_granted, times_settled, tally_of, IsClosed}
+use Rattle.ledger_core.specs.History.{Terms, refused, granted, calls_of, times_granted, times_settled, tally_of}
 
 pub record StandingView : Type 0 where
   pub terms : Terms

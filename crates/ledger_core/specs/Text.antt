@@ -1,5 +1,5 @@
 -- The journal's text: a range line, then a line for each entry, each ended by a line feed.
-use Rattle.std.specs.Prelude.{ℕ, ◌<◌, ◌≤◌, List, [], ◌∷◌, ◌++◌, map, codes}
+use Rattle.std.specs.Prelude.{ℕ, List, [], ◌∷◌, ◌++◌, map, codes}
 use Rattle.std.specs.Fmt.{decimal}
 use Rattle.ledger_core.specs.declared.entry.Way.{Way}
 use Rattle.ledger_core.specs.declared.entry.Way.TheVariants.{Sealed, Void}

@@ -4,7 +4,6 @@ use Rattle.std.specs.Fmt.{decimal}
 use Rattle.ledger_core.specs.declared.entry.Event.{Event}
 use Rattle.ledger_core.specs.declared.entry.Event.TheVariants.{Granted, Exhausted, Settled}
 use Rattle.ledger_core.specs.declared.entry.Entry.{Entry}
-use Rattle.ledger_core.specs.declared.entry.Tally.{Tally}
 use Rattle.ledger_core.specs.declared.verdict.Verdict.{Verdict}
 use Rattle.ledger_core.specs.declared.verdict.Verdict.TheVariants.{Legal as IsLegal, Malformed, Illegal}
 use Rattle.ledger_core.specs.History.{Terms, IsLawful, MayFollow, Legal, tally_of}

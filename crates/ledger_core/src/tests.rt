@@ -162,3 +162,53 @@ fn faults_have_their_numbers_and_texts(rt: HostRuntime) -> Result<(), Fail> {
     }
     Ok(())
 }
+
+// The journal of the two seats, each call that memory was refused made again. Run with `rt try --test --fail-alloc 1..`.
+#[test]
+fn a_refused_growth_changes_nothing(rt: HostRuntime) -> Result<(), Fail> {
+    let alloc = rt.alloc();
+    let device = Device::new(1).expect(&rt, "a device");
+    let range = Range::new(device, 7, 2)?;
+    let mut book = match Book::new(alloc, range, 2) {
+        Err(BookFault::OutOfMemory) => Book::new(alloc, range, 2)?,
+        book => book?,
+    };
+    for (seat, answer) in [(0, Ok(7)), (1, Ok(8)), (0, Err(BookFault::Exhausted))] {
+        let before = book.tally();
+        let mut issued = book.issue(seat);
+        if issued == Err(BookFault::OutOfMemory) {
+            assert_eq!(rt; book.tally(), before);
+            issued = book.issue(seat);
+        }
+        assert_eq!(rt; issued, answer);
+    }
+    for (seat, number, way) in [(1, 8, Way::Sealed), (0, 7, Way::Void)] {
+        let before = book.tally();
+        let mut settled = book.settle(seat, number, way);
+        if settled == Err(BookFault::OutOfMemory) {
+            assert_eq!(rt; book.tally(), before);
+            settled = book.settle(seat, number, way);
+        }
+        assert_eq!(rt; settled, Ok(()));
+    }
+    let text = match book.journal().text(alloc) {
+        Err(_) => book.journal().text(alloc)?,
+        Ok(text) => text,
+    };
+    assert_eq!(rt; text.as_str(), JOURNAL);
+    let mut writer = match ToMemory::new(alloc, 100, 100, Schedule::Never) {
+        Err(_) => ToMemory::new(alloc, 100, 100, Schedule::Never)?,
+        Ok(writer) => writer,
+    };
+    let mut reader = FromMemory::new(text.as_bytes(), 100, Schedule::Never);
+    if audit(alloc, &mut reader, &mut writer) == Err(AuditFault::OutOfMemory) {
+        assert!(rt; writer.bytes().is_empty());
+        let mut again = FromMemory::new(text.as_bytes(), 100, Schedule::Never);
+        assert!(rt; audit(alloc, &mut again, &mut writer).is_ok());
+    }
+    assert_eq!(rt;
+        writer.bytes(),
+        b"legal: 2 granted, 1 sealed, 1 void, 0 open, 1 refused\n".as_slice()
+    );
+    Ok(())
+}

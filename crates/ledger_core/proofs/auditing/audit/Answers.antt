@@ -1,4 +1,4 @@
-use Rattle.std.proofs.Common.{◌≡◌, Some, IfSome, subst}
+use Rattle.std.proofs.Common.{IfSome, subst}
 use Rattle.ledger_core.specs.declared.verdict.Verdict.TheVariants.{Legal as IsLegal}
 use Rattle.ledger_core.specs.History.{tally_of}
 use Rattle.ledger_core.specs.Text.{journal_text}

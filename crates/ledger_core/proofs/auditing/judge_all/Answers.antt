@@ -1,7 +1,7 @@
-use Rattle.std.proofs.Common.{◌≡◌, ◌<◌, ◌≤◌, ℕ, ◌+◌, List, [], ◌++◌, length, take, refl, sym, ap, ◌∙◌, subst, arith, rules, vec_len, length-append, length-take-le, lit<, true}
+use Rattle.std.proofs.Common.{ℕ, [], ◌++◌, length, take, refl, ap, ◌∙◌, subst, arith, length-append, true}
 use Rattle.std.proofs.KnownBytes.{Consumes-nil, Consumes-trans}
 use Rattle.ledger_core.specs.Verdict.{IsVerdict}
-use Rattle.ledger_core.specs.Streams.{Consumes, counted}
+use Rattle.ledger_core.specs.Streams.{counted}
 use Rattle.ledger_core.specs.Audit.{HasRead}
 use Rattle.ledger_core.proofs.Inputs.{holds_anyway, not_so_long, all_read, front_of}
 use Rattle.ledger_core.proofs.auditing.judge_all.Goals as goal

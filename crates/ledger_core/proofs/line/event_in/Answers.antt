@@ -1,4 +1,4 @@
-use Rattle.std.proofs.Common.{◌≡◌, sym, ap, ◌∙◌, Some}
+use Rattle.std.proofs.Common.{sym, ap, ◌∙◌, Some}
 use Rattle.ledger_core.specs.declared.entry.Event.{Event}
 use Rattle.ledger_core.proofs.Lines.{word_of, rest_of, event_split, word_no_space, names_none, names_nothing}
 use Rattle.ledger_core.proofs.Books.{is_false}

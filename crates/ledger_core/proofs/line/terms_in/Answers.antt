@@ -1,10 +1,6 @@
 -- The words of the line are the words of the range line that it is said to be.
-use Rattle.std.proofs.Common.{◌≡◌, ℕ, ◌<◌, ◌≤◌, ◌++◌, ◌∷◌, sym, ap, ◌∙◌, subst, arith, codes}
-use Rattle.std.specs.Fmt.{decimal}
-use Rattle.ledger_core.specs.History.{Terms}
-use Rattle.ledger_core.specs.Range.{Numbers, IsLawfulRange, range_of}
-use Rattle.ledger_core.specs.Journal.{terms_of}
-use Rattle.ledger_core.proofs.Numbers.{no_space}
+use Rattle.std.proofs.Common.{◌≡◌, sym, ◌∙◌, subst, arith, codes}
+use Rattle.ledger_core.specs.Range.{IsLawfulRange}
 use Rattle.ledger_core.proofs.Lines.{range_no_space, terms_split, four_small, refused_range, made_range, same_range, same_terms}
 use Rattle.ledger_core.proofs.Books.{is_false}
 use Rattle.ledger_core.proofs.line.terms_in.Goals as goal

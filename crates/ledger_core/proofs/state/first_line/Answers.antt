@@ -1,6 +1,5 @@
-use Rattle.std.proofs.Common.{◌≡◌, sym, ap, ◌∙◌, subst}
+use Rattle.std.proofs.Common.{sym, ◌∙◌, subst}
 use Rattle.std.specs.Str.{IsUtf8}
-use Rattle.ledger_core.specs.Journal.{terms_of}
 use Rattle.ledger_core.specs.Text.{terms_text}
 use Rattle.ledger_core.proofs.Judging.{same_text, short_terms, utf8_terms, wrong_first, sound_first}
 use Rattle.ledger_core.proofs.state.first_line.Goals as goal

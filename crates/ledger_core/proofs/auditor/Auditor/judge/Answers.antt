@@ -1,4 +1,4 @@
-use Rattle.std.proofs.Common.{◌≡◌, ◌≢◌, ℕ, ◌+◌, List, [], ◌∷◌, length, ap, ◌∙◌, sym, arith, length-append}
+use Rattle.std.proofs.Common.{◌≢◌, ◌+◌, [], ◌∷◌, ap, arith, length-append}
 use Rattle.std.proofs.lemmas.List.Elements.{All-push, All-nil}
 use Rattle.ledger_core.specs.Verdict.{IsLine}
 use Rattle.ledger_core.proofs.auditor.Auditor.judge.Goals as goal

@@ -1,7 +1,6 @@
-use Rattle.std.proofs.Common.{◌≡◌, ◌<◌, sym, subst, ◌∙◌, arith}
-use Rattle.ledger_core.specs.declared.entry.Event.{Event}
+use Rattle.std.proofs.Common.{◌<◌, sym, subst, ◌∙◌, arith}
 use Rattle.ledger_core.specs.History.{entry}
-use Rattle.ledger_core.specs.Standing.{CanReply, CanFollow}
+use Rattle.ledger_core.specs.Standing.{CanReply}
 use Rattle.ledger_core.proofs.Books.{book_small, book_legal, can_answer, book_step, pushed}
 use Rattle.ledger_core.proofs.book.Book.issue.Goals as goal
 

@@ -1,4 +1,4 @@
-use Rattle.std.proofs.Common.{◌≡◌, ◌<◌, refl, arith}
+use Rattle.std.proofs.Common.{refl, arith}
 use Rattle.ledger_core.specs.declared.entry.Event.TheVariants.{Settled}
 use Rattle.ledger_core.specs.History.{entry}
 use Rattle.ledger_core.proofs.Books.{book_small, book_legal, book_step, pushed, open_test, is_false}

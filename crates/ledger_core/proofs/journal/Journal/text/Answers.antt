@@ -1,4 +1,4 @@
-use Rattle.std.proofs.Common.{◌∙◌, ap, arith}
+use Rattle.std.proofs.Common.{◌∙◌, ap}
 use Rattle.ledger_core.specs.Journal.{JournalView}
 use Rattle.ledger_core.proofs.Texts.{text_step, text_whole}
 use Rattle.ledger_core.proofs.journal.Journal.text.Goals as goal
