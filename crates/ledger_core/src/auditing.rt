@@ -19,7 +19,7 @@ pub enum AuditFault {
     /// Memory was refused. Nothing was written.
     #[error("out of memory")]
     OutOfMemory,
-    /// The reader failed, or gave 2^64 - 1 bytes and no end. Nothing was written.
+    /// The reader failed, or gave 2^64 - 1 bytes. Nothing was written.
     #[error("read failed")]
     Read,
     /// The writer failed. A beginning of the verdict's line was written.
@@ -48,6 +48,7 @@ fn judge_all<R: Source>(alloc: Global, reader: &mut R) -> Result<Verdict, AuditF
     ensures end { OnOk result (IsAtEnd (R.left reader.new)) }
     ensures verdict { IfOk result (λ verdict. IfSome (R.left reader.old) (λ input. IsVerdict input verdict)) }
     ensures no_write { result ≢ Err AuditFault.Write }
+    ensures undisturbed { result ≢ Err AuditFault.Read → R.failures reader.new ≡ R.failures reader.old }
     ensures count { IfSome (R.left reader.old) (λ input. length input < 18446744073709551615
         → R.failures reader.new ≡ counted (is_read result) (R.failures reader.old)) }
 {
@@ -73,7 +74,8 @@ fn judge_all<R: Source>(alloc: Global, reader: &mut R) -> Result<Verdict, AuditF
     }
 }
 
-/// Reads a journal to its end and writes the verdict on it as one line.
+/// Reads a journal to its end and writes the verdict on it as one line. At `OutOfMemory` and `Read` nothing was written; at `Write`
+/// a beginning of the line.
 ///
 /// It keeps at most 35 bytes of any line, and memory in the order of the range's size, whatever the input's length.
 pub fn audit<R: Source, W: Sink>(
@@ -94,6 +96,7 @@ pub fn audit<R: Source, W: Sink>(
     ensures nothing_written { IfErr result (λ fault. fault ≢ AuditFault.Write → Keeps (W.taken writer.old) (W.taken writer.new)) }
     ensures front_written { IsErrOf result AuditFault.Write → (verdict : Verdict) × IfSome (R.left reader.old) (λ input. IsVerdict input verdict)
         × AppendsFront (W.taken writer.old) (W.taken writer.new) (verdict_text verdict ++ 10 ∷ []) }
+    ensures undisturbed { result ≢ Err AuditFault.Read → R.failures reader.new ≡ R.failures reader.old }
     ensures reads { IfSome (R.left reader.old) (λ input. length input < 18446744073709551615
         → R.failures reader.new ≡ counted (is_read result) (R.failures reader.old)) }
     ensures writes { W.failures writer.new ≡ counted (is_write result) (W.failures writer.old) }

@@ -79,7 +79,8 @@ impl Book {
         if seats == 0 || seats > MAX_SEATS {
             return Err(BookFault::BadSeats);
         }
-        let _size = range.size();
+        // The call tells the prover that the range is lawful.
+        let _ = range.size();
         let Ok(standing) = Standing::new(alloc, range, seats) else {
             return Err(BookFault::OutOfMemory);
         };

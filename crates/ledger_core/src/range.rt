@@ -44,7 +44,8 @@ impl Range {
     pub fn new(device: Device, lo: u32, size: u32) -> Result<Range, BadRange>
         ensures { OkIff result (IsLawfulRange (range_of device lo size)) (range_of device lo size) }
     {
-        let _number = device.number();
+        // The call tells the prover that the device has 24 bits.
+        let _ = device.number();
         let end = lo as u64 + size as u64;
         if size == 0 || size > Range::MAX_SIZE || end > 1 << 32 {
             return Err(BadRange);

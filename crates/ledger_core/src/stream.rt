@@ -23,7 +23,8 @@ pub trait Source {
     ghost failures: { Self → Option ℕ } = { λ _. None };
 
     /// Reads into the front of `buffer`, and answers how many bytes. A read of 0 into a buffer that isn't empty is the end.
-    /// A failed read leaves the bytes that are left as they were, and raises the count of failures by one.
+    /// A failed read leaves the bytes that are left as they were, and raises the count of failures by one (past 2^64 - 1
+    /// the count is no longer told).
     fn read(&mut self, buffer: &mut [u8]) -> Result<usize, Failed>
         ensures bound { ReadsAtMost result buffer.new }
         ensures bytes { ReadConsumes (left self.old) (left self.new) result buffer.new }
@@ -39,7 +40,7 @@ pub trait Sink {
     ghost failures: { Self → Option ℕ } = { λ _. None };
 
     /// Takes a front of `bytes`, and answers how many. A write of some bytes takes at least one of them, or fails.
-    /// A failed write takes none, and raises the count of failures by one.
+    /// A failed write takes none, and raises the count of failures by one, as a reader does.
     fn write(&mut self, bytes: &[u8]) -> Result<usize, Failed>
         ensures bound { WritesAtMost result bytes.now }
         ensures some { IfOk result (λ n. 0 < length bytes.now → 0 < n) }
@@ -54,7 +55,7 @@ pub struct FromRead<R: Drop>(pub R);
 impl<R: Read + Drop> Source for FromRead<R> {
     ghost left = { λ s. R.remaining s.0 };
 
-    // A read that a signal interrupts is made again.
+    // A read that a signal interrupts is made again; the count gives the loop an end.
     fn read(&mut self, buffer: &mut [u8]) -> Result<usize, Failed> {
         for _ in 0..u64::MAX {
             match self.0.read(buffer) {
@@ -77,7 +78,7 @@ pub struct ToWrite<W: Drop>(pub W);
 impl<W: Write + Drop> Sink for ToWrite<W> {
     ghost taken = { λ s. W.contents s.0 };
 
-    // A write that a signal interrupts is made again. One that takes none of some bytes failed.
+    // A write that a signal interrupts is made again; the count gives the loop an end. One that takes none of some bytes failed.
     fn write(&mut self, bytes: &[u8]) -> Result<usize, Failed> {
         for _ in 0..u64::MAX {
             match self.0.write(bytes) {

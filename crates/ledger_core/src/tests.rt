@@ -1,8 +1,10 @@
 //! Runs of the plain ledger: values by hand, from the rules in docs/FORMATS.md.
 use crate::{
-    AuditFault, Book, BookFault, Device, FromMemory, Range, Schedule, Tally, ToMemory, Verdict,
-    Way, audit, prefix,
+    AuditFault, BadRange, Book, BookFault, Device, FromMemory, FromRead, Range, Schedule, Tally,
+    ToMemory, ToWrite, Verdict, Way, audit, prefix,
 };
+use std::io;
+use std::io::{ErrorKind, Read, Write};
 use std::test::Fail;
 
 const JOURNAL: &str = "range 1 7 2 2\n0 issue 7\n1 issue 8\n0 issue none\n1 sealed 8\n0 void 7\n";
@@ -151,6 +153,8 @@ fn faults_have_their_numbers_and_texts(rt: HostRuntime) -> Result<(), Fail> {
         assert_eq!(rt; fault.number(), number);
         assert_eq!(rt; format!(in rt.alloc(); "{fault}")?.as_str(), text);
     }
+    assert_eq!(rt; BadRange::NUMBER, 24);
+    assert_eq!(rt; format!(in rt.alloc(); "{BadRange}")?.as_str(), "bad range");
     let audits = [
         (AuditFault::OutOfMemory, 23, "out of memory"),
         (AuditFault::Read, 26, "read failed"),
@@ -211,4 +215,53 @@ fn a_refused_growth_changes_nothing(rt: HostRuntime) -> Result<(), Fail> {
         b"legal: 2 granted, 1 sealed, 1 void, 0 open, 1 refused\n".as_slice()
     );
     Ok(())
+}
+
+// A reader of nothing and a writer that takes all, whose first call fails in this way.
+#[derive(Drop)]
+struct FirstFails(Option<ErrorKind>);
+
+impl Read for FirstFails {
+    fn read(&mut self, _buffer: &mut [u8]) -> io::Result<usize> {
+        match self.0.take() {
+            Some(kind) => Err(io::Error::from(kind)),
+            None => Ok(0),
+        }
+    }
+}
+
+impl Write for FirstFails {
+    fn write(&mut self, bytes: &[u8]) -> io::Result<usize> {
+        match self.0.take() {
+            Some(kind) => Err(io::Error::from(kind)),
+            None => Ok(bytes.len()),
+        }
+    }
+
+    fn flush(&mut self) -> io::Result<()> {
+        Ok(())
+    }
+}
+
+#[test]
+fn an_interrupted_call_is_made_again_and_a_failed_one_is_a_fault(rt: HostRuntime) {
+    for (kind, read, written) in [
+        (
+            ErrorKind::Interrupted,
+            Ok(Verdict::Malformed(1)),
+            Ok(Verdict::Malformed(1)),
+        ),
+        (
+            ErrorKind::PermissionDenied,
+            Err(AuditFault::Read),
+            Err(AuditFault::Write),
+        ),
+    ] {
+        let mut reader = FromRead(FirstFails(Some(kind)));
+        let mut writer = ToWrite(FirstFails(None));
+        assert_eq!(rt; audit(rt.alloc(), &mut reader, &mut writer), read);
+        let mut reader = FromRead(FirstFails(None));
+        let mut writer = ToWrite(FirstFails(Some(kind)));
+        assert_eq!(rt; audit(rt.alloc(), &mut reader, &mut writer), written);
+    }
 }

@@ -26,10 +26,12 @@ fn main(rt: HostRuntime) -> ExitCode {
 /// request for help, 2 for a fault of usage, or where the text could not be printed.
 fn read_command_line<R: Env + AllocGlobal + Print + Eprint>(rt: &R) -> Result<(), u8> {
     let Ok(arguments) = std::env::args(rt) else {
+        let _ = eprintln!(rt; "usage: an argument is no text");
         return Err(FAULT);
     };
     let words: Result<Vec<String>, _> = arguments.collect(rt.alloc());
     let Ok(words) = words else {
+        let _ = eprintln!(rt; "usage: out of memory");
         return Err(FAULT);
     };
     match parse(rt.alloc(), words.as_slice()) {

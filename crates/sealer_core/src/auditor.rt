@@ -1,6 +1,6 @@
 //! `sealer audit`: the verdict on a journal.
 ghost use Rattle.std.specs.Prelude.{◌≡◌, ◌≢◌, ◌<◌, [], ◌∷◌, ◌++◌, length, IfErr, IfOk, IfSome, IsErrOf, OnOk};
-ghost use Rattle.ledger_core.specs.declared.auditing.AuditFault.TheVariants.{Write};
+ghost use Rattle.ledger_core.specs.declared.auditing.AuditFault.TheVariants.{Read, Write};
 ghost use Rattle.ledger_core.specs.declared.verdict.Verdict.{Verdict};
 ghost use Rattle.ledger_core.specs.AuditFaults.{is_read, is_write};
 ghost use Rattle.ledger_core.specs.Streams.{Appends, AppendsFront, IsAtEnd, Keeps, counted};
@@ -11,7 +11,7 @@ use ledger_core::{AuditFault, Sink, Source, Verdict, audit};
 use std::alloc::Global;
 
 /// Audits the journal that the reader gives, and writes the verdict as one line. The answer is the exit status: 0 where the
-/// journal is legal, else 1.
+/// journal is legal, else 1. At `OutOfMemory` and `Read` nothing was written; at `Write` a beginning of the line.
 pub fn run_audit<R: Source, W: Sink>(
     alloc: Global,
     reader: &mut R,
@@ -26,6 +26,7 @@ pub fn run_audit<R: Source, W: Sink>(
     ensures nothing_written { IfErr result (λ fault. fault ≢ Write → Keeps (W.taken writer.old) (W.taken writer.new)) }
     ensures front_written { IsErrOf result Write → (verdict : Verdict) × IfSome (R.left reader.old) (λ input. IsVerdict input verdict)
         × AppendsFront (W.taken writer.old) (W.taken writer.new) (verdict_text verdict ++ 10 ∷ []) }
+    ensures undisturbed { result ≢ Err Read → R.failures reader.new ≡ R.failures reader.old }
     ensures reads { IfSome (R.left reader.old) (λ input. length input < 18446744073709551615
         → R.failures reader.new ≡ counted (is_read result) (R.failures reader.old)) }
     ensures writes { W.failures writer.new ≡ counted (is_write result) (W.failures writer.old) }
