@@ -64,7 +64,8 @@ pub fn seal_in_place(key: &[u8; 32], nonce: &[u8; 12], aad: &[u8], text: &mut [u
 
 /// Opens `text` in place: answers whether `tag` is the tag of the associated data and of `text` as
 /// a ciphertext (RFC 8439, 2.8). Where it is, the text becomes the plaintext; where it isn't, it
-/// stays as it was. A text has at most 2^32 - 1 blocks of 64 bytes.
+/// stays as it was. A text has at most 2^32 - 1 blocks of 64 bytes. Nothing is claimed of the time
+/// that the comparison takes.
 pub fn open_in_place(
     key: &[u8; 32],
     nonce: &[u8; 12],

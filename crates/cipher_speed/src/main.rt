@@ -39,7 +39,7 @@ enum Work {
     Seal,
 }
 
-// Works once over the text, and answers 16 bytes that hang on all of it.
+// Works once over the text, and answers 16 bytes of the result: the first of the keystream's work, else the tag.
 fn work_over(work: Work, text: &mut [u8]) -> [u8; 16]
     requires { length text.old ≤ 65536 }
 {
@@ -61,7 +61,7 @@ fn work_over(work: Work, text: &mut [u8]) -> [u8; 16]
     }
 }
 
-// The nanoseconds of one sample, and a byte that hangs on its results.
+// The nanoseconds of one sample, and a byte of its results.
 fn sample(clock: &impl Clock, work: Work, text: &mut [u8]) -> io::Result<(u64, u8)>
     requires { length text.old ≤ 65536 }
 {

@@ -19,7 +19,7 @@ mod vectors;
 
 pub use mac::Mac;
 
-/// Whether two tags are equal.
+/// Whether two tags of 16 bytes are equal. It compares by `==`: nothing is claimed of the time that it takes.
 pub fn same(a: &[u8; 16], b: &[u8; 16]) -> bool
     ensures { IsTrue result ↔ (a.now ≡ b.now) }
 {
