@@ -1,0 +1,7 @@
+pub mod Books
+pub mod Bounds
+pub mod Fronts
+pub mod Histories
+pub mod Owners
+pub mod Texts
+pub mod Tracking

@@ -1,0 +1,23 @@
+//! The ledger of file numbers: which device sealed under which number, and how each number ended.
+//!
+//! A number makes the prefix of every nonce of one sealing, so no number may be issued twice. This crate has the words of
+//! that promise (device, range, prefix, entry, legal history), the ledger of one thread, its journal and the journal's audit,
+//! and the readers and writers over which the whole product works.
+#![tactic(auto)]
+
+pub mod book;
+pub mod device;
+pub mod entry;
+pub mod journal;
+pub mod memory;
+pub mod range;
+pub mod standing;
+pub mod stream;
+
+pub use crate::book::{Book, BookFault};
+pub use crate::device::{Device, prefix};
+pub use crate::entry::{Entry, Event, Tally, Way};
+pub use crate::journal::Journal;
+pub use crate::memory::{FromMemory, Schedule, ToMemory};
+pub use crate::range::{BadRange, Range};
+pub use crate::stream::{Failed, FromRead, Sink, Source, ToWrite, write_all};
