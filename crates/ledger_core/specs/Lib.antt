@@ -3,6 +3,7 @@ pub mod Booked
 pub mod History
 pub mod Journal
 pub mod Range
+pub mod Reads
 pub mod Standing
 pub mod Streams
 pub mod Text

@@ -11,6 +11,7 @@ pub mod entry;
 pub mod journal;
 pub mod memory;
 pub mod range;
+pub mod reading;
 pub mod standing;
 pub mod stream;
 
@@ -20,4 +21,5 @@ pub use crate::entry::{Entry, Event, Tally, Way};
 pub use crate::journal::Journal;
 pub use crate::memory::{FromMemory, Schedule, ToMemory};
 pub use crate::range::{BadRange, Range};
+pub use crate::reading::{ReadFault, fill, read_to_limit};
 pub use crate::stream::{Failed, FromRead, Sink, Source, ToWrite, write_all};
