@@ -136,3 +136,10 @@ pub prefix_in-header_of : (key prefix rest : List ℕ) → length prefix ≡ 7 �
 unfolding header_of prefix_in
 prefix_in-header_of key prefix rest seven_bytes =
     ap (λ (l : List ℕ). take 7 l) (append_assoc prefix (hint_of key) rest) ∙ take_at prefix (hint_of key ++ rest) 7 seven_bytes
+
+-- bytes without a fault in their header begin with the key's header
+pub header-faultless : (key bytes : List ℕ) → header_fault key bytes ≡ None → take 24 bytes ≡ header_of key (prefix_in bytes)
+header-faultless key bytes none =
+    let good = good_header key bytes none in
+    ap (λ (l : List ℕ). take 24 l) (sym (header-drop key bytes good))
+    ∙ take_at (header_of key (prefix_in bytes)) (drop 24 bytes) 24 (length-header_of key (prefix_in bytes) (length-prefix_in bytes good.long))

@@ -10,7 +10,7 @@ use Rattle.container_core.specs.Container.{header_of, container}
 use Rattle.container_core.specs.Opening.{header_fault, first_fault, early_fault, unsealed, unless, opening}
 use Rattle.container_core.proofs.PartsLemmas.{chunks-short, chunks-long, sealed_chunks-short, sealed_chunks-long, is_nil-chunks, is_nil-sealed_chunks, body_count, has_plaintext-of, plaintext_of-has}
 use Rattle.container_core.proofs.StreamLemmas.{length-stream, unsealed-stream, stream-unsealed}
-use Rattle.container_core.proofs.HeaderLemmas.{length-header_of, length-prefix_in, good_header, header_fault-good, header-drop, good_header-of, not_below, at_most}
+use Rattle.container_core.proofs.HeaderLemmas.{length-header_of, good_header, header_fault-good, header-drop, header-faultless, good_header-of, not_below, at_most}
 
 -- STREAM of what is left: one chunk and the rest, or the last chunk
 pub stream-long : (key header : List ℕ) (number : ℕ) (rest : List ℕ) → 65536 < length rest
@@ -217,9 +217,7 @@ container-opening key bytes plain most e =
     let left = length-drop 24 bytes in
     let of_n : length body ≡ body_length n = omega arith in
     let k = (n - 1) / 65536 in
-    let front : take 24 bytes ≡ header =
-    ap (λ (l : List ℕ). take 24 l) (sym (header-drop key bytes good))
-    ∙ take_at header body 24 (length-header_of key (prefix_in bytes) (length-prefix_in bytes good.long)) in
+    let front : take 24 bytes ≡ header = header-faultless key bytes unfaulty in
     let cut : unsealed key header 0 (parts 65552 k body) ≡ Ok plain =
     ap (λ (cs : List (List ℕ)). unsealed key header 0 cs) (sym (sealed_chunks-parts body n of_n))
     ∙ ap (λ (h : List ℕ). unsealed key h 0 (sealed_chunks body)) (sym front) ∙ opens in

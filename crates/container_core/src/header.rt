@@ -61,7 +61,7 @@ impl Header {
     pub fn bytes(&self) -> [u8; 24]
         ensures { result ≡ self.now }
     {
-        self.image
+        *self.as_bytes()
     }
 
     // The header's bytes, in place.

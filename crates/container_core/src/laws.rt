@@ -1,11 +1,11 @@
 //! What follows of the definitions alone, each law the contract of a function that does nothing.
-ghost use Rattle.std.specs.Prelude.{◌≡◌, ℕ, ◌+◌, ◌*◌, ◌^◌, ◌<◌, ◌≤◌, ◌↔◌, Bool, List, [], ◌∷◌, length, take, drop, slice_index_or, Ok, Err};
+ghost use Rattle.std.specs.Prelude.{◌≡◌, ℕ, ◌+◌, ◌*◌, ◌^◌, ◌<◌, ◌≤◌, ◌↔◌, Bool, List, [], ◌∷◌, length, take, drop, slice_index_or, None, Ok, Err};
 ghost use Rattle.container_core.specs.Chunks.{chunks, chunk_count, sealed_chunks, body_length, container_length};
 ghost use Rattle.container_core.specs.Stream.{nonce_of, prefix_in};
-ghost use Rattle.container_core.specs.Container.{container};
+ghost use Rattle.container_core.specs.Container.{container, header_of};
 ghost use Rattle.container_core.specs.declared.fault.OpenFault.{OpenFault};
 ghost use Rattle.container_core.specs.Faults.{IsOfBytes};
-ghost use Rattle.container_core.specs.Opening.{opening};
+ghost use Rattle.container_core.specs.Opening.{header_fault, opening};
 
 /// Two chunks have one nonce only where prefix, number and place as the last are the same.
 pub fn nonces_differ()
@@ -26,6 +26,11 @@ pub fn opens_exactly_its_container()
 pub fn sealed_opens()
     ensures { (key prefix plain : List ℕ) (most : ℕ) → length prefix ≡ 7 → length plain ≤ most
         → opening key most (container key prefix plain) ≡ Ok plain }
+{}
+
+/// Bytes whose header has no fault begin with the header of the key and of the prefix that they name.
+pub fn faultless_headers()
+    ensures { (key bytes : List ℕ) → header_fault key bytes ≡ None → take 24 bytes ≡ header_of key (prefix_in bytes) }
 {}
 
 /// Opening names faults of the bytes alone, never one of memory, a reader or a writer.

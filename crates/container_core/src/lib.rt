@@ -13,6 +13,8 @@ pub mod header;
 pub mod key;
 pub mod laws;
 pub mod places;
+#[cfg(test)]
+mod tests;
 pub mod whole;
 
 pub use crate::chunk::{nonce, open_chunk, seal_chunk};

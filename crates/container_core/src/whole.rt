@@ -1,5 +1,5 @@
 //! A whole container in memory: one buffer, reserved once, in which the chunks are sealed and opened in place.
-ghost use Rattle.std.specs.Prelude.{◌≡◌, ◌≢◌, ℕ, ◌+◌, ◌<◌, ◌≤◌, ◌++◌, ◌⊎◌, ◌↔◌, Bool, List, length, Ok, Err, Some, None, IfOk, IfErr, IsErrOf, OnOk, OnErr, is_ok, if◌then◌else◌};
+ghost use Rattle.std.specs.Prelude.{◌≡◌, ℕ, ◌+◌, ◌<◌, ◌≤◌, ◌++◌, ◌⊎◌, ◌↔◌, Bool, List, length, Ok, Err, Some, None, IfOk, IfErr, OnOk, MatchResult};
 ghost use Rattle.container_core.specs.Container.{container};
 ghost use Rattle.container_core.specs.Chunks.{body_length, sealed_chunks};
 ghost use Rattle.container_core.specs.Opening.{opening, unsealed};
@@ -132,9 +132,8 @@ fn opened(alloc: Global, key: &Key, header: &Header, body: &[u8]) -> Result<Vec<
     }
 }
 
-/// The plaintext of a container under a key, of at most 2^40 bytes, or the first fault that applies of those of `OpenFault`
-/// from `TooLong` to `Forged`. `OutOfMemory` where memory was refused.
-pub fn open(alloc: Global, key: &Key, bytes: &[u8]) -> Result<Vec<u8>, OpenFault>
+// What opening these bytes answers.
+fn answer(alloc: Global, key: &Key, bytes: &[u8]) -> Result<Vec<u8>, OpenFault>
     ensures plaintext { IfOk result (λ out. opening key.now 1099511627776 bytes.now ≡ Ok out.items) }
     ensures fault { IfErr result (λ fault. (fault ≡ OpenFault.OutOfMemory) ⊎ (opening key.now 1099511627776 bytes.now ≡ Err fault)) }
 {
@@ -150,4 +149,18 @@ pub fn open(alloc: Global, key: &Key, bytes: &[u8]) -> Result<Vec<u8>, OpenFault
         Ok(_cut) => opened(alloc, key, &header, body),
         Err(fault) => Err(fault),
     }
+}
+
+/// The plaintext of a container under a key, of at most 2^40 bytes, or the first fault that applies of those of `OpenFault`
+/// from `TooLong` to `Forged`. `OutOfMemory` where memory was refused.
+pub fn open(alloc: Global, key: &Key, bytes: &[u8]) -> Result<Vec<u8>, OpenFault>
+    ensures plaintext { IfOk result (λ out. opening key.now 1099511627776 bytes.now ≡ Ok out.items) }
+    ensures fault { IfErr result (λ fault. (fault ≡ OpenFault.OutOfMemory) ⊎ (opening key.now 1099511627776 bytes.now ≡ Err fault)) }
+
+    // What opens is the container of its plaintext under the prefix that its header names, and such a container opens.
+    ensures sealed { IfOk result (λ out. bytes.now ≡ container key.now (prefix_in bytes.now) out.items) }
+    ensures opens { (plain : List ℕ) → length plain ≤ 1099511627776 → bytes.now ≡ container key.now (prefix_in bytes.now) plain
+        → MatchResult result (λ out. out.items ≡ plain) (λ fault. fault ≡ OpenFault.OutOfMemory) }
+{
+    answer(alloc, key, bytes)
 }
