@@ -1,9 +1,8 @@
 -- The AEAD pair and its opening, both ways.
-use Rattle.std.proofs.Common.{◌≡◌, ℕ, ◌+◌, ◌-◌, ◌%◌, List, ◌++◌, length, take, replicate, Some, None, Option, Bool, true, false, if◌then◌else◌, refl, sym, ap, ◌∙◌, arith}
+use Rattle.std.proofs.Common.{◌≡◌, ℕ, ◌-◌, ◌%◌, List, ◌++◌, length, replicate, Some, None, Bool, true, false, if◌then◌else◌, refl, sym, ap, ◌∙◌, arith}
 use Rattle.std.proofs.lemmas.List.{length-append, length-replicate}
 use Rattle.std.proofs.lemmas.Slice.Eq.{bytes_eq-Decides}
 use Rattle.std.specs.Str.{bytes_eq}
-use Rattle.chacha_core.specs.ChaCha20.{chacha20}
 use Rattle.chacha_core.proofs.StreamLemmas.{length-chacha20, chacha20-chacha20}
 use Rattle.poly_core.specs.Poly1305.{poly1305}
 use Rattle.poly_core.specs.Absorbed.{zeros}

@@ -1,5 +1,5 @@
 -- Words and their bytes.
-use Rattle.std.proofs.Common.{◌≡◌, ℕ, zero, suc, ◌+◌, ◌-◌, ◌*◌, ◌/◌, ◌%◌, ◌^◌, ◌<◌, ◌≤◌, List, [], ◌∷◌, ◌++◌, length, take, drop, get_or, refl, sym, ap, ◌∙◌, arith, w32, Fits}
+use Rattle.std.proofs.Common.{◌≡◌, ℕ, suc, ◌+◌, ◌-◌, ◌*◌, ◌/◌, ◌%◌, ◌^◌, ◌<◌, ◌≤◌, List, [], ◌∷◌, ◌++◌, length, take, drop, refl, sym, ap, ◌∙◌, arith, w32, Fits}
 use Rattle.std.proofs.lemmas.List.{append_assoc, take-append-drop, length-take-le, length-append, length-drop, take_at, drop_at, get_or-take, drop_all, append-nil}
 use Rattle.std.proofs.lemmas.Simd.{length-put_chunk, take_more_put_chunk}
 use Rattle.std.proofs.Math.Seq.{take-add, take-append-add}

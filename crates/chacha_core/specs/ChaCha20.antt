@@ -14,15 +14,15 @@ xor_roll x y n = rotate_left w32 (bit_xor x y) n
 -- the quarter round on four words (2.1)
 unfoldable pub quarter_round : ℕ → ℕ → ℕ → ℕ → ℕ × ℕ × ℕ × ℕ
 quarter_round a b c d =
-    let a1 = add32 a b in
-    let d1 = xor_roll d a1 16 in
-    let c1 = add32 c d1 in
-    let b1 = xor_roll b c1 12 in
-    let a2 = add32 a1 b1 in
-    let d2 = xor_roll d1 a2 8 in
-    let c2 = add32 c1 d2 in
-    let b2 = xor_roll b1 c2 7 in
-    (a2, b2, c2, d2)
+    let a = add32 a b in
+    let d = xor_roll d a 16 in
+    let c = add32 c d in
+    let b = xor_roll b c 12 in
+    let a = add32 a b in
+    let d = xor_roll d a 8 in
+    let c = add32 c d in
+    let b = xor_roll b c 7 in
+    (a, b, c, d)
 
 -- the quarter round on the words of a state at four places (2.2)
 abbrev pub quarter_round_at : List ℕ → ℕ → ℕ → ℕ → ℕ → ℕ × ℕ × ℕ × ℕ

@@ -1,8 +1,8 @@
 //! ChaCha20 (RFC 8439, 2.1 to 2.4): the quarter round, the block, and the XOR of a text with the
 //! keystream. Nothing here takes memory or waits.
 //!
-//! `specs/ChaCha20.antt` has the definitions, in the RFC's terms, and each public function gives its
-//! definition's value on every input.
+//! `specs/ChaCha20.antt` has the definitions, in the RFC's terms, and each public function gives
+//! its definition's value on every input.
 #![tactic(auto)]
 
 ghost use Rattle.std.specs.Prelude.{◌≡◌, ◌+◌, ◌/◌, ◌^◌, ◌≤◌, length};
@@ -16,6 +16,8 @@ mod state;
 mod stream;
 #[cfg(test)]
 mod tests;
+#[cfg(test)]
+mod vectors;
 
 // The bytes of a block.
 const BLOCK: usize = 64;
@@ -30,8 +32,8 @@ pub fn quarter(a: u32, b: u32, c: u32, d: u32) -> (u32, u32, u32, u32)
     quarter_round(a, b, c, d)
 }
 
-/// The 64 bytes of the block with this counter (RFC 8439, 2.3), from a key of 32 bytes and a nonce of
-/// 12.
+/// The 64 bytes of the block with this counter (RFC 8439, 2.3), from a key of 32 bytes and a nonce
+/// of 12.
 pub fn block(key: &[u8; 32], counter: u32, nonce: &[u8; 12]) -> [u8; 64]
     ensures { result ≡ block key.now counter nonce.now }
 {

@@ -31,29 +31,29 @@ fn column_rounds(state: [u32; 16]) -> [u32; 16]
     ensures { result ≡ column_rounds state }
 {
     let [
-        a0,
-        b0,
-        c0,
-        d0,
-        a1,
-        b1,
-        c1,
-        d1,
-        a2,
-        b2,
-        c2,
-        d2,
-        a3,
-        b3,
-        c3,
-        d3,
+        k0,
+        l0,
+        m0,
+        n0,
+        k1,
+        l1,
+        m1,
+        n1,
+        k2,
+        l2,
+        m2,
+        n2,
+        k3,
+        l3,
+        m3,
+        n3,
     ] = state;
-    let (a0, a1, a2, a3) = quarter_round(a0, a1, a2, a3);
-    let (b0, b1, b2, b3) = quarter_round(b0, b1, b2, b3);
-    let (c0, c1, c2, c3) = quarter_round(c0, c1, c2, c3);
-    let (d0, d1, d2, d3) = quarter_round(d0, d1, d2, d3);
+    let (k0, k1, k2, k3) = quarter_round(k0, k1, k2, k3);
+    let (l0, l1, l2, l3) = quarter_round(l0, l1, l2, l3);
+    let (m0, m1, m2, m3) = quarter_round(m0, m1, m2, m3);
+    let (n0, n1, n2, n3) = quarter_round(n0, n1, n2, n3);
     [
-        a0, b0, c0, d0, a1, b1, c1, d1, a2, b2, c2, d2, a3, b3, c3, d3,
+        k0, l0, m0, n0, k1, l1, m1, n1, k2, l2, m2, n2, k3, l3, m3, n3,
     ]
 }
 
@@ -62,29 +62,29 @@ fn diagonal_rounds(state: [u32; 16]) -> [u32; 16]
     ensures { result ≡ diagonal_rounds state }
 {
     let [
-        a0,
-        b0,
-        c0,
-        d0,
-        d1,
-        a1,
-        b1,
-        c1,
-        c2,
-        d2,
-        a2,
-        b2,
-        b3,
-        c3,
-        d3,
-        a3,
+        k0,
+        l0,
+        m0,
+        n0,
+        n1,
+        k1,
+        l1,
+        m1,
+        m2,
+        n2,
+        k2,
+        l2,
+        l3,
+        m3,
+        n3,
+        k3,
     ] = state;
-    let (a0, a1, a2, a3) = quarter_round(a0, a1, a2, a3);
-    let (b0, b1, b2, b3) = quarter_round(b0, b1, b2, b3);
-    let (c0, c1, c2, c3) = quarter_round(c0, c1, c2, c3);
-    let (d0, d1, d2, d3) = quarter_round(d0, d1, d2, d3);
+    let (k0, k1, k2, k3) = quarter_round(k0, k1, k2, k3);
+    let (l0, l1, l2, l3) = quarter_round(l0, l1, l2, l3);
+    let (m0, m1, m2, m3) = quarter_round(m0, m1, m2, m3);
+    let (n0, n1, n2, n3) = quarter_round(n0, n1, n2, n3);
     [
-        a0, b0, c0, d0, d1, a1, b1, c1, c2, d2, a2, b2, b3, c3, d3, a3,
+        k0, l0, m0, n0, n1, k1, l1, m1, m2, n2, k2, l2, l3, m3, n3, k3,
     ]
 }
 

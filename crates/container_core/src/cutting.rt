@@ -1,5 +1,5 @@
 //! How many chunks stand behind a header.
-ghost use Rattle.std.specs.Prelude.{◌≡◌, ◌≢◌, ℕ, ◌<◌, ◌≤◌, ◌↔◌, Err, IfOk, IfErr};
+ghost use Rattle.std.specs.Prelude.{◌≡◌, ◌<◌, ◌≤◌, IfOk, IfErr};
 ghost use Rattle.container_core.specs.Chunks.{body_length};
 ghost use Rattle.container_core.specs.Cutting.{RefusesCut};
 

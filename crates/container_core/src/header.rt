@@ -6,7 +6,7 @@
 //! | 8, 9 | 1, the version, and 16, the exponent of the chunks' size |
 //! | 10 to 16 | the prefix of all nonces |
 //! | 17 to 23 | the key's hint |
-ghost use Rattle.std.specs.Prelude.{◌≡◌, length, take, None, Some, IfOk, IfErr, OnOk, codes};
+ghost use Rattle.std.specs.Prelude.{◌≡◌, take, None, Some, IfOk, IfErr, OnOk};
 ghost use Rattle.container_core.specs.Container.{header_of};
 ghost use Rattle.container_core.specs.Opening.{header_fault};
 ghost use Rattle.container_core.specs.Stream.{prefix_in};

@@ -1,5 +1,5 @@
 //! What follows of the definitions alone, each law the contract of a function that does nothing.
-ghost use Rattle.std.specs.Prelude.{◌≡◌, ℕ, ◌+◌, ◌*◌, ◌^◌, ◌<◌, ◌≤◌, ◌↔◌, Bool, List, [], ◌∷◌, length, take, drop, slice_index_or, None, Ok, Err};
+ghost use Rattle.std.specs.Prelude.{◌≡◌, ℕ, ◌*◌, ◌^◌, ◌<◌, ◌≤◌, ◌↔◌, Bool, List, [], ◌∷◌, length, take, drop, slice_index_or, None, Ok, Err};
 ghost use Rattle.container_core.specs.Chunks.{chunks, chunk_count, sealed_chunks, body_length, container_length};
 ghost use Rattle.container_core.specs.Stream.{nonce_of, prefix_in};
 ghost use Rattle.container_core.specs.Container.{container, header_of};

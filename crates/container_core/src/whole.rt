@@ -1,5 +1,5 @@
 //! A whole container in memory: one buffer, reserved once, in which the chunks are sealed and opened in place.
-ghost use Rattle.std.specs.Prelude.{◌≡◌, ℕ, ◌+◌, ◌<◌, ◌≤◌, ◌++◌, ◌⊎◌, ◌↔◌, Bool, List, length, Ok, Err, Some, None, IfOk, IfErr, OnOk, MatchResult};
+ghost use Rattle.std.specs.Prelude.{◌≡◌, ℕ, ◌+◌, ◌<◌, ◌≤◌, ◌++◌, ◌⊎◌, ◌↔◌, List, length, Ok, Err, Some, None, IfOk, IfErr, OnOk, MatchResult};
 ghost use Rattle.container_core.specs.Container.{container};
 ghost use Rattle.container_core.specs.Chunks.{body_length, sealed_chunks};
 ghost use Rattle.container_core.specs.Opening.{opening, unsealed};

@@ -1,8 +1,8 @@
 -- What the contracts of readers to the end cite.
 use Rattle.std.specs.Prelude.{◌≡◌, ℕ, ◌≤◌, Bool, true, false, List, length, Option, Result, Ok, Err}
 use Rattle.ledger_core.specs.Streams.{Consumes}
-use Rattle.ledger_core.specs.declared.reading.ReadFault.{ReadFault}
-use Rattle.ledger_core.specs.declared.reading.ReadFault.TheVariants.{TooLong, OutOfMemory, Read}
+use Rattle.ledger_core.specs.declared.input.ReadFault.{ReadFault}
+use Rattle.ledger_core.specs.declared.input.ReadFault.TheVariants.{TooLong, OutOfMemory, Read}
 
 -- known bytes lost this many at the front
 abbrev pub ConsumesExactly : Option (List ℕ) → Option (List ℕ) → ℕ → Type 0

@@ -5,21 +5,32 @@
 //! and the readers and writers over which the whole product works.
 #![tactic(auto)]
 
+pub mod auditing;
+mod auditor;
 pub mod book;
 pub mod device;
 pub mod entry;
+pub mod input;
 pub mod journal;
+pub mod laws;
+mod line;
 pub mod memory;
 pub mod range;
-pub mod reading;
 pub mod standing;
+mod state;
 pub mod stream;
+pub mod verdict;
 
+pub use crate::auditing::{AuditFault, audit};
 pub use crate::book::{Book, BookFault};
 pub use crate::device::{Device, prefix};
 pub use crate::entry::{Entry, Event, Tally, Way};
+pub use crate::input::{ReadFault, fill, read_to_limit};
 pub use crate::journal::Journal;
 pub use crate::memory::{FromMemory, Schedule, ToMemory};
 pub use crate::range::{BadRange, Range};
-pub use crate::reading::{ReadFault, fill, read_to_limit};
 pub use crate::stream::{Failed, FromRead, Sink, Source, ToWrite, write_all};
+pub use crate::verdict::Verdict;
+
+#[cfg(test)]
+mod tests;

@@ -1,3 +1,4 @@
 mod AbsorbedLemmas
+mod LaneLemmas
 mod LittleLemmas
 mod SumLemmas

@@ -5,7 +5,7 @@ ghost use Rattle.poly_core.specs.Poly1305.{poly1305};
 ghost use Rattle.poly_core.specs.Absorbed.{Absorbed, zeros};
 
 use crate::blocks::{BLOCK, absorb_blocks, block_at, cut_block, key_r, key_s};
-use crate::limbs::{Limbs, ZERO, step, tag_number};
+use crate::limbs::{Limbs, ZERO, square, step, tag_number};
 use std::marker::Model;
 
 /// Poly1305 under a one-time key, over the bytes absorbed so far.
@@ -14,6 +14,7 @@ use std::marker::Model;
 #[derive(Drop)]
 pub struct Mac {
     r: Limbs,
+    square: Limbs,
     s: u128,
     sum: Limbs,
     rest: [u8; 16],
@@ -21,7 +22,7 @@ pub struct Mac {
 }
 
 impl Model for Mac {
-    ghost use Rattle.std.specs.Prelude.{◌%◌, ◌^◌, ◌<◌, take};
+    ghost use Rattle.std.specs.Prelude.{◌≡◌, ◌*◌, ◌%◌, ◌^◌, ◌<◌, take};
     ghost use Rattle.poly_core.specs.Absorbed.{Progress};
     ghost use Rattle.poly_core.specs.Poly1305.{prime};
     ghost use Rattle.poly_core.specs.Limbs.{value, AllBelow};
@@ -35,7 +36,9 @@ impl Model for Mac {
       rest = take m.filled m.rest;
     } };
 
-    ghost invariant = { λ m. AllBelow (2 ^ 26) m.r × AllBelow (2 ^ 27) m.sum × (m.filled < 16) };
+    ghost invariant = { λ m. AllBelow (2 ^ 26) m.r × AllBelow (2 ^ 26) m.square
+        × AllBelow (2 ^ 27) m.sum × (m.filled < 16)
+        × (value m.square % prime ≡ (value m.r * value m.r) % prime) };
 }
 
 impl Mac {
@@ -43,8 +46,10 @@ impl Mac {
     pub fn new(key: &[u8; 32]) -> Mac
         ensures { Absorbed result key.now [] }
     {
+        let r = key_r(key);
         Mac {
-            r: key_r(key),
+            r,
+            square: square(&r),
             s: key_s(key),
             sum: ZERO,
             rest: [0; BLOCK],
@@ -77,10 +82,12 @@ impl Mac {
 
     /// The tag of the bytes absorbed, 16 bytes.
     pub fn finish(self) -> [u8; 16]
-        ensures { (key message : List ℕ) → Absorbed self key message → result ≡ poly1305 key message }
+        ensures { (key message : List ℕ) → Absorbed self key message
+            → result ≡ poly1305 key message }
     {
         let Mac {
             r,
+            square: _,
             s,
             sum,
             rest,
@@ -129,6 +136,6 @@ impl Mac {
             → Absorbed self.new key (message ++ blocks.now) }
         ensures none_begun { self.new.rest ≡ [] }
     {
-        self.sum = absorb_blocks(&self.sum, &self.r, blocks);
+        self.sum = absorb_blocks(&self.sum, &self.r, &self.square, blocks);
     }
 }

@@ -2,7 +2,7 @@
 //!
 //! An engine's input is all that its reader had left at the call. It is read whole before anything is written, so a refusal
 //! other than a failed write leaves the writer as it was; and nothing of a plaintext is written before every chunk was checked.
-ghost use Rattle.std.specs.Prelude.{◌≡◌, ◌≢◌, ℕ, ◌+◌, ◌<◌, ◌≤◌, ◌⊎◌, List, length, Ok, Err, IfOk, IfErr, OnOk, OnErr, IfSome};
+ghost use Rattle.std.specs.Prelude.{◌≡◌, ◌≢◌, ◌+◌, ◌<◌, ◌≤◌, ◌⊎◌, length, Ok, Err, IfOk, IfErr, OnOk, OnErr, IfSome};
 ghost use Rattle.container_core.specs.Chunks.{container_length};
 ghost use Rattle.container_core.specs.Container.{container};
 ghost use Rattle.container_core.specs.Opening.{opening};
@@ -10,7 +10,7 @@ ghost use Rattle.ledger_core.specs.Reads.{ConsumesExactly, ConsumesUpTo};
 ghost use Rattle.ledger_core.specs.Streams.{Appends, AppendsFront, IsAtEnd, Keeps, counted};
 ghost use Rattle.sealer_core.specs.Engine.{seal_read_failed, seal_write_failed, open_read_failed, open_write_failed, OpensTo, WritesPlaintext, BeginsPlaintext, IsOutside};
 
-use container_core::{Key, OpenFault, SealFault, open, seal};
+use container_core::{CHUNK, HEADER, Key, OpenFault, SealFault, TAG, open, seal};
 use ledger_core::{Failed, ReadFault, Sink, Source, read_to_limit, write_all};
 use std::alloc::Global;
 
@@ -65,7 +65,7 @@ fn container_bytes(plain: u64) -> u64
     requires { plain ≤ 1099511627776 }
     ensures { result ≡ container_length plain }
 {
-    40 + plain + 16 * (plain.saturating_sub(1) / 65536)
+    HEADER as u64 + plain + TAG as u64 * (plain.saturating_sub(1) / CHUNK as u64 + 1)
 }
 
 // The plaintext of all that the reader has left.

@@ -1,8 +1,8 @@
-use Rattle.std.proofs.Common.{ap, sym, ◌∙◌, ◌++◌, List, ℕ, [], length}
+use Rattle.std.proofs.Common.{ap, ◌∙◌, ◌++◌, List, ℕ, [], length}
 use Rattle.std.specs.Int.{w64, to_le_bytes}
 use Rattle.poly_core.specs.Poly1305.{poly1305}
 use Rattle.poly_core.specs.Absorbed.{zeros}
-use Rattle.aead_core.specs.Aead.{one_time_key, covered, tag_of}
+use Rattle.aead_core.specs.Aead.{covered, tag_of}
 use Rattle.aead_core.proofs.AeadLemmas.{zeros-padded}
 use Rattle.aead_core.proofs.tag_of.Goals as goal
 

@@ -1,6 +1,6 @@
-use Rattle.std.proofs.Common.{ℕ, List, ◌≡◌, ◌+◌, ◌-◌, ◌*◌, ◌/◌, ◌≤◌, ◌++◌, ◌∙◌, arith, refl, ap, length, take, drop, slice_set}
+use Rattle.std.proofs.Common.{ℕ, List, ◌≡◌, ◌+◌, ◌-◌, ◌*◌, ◌/◌, ◌++◌, ◌∙◌, arith, refl, ap, length, take, drop, slice_set}
 use Rattle.std.proofs.lemmas.List.{set-set}
-use Rattle.chacha_core.specs.ChaCha20.{chacha20, xor_from, keystream_byte, block_words, start_state}
+use Rattle.chacha_core.specs.ChaCha20.{chacha20, xor_from, keystream_byte, block_words}
 use Rattle.chacha_core.proofs.StreamLemmas.{apply_step, start_state-set, xor_done}
 use Rattle.chacha_core.proofs.apply.Goals as goal
 

@@ -1,4 +1,4 @@
-use Rattle.std.proofs.Common.{◌≡◌, ◌*◌, ◌++◌, length, take, drop, slice_set}
+use Rattle.std.proofs.Common.{◌≡◌, ◌*◌, ◌++◌, take, drop, slice_set}
 use Rattle.chacha_core.specs.ChaCha20.{keystream_byte, xor_from, start_state}
 use Rattle.chacha_core.proofs.apply.Given as goal
 

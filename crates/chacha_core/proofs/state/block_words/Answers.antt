@@ -1,5 +1,5 @@
 use Rattle.std.proofs.Common.{refl, ap, ◌∙◌, ◌≡◌, arith, add-one, List, ℕ}
-use Rattle.chacha_core.specs.ChaCha20.{double_rounds, block_words, diagonal_rounds, column_rounds, add_states}
+use Rattle.chacha_core.specs.ChaCha20.{double_rounds, block_words, add_states}
 use Rattle.chacha_core.proofs.state.block_words.Goals as goal
 
 pub rounds-init : goal.rounds-init

@@ -4,8 +4,8 @@ use Rattle.chacha_core.proofs.state.column_rounds.Goals as goal
 pub returns : goal.returns
 unfolding column_rounds
 returns c = rw (
-  c.quarter_round-a0.ensures,
-  c.quarter_round-b0.ensures,
-  c.quarter_round-c0.ensures,
-  c.quarter_round-d0.ensures,
+  c.quarter_round-k0.ensures,
+  c.quarter_round-l0.ensures,
+  c.quarter_round-m0.ensures,
+  c.quarter_round-n0.ensures,
 )

@@ -1,5 +1,5 @@
-use Rattle.std.proofs.Common.{ℕ, List, ◌+◌, ◌-◌, ◌*◌, ◌≡◌, ◌≤◌, ◌++◌, arith, sym, ap, ◌∙◌, length, take, drop, rules}
-use Rattle.std.proofs.lemmas.List.{take_all, places}
+use Rattle.std.proofs.Common.{◌*◌, ◌≡◌, arith, sym, ◌∙◌}
+use Rattle.std.proofs.lemmas.List.{take_all}
 use Rattle.chacha_core.proofs.WordLemmas.{length-word_bytes, row_written}
 use Rattle.chacha_core.proofs.stream.block_bytes.Goals as goal
 

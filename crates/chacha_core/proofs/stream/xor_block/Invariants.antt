@@ -1,4 +1,4 @@
-use Rattle.std.proofs.Common.{◌≡◌, ◌*◌, ◌++◌, length, take, drop, slice_index}
+use Rattle.std.proofs.Common.{◌≡◌, ◌*◌, ◌++◌, take, drop, slice_index}
 use Rattle.chacha_core.specs.ChaCha20.{word_bytes, xor_from}
 use Rattle.chacha_core.proofs.stream.xor_block.Given as goal
 

@@ -1,4 +1,4 @@
-use Rattle.std.proofs.Common.{ℕ, ◌+◌, ◌-◌, ◌*◌, ◌/◌, ◌++◌, arith, length, take}
+use Rattle.std.proofs.Common.{ℕ, ◌+◌, ◌-◌, ◌*◌, ◌/◌, arith, length}
 use Rattle.poly_core.proofs.AbsorbedLemmas.{three_parts}
 use Rattle.poly_core.proofs.mac.Mac.absorb.Goals as goal
 

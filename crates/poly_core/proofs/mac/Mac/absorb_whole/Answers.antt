@@ -1,4 +1,4 @@
-use Rattle.std.proofs.Common.{refl, ap, ◌∙◌, List, ℕ}
+use Rattle.std.proofs.Common.{refl, ap, ◌∙◌}
 use Rattle.poly_core.specs.Absorbed.{Progress}
 use Rattle.poly_core.proofs.AbsorbedLemmas.{Absorbed-whole}
 use Rattle.poly_core.proofs.mac.Mac.absorb_whole.Goals as goal

@@ -1,4 +1,4 @@
-use Rattle.std.proofs.Common.{◌≡◌, ◌<◌, ◌+◌, ◌*◌, ◌%◌, ◌∙◌, arith, ap, sym, ℕ, length, take}
+use Rattle.std.proofs.Common.{◌≡◌, ◌+◌, ◌*◌, ◌%◌, ◌∙◌, arith, ap, sym, ℕ, length, take}
 use Rattle.std.proofs.lemmas.List.{length-take-le}
 use Rattle.poly_core.specs.Limbs.{value}
 use Rattle.poly_core.specs.Poly1305.{prime, block_number}

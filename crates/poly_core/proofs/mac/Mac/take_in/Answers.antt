@@ -1,4 +1,4 @@
-use Rattle.std.proofs.Common.{◌≡◌, ◌<◌, ◌≤◌, ◌+◌, ◌*◌, ◌%◌, ◌∙◌, ◌++◌, arith, refl, sym, ap, List, ℕ, length, take}
+use Rattle.std.proofs.Common.{◌≡◌, ◌+◌, ◌*◌, ◌%◌, ◌∙◌, ◌++◌, arith, refl, sym, ap, ℕ, length, take}
 use Rattle.std.proofs.lemmas.List.{length-take-le}
 use Rattle.poly_core.specs.Absorbed.{Progress}
 use Rattle.poly_core.specs.Limbs.{value}
