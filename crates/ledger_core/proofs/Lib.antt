@@ -7,6 +7,7 @@ pub mod Judging
 pub mod Lines
 pub mod Numbers
 pub mod Owners
+pub mod ReadLemmas
 pub mod Reading
 pub mod Separators
 pub mod Texts

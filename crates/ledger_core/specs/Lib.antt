@@ -7,6 +7,7 @@ pub mod Journal
 pub mod Judged
 pub mod Line
 pub mod Range
+pub mod Reads
 pub mod Standing
 pub mod Streams
 pub mod Text

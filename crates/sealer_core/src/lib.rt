@@ -2,8 +2,10 @@
 #![tactic(auto)]
 
 pub mod auditor;
+pub mod engine;
 
 pub use crate::auditor::run_audit;
+pub use crate::engine::{open_one, seal_one, verify_one};
 
 #[cfg(test)]
 mod tests;

@@ -1,0 +1,6 @@
+pub mod PartsLemmas
+pub mod StreamLemmas
+pub mod HeaderLemmas
+pub mod OpeningLemmas
+pub mod FaultLemmas
+pub mod LawLemmas

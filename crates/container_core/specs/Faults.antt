@@ -1,0 +1,32 @@
+-- The numbers of the faults.
+use Rattle.std.specs.Prelude.{ℕ}
+use Rattle.container_core.specs.declared.fault.OpenFault.{OpenFault}
+use Rattle.container_core.specs.declared.fault.OpenFault.TheVariants.{TooLong, ShortHeader, BadMagic, BadVersion, BadExponent, KeyMismatch, BadLength, Forged, OutOfMemory, Read, Write}
+use Rattle.container_core.specs.declared.fault.SealFault.{SealFault}
+use Rattle.container_core.specs.declared.fault.SealFault.TheVariants as sealing
+
+abbrev pub open_number : OpenFault → ℕ
+open_number TooLong = 1
+open_number ShortHeader = 2
+open_number BadMagic = 3
+open_number BadVersion = 4
+open_number BadExponent = 5
+open_number KeyMismatch = 6
+open_number BadLength = 7
+open_number (Forged chunk) = 8
+open_number OutOfMemory = 9
+open_number Read = 10
+open_number Write = 16
+
+-- a fault of the bytes themselves, and not of memory, a reader or a writer
+abbrev pub IsOfBytes : OpenFault → Type 0
+IsOfBytes OutOfMemory = ⊥
+IsOfBytes Read = ⊥
+IsOfBytes Write = ⊥
+IsOfBytes _ = Unit {0}
+
+abbrev pub seal_number : SealFault → ℕ
+seal_number sealing.TooLong = 11
+seal_number sealing.OutOfMemory = 12
+seal_number sealing.Read = 13
+seal_number sealing.Write = 14

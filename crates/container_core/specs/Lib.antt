@@ -1,0 +1,6 @@
+pub mod Chunks
+pub mod Container
+pub mod Cutting
+pub mod Faults
+pub mod Opening
+pub mod Stream

@@ -1,0 +1,45 @@
+-- Opening: the first fault of a container, or its plaintext.
+use Rattle.std.specs.Prelude.{ℕ, ◌+◌, ◌==◌, nat_lt, not, List, [], ◌∷◌, length, take, drop, slice_index, codes, Option, Some, None, Result, Ok, Err, if◌then◌else◌}
+use Rattle.std.specs.Str.{bytes_eq}
+use Rattle.container_core.specs.declared.fault.OpenFault.{OpenFault}
+use Rattle.container_core.specs.declared.fault.OpenFault.TheVariants.{TooLong, ShortHeader, BadMagic, BadVersion, BadExponent, KeyMismatch, BadLength, Forged}
+use Rattle.container_core.specs.Chunks.{container_length, has_plaintext, sealed_chunks}
+use Rattle.container_core.specs.Stream.{is_nil, opened_chunk, joined}
+use Rattle.container_core.specs.Container.{hint_of}
+
+-- the first fault of the header
+unfoldable pub header_fault : List ℕ → List ℕ → Option OpenFault
+header_fault key bytes =
+    if nat_lt (length bytes) 24 then Some ShortHeader else
+    (if not (bytes_eq (take 8 bytes) (codes "STRMSEAL")) then Some BadMagic else
+    (if not (slice_index bytes 8 == 1) then Some BadVersion else
+    (if not (slice_index bytes 9 == 16) then Some BadExponent else
+    (if not (bytes_eq (take 7 (drop 17 bytes)) (hint_of key)) then Some KeyMismatch else None))))
+
+-- the first of two faults, the earlier one named first
+abbrev pub first_fault : Option OpenFault → Option OpenFault → Option OpenFault
+first_fault (Some fault) later = Some fault
+first_fault None later = later
+
+-- the first fault that shows before any chunk is opened, where a plaintext may have `most` bytes
+unfoldable pub early_fault : List ℕ → ℕ → List ℕ → Option OpenFault
+early_fault key most bytes =
+    first_fault (if nat_lt (container_length most) (length bytes) then Some TooLong else None)
+    (first_fault (header_fault key bytes)
+    (if not (has_plaintext most (length bytes)) then Some BadLength else None))
+
+-- the chunks opened one by one, the first of which has this number, and joined; or that the first of them doesn't check
+unfoldable pub unsealed : List ℕ → List ℕ → ℕ → List (List ℕ) → Result (List ℕ) OpenFault
+unsealed key header number [] = Ok []
+unsealed key header number (sealed ∷ rest) =
+    joined (Forged number) (opened_chunk key header number (is_nil rest) sealed) (unsealed key header (number + 1) rest)
+
+-- a fault, or else an answer
+abbrev pub unless : Option OpenFault → Result (List ℕ) OpenFault → Result (List ℕ) OpenFault
+unless (Some fault) answer = Err fault
+unless None answer = answer
+
+-- what opening a container answers, where a plaintext may have `most` bytes: its first fault, or its plaintext
+unfoldable pub opening : List ℕ → ℕ → List ℕ → Result (List ℕ) OpenFault
+opening key most bytes =
+    unless (early_fault key most bytes) (unsealed key (take 24 bytes) 0 (sealed_chunks (drop 24 bytes)))

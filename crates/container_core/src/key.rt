@@ -1,0 +1,54 @@
+//! Keys, and the identity by which a header names its key.
+ghost use Rattle.std.specs.Prelude.{◌≡◌};
+ghost use Rattle.sha2.specs.Sha256.{sha256};
+ghost use Rattle.container_core.specs.Container.{hint_of};
+
+use sha2::{Digest, Sha256};
+use std::marker::Model;
+
+/// A key of 32 bytes. It isn't wiped when it's let go.
+#[derive(Drop)]
+pub struct Key {
+    secret: [u8; 32],
+}
+
+impl Model for Key {
+    ghost use Rattle.std.specs.Prelude.{ℕ, List};
+
+    ghost Value = { List ℕ };
+
+    ghost view = { λ k. k.secret };
+}
+
+impl Key {
+    /// The key of these bytes.
+    pub fn new(secret: [u8; 32]) -> Key
+        ensures { result ≡ secret }
+    {
+        Key { secret }
+    }
+
+    /// The key's identity: the SHA-256 of its bytes (FIPS 180-4).
+    pub fn id(&self) -> [u8; 32]
+        ensures { result ≡ sha256 self.now }
+    {
+        Sha256::digest(self.secret.as_slice())
+    }
+
+    // The key's bytes.
+    pub(crate) fn bytes(&self) -> &[u8; 32]
+        ensures { result.now ≡ self.now }
+    {
+        &self.secret
+    }
+
+    // The first 7 bytes of the key's identity.
+    #[tactic(auto, unfolding(crate::specs::Container::hint_of))]
+    pub(crate) fn hint(&self) -> [u8; 7]
+        ensures { result ≡ hint_of self.now }
+    {
+        let mut hint = [0; 7];
+        hint.copy_from_slice(&self.id()[..7]);
+        hint
+    }
+}

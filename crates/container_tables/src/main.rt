@@ -1,0 +1,66 @@
+//! What opening answers over damaged containers, containers for other programs to read, and how long both ways take.
+//!
+//! Without an argument it opens each cut and each alteration of the container of 131,073 zero bytes under the key
+//! 00 01 .. 1f, device 1, file 0, and prints what each answers. `make FOLDER` writes containers with their plaintexts;
+//! `measure` times 64 MiB.
+#![tactic(auto)]
+
+mod speed;
+mod tables;
+
+use anyhow::{Result, bail};
+use container_core::{Key, seal};
+use std::alloc::{AllocError, Global};
+use std::io::Print;
+use std::rt::{Env, Files};
+use std::{env, fs};
+
+/// 00 01 .. 1f.
+const COUNTING: [u8; 32] = [
+    0, 1, 2, 3, 4, 5, 6, 7, 8, 9, 10, 11, 12, 13, 14, 15, 16, 17, 18, 19, 20, 21, 22, 23, 24, 25,
+    26, 27, 28, 29, 30, 31,
+];
+
+/// Device 1; the number of the file follows.
+fn prefix_of(file: u8) -> [u8; 7] {
+    [0, 0, 1, 0, 0, 0, file]
+}
+
+// So many bytes that don't repeat at a chunk's length.
+fn pattern(alloc: Global, count: usize) -> Result<Vec<u8>, AllocError> {
+    let mut bytes = Vec::with_capacity(alloc, count)?;
+    for i in 0..count {
+        bytes.push((i % 251) as u8)?;
+    }
+    Ok(bytes)
+}
+
+// Writes a container and its plaintext, as FILE.stm and FILE, for each of a handful of lengths.
+fn make<R: Files + AllocGlobal>(rt: &R, folder: &str) -> Result<()> {
+    let alloc = rt.alloc();
+    let key = Key::new(COUNTING);
+    let lengths = [0, 1, 65_535, 65_536, 65_537, 131_072, 200_000];
+    for (file, length) in lengths.iter().enumerate() {
+        let plain = pattern(alloc, *length)?;
+        let bytes = seal(alloc, &key, prefix_of((file % 256) as u8), plain.as_slice())?;
+        let path = format!(in alloc; "{folder}/{length}")?;
+        fs::write(rt, path.as_str(), plain.as_slice())?;
+        let path = format!(in alloc; "{folder}/{length}.stm")?;
+        fs::write(rt, path.as_str(), bytes.as_slice())?;
+    }
+    Ok(())
+}
+
+fn main(rt: HostRuntime) -> Result<()> {
+    let words: Vec<String> = env::args(&rt)?.collect(rt.alloc())?;
+    if words.len() < 2 {
+        return tables::print(&rt, rt.alloc());
+    }
+    if words.len() == 2 && words[1].as_str() == "measure" {
+        return speed::measure(&rt, rt.alloc());
+    }
+    if words.len() == 3 && words[1].as_str() == "make" {
+        return make(&rt, words[2].as_str());
+    }
+    bail!("container_tables, or with `make FOLDER` or `measure`")
+}

@@ -1,0 +1,32 @@
+#!/bin/bash
+# Seals a handful of containers with our `seal`, and opens them with tools/open_container.py, which knows docs/FORMATS.md alone.
+# Says so, and ends well, where Python's package `cryptography` isn't there. RT names the command that runs a crate (rt).
+set -eu
+cd "$(dirname "$0")/.."
+folder=$(mktemp -d)
+trap 'rm -rf "$folder"' EXIT
+if ! python3 -c 'import cryptography' 2>/dev/null; then
+    echo "check_containers: skipped, Python's package cryptography isn't there"
+    exit 0
+fi
+(cd crates/container_tables && "${RT:-rt}" run -- make "$folder") >"$folder/log" 2>&1 || { cat "$folder/log"; exit 1; }
+python3 -c 'print(bytes(range(32)).hex())' >"$folder/key"
+count=0
+for sealed in "$folder"/*.stm; do
+    python3 tools/open_container.py "$folder/key" "$sealed" "$folder/opened"
+    cmp "$folder/opened" "${sealed%.stm}"
+    count=$((count + 1))
+    # A reader that checks nothing would open this one too.
+    python3 - "$sealed" <<'ALTER'
+import sys
+data = bytearray(open(sys.argv[1], "rb").read())
+data[-1] ^= 1
+open(sys.argv[1] + ".bad", "wb").write(data)
+ALTER
+    if python3 tools/open_container.py "$folder/key" "$sealed.bad" "$folder/opened" >/dev/null; then
+        echo "check_containers: $sealed opens though its last tag was changed"
+        exit 1
+    fi
+done
+[ "$count" -eq 7 ] || { echo "check_containers: $count containers, not 7"; exit 1; }
+echo "check_containers: $count containers of ours opened by an independent reader"
