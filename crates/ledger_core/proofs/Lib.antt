@@ -1,3 +1,5 @@
 pub mod Bounds
 pub mod Histories
+pub mod Keeps
 pub mod Owners
+pub mod Packing

@@ -1,3 +1,5 @@
 pub mod History
+pub mod Logs
 pub mod Range
+pub mod Rule
 pub mod Text

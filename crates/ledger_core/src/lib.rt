@@ -8,6 +8,8 @@
 pub mod device;
 pub mod entry;
 pub mod range;
+mod steps;
+mod table;
 
 pub use crate::device::{Device, prefix};
 pub use crate::entry::{Entry, Event, Tally, Way};
