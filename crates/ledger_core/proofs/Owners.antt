@@ -129,17 +129,17 @@ none_more true = refl
 none_more false = refl
 
 -- an entry that does not pass changes fails count
-calls_same : (p : Entry → Bool) (t : ℕ) (history : List Entry) (e : Entry) → p e ≡ false → count_by p (calls_of t (history ++ e ∷ [])) ≡ count_by p (calls_of t history)
+pub calls_same : (p : Entry → Bool) (t : ℕ) (history : List Entry) (e : Entry) → p e ≡ false → count_by p (calls_of t (history ++ e ∷ [])) ≡ count_by p (calls_of t history)
 calls_same p t history e fails =
     let c = count_calls p t history e in
     let z : cond {A = ℕ} (nat_eq e.seat t) (cond {A = ℕ} (p e) 1 0) 0 ≡ 0 = ap (λ b. cond {A = ℕ} (nat_eq e.seat t) (cond {A = ℕ} b 1 0) 0) fails ∙ none_more (nat_eq e.seat t) in omega arith
 
-calls_other : (p : Entry → Bool) (t : ℕ) (history : List Entry) (e : Entry) → e.seat ≢ t → count_by p (calls_of t (history ++ e ∷ [])) ≡ count_by p (calls_of t history)
+pub calls_other : (p : Entry → Bool) (t : ℕ) (history : List Entry) (e : Entry) → e.seat ≢ t → count_by p (calls_of t (history ++ e ∷ [])) ≡ count_by p (calls_of t history)
 calls_other p t history e other =
     let c = count_calls p t history e in
     let z : cond {A = ℕ} (nat_eq e.seat t) (cond {A = ℕ} (p e) 1 0) 0 ≡ 0 = ap (λ b. cond {A = ℕ} b (cond {A = ℕ} (p e) 1 0) 0) (ne_eqb e.seat t other) in omega arith
 
-calls_more : (p : Entry → Bool) (t : ℕ) (history : List Entry) (e : Entry) → e.seat ≡ t → p e ≡ true → count_by p (calls_of t (history ++ e ∷ [])) ≡ count_by p (calls_of t history) + 1
+pub calls_more : (p : Entry → Bool) (t : ℕ) (history : List Entry) (e : Entry) → e.seat ≡ t → p e ≡ true → count_by p (calls_of t (history ++ e ∷ [])) ≡ count_by p (calls_of t history) + 1
 calls_more p t history e same passes =
     let c = count_calls p t history e in
     let z : cond {A = ℕ} (nat_eq e.seat t) (cond {A = ℕ} (p e) 1 0) 0 ≡ 1 = (λ i. cond {A = ℕ} (eq-eqb e.seat t same i) (cond {A = ℕ} (passes i) 1 0) 0) in omega arith

@@ -7,10 +7,17 @@
 
 pub mod device;
 pub mod entry;
+pub mod journal;
+pub mod memory;
 pub mod range;
+pub mod standing;
 mod steps;
+pub mod stream;
 mod table;
 
 pub use crate::device::{Device, prefix};
 pub use crate::entry::{Entry, Event, Tally, Way};
+pub use crate::journal::Journal;
+pub use crate::memory::{FromMemory, Schedule, ToMemory};
 pub use crate::range::{BadRange, Range};
+pub use crate::stream::{Failed, FromRead, Sink, Source, ToWrite, write_all};
