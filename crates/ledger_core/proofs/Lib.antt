@@ -1,3 +1,4 @@
+pub mod Books
 pub mod Bounds
 pub mod Fronts
 pub mod Histories

@@ -67,7 +67,7 @@ can_of s h t (Settled n way) tracks legal low may =
       range.0,
       subst (λ c. k < c) (sym tracks.count) inside,
       same_issued (number_at s k) t false ((tracks.seat k t inside).1 (subst (λ m. 0 < times_granted m (calls_of t h)) at may.0))
-      (tracks.settled k inside ∙ none_is _ (subst (λ m. times_settled m h ≡ 0) at may.1)),
+          (tracks.settled k inside ∙ none_is _ (subst (λ m. times_settled m h ≡ 0) at may.1)),
     )
 
 -- the tests decide what may follow
@@ -210,25 +210,26 @@ grow s h t (Settled n way) tracks lawful legal low may =
       seat = λ k seat below.
           let inside : k < granted h = subst (λ c. k < c) same below in
           let kept : (number_at (after s t (Settled n way)) k).seat ≡ (number_at s k).seat =
-              dite (ℕ_discrete k j)
-              (λ is. ap (λ m. (number_at (after s t (Settled n way)) m).seat) is ∙ ap (λ (x : Issued). x.seat) (get_or-set_same s.numbers j (issued t true) (issued 64 true) can.1)
-                  ∙ sym (ap (λ m. (number_at s m).seat) is ∙ ap (λ (x : Issued). x.seat) can.2))
-              (λ is. ap (λ (x : Issued). x.seat) (get_or-set_other s.numbers j k (issued t true) (issued 64 true) is)) in
+          dite (ℕ_discrete k j)
+          (λ is. ap (λ m. (number_at (after s t (Settled n way)) m).seat) is ∙ ap (λ (x : Issued). x.seat) (get_or-set_same s.numbers j (issued t true) (issued 64 true) can.1)
+          ∙ sym (ap (λ m. (number_at s m).seat) is ∙ ap (λ (x : Issued). x.seat) can.2))
+          (λ is. ap (λ (x : Issued). x.seat) (get_or-set_other s.numbers j k (issued t true) (issued 64 true) is)) in
           subst (λ m. m ≡ seat ↔ (0 < times_granted (lo + k) (calls_of seat (h ++ e ∷ [])))) (sym kept) (still_seat s h e k seat tracks inside refl);
       settled = λ k below.
           let inside : k < granted h = subst (λ c. k < c) same below in
           dite (ℕ_discrete k j)
           (λ is.
-              let this : lo + k ≡ n = ap (λ m. lo + m) is ∙ at in
-              let c = count_more (settles (lo + k)) h e (eq-eqb (lo + k) n this) in
-              ap (λ m. (number_at (after s t (Settled n way)) m).settled) is ∙ ap (λ (x : Issued). x.settled) (get_or-set_same s.numbers j (issued t true) (issued 64 true) can.1)
-              ∙ sym (some_is _ (omega arith)))
+          let this : lo + k ≡ n = ap (λ m. lo + m) is ∙ at in
+          let c = count_more (settles (lo + k)) h e (eq-eqb (lo + k) n this) in
+          ap (λ m. (number_at (after s t (Settled n way)) m).settled) is ∙ ap (λ (x : Issued). x.settled) (get_or-set_same s.numbers j (issued t true) (issued 64 true) can.1)
+          ∙ sym (some_is _ (omega arith)))
           (λ is. ap (λ (x : Issued). x.settled) (get_or-set_other s.numbers j k (issued t true) (issued 64 true) is)
-              ∙ still_settled s h e k tracks inside (ne_eqb (lo + k) n (λ this. is (omega arith))));
+          ∙ still_settled s h e k tracks inside (ne_eqb (lo + k) n (λ this. is (omega arith))));
     }
   where
     not_granted : (w : Way) → is_granted (entry t (Settled n w)) ≡ false
     not_granted w = refl
+
     not_exhausted : (w : Way) → is_exhausted (entry t (Settled n w)) ≡ false
     not_exhausted w = refl
 

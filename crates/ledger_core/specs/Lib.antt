@@ -1,3 +1,5 @@
+pub mod Book
+pub mod Booked
 pub mod History
 pub mod Journal
 pub mod Logs

@@ -5,6 +5,7 @@
 //! and the readers and writers over which the whole product works.
 #![tactic(auto)]
 
+pub mod book;
 pub mod device;
 pub mod entry;
 pub mod journal;
@@ -15,6 +16,7 @@ mod steps;
 pub mod stream;
 mod table;
 
+pub use crate::book::{Book, BookFault};
 pub use crate::device::{Device, prefix};
 pub use crate::entry::{Entry, Event, Tally, Way};
 pub use crate::journal::Journal;

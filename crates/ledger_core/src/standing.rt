@@ -132,7 +132,10 @@ impl Standing {
         match entry.event {
             Event::Granted(_) => {
                 self.tally.granted += 1;
-                let number = Issued { seat: entry.seat, settled: false };
+                let number = Issued {
+                    seat: entry.seat,
+                    settled: false,
+                };
                 self.numbers.push(number).unwrap();
             }
             Event::Exhausted => {
