@@ -5,5 +5,6 @@ pub mod Histories
 pub mod Keeps
 pub mod Owners
 pub mod Packing
+pub mod Seats
 pub mod Texts
 pub mod Tracking

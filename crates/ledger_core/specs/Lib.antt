@@ -5,6 +5,7 @@ pub mod Journal
 pub mod Logs
 pub mod Range
 pub mod Rule
+pub mod Shared
 pub mod Standing
 pub mod Streams
 pub mod Text

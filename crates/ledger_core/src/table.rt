@@ -2,6 +2,9 @@
 //!
 //! The history stands in no memory. The rule says that there is one, that it is legal, that the word has its three counts,
 //! and that each seat has seen a beginning of it in which the seat's own operations are all that there is of that seat.
+ghost use Rattle.std.specs.Prelude.{◌≡◌};
+ghost use Rattle.ledger_core.specs.Journal.{terms_of};
+
 use crate::entry::Entry;
 use crate::range::Range;
 use atomic_table::{Join, Play, Seat, Split, Table, TableRule};
@@ -12,8 +15,8 @@ use std::marker::{Brand, Model, PhantomData};
 /// What a ledger is opened with.
 #[derive(Clone, Copy)]
 pub struct Opening {
-    pub range: Range,
-    pub seats: u32,
+    range: Range,
+    seats: u32,
 }
 
 impl Model for Opening {
@@ -26,11 +29,42 @@ impl Model for Opening {
     ghost inverse = { λ t. record { range = t.range; seats = t.seats } };
 }
 
+impl Opening {
+    pub fn new(range: Range, seats: u32) -> Opening
+        ensures { result ≡ terms_of range seats }
+    {
+        Opening { range, seats }
+    }
+
+    pub fn range(&self) -> Range
+        ensures { result ≡ self.now.range }
+    {
+        self.range
+    }
+
+    pub fn seats(&self) -> u32
+        ensures { result ≡ self.now.seats }
+    {
+        self.seats
+    }
+}
+
 /// A line of a seat's own log: its entry, and the place in the history where that stands.
 #[derive(Clone, Copy)]
 pub struct Record {
     pub entry: Entry,
     pub place: u32,
+}
+
+/// What a seat keeps of its own operations.
+#[derive(Drop)]
+pub struct Own {
+    /// It has met the end of the range.
+    pub closed: bool,
+    /// Its operations, in order.
+    pub log: Vec<Record>,
+    /// For each number of the range, in order, whether it is open at this seat.
+    pub held: Vec<bool>,
 }
 
 /// What a token knows. It stands for `width` seats from `seat` on: one for a seat of a ledger, none for a note.
