@@ -1,8 +1,10 @@
 pub mod Books
 pub mod Bounds
+pub mod Closing
 pub mod Fronts
 pub mod Histories
 pub mod Keeps
+pub mod Meetings
 pub mod Owners
 pub mod Packing
 pub mod Seats

@@ -1,5 +1,6 @@
 pub mod Book
 pub mod Booked
+pub mod Closing
 pub mod History
 pub mod Journal
 pub mod Logs

@@ -6,13 +6,16 @@
 ghost use Rattle.std.specs.Prelude.{◌≡◌, ◌<◌, ◌↔◌, ◌⊎◌, [], IfOk, IfErr, replicate, false};
 ghost use Rattle.ledger_core.specs.declared.entry.Event.TheVariants.{Granted, Settled};
 ghost use Rattle.ledger_core.specs.declared.fault.IssueFault.TheVariants.{SeatClosed};
+ghost use Rattle.ledger_core.specs.Closing.{AreAllSeats, IsWhole};
 ghost use Rattle.ledger_core.specs.History.{Begins, IsLawful, tally_of};
 ghost use Rattle.ledger_core.specs.Journal.{terms_of};
 ghost use Rattle.ledger_core.specs.Shared.{Extends, Holds, IsClosedSeat, Knows, Sees, Unissued, Unsettled, fresh_seats};
 
+use crate::close::{operations_of, put_together, room};
 use crate::entry::Tally;
 use crate::fault::{IssueFault, OpenLedgerFault, SettleFault};
 use crate::grant::{Grant, Spent};
+use crate::journal::Journal;
 use crate::range::Range;
 use crate::seat::{Seat, issue_in, learn_in, look_in, settle_in, tally_of_word};
 use crate::standing::MAX_SEATS;
@@ -161,6 +164,25 @@ impl Ledger {
             &mut second.token,
             note,
         );
+    }
+
+    /// The journal of the whole history. The seats are all that `open` gave, in the order of their numbers.
+    ///
+    /// Every seat's history begins the journal, whose entries of each seat are that seat's own operations, in order; it has no
+    /// others. Where memory is refused, everything is handed back unchanged.
+    pub fn close(self, mut seats: Vec<Seat>) -> Result<Journal, (AllocError, Ledger, Vec<Seat>)>
+        requires all { AreAllSeats self seats.items }
+        ensures terms { IfOk result (λ journal. journal.terms ≡ self.terms) }
+        ensures whole { IfOk result (λ journal. IsWhole self.terms seats.items journal.history) }
+        ensures refused { IfErr result (λ r. (r.1 ≡ self) × (r.2.items ≡ seats.items)) }
+    {
+        match room(self.alloc, operations_of(seats.as_slice())) {
+            Ok(mut entries) => {
+                put_together(&self, &mut entries, seats.as_mut_slice());
+                Ok(Journal::new(self.opening.range(), self.opening.seats(), entries))
+            }
+            Err(error) => Err((error, self, seats)),
+        }
     }
 }
 

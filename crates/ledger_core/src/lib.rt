@@ -6,6 +6,7 @@
 #![tactic(auto)]
 
 pub mod book;
+mod close;
 pub mod device;
 pub mod entry;
 pub mod fault;
