@@ -1,5 +1,6 @@
 pub mod Books
 pub mod Bounds
+pub mod Callers
 pub mod Closing
 pub mod Fronts
 pub mod Histories
@@ -7,6 +8,7 @@ pub mod Keeps
 pub mod Meetings
 pub mod Owners
 pub mod Packing
+pub mod Prefixes
 pub mod Seats
 pub mod Texts
 pub mod Tracking

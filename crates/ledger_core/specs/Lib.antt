@@ -4,6 +4,7 @@ pub mod Closing
 pub mod History
 pub mod Journal
 pub mod Logs
+pub mod Prefixes
 pub mod Range
 pub mod Rule
 pub mod Shared

@@ -53,6 +53,7 @@ impl Ledger {
     ) -> Result<(Ledger, Vec<Seat>), OpenLedgerFault>
         ensures opened { IfOk result (λ r. r.0.terms ≡ terms_of range seats) }
         ensures seats { IfOk result (λ r. r.1.items ≡ fresh_seats r.0.ledger (terms_of range seats) seats) }
+        ensures all { IfOk result (λ r. AreAllSeats r.0 r.1.items) }
         ensures bad_seats { result ≡ Err OpenLedgerFault.BadSeats ↔ ((seats ≡ 0) ⊎ (64 < seats)) }
     {
         if seats == 0 || seats > MAX_SEATS {

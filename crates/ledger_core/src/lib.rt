@@ -12,6 +12,7 @@ pub mod entry;
 pub mod fault;
 pub mod grant;
 pub mod journal;
+pub mod laws;
 pub mod ledger;
 pub mod memory;
 pub mod range;
