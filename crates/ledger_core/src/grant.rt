@@ -69,12 +69,7 @@ impl Grant {
     pub fn waste(self) -> Spent
         ensures { result ≡ record { device = self.device; number = self.number; way = Void } }
     {
-        let Grant { device, number } = self;
-        Spent {
-            device,
-            number,
-            way: Way::Void,
-        }
+        self.used().spoil()
     }
 }
 

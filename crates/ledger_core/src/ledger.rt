@@ -9,7 +9,7 @@ ghost use Rattle.ledger_core.specs.declared.fault.IssueFault.TheVariants.{SeatCl
 ghost use Rattle.ledger_core.specs.Closing.{AreAllSeats, IsWhole};
 ghost use Rattle.ledger_core.specs.History.{Begins, IsLawful, tally_of};
 ghost use Rattle.ledger_core.specs.Journal.{terms_of};
-ghost use Rattle.ledger_core.specs.Shared.{Extends, Holds, IsClosedSeat, Knows, Sees, Unissued, Unsettled, fresh_seats};
+ghost use Rattle.ledger_core.specs.Shared.{Extends, Holds, IsClosedSeat, IsSameSeat, Knows, Sees, Unissued, Unsettled, fresh_seats};
 
 use crate::close::{operations_of, put_together, room};
 use crate::entry::Tally;
@@ -75,6 +75,7 @@ impl Ledger {
         ensures device { IfOk result (λ grant. grant.device ≡ seat.old.terms.range.device) }
         ensures refused { IfErr result (λ fault. Unissued fault seat.old seat.new) }
         ensures closed { IsClosedSeat seat.old → result ≡ Err SeatClosed }
+        ensures same { IsSameSeat seat.old seat.new }
         ensures knows { Knows seat.new }
     {
         if seat.own.closed {
@@ -103,6 +104,7 @@ impl Ledger {
         ensures settled { IfOk result (λ _. Holds seat.old spent × Extends seat.old (Settled spent.number spent.way) seat.new) }
         ensures refused { IfErr result (λ f. Unsettled f.0 seat.old spent) }
         ensures unchanged { IfErr result (λ f. (f.1 ≡ spent) × (seat.new ≡ seat.old)) }
+        ensures same { IsSameSeat seat.old seat.new }
         ensures knows { Knows seat.new }
     {
         if !seat.holds(&spent) {
