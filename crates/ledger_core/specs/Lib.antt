@@ -1,8 +1,12 @@
+pub mod Audit
+pub mod AuditFaults
 pub mod Book
 pub mod Booked
 pub mod Closing
 pub mod History
 pub mod Journal
+pub mod Judged
+pub mod Line
 pub mod Logs
 pub mod Prefixes
 pub mod Range
@@ -11,3 +15,4 @@ pub mod Shared
 pub mod Standing
 pub mod Streams
 pub mod Text
+pub mod Verdict

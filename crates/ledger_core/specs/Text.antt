@@ -14,12 +14,15 @@ terms_text terms =
     codes "range " ++ decimal terms.range.device ++ codes " " ++ decimal terms.range.lo ++ codes " " ++ decimal terms.range.size
     ++ codes " " ++ decimal terms.seats
 
+abbrev pub way_text : Way → List ℕ
+way_text Sealed = codes "sealed"
+way_text Void = codes "void"
+
 -- `issue NUMBER`, `issue none`, `sealed NUMBER` or `void NUMBER`
 abbrev pub event_text : Event → List ℕ
 event_text (Granted number) = codes "issue " ++ decimal number
 event_text Exhausted = codes "issue none"
-event_text (Settled number Sealed) = codes "sealed " ++ decimal number
-event_text (Settled number Void) = codes "void " ++ decimal number
+event_text (Settled number way) = way_text way ++ 32 ∷ decimal number
 
 -- `SEAT`, a space, and the event
 abbrev pub entry_text : Entry → List ℕ

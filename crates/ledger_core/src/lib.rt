@@ -5,23 +5,30 @@
 //! and the readers and writers over which the whole product works.
 #![tactic(auto)]
 
+pub mod auditing;
+mod auditor;
 pub mod book;
 mod close;
 pub mod device;
 pub mod entry;
 pub mod fault;
 pub mod grant;
+pub mod grants;
 pub mod journal;
 pub mod laws;
 pub mod ledger;
+mod line;
 pub mod memory;
 pub mod range;
 pub mod seat;
 pub mod standing;
+mod state;
 mod steps;
 pub mod stream;
 mod table;
+pub mod verdict;
 
+pub use crate::auditing::{AuditFault, audit};
 pub use crate::book::{Book, BookFault};
 pub use crate::device::{Device, prefix};
 pub use crate::entry::{Entry, Event, Tally, Way};
@@ -33,3 +40,7 @@ pub use crate::memory::{FromMemory, Schedule, ToMemory};
 pub use crate::range::{BadRange, Range};
 pub use crate::seat::Seat;
 pub use crate::stream::{Failed, FromRead, Sink, Source, ToWrite, write_all};
+pub use crate::verdict::Verdict;
+
+#[cfg(test)]
+mod tests;

@@ -123,15 +123,14 @@ impl Standing {
         }
     }
 
-    // Takes the next entry.
+    // Takes the next entry. No count of a legal history comes to its end.
     pub(crate) fn take(&mut self, entry: Entry)
-        requires can { CanFollow self.old entry }
-        requires small { IsSmall self.old.tally }
-        ensures { self.new ≡ after self.old entry.seat entry.event }
+        requires { CanFollow self.old entry }
+        ensures { IsSmall self.old.tally → self.new ≡ after self.old entry.seat entry.event }
     {
         match entry.event {
             Event::Granted(_) => {
-                self.tally.granted += 1;
+                self.tally.granted = self.tally.granted.saturating_add(1);
                 let number = Issued {
                     seat: entry.seat,
                     settled: false,
@@ -139,13 +138,17 @@ impl Standing {
                 self.numbers.push(number).unwrap();
             }
             Event::Exhausted => {
-                self.tally.refused += 1;
+                self.tally.refused = self.tally.refused.saturating_add(1);
                 self.closed[entry.seat as usize] = true;
             }
             Event::Settled(number, way) => {
                 match way {
-                    Way::Sealed => self.tally.sealed += 1,
-                    Way::Void => self.tally.void += 1,
+                    Way::Sealed => {
+                        self.tally.sealed = self.tally.sealed.saturating_add(1);
+                    }
+                    Way::Void => {
+                        self.tally.void = self.tally.void.saturating_add(1);
+                    }
                 }
                 let k = number - self.range.lo();
                 self.numbers[k as usize].settled = true;

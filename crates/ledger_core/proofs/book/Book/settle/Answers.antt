@@ -17,14 +17,11 @@ returns-then-is_err-clause-not_open c =
     let test = open_test _ _ _ c.args.seat c.args.number c.args.way _ c.self.invariant c.self.view_is (omega arith) c.can_follow.ensures in
     ((λ other. absurd (cc)), (λ closed. absurd (closed.1 (test.0.0 c.if-not-can_follow.false))))
 
-pub take-requires-clause-small : goal.take-requires-clause-small
-take-requires-clause-small c = book_small _ _ c.self.invariant
-
 pub invariant_of-self-2 : goal.invariant_of-self-2
 invariant_of-self-2 c =
     let e = entry c.args.seat (Settled c.args.number c.args.way) in
     book_step c.self.inside.standing _ c.self.inside.journal _ e c.self.invariant (c.can_follow.ensures.0 c.if-not-can_follow.false)
-    (pushed _ _ e _ c.push.ensures c.if-is_err.ensures.negation) c.take.ensures
+    (pushed _ _ e _ c.push.ensures c.if-is_err.ensures.negation) (c.take.ensures (book_small _ _ c.self.invariant))
 
 pub returns-clause-not_open : goal.returns-clause-not_open
 returns-clause-not_open c =

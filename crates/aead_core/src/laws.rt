@@ -1,0 +1,26 @@
+//! What follows of the definitions alone, each law the contract of a function that does nothing.
+
+ghost use Rattle.std.specs.Prelude.{◌≡◌, ℕ, List, length, Some};
+ghost use Rattle.aead_core.specs.Aead.{aead, enciphered, tag_of, opened};
+
+/// Opening what was sealed gives the plaintext back.
+pub fn sealed_opens()
+    ensures { (key nonce aad plaintext : List ℕ)
+        → opened key nonce aad (aead key nonce aad plaintext).0 (aead key nonce aad plaintext).1
+        ≡ Some plaintext }
+{}
+
+/// What opens is what sealing its plaintext gives.
+pub fn opened_was_sealed()
+    ensures { (key nonce aad ciphertext tag plaintext : List ℕ)
+        → opened key nonce aad ciphertext tag ≡ Some plaintext
+        → aead key nonce aad plaintext ≡ (ciphertext, tag) }
+{}
+
+/// A ciphertext is as long as its plaintext, and a tag has 16 bytes.
+pub fn lengths()
+    ensures ciphertext { (key nonce text : List ℕ) → length (enciphered key nonce text)
+        ≡ length text }
+    ensures tag { (key nonce aad ciphertext : List ℕ)
+        → length (tag_of key nonce aad ciphertext) ≡ 16 }
+{}

@@ -1,0 +1,89 @@
+//! AEAD_CHACHA20_POLY1305 (RFC 8439, 2.6 and 2.8), in place and both ways. Nothing here takes
+//! memory or waits.
+//!
+//! `specs/Aead.antt` has the definitions, in the RFC's terms: `aead` is the pair of ciphertext and
+//! tag of a plaintext, `opened` the plaintext of such a pair.
+#![tactic(auto)]
+
+ghost use Rattle.std.specs.Prelude.{◌≡◌, ◌+◌, ◌-◌, ◌*◌, ◌^◌, ◌≤◌, ◌↔◌, length, take, IsTrue, Some, None, false, if◌then◌else◌};
+ghost use Rattle.aead_core.specs.Aead.{one_time_key, tag_of, aead, opened};
+
+use chacha_core::{apply, block};
+use poly_core::{Mac, same};
+
+pub mod laws;
+#[cfg(test)]
+mod tests;
+#[cfg(test)]
+mod vectors;
+
+// The counter of the text's first block; block 0 gives the one-time key.
+const FIRST: u32 = 1;
+
+// The first 32 bytes of a block.
+fn front(block: &[u8; 64]) -> [u8; 32]
+    ensures { result ≡ take 32 block.now }
+{
+    let mut bytes = [0; 32];
+    bytes.copy_from_slice(&block[..32]);
+    bytes
+}
+
+// The one-time key of Poly1305 (2.6).
+fn one_time_key(key: &[u8; 32], nonce: &[u8; 12]) -> [u8; 32]
+    ensures { result ≡ one_time_key key.now nonce.now }
+{
+    front(&block(key, 0, nonce))
+}
+
+// The tag of associated data and a ciphertext (2.8).
+fn tag_of(key: &[u8; 32], nonce: &[u8; 12], aad: &[u8], ciphertext: &[u8]) -> [u8; 16]
+    ensures { result ≡ tag_of key.now nonce.now aad.now ciphertext.now }
+{
+    let mut mac = Mac::new(&one_time_key(key, nonce));
+    mac.absorb(aad);
+    mac.pad();
+    mac.absorb(ciphertext);
+    mac.pad();
+    mac.absorb(&(aad.len() as u64).to_le_bytes());
+    mac.absorb(&(ciphertext.len() as u64).to_le_bytes());
+    mac.finish()
+}
+
+/// Seals `text` in place under a key of 32 bytes, a nonce of 12 and associated data: the text
+/// becomes its ciphertext, and the tag of 16 bytes is answered (RFC 8439, 2.8). A text has at most
+/// 2^32 - 1 blocks of 64 bytes.
+pub fn seal_in_place(key: &[u8; 32], nonce: &[u8; 12], aad: &[u8], text: &mut [u8]) -> [u8; 16]
+    requires { length text.old ≤ (2 ^ 32 - 1) * 64 }
+    ensures ciphertext { text.new ≡ (aead key.now nonce.now aad.now text.old).0 }
+    ensures tag { result ≡ (aead key.now nonce.now aad.now text.old).1 }
+{
+    apply(key, nonce, FIRST, text);
+    tag_of(key, nonce, aad, text)
+}
+
+/// Opens `text` in place: answers whether `tag` is the tag of the associated data and of `text` as
+/// a ciphertext (RFC 8439, 2.8). Where it is, the text becomes the plaintext; where it isn't, it
+/// stays as it was. A text has at most 2^32 - 1 blocks of 64 bytes.
+pub fn open_in_place(
+    key: &[u8; 32],
+    nonce: &[u8; 12],
+    aad: &[u8],
+    text: &mut [u8],
+    tag: &[u8; 16],
+) -> bool
+    requires { length text.old ≤ (2 ^ 32 - 1) * 64 }
+    ensures accepts { IsTrue result ↔ (tag.now ≡ tag_of key.now nonce.now aad.now text.old) }
+    ensures plaintext { IsTrue result → aead key.now nonce.now aad.now text.new
+        ≡ (text.old, tag.now) }
+    ensures unchanged { result ≡ false → text.new ≡ text.old }
+    ensures value { opened key.now nonce.now aad.now text.old tag.now
+        ≡ (if result then Some text.new else None) }
+{
+    if same(tag, &tag_of(key, nonce, aad, text)) {
+        apply(key, nonce, FIRST, text);
+        true
+    } else {
+        false
+    }
+}

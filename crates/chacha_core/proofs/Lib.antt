@@ -1,0 +1,2 @@
+pub mod StreamLemmas
+mod WordLemmas

@@ -1,0 +1,62 @@
+//! ChaCha20 (RFC 8439, 2.1 to 2.4): the quarter round, the block, and the XOR of a text with the
+//! keystream. Nothing here takes memory or waits.
+//!
+//! `specs/ChaCha20.antt` has the definitions, in the RFC's terms, and each public function gives
+//! its definition's value on every input.
+#![tactic(auto)]
+
+ghost use Rattle.std.specs.Prelude.{◌≡◌, ◌+◌, ◌/◌, ◌^◌, ◌≤◌, length};
+ghost use Rattle.chacha_core.specs.ChaCha20.{quarter_round, block, chacha20};
+
+use state::{block_words, quarter_round, start_state};
+use stream::{block_bytes, xor_block, xor_rest};
+
+pub mod laws;
+mod state;
+mod stream;
+#[cfg(test)]
+mod tests;
+#[cfg(test)]
+mod vectors;
+
+// The bytes of a block.
+const BLOCK: usize = 64;
+
+// The counter's place among the words of a state.
+const COUNTER: usize = 12;
+
+/// The quarter round on four words (RFC 8439, 2.1).
+pub fn quarter(a: u32, b: u32, c: u32, d: u32) -> (u32, u32, u32, u32)
+    ensures { result ≡ quarter_round a b c d }
+{
+    quarter_round(a, b, c, d)
+}
+
+/// The 64 bytes of the block with this counter (RFC 8439, 2.3), from a key of 32 bytes and a nonce
+/// of 12.
+pub fn block(key: &[u8; 32], counter: u32, nonce: &[u8; 12]) -> [u8; 64]
+    ensures { result ≡ block key.now counter nonce.now }
+{
+    block_bytes(&block_words(&start_state(key, counter, nonce)))
+}
+
+/// Enciphers or deciphers `text` in place: XORs it with the keystream whose first block has the
+/// counter `first` (RFC 8439, 2.4). No block's counter may pass 32 bits.
+pub fn apply(key: &[u8; 32], nonce: &[u8; 12], first: u32, text: &mut [u8])
+    requires { first + (length text.old + 63) / 64 ≤ 2 ^ 32 }
+    ensures { text.new ≡ chacha20 key.now nonce.now first text.old }
+{
+    let mut state = start_state(key, first, nonce);
+    let whole = text.len() / BLOCK;
+    'whole_blocks: for i in 0..whole {
+        state[COUNTER] = first + i as u32;
+        xor_block(
+            &mut text[BLOCK * i..BLOCK * i + BLOCK],
+            &block_words(&state),
+        );
+    }
+    if text.len() % BLOCK > 0 {
+        state[COUNTER] = first + whole as u32;
+        xor_rest(&mut text[BLOCK * whole..], &block_words(&state));
+    }
+}

@@ -1,0 +1,4 @@
+mod AbsorbedLemmas
+mod LaneLemmas
+mod LittleLemmas
+mod SumLemmas

@@ -1,0 +1,27 @@
+//! Poly1305 (RFC 8439, 2.5), over a message that comes piece by piece. Nothing here takes memory or
+//! waits.
+//!
+//! A [`Mac`] doesn't keep the bytes that it absorbed. Its contracts relate it to a key and a
+//! message by `Absorbed` of `specs/Absorbed.antt`, and what a call promises holds of every key and
+//! message to which the mac stands in this relation. No other crate sees a limb.
+#![tactic(auto)]
+
+ghost use Rattle.std.specs.Prelude.{◌≡◌, ◌↔◌, IsTrue};
+
+mod blocks;
+mod lanes;
+mod limbs;
+mod mac;
+#[cfg(test)]
+mod tests;
+#[cfg(test)]
+mod vectors;
+
+pub use mac::Mac;
+
+/// Whether two tags are equal.
+pub fn same(a: &[u8; 16], b: &[u8; 16]) -> bool
+    ensures { IsTrue result ↔ (a.now ≡ b.now) }
+{
+    a == b
+}
