@@ -2,12 +2,17 @@ pub mod Audit
 pub mod AuditFaults
 pub mod Book
 pub mod Booked
+pub mod Closing
 pub mod History
 pub mod Journal
 pub mod Judged
 pub mod Line
+pub mod Logs
+pub mod Prefixes
 pub mod Range
 pub mod Reads
+pub mod Rule
+pub mod Shared
 pub mod Standing
 pub mod Streams
 pub mod Text

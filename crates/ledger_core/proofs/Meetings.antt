@@ -1,0 +1,137 @@
+-- A note goes round the seats, and what it shows after the first round is the history of all.
+-- No less: each seat showed it what that seat had seen, its own operations with it. No more: each seat has seen it in the second round,
+-- and of its own operations a seat has seen just those that it made.
+use Rattle.std.proofs.Common.{◌≡◌, ◌≢◌, ℕ, zero, suc, ◌+◌, ◌<◌, ◌≤◌, List, [], ◌∷◌, ◌++◌, length, get_or, set, refl, sym, ap, ◌∙◌, subst, arith, length-append, append_assoc, append-nil}
+use mathlib.Core.Logic.{dite}
+use native.Mathlib.Decide.{ℕ_discrete}
+use Rattle.std.specs.Prelude.{Some, None, slice_get}
+use Rattle.std.proofs.lemmas.List.{length-set, set-get_or}
+use Rattle.std.proofs.lemmas.Option.{slice_get_within, slice_get-get_or}
+use Rattle.ledger_core.specs.declared.entry.Entry.{Entry}
+use Rattle.ledger_core.specs.History.{Terms, Begins, calls_of}
+use Rattle.ledger_core.specs.Rule.{Mine}
+use Rattle.ledger_core.specs.Shared.{LedgerId, SeatView, seat_view, Knows, Sees}
+use Rattle.ledger_core.specs.Closing.{HasSeat, IsPassed, ArePassed, HaveMet}
+use Rattle.ledger_core.proofs.Histories.{begins_refl, begins_trans}
+use Rattle.ledger_core.proofs.Seats.{calls_both}
+
+-- places of a list
+
+module _ {A : Type 0} where
+  pub get-set_here : (l : List A) (i : ℕ) (a : A) → i < length l → slice_get (set l i a) i ≡ Some a
+  get-set_here [] i a h = absurd (omega arith)
+  get-set_here (x ∷ xs) zero a h = refl
+  get-set_here (x ∷ xs) (suc i) a h = get-set_here xs i a (omega arith)
+
+  pub get-set_else : (l : List A) (i j : ℕ) (a : A) → j ≢ i → slice_get (set l i a) j ≡ slice_get l j
+  get-set_else [] i j a n = refl
+  get-set_else (x ∷ xs) zero zero a n = absurd (n refl)
+  get-set_else (x ∷ xs) zero (suc j) a n = refl
+  get-set_else (x ∷ xs) (suc i) zero a n = refl
+  get-set_else (x ∷ xs) (suc i) (suc j) a n = get-set_else xs i j a (λ e. n (ap suc e))
+
+  pub some_at : (l : List A) (i : ℕ) → i < length l → (a : A) × (slice_get l i ≡ Some a)
+  some_at [] i h = absurd (omega arith)
+  some_at (x ∷ xs) zero h = (x, refl)
+  some_at (x ∷ xs) (suc i) h = some_at xs i (omega arith)
+
+  pub same_at : (l : List A) (i : ℕ) (a b : A) → slice_get l i ≡ Some a → slice_get l i ≡ Some b → a ≡ b
+  same_at l i a b x y = let both : Some a ≡ Some b = sym x ∙ y in cc
+
+-- the note is at seat `at`: those before it are passed, the others as they were
+pub record AreOnWay (before after : List Entry) (at : ℕ) (old now : List SeatView) : Type 0 where
+  pub count : length now ≡ length old
+  pub on : Begins before after
+  pub passed : (i : ℕ) (v : SeatView) → i < at → slice_get old i ≡ Some v → (w : SeatView) × (slice_get now i ≡ Some w) × IsPassed before after v w
+  pub waiting : (i : ℕ) → at ≤ i → slice_get now i ≡ slice_get old i
+
+pub set_out : (before : List Entry) (seats : List SeatView) → AreOnWay before before 0 seats seats
+set_out before seats = record { count = refl; on = begins_refl before; passed = λ i v less at. absurd (omega arith); waiting = λ i more. refl }
+
+-- the seat whose turn it is
+pub its_turn : (before mid : List Entry) (at : ℕ) (old now : List SeatView) (v : SeatView) → AreOnWay before mid at old now → at < length now → v ≡ get_or now at v → slice_get old at ≡ Some v
+its_turn before mid at old now v way inside is = sym (way.waiting at (omega arith)) ∙ slice_get-get_or now at v inside ∙ ap (λ (z : SeatView). Some z) (sym is)
+
+pub goes_on : (before mid after : List Entry) (at : ℕ) (old now : List SeatView) (v w : SeatView) → AreOnWay before mid at old now → at < length now → v ≡ get_or now at v → IsPassed mid after v w
+    → AreOnWay before after (at + 1) old (set now at w)
+goes_on before mid after at old now v w way inside is p =
+    let further : Begins mid after = begins_trans mid w.seen after p.from p.to in record {
+      count = length-set now at w ∙ way.count;
+      on = begins_trans before mid after way.on further;
+      passed = λ i x less there. dite (ℕ_discrete i at)
+          (λ here.
+          let same : v ≡ x = same_at old at v x (its_turn before mid at old now v way inside is) (ap (slice_get old) (sym here) ∙ there) in (
+            w,
+            ap (slice_get (set now at w)) here ∙ get-set_here now at w inside,
+            subst (λ (z : SeatView). IsPassed before after z w) same
+                record { sees = p.sees; from = begins_trans before mid w.seen way.on p.from; to = p.to; known = p.known; knows = p.knows },
+          ))
+          (λ else.
+          let was = way.passed i x (omega arith) there in
+          let q = was.2 in
+          (was.0, get-set_else now at i w else ∙ was.1, record { sees = q.sees; from = q.from; to = begins_trans was.0.seen mid after q.to further; known = q.known; knows = q.knows }));
+      waiting = λ i more. get-set_else now at i w (λ e. omega arith) ∙ way.waiting i (omega arith);
+    }
+
+pub arrives : (before after : List Entry) (at : ℕ) (old now : List SeatView) → AreOnWay before after at old now → length old ≤ at → ArePassed before after old now
+arrives before after at old now way end = record {
+  count = way.count;
+  on = way.on;
+  each = λ i v there. way.passed i v (let inside = slice_get_within old i v there in omega arith) there;
+}
+
+-- seats that were passed are of the ledger still
+pub still_ours : (ledger : LedgerId) (before after : List Entry) (old new : List SeatView) → ArePassed before after old new
+    → ((i : ℕ) (v : SeatView) → slice_get old i ≡ Some v → v.ledger ≡ ledger) → (i : ℕ) (w : SeatView) → slice_get new i ≡ Some w → w.ledger ≡ ledger
+still_ours ledger before after old new passed ours i w there =
+    let v = some_at old i (let inside = slice_get_within new i w there in let c = passed.count in omega arith) in
+    let p = passed.each i v.0 v.1 in
+    ap (λ (z : SeatView). z.ledger) (same_at new i w p.0 there p.1) ∙ ap (λ (z : SeatView). z.ledger) p.2.sees.1 ∙ ours i v.0 v.1
+
+sees_then : (u v w : SeatView) → Sees u v → Sees v w → Sees u w
+sees_then u v w a b =
+    (a.0 ++ b.0, b.1 ∙ ap (λ (z : SeatView). record z { seen = z.seen ++ b.0 }) a.1 ∙ ap (λ l. record u { seen = l }) (append_assoc u.seen a.0 b.0))
+
+pub sees_begins : (v w : SeatView) → Sees v w → Begins v.seen w.seen
+sees_begins v w s = (s.0, ap (λ (z : SeatView). z.seen) s.1)
+
+-- between two histories that have the same of a seat there is no other
+same_between : (t : ℕ) (mine xs ys zs : List Entry) → Begins xs ys → Begins ys zs → calls_of t xs ≡ mine → calls_of t zs ≡ mine → calls_of t ys ≡ mine
+same_between t mine xs ys zs a b first last =
+    let left : calls_of t ys ≡ mine ++ calls_of t a.0 = ap (calls_of t) a.1 ∙ calls_both t xs a.0 ∙ ap (λ l. l ++ calls_of t a.0) first in
+    let right : mine ≡ calls_of t ys ++ calls_of t b.0 = sym last ∙ ap (calls_of t) b.1 ∙ calls_both t ys b.0 in
+    let none : length (calls_of t a.0) ≡ 0 = omega (arith, ap length left, ap length right, length-append mine (calls_of t a.0), length-append (calls_of t ys) (calls_of t b.0)) in
+    left ∙ ap (λ l. mine ++ l) (empty (calls_of t a.0) none) ∙ append-nil mine
+  where
+    empty : (l : List Entry) → length l ≡ 0 → l ≡ []
+    empty [] e = refl
+    empty (x ∷ xs) e = absurd (omega arith)
+
+-- twice round
+pub have_met : (from history to : List Entry) (old mid new : List SeatView) → ArePassed from history old mid → ArePassed history to mid new → HaveMet old new history
+have_met from history to old mid new first second = record {
+  count = second.count ∙ first.count;
+  before = λ i v there.
+      let p = first.each i v there in
+      let q = second.each i p.0 p.1 in
+      let begun : Begins v.seen history = begins_trans v.seen p.0.seen history (sees_begins v p.0 p.2.sees) p.2.to in
+      let same = sees_then v p.0 q.0 p.2.sees q.2.sees in
+      record {
+        seen = begun;
+        own = same_between v.number v.mine v.seen history q.0.seen begun q.2.from p.2.known.own
+            (subst (λ (z : SeatView). calls_of z.number q.0.seen ≡ z.mine) (same_two v q.0 same) q.2.knows.own);
+      };
+  after = λ i v there.
+      let p = first.each i v there in
+      let q = second.each i p.0 p.1 in
+      (q.0, q.1, sees_then v p.0 q.0 p.2.sees q.2.sees, q.2.knows, q.2.from);
+}
+  where
+    same_two : (v w : SeatView) → Sees v w → w ≡ record v { seen = w.seen }
+    same_two v w s = s.1 ∙ ap (λ l. record v { seen = l }) (sym (ap (λ (z : SeatView). z.seen) s.1))
+
+-- a seat that wrote a note is as it was
+pub unchanged : (seats : List SeatView) (at : ℕ) (d : SeatView) (z y : LedgerId) (k : Terms) (t : ℕ) (me w : Mine) → y ≡ z → w ≡ me → seat_view z k t me.0.seen me.0.mine ≡ get_or seats at d
+    → set seats at (seat_view y k t w.0.seen w.0.mine) ≡ seats
+unchanged seats at d z y k t me w table same is =
+    ap (set seats at) ((λ i. seat_view (table i) k t (same i).0.seen (same i).0.mine) ∙ is) ∙ set-get_or seats at d

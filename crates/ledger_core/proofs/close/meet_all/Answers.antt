@@ -1,0 +1,18 @@
+use Rattle.std.proofs.Common.{List, ◌∙◌, ap, subst}
+use Rattle.ledger_core.specs.Shared.{SeatView}
+use Rattle.ledger_core.specs.Closing.{ArePassed}
+use Rattle.ledger_core.proofs.Meetings.{still_ours, have_met, unchanged}
+use Rattle.ledger_core.proofs.close.meet_all.Goals as goal
+
+pub round-requires-clause-ours : goal.round-requires-clause-ours
+round-requires-clause-ours c =
+    let w = c.write_step-note.ensures.same in
+    let seats = unchanged c.args.seats.now _ _ _ _ _ _ _ _ w.0 w.1 c.first.view_is in
+    still_ours _ _ _ _ _ (subst (λ (l : List SeatView). ArePassed c.write_step-note.result.me.0.seen c.round-note.result.me.0.seen l c.round-note.new.seats) seats c.round-note.ensures.on) c.requires.ours
+
+pub returns : goal.returns
+returns c =
+    let w = c.write_step-note.ensures.same in
+    let seats = unchanged c.args.seats.now _ _ _ _ _ _ _ _ w.0 w.1 c.first.view_is in
+    let first = subst (λ (l : List SeatView). ArePassed c.write_step-note.result.me.0.seen c.round-note.result.me.0.seen l c.round-note.new.seats) seats c.round-note.ensures.on in
+    (c.round-note.result.me.0.seen, have_met _ _ _ _ _ _ first c.round.ensures.on)

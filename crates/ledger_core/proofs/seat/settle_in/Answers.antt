@@ -1,0 +1,27 @@
+use Rattle.std.proofs.Common.{ap, ◌∙◌, arith}
+use Rattle.ledger_core.specs.declared.entry.Event.TheVariants.{Settled}
+use Rattle.ledger_core.specs.Range.{Numbers}
+use Rattle.ledger_core.specs.Logs.{held_after}
+use Rattle.ledger_core.proofs.Seats.{seat_settles, found_small, held_inside}
+use Rattle.ledger_core.proofs.seat.settle_in.Goals as goal
+
+pub place-place-requires : goal.place-place-requires
+place-place-requires c = let a = c.settle_step-found.ensures.step in found_small _ _ _ _ _ _ _ a.0 c.requires.seat a.1.0
+
+pub keep-requires-clause-mark : goal.keep-requires-clause-mark
+keep-requires-clause-mark c =
+    let inside = held_inside _ _ _ _ _ _ _ c.requires.seat c.requires.held in
+    let lo = c.lo.ensures ∙ ap (λ (r : Numbers). r.lo) c.range.ensures in
+    let number = c.number-settled.ensures in
+    let all = c.requires.seat.all_held in
+    let least = inside.0 in
+    let most = inside.1 in
+    ((omega arith), (omega arith))
+
+pub returns-clause-seat : goal.returns-clause-seat
+returns-clause-seat c =
+    let s = c.settle_step-found.ensures in
+    let k = c.keep.ensures in
+    let lo = c.lo.ensures ∙ ap (λ (r : Numbers). r.lo) c.range.ensures in
+    seat_settles _ _ c.number-settled.result c.way-way.result _ _ _ _ _ _ _ _ _ _ c.requires.seat s.step s.table.1 c.place-place.ensures
+    k.closed k.log (k.held ∙ ap (λ z. held_after z c.args.own.now.held.items (Settled c.number-settled.result c.way-way.result)) lo)

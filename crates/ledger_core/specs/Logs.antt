@@ -1,0 +1,74 @@
+-- What the fields of a seat say: its own log has its own operations in order, each with the place where it stands.
+use Rattle.std.specs.Prelude.{◌≡◌, ℕ, ◌+◌, ◌-◌, ◌/◌, ◌%◌, ◌<◌, ◌≤◌, Bool, true, false, ◌&&◌, if◌then◌else◌, nat_eq, nat_lt, List, [], ◌∷◌, ◌++◌, length, map, slice_set, ⊤, Option, Some, None}
+use Rattle.std.specs.List.{slice_index_or}
+use Rattle.ledger_core.specs.declared.entry.Event.{Event}
+use Rattle.ledger_core.specs.declared.entry.Event.TheVariants.{Granted, Exhausted, Settled}
+use Rattle.ledger_core.specs.declared.entry.Entry.{Entry}
+use Rattle.ledger_core.specs.declared.table.Record.{Record}
+use Rattle.ledger_core.specs.declared.table.View.{View}
+use Rattle.ledger_core.specs.History.{Terms, IsLawful, Legal, calls_of, refused, times_granted, times_settled}
+use Rattle.ledger_core.specs.Rule.{Mine}
+
+-- the places of the entries of a seat, where the list begins at place n
+abbrev pub places_from : ℕ → ℕ → List Entry → List ℕ
+places_from n seat [] = []
+places_from n seat (e ∷ es) = if nat_eq e.seat seat then n ∷ places_from (n + 1) seat es else places_from (n + 1) seat es
+
+abbrev pub recorded : Record → Entry
+recorded r = r.entry
+
+abbrev pub place_in : Record → ℕ
+place_in r = r.place
+
+-- the place of the entry that was added to a history with this word: its three counts added up
+abbrev pub place_of_word : ℕ → ℕ
+place_of_word n = n % 1048576 + (n / 1048576) % 1048576 + n / 1099511627776
+
+-- the number is open among these operations
+abbrev pub is_held : ℕ → List Entry → Bool
+is_held number mine = nat_lt 0 (times_granted number mine) && nat_eq (times_settled number mine) 0
+
+-- the number is one of the range, and marked as held
+abbrev pub IsMarked : Terms → List Bool → ℕ → Type 0
+IsMarked terms held number = (terms.range.lo ≤ number) × (number - terms.range.lo < length held) × (slice_index_or held (number - terms.range.lo) false ≡ true)
+
+-- the marks after an operation
+abbrev pub held_after : ℕ → List Bool → Event → List Bool
+held_after lo held (Granted n) = slice_set held (n - lo) true
+held_after lo held Exhausted = held
+held_after lo held (Settled n way) = slice_set held (n - lo) false
+
+-- the event's number, if it has one, has a mark
+abbrev pub HasMark : ℕ → List Bool → Event → Type 0
+HasMark lo held (Granted n) = (lo ≤ n) × (n - lo < length held)
+HasMark lo held Exhausted = ⊤
+HasMark lo held (Settled n way) = (lo ≤ n) × (n - lo < length held)
+
+-- the fields of a seat: record j of its log has entry j of its own operations, and the place where that stands in what it has seen
+pub record IsSeat (opened : Terms) (seat : ℕ) (closed : Bool) (log : List Record) (held : List Bool) (me : Mine) : Type 0 where
+  pub one_seat : me.0.width ≡ 1
+  pub no_slots : me.1 ≡ []
+  pub terms : me.0.terms ≡ opened
+  pub number : me.0.seat ≡ seat
+  pub inside : seat < opened.seats
+  pub lawful : IsLawful opened
+  pub legal : Legal opened me.0.seen
+  pub own : calls_of seat me.0.seen ≡ me.0.mine
+  pub entries : map recorded log ≡ me.0.mine
+  pub places : map place_in log ≡ places_from 0 seat me.0.seen
+  pub closed_is : closed ≡ nat_lt 0 (refused me.0.mine)
+  pub all_held : length held ≡ opened.range.size
+  pub held_is : (k : ℕ) → k < opened.range.size → slice_index_or held k false ≡ is_held (opened.range.lo + k) me.0.mine
+
+-- what a seat has seen goes on from before and ends with this entry, and so do its own operations
+abbrev pub Steps : View → Entry → View → Type 0
+Steps view e after = (between : List Entry) × (after.seen ≡ (view.seen ++ between) ++ e ∷ []) × (after.mine ≡ view.mine ++ e ∷ [])
+
+-- the reply to an issue that grants this number
+abbrev pub event_of : Option ℕ → Event
+event_of (Some n) = Granted n
+event_of None = Exhausted
+
+-- what is left of a new ledger's seats, from this one on
+abbrev pub from_seat : Terms → ℕ → View
+from_seat terms seat = record { terms = terms; seat = seat; width = terms.seats - seat; seen = []; mine = []; told = [] }

@@ -1,0 +1,131 @@
+-- The rule of the ledger's word: what always holds of the word and of what the seats know, and what each atomic step tells.
+-- There is one legal history. Each seat has seen a beginning of it, and the word has its three counts.
+use Rattle.std.specs.Prelude.{◌≡◌, ℕ, ◌+◌, ◌-◌, ◌*◌, ◌<◌, ◌≤◌, List, [], ◌∷◌, ◌++◌, nat_lt, if◌then◌else◌}
+use mathlib.Core.Option.{some}
+use lib.ListN.{get_elem?}
+use Rattle.atomic_table.specs.Table.{State, Me, Step}
+use Rattle.atomic_table.specs.Seated.{TableId}
+use Rattle.ledger_core.specs.declared.entry.Way.{Way}
+use Rattle.ledger_core.specs.declared.entry.Event.{Event}
+use Rattle.ledger_core.specs.declared.entry.Event.TheVariants.{Granted, Exhausted, Settled}
+use Rattle.ledger_core.specs.declared.entry.Entry.{Entry}
+use Rattle.ledger_core.specs.declared.table.View.{View}
+use Rattle.ledger_core.specs.Range.{range_of}
+use Rattle.ledger_core.specs.History.{Terms, IsLawful, Legal, Begins, calls_of, granted, refused, sealed, voided, times_granted, times_settled, entry}
+
+-- the three counts of a history in one word: issues from bit 0, sealed from bit 20, void from bit 40
+abbrev pub packed : List Entry → ℕ
+packed history = (granted history + refused history) + 1048576 * sealed history + 1099511627776 * voided history
+
+-- the view stands for this seat
+abbrev pub StandsFor : View → ℕ → Type 0
+StandsFor view seat = (view.seat ≤ seat) × (seat < view.seat + view.width)
+
+-- what the history says of one view
+pub record Fits (opened : Terms) (history : List Entry) (view : View) : Type 0 where
+  pub terms : 0 < view.width → view.terms ≡ opened
+  pub seats : 0 < view.width → view.seat + view.width ≤ opened.seats
+  pub seen : Begins view.seen history
+  pub told : Begins view.told history
+  pub own : 0 < view.width → calls_of view.seat history ≡ view.mine
+  pub idle : (seat : ℕ) → view.seat < seat → seat < view.seat + view.width → calls_of seat history ≡ []
+
+-- no two views stand for one seat
+abbrev pub Apart : List View → Type 0
+Apart views = (i j seat : ℕ) (v w : View) → get_elem? views i ≡ some v → get_elem? views j ≡ some w → StandsFor v seat → StandsFor w seat → i ≡ j
+
+-- the table has this history
+pub record HasHistory (opened : Terms) (history : List Entry) (table : State (Unit {0}) View) : Type 0 where
+  pub lawful : IsLawful opened
+  pub legal : Legal opened history
+  pub word : table.words ≡ packed history ∷ []
+  pub fits : (i : ℕ) (v : View) → get_elem? table.views i ≡ some v → Fits opened history v
+  pub apart : Apart table.views
+
+abbrev pub IsKept : Terms → State (Unit {0}) View → Type 0
+IsKept opened table = (history : List Entry) × HasHistory opened history table
+
+-- the view of a seat that has seen this, and made these operations
+abbrev pub knower : Terms → ℕ → List Entry → List Entry → List Entry → View
+knower terms seat seen mine told = record { terms = terms; seat = seat; width = 1; seen = seen; mine = mine; told = told }
+
+-- the first view stands for all seats
+abbrev pub newcomer : Terms → View
+newcomer terms = record { terms = terms; seat = 0; width = terms.seats; seen = []; mine = []; told = [] }
+
+-- the view after its seat added an entry to this history
+abbrev pub added : View → List Entry → Entry → View
+added view before e = record view { seen = before ++ e ∷ []; mine = view.mine ++ e ∷ [] }
+
+-- the seat finds this history before it, by this word
+pub record Finds (view : View) (word : ℕ) (history : List Entry) : Type 0 where
+  pub further : Begins view.seen history
+  pub told : Begins view.told history
+  pub found : word ≡ packed history
+  pub lawful : IsLawful view.terms
+  pub legal : Legal view.terms history
+  pub own : calls_of view.seat history ≡ view.mine
+
+-- the seat added the entry to the history that it found, and has seen all of that
+abbrev pub Adds : View → ℕ → List Entry → Entry → View → Type 0
+Adds view found history e after = Finds view found history × Legal view.terms (history ++ e ∷ []) × (after ≡ added view history e)
+
+-- the reply to an issue where so many were granted
+abbrev pub issue_reply : Terms → ℕ → Event
+issue_reply terms n = if nat_lt n terms.range.size then Granted (terms.range.lo + n) else Exhausted
+
+abbrev pub Mine : Type 0
+Mine = Me (Unit {0}) View
+
+-- an issue that found this word
+abbrev pub Issues : View → ℕ → View → Type 0
+Issues view found after = (history : List Entry) × Adds view found history (entry view.seat (issue_reply view.terms (granted history))) after
+
+-- the seat settled this number so
+abbrev pub Settles : ℕ → Way → View → ℕ → View → Type 0
+Settles number way view found after = (history : List Entry) × Adds view found history (entry view.seat (Settled number way)) after
+
+-- the seat has seen the history so far
+abbrev pub Looks : View → ℕ → View → Type 0
+Looks view found after = (history : List Entry) × Finds view found history × (after ≡ record view { seen = history })
+
+abbrev pub issued : Step (Unit {0}) → Mine → ℕ → Mine → Type 0
+issued step old found new = Issues old.0 found new.0 × (new.1 ≡ old.1)
+
+abbrev pub settled : ℕ → Way → Step (Unit {0}) → Mine → ℕ → Mine → Type 0
+settled number way step old found new = Settles number way old.0 found new.0 × (new.1 ≡ old.1)
+
+abbrev pub looked : Step (Unit {0}) → Mine → ℕ → Mine → Type 0
+looked step old found new = Looks old.0 found new.0 × (new.1 ≡ old.1)
+
+-- the token may step: it is of this word, and stands for one seat
+pub record MayStep (word token : TableId) (me : Mine) : Type 0 where
+  pub same : token ≡ word
+  pub one_word : word.words ≡ 1
+  pub one_seat : me.0.width ≡ 1
+
+-- the number is open among a seat's own operations
+pub record IsHeld (number : ℕ) (mine : List Entry) : Type 0 where
+  pub granted : 0 < times_granted number mine
+  pub unsettled : times_settled number mine ≡ 0
+
+-- cuts and joins
+
+-- the first of the seats that a view stands for, and the others
+abbrev pub first_seat : View → View
+first_seat view = record view { width = 1 }
+
+abbrev pub other_seats : View → View
+other_seats view = record view { seat = view.seat + 1; width = view.width - 1 }
+
+-- a note of what was seen, which stands for no seat
+abbrev pub note_of : View → View
+note_of view = record view { width = 0; mine = []; told = [] }
+
+-- the seat is told what a note shows
+abbrev pub hears : View → View → View
+hears view note = record view { told = note.seen }
+
+-- what is left of a note
+abbrev pub nobody : View
+nobody = record { terms = record { range = range_of 0 0 0; seats = 0 }; seat = 0; width = 0; seen = []; mine = []; told = [] }

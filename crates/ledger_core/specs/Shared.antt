@@ -1,0 +1,109 @@
+-- The shared ledger as its callers see it: of each seat its ledger, range, number, what it has seen, and its own operations.
+use Rattle.std.specs.Prelude.{◌≡◌, ◌⊎◌, ℕ, zero, suc, ◌+◌, ◌≤◌, ◌<◌, List, [], ◌∷◌, ◌++◌, slice_get, Some}
+use Rattle.atomic_table.specs.Seated.{TableId}
+use Rattle.ledger_core.specs.declared.entry.Way.{Way}
+use Rattle.ledger_core.specs.declared.entry.Event.{Event}
+use Rattle.ledger_core.specs.declared.entry.Event.TheVariants.{Exhausted}
+use Rattle.ledger_core.specs.declared.entry.Entry.{Entry}
+use Rattle.ledger_core.specs.declared.fault.OpenLedgerFault.{OpenLedgerFault}
+use Rattle.ledger_core.specs.declared.fault.OpenLedgerFault.TheVariants.{BadSeats, OutOfMemory as NotOpened}
+use Rattle.ledger_core.specs.declared.fault.IssueFault.{IssueFault}
+use Rattle.ledger_core.specs.declared.fault.IssueFault.TheVariants.{SeatClosed, OutOfMemory as NotIssued, Exhausted as NoNumber}
+use Rattle.ledger_core.specs.declared.fault.SettleFault.{SettleFault}
+use Rattle.ledger_core.specs.declared.fault.SettleFault.TheVariants.{NotOpen, OutOfMemory as NotSettled}
+use Rattle.ledger_core.specs.History.{Terms, IsLawful, Legal, Begins, entry, calls_of, refused, times_granted, times_settled}
+
+-- which ledger it is: what no other ledger shares with it. Clauses compare it, and do nothing else with it.
+abbrev pub LedgerId : Type 0
+LedgerId = TableId
+
+pub record LedgerView : Type 0 where
+  pub ledger : LedgerId
+  pub terms : Terms
+
+-- a seat: the history that it has seen, and its own operations
+pub record SeatView : Type 0 where
+  pub ledger : LedgerId
+  pub terms : Terms
+  pub number : ℕ
+  pub seen : List Entry
+  pub mine : List Entry
+
+abbrev pub seat_view : LedgerId → Terms → ℕ → List Entry → List Entry → SeatView
+seat_view ledger terms number seen mine = record { ledger = ledger; terms = terms; number = number; seen = seen; mine = mine }
+
+-- a number that was granted
+pub record GrantView : Type 0 where
+  pub device : ℕ
+  pub number : ℕ
+
+-- a number that was granted, and how it ended
+pub record SpentView : Type 0 where
+  pub device : ℕ
+  pub number : ℕ
+  pub way : Way
+
+-- the seat of a new ledger: it has seen nothing and done nothing
+abbrev pub fresh_seat : LedgerId → Terms → ℕ → SeatView
+fresh_seat ledger terms number = seat_view ledger terms number [] []
+
+-- the first seats of a new ledger, in the order of their numbers
+abbrev pub fresh_seats : LedgerId → Terms → ℕ → List SeatView
+fresh_seats ledger terms zero = []
+fresh_seats ledger terms (suc n) = fresh_seats ledger terms n ++ fresh_seat ledger terms n ∷ []
+
+-- what holds of every seat: what it has seen is legal, and its own operations are what that has of it
+pub record Knows (seat : SeatView) : Type 0 where
+  pub lawful : IsLawful seat.terms
+  pub inside : seat.number < seat.terms.seats
+  pub legal : Legal seat.terms seat.seen
+  pub own : calls_of seat.number seat.seen ≡ seat.mine
+
+-- one operation: what the seat has seen goes on from before and ends with the new entry, which its own operations get at their end
+abbrev pub Extends : SeatView → Event → SeatView → Type 0
+Extends old event new =
+    (between : List Entry) × (new ≡ record old { seen = (old.seen ++ between) ++ entry old.number event ∷ []; mine = old.mine ++ entry old.number event ∷ [] })
+
+-- a look: what the seat has seen goes on from before, and its own operations stay
+abbrev pub Sees : SeatView → SeatView → Type 0
+Sees old new = (between : List Entry) × (new ≡ record old { seen = old.seen ++ between })
+
+-- the seat has met the end of the range
+abbrev pub IsClosedSeat : SeatView → Type 0
+IsClosedSeat seat = 0 < refused seat.mine
+
+-- the number is of the seat's device, and among the seat's own operations it was granted and not settled
+abbrev pub Holds : SeatView → SpentView → Type 0
+Holds seat spent = (spent.device ≡ seat.terms.range.device) × (0 < times_granted spent.number seat.mine) × (times_settled spent.number seat.mine ≡ 0)
+
+-- why an issue gave no number
+abbrev pub Unissued : IssueFault → SeatView → SeatView → Type 0
+Unissued SeatClosed old new = IsClosedSeat old × (new ≡ old)
+Unissued NotIssued old new = ¬ (IsClosedSeat old) × (new ≡ old)
+Unissued NoNumber old new = ¬ (IsClosedSeat old) × Extends old Exhausted new
+
+-- why a number was not settled
+abbrev pub Unsettled : SettleFault → SeatView → SpentView → Type 0
+Unsettled NotOpen seat spent = ¬ (Holds seat spent)
+Unsettled NotSettled seat spent = Holds seat spent
+
+-- the same seat of the same ledger
+pub record IsSameSeat (old new : SeatView) : Type 0 where
+  pub ledger : new.ledger ≡ old.ledger
+  pub terms : new.terms ≡ old.terms
+  pub number : new.number ≡ old.number
+
+-- the numbers of the faults
+
+abbrev pub open_fault_number : OpenLedgerFault → ℕ
+open_fault_number BadSeats = 25
+open_fault_number NotOpened = 23
+
+abbrev pub issue_fault_number : IssueFault → ℕ
+issue_fault_number NoNumber = 20
+issue_fault_number SeatClosed = 21
+issue_fault_number NotIssued = 23
+
+abbrev pub settle_fault_number : SettleFault → ℕ
+settle_fault_number NotOpen = 22
+settle_fault_number NotSettled = 23

@@ -1,0 +1,227 @@
+//! The shared ledger: callers in any threads issue and settle numbers of one range, each with a seat of its own.
+//!
+//! An operation is one addition to one atomic word, and a tally is one load. Nobody waits: there is no lock, and no step is
+//! tried again. Whatever the schedule, the operations of all seats are one legal history, each once, and what each seat has
+//! seen is a beginning of it.
+ghost use Rattle.std.specs.Prelude.{◌≡◌, ◌<◌, ◌↔◌, ◌⊎◌, [], IfOk, IfErr, replicate, false};
+ghost use Rattle.ledger_core.specs.declared.entry.Event.TheVariants.{Granted, Settled};
+ghost use Rattle.ledger_core.specs.declared.fault.IssueFault.TheVariants.{SeatClosed};
+ghost use Rattle.ledger_core.specs.Closing.{AreAllSeats, IsWhole};
+ghost use Rattle.ledger_core.specs.History.{Begins, IsLawful, tally_of};
+ghost use Rattle.ledger_core.specs.Journal.{terms_of};
+ghost use Rattle.ledger_core.specs.Shared.{Extends, Holds, IsClosedSeat, IsSameSeat, Knows, Sees, Unissued, Unsettled, fresh_seats};
+
+use crate::close::{operations_of, put_together, room};
+use crate::entry::Tally;
+use crate::fault::{IssueFault, OpenLedgerFault, SettleFault};
+use crate::grant::{Grant, Spent};
+use crate::journal::Journal;
+use crate::range::Range;
+use crate::seat::{Seat, issue_in, learn_in, look_in, settle_in, tally_of_word};
+use crate::standing::MAX_SEATS;
+use crate::steps::{deal_step, open_word, write_step};
+use crate::table::{Opening, Own, Word};
+use std::alloc::{AllocError, Global};
+use std::marker::Model;
+
+/// A ledger that callers share.
+#[derive(Drop)]
+pub struct Ledger {
+    pub(crate) opening: Opening,
+    pub(crate) word: Word,
+    pub(crate) alloc: Global,
+}
+
+impl Model for Ledger {
+    ghost use Rattle.std.specs.Prelude.{◌≡◌};
+    ghost use Rattle.ledger_core.specs.History.{IsLawful};
+    ghost use Rattle.ledger_core.specs.Shared.{LedgerView};
+
+    ghost Value = { LedgerView };
+
+    ghost view = { λ l. record { ledger = l.word.shared.table_id; terms = l.opening } };
+
+    ghost invariant = { λ l. (l.word.shared.table_id.words ≡ 1) × IsLawful l.opening };
+}
+
+impl Ledger {
+    /// A ledger over this range with so many seats, numbered from 0. `BadSeats` comes exactly where they are 0 or over 64.
+    pub fn open(
+        alloc: Global,
+        range: Range,
+        seats: u32,
+    ) -> Result<(Ledger, Vec<Seat>), OpenLedgerFault>
+        ensures opened { IfOk result (λ r. r.0.terms ≡ terms_of range seats) }
+        ensures seats { IfOk result (λ r. r.1.items ≡ fresh_seats r.0.ledger (terms_of range seats) seats) }
+        ensures all { IfOk result (λ r. AreAllSeats r.0 r.1.items) }
+        ensures bad_seats { result ≡ Err OpenLedgerFault.BadSeats ↔ ((seats ≡ 0) ⊎ (64 < seats)) }
+    {
+        if seats == 0 || seats > MAX_SEATS {
+            return Err(OpenLedgerFault::BadSeats);
+        }
+        let _lawful = range.size();
+        match deal_out(alloc, &Opening::new(range, seats)) {
+            Ok(made) => Ok(made),
+            Err(_) => Err(OpenLedgerFault::OutOfMemory),
+        }
+    }
+
+    /// Grants the next number of the range to the seat. It waits for nobody.
+    ///
+    /// `SeatClosed` and `OutOfMemory` leave everything as it was. `Exhausted` is an operation, and closes the seat for issue.
+    pub fn issue(&self, seat: &mut Seat) -> Result<Grant, IssueFault>
+        requires ours { seat.old.ledger ≡ self.now.ledger }
+        ensures granted { IfOk result (λ grant. Extends seat.old (Granted grant.number) seat.new) }
+        ensures device { IfOk result (λ grant. grant.device ≡ seat.old.terms.range.device) }
+        ensures refused { IfErr result (λ fault. Unissued fault seat.old seat.new) }
+        ensures closed { IsClosedSeat seat.old → result ≡ Err SeatClosed }
+        ensures same { IsSameSeat seat.old seat.new }
+        ensures knows { Knows seat.new }
+    {
+        if seat.own.closed {
+            return Err(IssueFault::SeatClosed);
+        }
+        if seat.own.log.reserve(1).is_err() {
+            return Err(IssueFault::OutOfMemory);
+        }
+        let number = issue_in(
+            &self.word,
+            &seat.opening,
+            seat.number,
+            &mut seat.own,
+            &mut seat.token,
+        );
+        match number {
+            Some(number) => Ok(Grant::of(seat.opening.range().device(), number)),
+            None => Err(IssueFault::Exhausted),
+        }
+    }
+
+    /// Records how a number ended that is open at the seat. It waits for nobody. A refusal changes nothing, and hands back what
+    /// was to be settled.
+    pub fn settle(&self, seat: &mut Seat, spent: Spent) -> Result<(), (SettleFault, Spent)>
+        requires ours { seat.old.ledger ≡ self.now.ledger }
+        ensures settled { IfOk result (λ _. Holds seat.old spent × Extends seat.old (Settled spent.number spent.way) seat.new) }
+        ensures refused { IfErr result (λ f. Unsettled f.0 seat.old spent) }
+        ensures unchanged { IfErr result (λ f. (f.1 ≡ spent) × (seat.new ≡ seat.old)) }
+        ensures same { IsSameSeat seat.old seat.new }
+        ensures knows { Knows seat.new }
+    {
+        if !seat.holds(&spent) {
+            return Err((SettleFault::NotOpen, spent));
+        }
+        if seat.own.log.reserve(1).is_err() {
+            return Err((SettleFault::OutOfMemory, spent));
+        }
+        settle_in(
+            &self.word,
+            &seat.opening,
+            seat.number,
+            &mut seat.own,
+            &mut seat.token,
+            &spent,
+        );
+        Ok(())
+    }
+
+    /// Counts the operations of all seats so far. It waits for nobody.
+    pub fn tally(&self, seat: &mut Seat) -> Tally
+        requires ours { seat.old.ledger ≡ self.now.ledger }
+        ensures sees { Sees seat.old seat.new }
+        ensures counts { result ≡ tally_of seat.new.seen }
+        ensures knows { Knows seat.new }
+    {
+        let found = look_in(
+            &self.word,
+            &seat.opening,
+            seat.number,
+            &seat.own,
+            &mut seat.token,
+        );
+        tally_of_word(&seat.opening, found)
+    }
+
+    /// Lets the first seat see what either has seen, and then the second what the first has seen. It waits for nobody.
+    pub fn meet(&self, first: &mut Seat, second: &mut Seat)
+        requires first { first.old.ledger ≡ self.now.ledger }
+        requires second { second.old.ledger ≡ self.now.ledger }
+        ensures first { Sees first.old first.new × Begins second.old.seen first.new.seen }
+        ensures second { Sees second.old second.new × Begins first.new.seen second.new.seen }
+        ensures knows { Knows first.new × Knows second.new }
+    {
+        let note = write_step(&self.word, &mut second.token);
+        learn_in(
+            &self.word,
+            &first.opening,
+            first.number,
+            &first.own,
+            &mut first.token,
+            note,
+        );
+        let note = write_step(&self.word, &mut first.token);
+        learn_in(
+            &self.word,
+            &second.opening,
+            second.number,
+            &second.own,
+            &mut second.token,
+            note,
+        );
+    }
+
+    /// The journal of the whole history. The seats are all that `open` gave, in the order of their numbers.
+    ///
+    /// Every seat's history begins the journal, whose entries of each seat are that seat's own operations, in order; it has no
+    /// others. Where memory is refused, everything is handed back unchanged.
+    pub fn close(self, mut seats: Vec<Seat>) -> Result<Journal, (AllocError, Ledger, Vec<Seat>)>
+        requires all { AreAllSeats self seats.items }
+        ensures terms { IfOk result (λ journal. journal.terms ≡ self.terms) }
+        ensures whole { IfOk result (λ journal. IsWhole self.terms seats.items journal.history) }
+        ensures refused { IfErr result (λ r. (r.1 ≡ self) × (r.2.items ≡ seats.items)) }
+    {
+        match room(self.alloc, operations_of(seats.as_slice())) {
+            Ok(mut entries) => {
+                put_together(&self, &mut entries, seats.as_mut_slice());
+                Ok(Journal::new(self.opening.range(), self.opening.seats(), entries))
+            }
+            Err(error) => Err((error, self, seats)),
+        }
+    }
+}
+
+// The word of a new ledger, and its seats.
+fn deal_out(alloc: Global, opening: &Opening) -> Result<(Ledger, Vec<Seat>), AllocError>
+    requires { IsLawful opening.now }
+    ensures terms { IfOk result (λ r. r.0.terms ≡ opening.now) }
+    ensures seats { IfOk result (λ r. r.1.items ≡ fresh_seats r.0.ledger opening.now opening.now.seats) }
+{
+    let last = opening.seats() - 1;
+    let mut seats = Vec::with_capacity(alloc, opening.seats() as usize)?;
+    let (word, mut token) = open_word(alloc, opening)?;
+    for number in 0..last {
+        let own = new_own(alloc, opening)?;
+        let others = deal_step(&word, &mut token);
+        seats.push(Seat::new(*opening, number, own, token))?;
+        token = others;
+    }
+    seats.push(Seat::new(*opening, last, new_own(alloc, opening)?, token))?;
+    let ledger = Ledger {
+        opening: *opening,
+        word,
+        alloc,
+    };
+    Ok((ledger, seats))
+}
+
+// What a seat keeps before its first operation.
+fn new_own(alloc: Global, opening: &Opening) -> Result<Own, AllocError>
+    ensures empty { IfOk result (λ own. (own.closed ≡ false) × (own.log.items ≡ [])) }
+    ensures held { IfOk result (λ own. own.held.items ≡ replicate opening.now.range.size false) }
+{
+    let held = Vec::from_elem(alloc, false, opening.range().size() as usize)?;
+    Ok(Own {
+        closed: false,
+        log: Vec::new(alloc),
+        held,
+    })
+}

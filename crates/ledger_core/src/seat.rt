@@ -1,0 +1,261 @@
+//! A seat of a shared ledger: what one caller has seen and done.
+//!
+//! The seat's own log has its operations in order. Record j of it has entry j of them and the place where that entry stands in
+//! what the seat has seen: the counts in the word that the step found add up to it.
+ghost use Rattle.std.specs.Prelude.{◌≡◌, ℕ, ◌+◌, ◌/◌, ◌%◌, ◌^◌, ◌<◌, ◌≤◌, ◌↔◌, min, false, nat_lt, IsTrue, IfSome, length, vec_len, vec_capacity, [], ◌∷◌, ◌++◌, ◌||◌};
+ghost use Rattle.std.specs.List.{slice_index_or};
+ghost use Rattle.ledger_core.specs.declared.entry.Event.TheVariants.{Granted, Exhausted, Settled};
+ghost use Rattle.ledger_core.specs.History.{Begins, IsLawful, entry, is_exhausted, refused};
+ghost use Rattle.ledger_core.specs.Rule.{issue_reply, knower, packed, IsHeld};
+ghost use Rattle.ledger_core.specs.Logs.{HasMark, IsMarked, IsSeat, Steps, event_of, held_after, place_of_word};
+ghost use Rattle.ledger_core.specs.Shared.{Holds, IsClosedSeat, Knows, fresh_seat};
+
+use crate::entry::{Entry, Event, Tally, Way};
+use crate::grant::Spent;
+use crate::steps::{hear_step, issue_step, look_step, settle_step};
+use crate::table::{Opening, Own, Record, Token, Word};
+use std::marker::Model;
+
+/// One more than each count of the word can be.
+const COUNT: u64 = 1 << 20;
+
+/// A seat of a shared ledger.
+#[derive(Drop)]
+pub struct Seat {
+    pub(crate) opening: Opening,
+    pub(crate) number: u32,
+    pub(crate) own: Own,
+    pub(crate) token: Token,
+}
+
+impl Model for Seat {
+    ghost use Rattle.ledger_core.specs.Logs.{IsSeat};
+    ghost use Rattle.ledger_core.specs.Shared.{SeatView, seat_view};
+
+    ghost Value = { SeatView };
+
+    ghost view = { λ s. seat_view s.token.table_id s.opening s.number s.token.me.0.seen s.token.me.0.mine };
+
+    ghost invariant = { λ s. IsSeat s.opening s.number s.own.closed s.own.log.items s.own.held.items s.token.me };
+}
+
+impl Seat {
+    // A seat that has done nothing.
+    pub(crate) fn new(opening: Opening, number: u32, own: Own, token: Token) -> Seat
+        requires terms { IsLawful opening × (number < opening.seats) }
+        requires own { (own.closed ≡ false) × (own.log.items ≡ []) × (length own.held.items ≡ opening.range.size) }
+        requires none_held { (k : ℕ) → slice_index_or own.held.items k false ≡ false }
+        requires token { token.me ≡ (knower opening number [] [] [], []) }
+        ensures { result ≡ fresh_seat token.table_id opening number }
+    {
+        Seat {
+            opening,
+            number,
+            own,
+            token,
+        }
+    }
+
+    /// The seat's number: `open` gives them from 0 on.
+    pub fn number(&self) -> u32
+        ensures number { result ≡ self.now.number }
+        ensures knows { Knows self.now }
+    {
+        self.number
+    }
+
+    /// Whether the seat has met the end of the range, and issues no more.
+    pub fn closed(&self) -> bool
+        ensures { IsTrue result ↔ IsClosedSeat self.now }
+    {
+        self.own.closed
+    }
+
+    /// Whether this number is open at this seat: it is of the seat's device, was granted to the seat, and isn't settled.
+    pub fn holds(&self, spent: &Spent) -> bool
+        ensures { IsTrue result ↔ Holds self.now spent.now }
+    {
+        spent.device() == self.opening.range().device()
+            && is_held(&self.opening, &self.own, spent.number())
+    }
+
+    // How many operations the seat has made.
+    pub(crate) fn operations(&self) -> usize
+        ensures count { result ≡ length self.now.mine }
+        ensures few { result < 2 ^ 20 }
+    {
+        self.own.log.len()
+    }
+}
+
+// Whether the number is of the range, and held.
+fn is_held(opening: &Opening, own: &Own, number: u32) -> bool
+    requires { length own.now.held.items ≡ opening.now.range.size }
+    ensures { IsTrue result ↔ IsMarked opening.now own.now.held.items number }
+{
+    let lo = opening.range().lo();
+    if number < lo {
+        return false;
+    }
+    match own.held.get((number - lo) as usize) {
+        Some(held) => *held,
+        None => false,
+    }
+}
+
+// The place of the entry that was added where this word was found.
+fn place(found: u64) -> u32
+    requires { found < 2 ^ 60 }
+    ensures { result ≡ place_of_word found }
+{
+    (found % COUNT + found / COUNT % COUNT + found / (COUNT * COUNT)) as u32
+}
+
+// The number that is granted where this word was found, or none.
+fn reply(opening: &Opening, found: u64) -> Option<u32>
+    requires { opening.now.range.lo + opening.now.range.size ≤ 2 ^ 32 }
+    ensures { event_of result ≡ issue_reply opening.now (found % 1048576) }
+{
+    let issues = (found % COUNT) as u32;
+    if issues < opening.range().size() {
+        Some(opening.range().lo() + issues)
+    } else {
+        None
+    }
+}
+
+fn event_of(number: Option<u32>) -> Event
+    ensures { result ≡ event_of number }
+{
+    match number {
+        Some(number) => Event::Granted(number),
+        None => Event::Exhausted,
+    }
+}
+
+// Keeps an operation that the seat has made.
+fn keep(own: &mut Own, lo: u32, kept: Record)
+    requires room { vec_len own.old.log < vec_capacity own.old.log }
+    requires mark { HasMark lo own.old.held.items kept.entry.event }
+    ensures log { own.new.log.items ≡ own.old.log.items ++ kept ∷ [] }
+    ensures held { own.new.held.items ≡ held_after lo own.old.held.items kept.entry.event }
+    ensures closed { own.new.closed ≡ (is_exhausted kept.entry || own.old.closed) }
+{
+    own.log.push_reserved(kept);
+    match kept.entry.event {
+        Event::Granted(number) => own.held[(number - lo) as usize] = true,
+        Event::Exhausted => own.closed = true,
+        Event::Settled(number, _) => own.held[(number - lo) as usize] = false,
+    }
+}
+
+// The fields of a seat after an issue, and the number granted.
+pub(crate) fn issue_in(
+    word: &Word,
+    opening: &Opening,
+    number: u32,
+    own: &mut Own,
+    token: &mut Token,
+) -> Option<u32>
+    requires table { (token.old.table_id ≡ word.now.shared.table_id) × (word.now.shared.table_id.words ≡ 1) }
+    requires seat { IsSeat opening.now number own.old.closed own.old.log.items own.old.held.items token.old.me }
+    requires clear { own.old.closed ≡ false }
+    requires room { vec_len own.old.log < vec_capacity own.old.log }
+    ensures table { token.new.table_id ≡ token.old.table_id }
+    ensures seat { IsSeat opening.now number own.new.closed own.new.log.items own.new.held.items token.new.me }
+    ensures step { Steps token.old.me.0 (entry number (event_of result)) token.new.me.0 }
+{
+    let found = issue_step(word, token);
+    let granted = reply(opening, found);
+    let entry = Entry {
+        seat: number,
+        event: event_of(granted),
+    };
+    let place = place(found);
+    keep(own, opening.range().lo(), Record { entry, place });
+    granted
+}
+
+// The fields of a seat after a settlement of a number that it holds.
+pub(crate) fn settle_in(
+    word: &Word,
+    opening: &Opening,
+    number: u32,
+    own: &mut Own,
+    token: &mut Token,
+    spent: &Spent,
+)
+    requires table { (token.old.table_id ≡ word.now.shared.table_id) × (word.now.shared.table_id.words ≡ 1) }
+    requires seat { IsSeat opening.now number own.old.closed own.old.log.items own.old.held.items token.old.me }
+    requires held { IsHeld spent.now.number token.old.me.0.mine }
+    requires room { vec_len own.old.log < vec_capacity own.old.log }
+    ensures table { token.new.table_id ≡ token.old.table_id }
+    ensures seat { IsSeat opening.now number own.new.closed own.new.log.items own.new.held.items token.new.me }
+    ensures step { Steps token.old.me.0 (entry number (Settled spent.now.number spent.now.way)) token.new.me.0 }
+{
+    let (settled, way) = (spent.number(), spent.way());
+    let found = settle_step(word, token, settled, way);
+    let entry = Entry {
+        seat: number,
+        event: Event::Settled(settled, way),
+    };
+    let place = place(found);
+    keep(own, opening.range().lo(), Record { entry, place });
+}
+
+// The word as the seat sees it now.
+pub(crate) fn look_in(
+    word: &Word,
+    opening: &Opening,
+    number: u32,
+    own: &Own,
+    token: &mut Token,
+) -> u64
+    requires table { (token.old.table_id ≡ word.now.shared.table_id) × (word.now.shared.table_id.words ≡ 1) }
+    requires seat { IsSeat opening.now number own.now.closed own.now.log.items own.now.held.items token.old.me }
+    ensures table { token.new.table_id ≡ token.old.table_id }
+    ensures seat { IsSeat opening.now number own.now.closed own.now.log.items own.now.held.items token.new.me }
+    ensures seen { Begins token.old.me.0.seen token.new.me.0.seen × (token.new.me.0.mine ≡ token.old.me.0.mine) }
+    ensures told { Begins token.old.me.0.told token.new.me.0.seen }
+    ensures word { result ≡ packed token.new.me.0.seen }
+{
+    look_step(word, token)
+}
+
+// The same, with what a note shows.
+pub(crate) fn learn_in(
+    word: &Word,
+    opening: &Opening,
+    number: u32,
+    own: &Own,
+    token: &mut Token,
+    note: Token,
+)
+    requires table { (token.old.table_id ≡ word.now.shared.table_id) × (word.now.shared.table_id.words ≡ 1) }
+    requires note { (note.table_id ≡ token.old.table_id) × (note.me.1 ≡ []) }
+    requires seat { IsSeat opening.now number own.now.closed own.now.log.items own.now.held.items token.old.me }
+    ensures table { token.new.table_id ≡ token.old.table_id }
+    ensures seat { IsSeat opening.now number own.now.closed own.now.log.items own.now.held.items token.new.me }
+    ensures seen { Begins token.old.me.0.seen token.new.me.0.seen × (token.new.me.0.mine ≡ token.old.me.0.mine) }
+    ensures told { Begins note.me.0.seen token.new.me.0.seen }
+{
+    hear_step(word, token, note);
+    look_in(word, opening, number, own, token);
+}
+
+// The counts that a word tells. Of the issues, as many were granted as the range has numbers.
+pub(crate) fn tally_of_word(opening: &Opening, found: u64) -> Tally
+    requires { found < 2 ^ 60 }
+    ensures issues { result.granted + result.refused ≡ found % 1048576 }
+    ensures granted { result.granted ≡ min (found % 1048576) opening.now.range.size }
+    ensures settled { (result.sealed ≡ (found / 1048576) % 1048576) × (result.void ≡ found / 1099511627776) }
+{
+    let issues = (found % COUNT) as u32;
+    let granted = issues.min(opening.range().size());
+    Tally {
+        granted,
+        refused: issues - granted,
+        sealed: (found / COUNT % COUNT) as u32,
+        void: (found / (COUNT * COUNT)) as u32,
+    }
+}

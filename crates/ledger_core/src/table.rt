@@ -1,0 +1,179 @@
+//! The ledger's word as a table of one word: what each seat knows of the history, and the kinds of step.
+//!
+//! The history stands in no memory. The rule says that there is one, that it is legal, that the word has its three counts,
+//! and that each seat has seen a beginning of it in which the seat's own operations are all that there is of that seat.
+ghost use Rattle.std.specs.Prelude.{◌≡◌};
+ghost use Rattle.ledger_core.specs.Journal.{terms_of};
+
+use crate::entry::Entry;
+use crate::range::Range;
+use atomic_table::{Join, Play, Seat, Split, Table, TableRule};
+use std::alloc::Global;
+use std::collections::LinkedList;
+use std::marker::{Brand, Model, PhantomData};
+
+/// What a ledger is opened with.
+#[derive(Clone, Copy)]
+pub struct Opening {
+    range: Range,
+    seats: u32,
+}
+
+impl Model for Opening {
+    ghost use Rattle.ledger_core.specs.History.{Terms};
+
+    ghost Value = { Terms };
+
+    ghost view = { λ o. record { range = o.range; seats = o.seats } };
+
+    ghost inverse = { λ t. record { range = t.range; seats = t.seats } };
+}
+
+impl Opening {
+    pub fn new(range: Range, seats: u32) -> Opening
+        ensures { result ≡ terms_of range seats }
+    {
+        Opening { range, seats }
+    }
+
+    pub fn range(&self) -> Range
+        ensures { result ≡ self.now.range }
+    {
+        self.range
+    }
+
+    pub fn seats(&self) -> u32
+        ensures { result ≡ self.now.seats }
+    {
+        self.seats
+    }
+}
+
+/// A line of a seat's own log: its entry, and the place in the history where that stands.
+#[derive(Clone, Copy)]
+pub struct Record {
+    pub entry: Entry,
+    pub place: u32,
+}
+
+/// What a seat keeps of its own operations.
+#[derive(Drop)]
+pub struct Own {
+    /// It has met the end of the range.
+    pub closed: bool,
+    /// Its operations, in order.
+    pub log: Vec<Record>,
+    /// For each number of the range, in order, whether it is open at this seat.
+    pub held: Vec<bool>,
+}
+
+/// What a token knows. It stands for `width` seats from `seat` on: one for a seat of a ledger, none for a note.
+/// No value of it is made.
+pub struct View {
+    pub terms: Opening,
+    pub seat: u32,
+    pub width: u32,
+    pub seen: LinkedList<Entry>,
+    pub mine: LinkedList<Entry>,
+    pub told: LinkedList<Entry>,
+}
+
+pub struct OneHistory;
+
+impl TableRule<(), View, Opening> for OneHistory {
+    ghost use Rattle.ledger_core.specs.Rule.{IsKept, newcomer};
+
+    ghost holds = { IsKept };
+
+    ghost first = { newcomer };
+}
+
+/// The word is raised by 1.
+pub struct Issue;
+
+impl Play<(), View> for Issue {
+    ghost use Rattle.ledger_core.specs.Rule.{issued};
+
+    ghost then = { issued };
+}
+
+/// Names the number that a step settles. Each call picks it.
+pub trait Naming {
+    ghost use Rattle.std.specs.Prelude.{ℕ};
+
+    ghost number: { ℕ };
+}
+
+impl Naming for Brand {
+    ghost number = { 0 };
+}
+
+/// The word is raised by 2^20.
+pub struct Seal<N> {
+    of: PhantomData<N>,
+}
+
+impl<N: Naming> Play<(), View> for Seal<N> {
+    ghost use Rattle.ledger_core.specs.Rule.{settled};
+    ghost use Rattle.ledger_core.specs.declared.entry.Way.TheVariants.{Sealed};
+
+    ghost then = { settled N.number Sealed };
+}
+
+/// The word is raised by 2^40.
+pub struct Waste<N> {
+    of: PhantomData<N>,
+}
+
+impl<N: Naming> Play<(), View> for Waste<N> {
+    ghost use Rattle.ledger_core.specs.Rule.{settled};
+    ghost use Rattle.ledger_core.specs.declared.entry.Way.TheVariants.{Void};
+
+    ghost then = { settled N.number Void };
+}
+
+/// The word is loaded.
+pub struct Look;
+
+impl Play<(), View> for Look {
+    ghost use Rattle.ledger_core.specs.Rule.{looked};
+
+    ghost then = { looked };
+}
+
+/// The first of a new ledger's seats is cut from the others.
+pub struct Deal;
+
+impl Split<View> for Deal {
+    ghost use Rattle.ledger_core.specs.Rule.{first_seat, other_seats};
+
+    ghost left = { first_seat };
+
+    ghost right = { other_seats };
+}
+
+/// A note of what a seat has seen.
+pub struct Write;
+
+impl Split<View> for Write {
+    ghost use Rattle.ledger_core.specs.Rule.{note_of};
+
+    ghost left = { λ v. v };
+
+    ghost right = { note_of };
+}
+
+/// A note is given to a seat.
+pub struct Hear;
+
+impl Join<View> for Hear {
+    ghost use Rattle.ledger_core.specs.Rule.{hears, nobody};
+
+    ghost both = { hears };
+
+    ghost spent = { nobody };
+}
+
+pub type Word = Table<(), View, Opening, OneHistory, Global>;
+
+pub type Token = Seat<(), View>;

@@ -1,0 +1,8 @@
+//! Runs of the shared ledger, in one thread and in four, from its opening to the text of its journal.
+#![tactic(auto)]
+
+pub mod run;
+#[cfg(test)]
+mod tests;
+
+pub use crate::run::Run;

@@ -1,0 +1,109 @@
+//! A shared ledger with all its seats, which calls name by their numbers.
+ghost use Rattle.std.specs.Prelude.{◌≡◌, ◌<◌, IfOk, IfErr};
+ghost use Rattle.ledger_core.specs.Closing.{AreAllSeats};
+ghost use Rattle.ledger_core.specs.Journal.{terms_of};
+ghost use Rattle.ledger_core.specs.Shared.{IsSameSeat};
+
+use ledger_core::{Grant, IssueFault, Journal, Ledger, OpenLedgerFault, Range, Seat, SettleFault, Spent, Tally};
+use std::alloc::Global;
+use std::marker::Model;
+use std::thread::{Threads, for_each_mut};
+
+/// A ledger and all its seats.
+#[derive(Drop)]
+pub struct Run {
+    ledger: Ledger,
+    seats: Vec<Seat>,
+}
+
+impl Model for Run {
+    ghost use Rattle.ledger_core.specs.Closing.{AreAllSeats};
+    ghost use Rattle.ledger_core.specs.Shared.{LedgerView};
+
+    ghost Value = { LedgerView };
+
+    ghost view = { λ r. r.ledger };
+
+    ghost invariant = { λ r. AreAllSeats r.ledger r.seats.items };
+}
+
+impl Run {
+    pub fn open(alloc: Global, range: Range, seats: u32) -> Result<Run, OpenLedgerFault>
+        ensures { IfOk result (λ run. run.terms ≡ terms_of range seats) }
+    {
+        match Ledger::open(alloc, range, seats) {
+            Ok((ledger, seats)) => Ok(Run { ledger, seats }),
+            Err(fault) => Err(fault),
+        }
+    }
+
+    pub fn issue(&mut self, seat: usize) -> Result<Grant, IssueFault>
+        requires { seat < self.old.terms.seats }
+        ensures { self.new ≡ self.old }
+    {
+        let seat = &mut self.seats[seat];
+        self.ledger.issue(seat)
+    }
+
+    pub fn settle(&mut self, seat: usize, spent: Spent) -> Result<(), (SettleFault, Spent)>
+        requires { seat < self.old.terms.seats }
+        ensures { self.new ≡ self.old }
+    {
+        let seat = &mut self.seats[seat];
+        self.ledger.settle(seat, spent)
+    }
+
+    pub fn tally(&mut self, seat: usize) -> Tally
+        requires { seat < self.old.terms.seats }
+        ensures { self.new ≡ self.old }
+    {
+        let seat = &mut self.seats[seat];
+        self.ledger.tally(seat)
+    }
+
+    pub fn meet(&mut self, first: usize, second: usize)
+        requires order { first < second }
+        requires inside { second < self.old.terms.seats }
+        ensures { self.new ≡ self.old }
+    {
+        let (front, back) = self.seats.split_at_mut(second);
+        self.ledger.meet(&mut front[first], &mut back[0]);
+    }
+
+    /// Each seat, in a thread of its own where one can be had, issues until the range is at its end and settles every number:
+    /// the even ones as used, the odd ones as wasted.
+    pub fn spend<R: Threads + Sync>(&mut self, rt: &R)
+        ensures { self.new ≡ self.old }
+    {
+        let ledger = &self.ledger;
+        let work = |_seat: usize, seat: &mut Seat|
+            requires { seat.now.ledger ≡ ledger.now.ledger }
+            ensures { IsSameSeat seat.entry.now seat.exit.now }
+        { spend(ledger, seat) };
+        for_each_mut(rt, self.seats.as_mut_slice(), 4, &work);
+    }
+
+    pub fn close(self) -> Result<Journal, Run>
+        ensures refused { IfErr result (λ run. run ≡ self) }
+    {
+        let Run { ledger, seats } = self;
+        match ledger.close(seats) {
+            Ok(journal) => Ok(journal),
+            Err((_, ledger, seats)) => Err(Run { ledger, seats }),
+        }
+    }
+}
+
+// Issues until no number is left, and settles each.
+fn spend(ledger: &Ledger, seat: &mut Seat)
+    requires { seat.old.ledger ≡ ledger.now.ledger }
+    ensures { IsSameSeat seat.old seat.new }
+{
+    for _ in 0..=65_535 {
+        let Ok(grant) = ledger.issue(seat) else {
+            return;
+        };
+        let spent = if grant.number() % 2 == 0 { grant.used() } else { grant.waste() };
+        let _ = ledger.settle(seat, spent);
+    }
+}

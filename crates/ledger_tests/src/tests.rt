@@ -1,0 +1,172 @@
+ghost use Rattle.std.specs.Prelude.{◌≡◌, ◌<◌, IfOk};
+ghost use Rattle.ledger_core.specs.Journal.{terms_of};
+
+use crate::run::Run;
+use ledger_core::{Device, Grant, IssueFault, Journal, OpenLedgerFault, Range, SettleFault, Spent, Tally};
+use std::alloc::{AllocError, Global};
+use std::test::*;
+
+fn range_of(lo: u32, size: u32) -> Result<Range, Fail> {
+    Ok(Range::new(Device::new(1).ok_or("device")?, lo, size)?)
+}
+
+// A refused allocation is the one that the run was asked for, so the same call finds memory at once.
+
+fn open(alloc: Global, range: Range, seats: u32) -> Result<Run, OpenLedgerFault>
+    ensures { IfOk result (λ run. run.terms ≡ terms_of range seats) }
+{
+    match Run::open(alloc, range, seats) {
+        Err(OpenLedgerFault::OutOfMemory) => Run::open(alloc, range, seats),
+        other => other,
+    }
+}
+
+fn issue(run: &mut Run, seat: usize) -> Result<Grant, IssueFault>
+    requires { seat < run.old.terms.seats }
+    ensures { run.new ≡ run.old }
+{
+    match run.issue(seat) {
+        Err(IssueFault::OutOfMemory) => run.issue(seat),
+        other => other,
+    }
+}
+
+fn settle(run: &mut Run, seat: usize, spent: Spent) -> Result<(), (SettleFault, Spent)>
+    requires { seat < run.old.terms.seats }
+    ensures { run.new ≡ run.old }
+{
+    match run.settle(seat, spent) {
+        Err((SettleFault::OutOfMemory, spent)) => run.settle(seat, spent),
+        other => other,
+    }
+}
+
+fn close(run: Run) -> Result<Journal, Run> {
+    match run.close() {
+        Err(run) => run.close(),
+        journal => journal,
+    }
+}
+
+fn text_of(alloc: Global, journal: &Journal) -> Result<String, AllocError> {
+    match journal.text(alloc) {
+        Err(_) => journal.text(alloc),
+        text => text,
+    }
+}
+
+// What was settled is settled once more, which must be refused and handed back.
+fn refused(run: &mut Run, seat: usize, spent: Spent) -> Option<Spent>
+    requires { seat < run.old.terms.seats }
+    ensures { run.new ≡ run.old }
+{
+    match settle(run, seat, spent) {
+        Err((SettleFault::NotOpen, spent)) => Some(spent),
+        _ => None,
+    }
+}
+
+// Run it with each allocation refused in turn: the six lines are the same.
+#[test]
+fn two_seats_share_a_range(rt: HostRuntime) -> Result<(), Fail> {
+    let mut run = open(rt.alloc(), range_of(7, 2)?, 2)?;
+    let seven = issue(&mut run, 0)?;
+    let eight = issue(&mut run, 1)?;
+    assert_eq!(rt; (seven.number(), eight.number()), (7, 8));
+    assert_eq!(rt; seven.prefix(), [0, 0, 1, 0, 0, 0, 7]);
+    assert_eq!(rt; issue(&mut run, 0).err(), Some(IssueFault::Exhausted));
+    assert_eq!(rt; issue(&mut run, 0).err(), Some(IssueFault::SeatClosed));
+    assert!(rt; settle(&mut run, 1, eight.used()).is_ok());
+    let three = Tally { granted: 2, refused: 1, sealed: 1, void: 0 };
+    assert_eq!(rt; run.tally(1), three);
+    let seven = refused(&mut run, 1, seven.waste()).ok_or("a stranger's number was settled")?;
+    assert_eq!(rt; (seven.number(), run.tally(1)), (7, three));
+    assert!(rt; settle(&mut run, 0, seven).is_ok());
+    assert_eq!(rt; run.tally(1), Tally { granted: 2, refused: 1, sealed: 1, void: 1 });
+    run.meet(0, 1);
+    let Ok(journal) = close(run) else {
+        return Err("memory was refused twice".into());
+    };
+    let text = text_of(rt.alloc(), &journal)?;
+    assert_eq!(rt; text.as_str(), "range 1 7 2 2\n0 issue 7\n1 issue 8\n0 issue none\n1 sealed 8\n0 void 7\n");
+    Ok(())
+}
+
+#[test]
+fn four_threads_spend_a_range(rt: HostRuntime) -> Result<(), Fail> {
+    let mut run = Run::open(rt.alloc(), range_of(4_294_966_296, 1_000)?, 4)?;
+    run.spend(&rt);
+    run.meet(0, 3);
+    assert_eq!(rt; run.tally(2), Tally { granted: 1_000, refused: 4, sealed: 500, void: 500 });
+    let Ok(journal) = run.close() else {
+        return Err("memory was refused".into());
+    };
+    assert_eq!(rt; journal.entries().len(), 2_004);
+    Ok(())
+}
+
+// All three counts of the word at their greatest.
+#[test]
+fn sixty_four_seats_spend_the_greatest_range(rt: HostRuntime) -> Result<(), Fail> {
+    let mut run = Run::open(rt.alloc(), range_of(0, 65_535)?, 64)?;
+    run.spend(&rt);
+    assert_eq!(rt; run.tally(63), Tally { granted: 65_535, refused: 64, sealed: 32_768, void: 32_767 });
+    let Ok(journal) = run.close() else {
+        return Err("memory was refused".into());
+    };
+    assert_eq!(rt; journal.entries().len(), 131_134);
+    Ok(())
+}
+
+#[test]
+fn seats_are_from_one_to_sixty_four(rt: HostRuntime) -> Result<(), Fail> {
+    let range = range_of(0, 1)?;
+    for seats in [0, 65, u32::MAX] {
+        assert_eq!(rt; Run::open(rt.alloc(), range, seats).err(), Some(OpenLedgerFault::BadSeats), "{seats} seats");
+    }
+    for seats in [1, 64] {
+        assert!(rt; Run::open(rt.alloc(), range, seats).is_ok(), "{seats} seats");
+    }
+    Ok(())
+}
+
+// A grant that is dropped leaves its number granted and open, and a number is settled once.
+#[test]
+fn a_number_is_settled_once(rt: HostRuntime) -> Result<(), Fail> {
+    let mut run = Run::open(rt.alloc(), range_of(0, 3)?, 1)?;
+    drop(run.issue(0)?);
+    let one = run.issue(0)?;
+    let spoiled = one.used().spoil();
+    assert_eq!(rt; (spoiled.number(), spoiled.device().number()), (1, 1));
+    assert!(rt; run.settle(0, spoiled).is_ok());
+    assert_eq!(rt; run.tally(0), Tally { granted: 2, refused: 0, sealed: 0, void: 1 });
+    let mut other = Run::open(rt.alloc(), range_of(0, 3)?, 1)?;
+    let zero = other.issue(0)?;
+    let one = other.issue(0)?;
+    assert!(rt; refused(&mut run, 0, one.used()).is_some());
+    assert!(rt; run.settle(0, zero.used()).is_ok());
+    let Ok(journal) = run.close() else {
+        return Err("memory was refused".into());
+    };
+    let text = journal.text(rt.alloc())?;
+    assert_eq!(rt; text.as_str(), "range 1 0 3 1\n0 issue 0\n0 issue 1\n0 void 1\n0 sealed 0\n");
+    Ok(())
+}
+
+#[test]
+fn faults_have_their_numbers_and_texts(rt: HostRuntime) -> Result<(), Fail> {
+    let alloc = rt.alloc();
+    for (fault, number, text) in [
+        (IssueFault::Exhausted, 20, "no file number"),
+        (IssueFault::SeatClosed, 21, "no file number"),
+        (IssueFault::OutOfMemory, 23, "out of memory"),
+    ] {
+        assert_eq!(rt; fault.number(), number);
+        assert_eq!(rt; format!(in alloc; "{fault}")?.as_str(), text);
+    }
+    assert_eq!(rt; (SettleFault::NotOpen.number(), SettleFault::OutOfMemory.number()), (22, 23));
+    assert_eq!(rt; (OpenLedgerFault::BadSeats.number(), OpenLedgerFault::OutOfMemory.number()), (25, 23));
+    assert_eq!(rt; format!(in alloc; "{}", SettleFault::OutOfMemory)?.as_str(), "out of memory");
+    assert_eq!(rt; format!(in alloc; "{}", OpenLedgerFault::OutOfMemory)?.as_str(), "out of memory");
+    Ok(())
+}
