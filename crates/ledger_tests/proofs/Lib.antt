@@ -1,1 +1,1 @@
--- no lemmas
+mod Pairs

@@ -1,10 +1,12 @@
 //! A shared ledger with all its seats, which calls name by their numbers.
-ghost use Rattle.std.specs.Prelude.{◌≡◌, ◌<◌, IfOk, IfErr};
+ghost use Rattle.std.specs.Prelude.{◌≡◌, ◌<◌, length, IfOk, IfErr};
 ghost use Rattle.ledger_core.specs.Closing.{AreAllSeats};
 ghost use Rattle.ledger_core.specs.Journal.{terms_of};
 ghost use Rattle.ledger_core.specs.Shared.{IsSameSeat};
 
-use ledger_core::{Grant, IssueFault, Journal, Ledger, OpenLedgerFault, Range, Seat, SettleFault, Spent, Tally};
+use ledger_core::{
+    Grant, IssueFault, Journal, Ledger, OpenLedgerFault, Range, Seat, SettleFault, Spent, Tally,
+};
 use std::alloc::Global;
 use std::marker::Model;
 use std::thread::{Threads, for_each_mut};
@@ -66,13 +68,22 @@ impl Run {
         requires inside { second < self.old.terms.seats }
         ensures { self.new ≡ self.old }
     {
-        let (front, back) = self.seats.split_at_mut(second);
-        self.ledger.meet(&mut front[first], &mut back[0]);
+        meet_two(&self.ledger, self.seats.as_mut_slice(), first, second);
     }
 
-    /// Each seat, in a thread of its own where one can be had, issues until the range is at its end and settles every number:
-    /// the even ones as used, the odd ones as wasted.
-    pub fn spend<R: Threads + Sync>(&mut self, rt: &R)
+    /// How many numbers are settled.
+    pub fn settled(&mut self) -> u32
+        requires { 0 < self.old.terms.seats }
+        ensures { self.new ≡ self.old }
+    {
+        let seat = &mut self.seats[0];
+        let tally = self.ledger.tally(seat);
+        tally.sealed.wrapping_add(tally.void)
+    }
+
+    /// The seats, in so many threads, issue until the range is at its end and settle every number: the even ones as used, the odd
+    /// ones as wasted.
+    pub fn spend<R: Threads + Sync>(&mut self, rt: &R, threads: u32)
         ensures { self.new ≡ self.old }
     {
         let ledger = &self.ledger;
@@ -80,7 +91,8 @@ impl Run {
             requires { seat.now.ledger ≡ ledger.now.ledger }
             ensures { IsSameSeat seat.entry.now seat.exit.now }
         { spend(ledger, seat) };
-        for_each_mut(rt, self.seats.as_mut_slice(), 4, &work);
+        let threads = (threads as usize).max(1);
+        for_each_mut(rt, self.seats.as_mut_slice(), threads, &work);
     }
 
     pub fn close(self) -> Result<Journal, Run>
@@ -94,6 +106,17 @@ impl Run {
     }
 }
 
+// Two of a ledger's seats meet.
+fn meet_two(ledger: &Ledger, seats: &mut [Seat], first: usize, second: usize)
+    requires all { AreAllSeats ledger.now seats.old }
+    requires order { first < second }
+    requires inside { second < length seats.old }
+    ensures { AreAllSeats ledger.now seats.new }
+{
+    let (front, back) = seats.split_at_mut(second);
+    ledger.meet(&mut front[first], &mut back[0]);
+}
+
 // Issues until no number is left, and settles each.
 fn spend(ledger: &Ledger, seat: &mut Seat)
     requires { seat.old.ledger ≡ ledger.now.ledger }
@@ -103,7 +126,11 @@ fn spend(ledger: &Ledger, seat: &mut Seat)
         let Ok(grant) = ledger.issue(seat) else {
             return;
         };
-        let spent = if grant.number() % 2 == 0 { grant.used() } else { grant.waste() };
+        let spent = if grant.number() % 2 == 0 {
+            grant.used()
+        } else {
+            grant.waste()
+        };
         let _ = ledger.settle(seat, spent);
     }
 }

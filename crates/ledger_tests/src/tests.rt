@@ -2,7 +2,10 @@ ghost use Rattle.std.specs.Prelude.{◌≡◌, ◌<◌, IfOk};
 ghost use Rattle.ledger_core.specs.Journal.{terms_of};
 
 use crate::run::Run;
-use ledger_core::{Device, Grant, IssueFault, Journal, OpenLedgerFault, Range, SettleFault, Spent, Tally};
+use ledger_core::{
+    Device, FromMemory, Grant, IssueFault, Journal, OpenLedgerFault, Range, Schedule, SettleFault,
+    Spent, Tally, ToMemory, audit,
+};
 use std::alloc::{AllocError, Global};
 use std::test::*;
 
@@ -55,6 +58,21 @@ fn text_of(alloc: Global, journal: &Journal) -> Result<String, AllocError> {
     }
 }
 
+// The line that the audit of this journal writes.
+fn audit_once(alloc: Global, text: &str) -> Option<Vec<u8>> {
+    let mut reader = FromMemory::new(text.as_bytes(), 4_096, Schedule::Never);
+    let mut writer = ToMemory::new(alloc, 100, 100, Schedule::Never).ok()?;
+    audit(alloc, &mut reader, &mut writer).ok()?;
+    writer.bytes().to_vec(alloc).ok()
+}
+
+fn audited(alloc: Global, text: &str) -> Option<Vec<u8>> {
+    match audit_once(alloc, text) {
+        None => audit_once(alloc, text),
+        line => line,
+    }
+}
+
 // What was settled is settled once more, which must be refused and handed back.
 fn refused(run: &mut Run, seat: usize, spent: Spent) -> Option<Spent>
     requires { seat < run.old.terms.seats }
@@ -77,31 +95,65 @@ fn two_seats_share_a_range(rt: HostRuntime) -> Result<(), Fail> {
     assert_eq!(rt; issue(&mut run, 0).err(), Some(IssueFault::Exhausted));
     assert_eq!(rt; issue(&mut run, 0).err(), Some(IssueFault::SeatClosed));
     assert!(rt; settle(&mut run, 1, eight.used()).is_ok());
-    let three = Tally { granted: 2, refused: 1, sealed: 1, void: 0 };
+    let three = Tally {
+        granted: 2,
+        refused: 1,
+        sealed: 1,
+        void: 0,
+    };
     assert_eq!(rt; run.tally(1), three);
     let seven = refused(&mut run, 1, seven.waste()).ok_or("a stranger's number was settled")?;
     assert_eq!(rt; (seven.number(), run.tally(1)), (7, three));
     assert!(rt; settle(&mut run, 0, seven).is_ok());
-    assert_eq!(rt; run.tally(1), Tally { granted: 2, refused: 1, sealed: 1, void: 1 });
+    assert_eq!(rt;
+        run.tally(1),
+        Tally {
+            granted: 2,
+            refused: 1,
+            sealed: 1,
+            void: 1
+        }
+    );
     run.meet(0, 1);
     let Ok(journal) = close(run) else {
         return Err("memory was refused twice".into());
     };
     let text = text_of(rt.alloc(), &journal)?;
-    assert_eq!(rt; text.as_str(), "range 1 7 2 2\n0 issue 7\n1 issue 8\n0 issue none\n1 sealed 8\n0 void 7\n");
+    assert_eq!(rt;
+        text.as_str(),
+        "range 1 7 2 2\n0 issue 7\n1 issue 8\n0 issue none\n1 sealed 8\n0 void 7\n"
+    );
+    let line = audited(rt.alloc(), text.as_str()).ok_or("memory was refused twice")?;
+    assert_eq!(rt;
+        line.as_slice(),
+        b"legal: 2 granted, 1 sealed, 1 void, 0 open, 1 refused\n".as_slice()
+    );
     Ok(())
 }
 
 #[test]
 fn four_threads_spend_a_range(rt: HostRuntime) -> Result<(), Fail> {
     let mut run = Run::open(rt.alloc(), range_of(4_294_966_296, 1_000)?, 4)?;
-    run.spend(&rt);
+    run.spend(&rt, 4);
     run.meet(0, 3);
-    assert_eq!(rt; run.tally(2), Tally { granted: 1_000, refused: 4, sealed: 500, void: 500 });
+    assert_eq!(rt;
+        run.tally(2),
+        Tally {
+            granted: 1_000,
+            refused: 4,
+            sealed: 500,
+            void: 500
+        }
+    );
     let Ok(journal) = run.close() else {
         return Err("memory was refused".into());
     };
-    assert_eq!(rt; journal.entries().len(), 2_004);
+    let text = journal.text(rt.alloc())?;
+    let line = audited(rt.alloc(), text.as_str()).ok_or("memory was refused")?;
+    assert_eq!(rt;
+        line.as_slice(),
+        b"legal: 1000 granted, 500 sealed, 500 void, 0 open, 4 refused\n".as_slice()
+    );
     Ok(())
 }
 
@@ -109,12 +161,25 @@ fn four_threads_spend_a_range(rt: HostRuntime) -> Result<(), Fail> {
 #[test]
 fn sixty_four_seats_spend_the_greatest_range(rt: HostRuntime) -> Result<(), Fail> {
     let mut run = Run::open(rt.alloc(), range_of(0, 65_535)?, 64)?;
-    run.spend(&rt);
-    assert_eq!(rt; run.tally(63), Tally { granted: 65_535, refused: 64, sealed: 32_768, void: 32_767 });
+    run.spend(&rt, 4);
+    assert_eq!(rt;
+        run.tally(63),
+        Tally {
+            granted: 65_535,
+            refused: 64,
+            sealed: 32_768,
+            void: 32_767
+        }
+    );
     let Ok(journal) = run.close() else {
         return Err("memory was refused".into());
     };
-    assert_eq!(rt; journal.entries().len(), 131_134);
+    let text = journal.text(rt.alloc())?;
+    let line = audited(rt.alloc(), text.as_str()).ok_or("memory was refused")?;
+    assert_eq!(rt;
+        line.as_slice(),
+        b"legal: 65535 granted, 32768 sealed, 32767 void, 0 open, 64 refused\n".as_slice()
+    );
     Ok(())
 }
 
@@ -122,10 +187,17 @@ fn sixty_four_seats_spend_the_greatest_range(rt: HostRuntime) -> Result<(), Fail
 fn seats_are_from_one_to_sixty_four(rt: HostRuntime) -> Result<(), Fail> {
     let range = range_of(0, 1)?;
     for seats in [0, 65, u32::MAX] {
-        assert_eq!(rt; Run::open(rt.alloc(), range, seats).err(), Some(OpenLedgerFault::BadSeats), "{seats} seats");
+        assert_eq!(rt;
+            Run::open(rt.alloc(), range, seats).err(),
+            Some(OpenLedgerFault::BadSeats),
+            "{seats} seats"
+        );
     }
     for seats in [1, 64] {
-        assert!(rt; Run::open(rt.alloc(), range, seats).is_ok(), "{seats} seats");
+        assert!(rt;
+            Run::open(rt.alloc(), range, seats).is_ok(),
+            "{seats} seats"
+        );
     }
     Ok(())
 }
@@ -139,7 +211,15 @@ fn a_number_is_settled_once(rt: HostRuntime) -> Result<(), Fail> {
     let spoiled = one.used().spoil();
     assert_eq!(rt; (spoiled.number(), spoiled.device().number()), (1, 1));
     assert!(rt; run.settle(0, spoiled).is_ok());
-    assert_eq!(rt; run.tally(0), Tally { granted: 2, refused: 0, sealed: 0, void: 1 });
+    assert_eq!(rt;
+        run.tally(0),
+        Tally {
+            granted: 2,
+            refused: 0,
+            sealed: 0,
+            void: 1
+        }
+    );
     let mut other = Run::open(rt.alloc(), range_of(0, 3)?, 1)?;
     let zero = other.issue(0)?;
     let one = other.issue(0)?;
@@ -149,7 +229,10 @@ fn a_number_is_settled_once(rt: HostRuntime) -> Result<(), Fail> {
         return Err("memory was refused".into());
     };
     let text = journal.text(rt.alloc())?;
-    assert_eq!(rt; text.as_str(), "range 1 0 3 1\n0 issue 0\n0 issue 1\n0 void 1\n0 sealed 0\n");
+    assert_eq!(rt;
+        text.as_str(),
+        "range 1 0 3 1\n0 issue 0\n0 issue 1\n0 void 1\n0 sealed 0\n"
+    );
     Ok(())
 }
 
@@ -164,9 +247,27 @@ fn faults_have_their_numbers_and_texts(rt: HostRuntime) -> Result<(), Fail> {
         assert_eq!(rt; fault.number(), number);
         assert_eq!(rt; format!(in alloc; "{fault}")?.as_str(), text);
     }
-    assert_eq!(rt; (SettleFault::NotOpen.number(), SettleFault::OutOfMemory.number()), (22, 23));
-    assert_eq!(rt; (OpenLedgerFault::BadSeats.number(), OpenLedgerFault::OutOfMemory.number()), (25, 23));
-    assert_eq!(rt; format!(in alloc; "{}", SettleFault::OutOfMemory)?.as_str(), "out of memory");
-    assert_eq!(rt; format!(in alloc; "{}", OpenLedgerFault::OutOfMemory)?.as_str(), "out of memory");
+    assert_eq!(rt;
+        (
+            SettleFault::NotOpen.number(),
+            SettleFault::OutOfMemory.number()
+        ),
+        (22, 23)
+    );
+    assert_eq!(rt;
+        (
+            OpenLedgerFault::BadSeats.number(),
+            OpenLedgerFault::OutOfMemory.number()
+        ),
+        (25, 23)
+    );
+    assert_eq!(rt;
+        format!(in alloc; "{}", SettleFault::OutOfMemory)?.as_str(),
+        "out of memory"
+    );
+    assert_eq!(rt;
+        format!(in alloc; "{}", OpenLedgerFault::OutOfMemory)?.as_str(),
+        "out of memory"
+    );
     Ok(())
 }
