@@ -43,6 +43,3 @@ pub use crate::range::{BadRange, Range};
 pub use crate::seat::Seat;
 pub use crate::stream::{Failed, FromRead, Sink, Source, ToWrite, write_all};
 pub use crate::verdict::Verdict;
-
-#[cfg(test)]
-mod tests;
