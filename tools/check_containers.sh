@@ -16,15 +16,17 @@ for sealed in "$folder"/*.stm; do
     python3 tools/open_container.py "$folder/key" "$sealed" "$folder/opened"
     cmp "$folder/opened" "${sealed%.stm}"
     count=$((count + 1))
-    # A reader that checks nothing would open this one too.
-    python3 - "$sealed" <<'ALTER'
+    # A reader that checks nothing would open this one too. The fault is that of the last chunk.
+    fault=$(python3 - "$sealed" <<'ALTER'
 import sys
 data = bytearray(open(sys.argv[1], "rb").read())
 data[-1] ^= 1
 open(sys.argv[1] + ".bad", "wb").write(data)
+print(f"chunk {(len(data) - 25) // 65552} does not check")
 ALTER
-    if python3 tools/open_container.py "$folder/key" "$sealed.bad" "$folder/opened" >/dev/null; then
-        echo "check_containers: $sealed opens though its last tag was changed"
+    )
+    if answer=$(python3 tools/open_container.py "$folder/key" "$sealed.bad" "$folder/opened") || [ "$answer" != "$fault" ]; then
+        echo "check_containers: $sealed with its last tag changed: '$answer', not '$fault'"
         exit 1
     fi
 done

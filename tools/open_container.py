@@ -19,11 +19,13 @@ CHUNK, TAG, HEADER = 1 << 16, 16, 24
 
 
 class Fault(Exception):
-    """Why a container doesn't open."""
+    """Why it doesn't open."""
 
 
 def header_fault(key, data):
-    """The first fault of the header, or None."""
+    """The first fault of the length or the header, or None."""
+    if len(data) > HEADER + (1 << 40) + TAG * (1 << 24):
+        return "too long"
     if len(data) < HEADER:
         return "header cut short"
     if data[:8] != b"STRMSEAL":
@@ -53,10 +55,9 @@ def opened(key, data):
     parts = sealed_chunks(data[HEADER:])
     if parts is None:
         raise Fault("wrong length")
-    header, prefix, plain = data[:HEADER], data[10:17], []
+    header, plain = data[:HEADER], []
     for number, part in enumerate(parts):
-        last = bytes([number + 1 == len(parts)])
-        nonce = prefix + number.to_bytes(4, "big") + last
+        nonce = data[10:17] + number.to_bytes(4, "big") + bytes([number + 1 == len(parts)])
         try:
             plain.append(ChaCha20Poly1305(key).decrypt(nonce, part, header))
         except InvalidTag:
