@@ -26,7 +26,7 @@ packed_push history t Exhausted = let e = entry t Exhausted in omega (arith, cou
 packed_push history t (Settled n Sealed) = let e = entry t (Settled n Sealed) in omega (arith, count_push is_granted history e, count_push is_exhausted history e, count_push is_sealed history e, count_push is_void history e)
 packed_push history t (Settled n Void) = let e = entry t (Settled n Void) in omega (arith, count_push is_granted history e, count_push is_exhausted history e, count_push is_sealed history e, count_push is_void history e)
 
--- the word tells the counts: issues are at most 65,535 and 64, sealed and void together at most the granted, so none of the three carries
+-- the word tells the counts: issues are at most 65,535 and 64, sealed and void together at most the size of the range, so none of the three carries
 pub record Counts (history : List Entry) (n : ℕ) : Type 0 where
   pub issues : n % 1048576 ≡ granted history + refused history
   pub sealed : (n / 1048576) % 1048576 ≡ sealed history

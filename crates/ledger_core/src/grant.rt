@@ -1,7 +1,7 @@
 //! A number that was granted, and a number that was used or given up.
 //!
-//! A grant can't be copied, so that a number makes the nonces of one sealing at most: it is moved into the sealing and comes
-//! back as spent. One that is dropped leaves its number granted and open.
+//! A grant can't be copied, and is spent once. Its prefix can be read any number of times, so that one sealing alone uses it is
+//! the caller's care. A grant or a spent number that is dropped leaves its number granted and open.
 ghost use Rattle.std.specs.Prelude.{◌≡◌};
 ghost use Rattle.ledger_core.specs.declared.entry.Way.TheVariants.{Sealed, Void};
 ghost use Rattle.ledger_core.specs.Range.{prefix_of};

@@ -1,7 +1,7 @@
 //! The ledger of file numbers: which device sealed under which number, and how each number ended.
 //!
 //! A number makes the prefix of every nonce of one sealing, so no number may be issued twice. This crate has the words of
-//! that promise (device, range, prefix, entry, legal history), the ledger of one thread, its journal and the journal's audit,
+//! that promise (device, range, prefix, entry, legal history), the ledgers of one thread and of many, the journal and its audit,
 //! and the readers and writers over which the whole product works.
 #![tactic(auto)]
 
