@@ -1,13 +1,13 @@
 -- For the crates above: all seats of a ledger stay all seats of it through its calls.
-use Rattle.std.proofs.Common.{◌≡◌, ◌≢◌, ◌⊎◌, ℕ, zero, suc, ◌+◌, ◌<◌, ◌≤◌, List, [], ◌∷◌, ◌++◌, length, get_or, set, refl, sym, ap, ◌∙◌, subst, inl, inr, ⊎_elim, arith, length-append}
+use Rattle.std.proofs.Common.{◌≡◌, ◌⊎◌, ℕ, zero, suc, ◌<◌, List, [], ◌∷◌, ◌++◌, length, get_or, set, refl, sym, ap, ◌∙◌, subst, inl, inr, ⊎_elim, arith, length-append}
 use mathlib.Core.Logic.{dite}
 use native.Mathlib.Decide.{ℕ_discrete}
-use Rattle.std.specs.Prelude.{Some, None, slice_get}
+use Rattle.std.specs.Prelude.{Some, slice_get}
 use Rattle.std.proofs.lemmas.List.{length-set}
 use Rattle.std.proofs.lemmas.Option.{slice_get_within, slice_get-get_or}
 use Rattle.ledger_core.specs.Shared.{LedgerId, LedgerView, SeatView, fresh_seat, fresh_seats, IsSameSeat}
 use Rattle.ledger_core.specs.Closing.{AreAllSeats}
-use Rattle.ledger_core.specs.History.{Terms}
+use Rattle.journal_core.specs.History.{Terms}
 use Rattle.ledger_core.proofs.Meetings.{get-set_here, get-set_else, some_at, same_at}
 
 at_snoc : (l : List SeatView) (v w : SeatView) (i : ℕ) → slice_get (l ++ v ∷ []) i ≡ Some w → ((slice_get l i ≡ Some w) × (i < length l)) ⊎ ((v ≡ w) × (i ≡ length l))

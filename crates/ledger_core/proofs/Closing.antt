@@ -4,18 +4,18 @@
 use Rattle.std.proofs.Common.{◌≡◌, ◌≢◌, ℕ, zero, suc, ◌+◌, ◌<◌, ◌≤◌, Bool, true, false, cond, nat_eq, List, [], ◌∷◌, ◌++◌, map, length, get_or, set, take, refl, sym, ap, ◌∙◌, subst, arith, eq-eqb, ne_eqb, ⊎_elim, inl, inr, ◌⊎◌}
 use mathlib.Core.Logic.{dite}
 use native.Mathlib.Decide.{ℕ_discrete}
-use Rattle.std.specs.Prelude.{Some, None, slice_get}
+use Rattle.std.specs.Prelude.{Some, slice_get}
 use Rattle.std.proofs.lemmas.List.{length-set, take_more, take_all}
 use Rattle.std.proofs.lemmas.List.Sums.{sum_by-cons}
 use Rattle.std.proofs.lemmas.Option.{slice_get_within}
-use Rattle.ledger_core.specs.declared.entry.Entry.{Entry}
+use Rattle.journal_core.specs.declared.entry.Entry.{Entry}
 use Rattle.ledger_core.specs.declared.table.Record.{Record}
-use Rattle.ledger_core.specs.History.{Terms, IsLawful, Legal, calls_of}
+use Rattle.journal_core.specs.History.{Terms, IsLawful, Legal, calls_of}
 use Rattle.ledger_core.specs.Rule.{Mine}
 use Rattle.ledger_core.specs.Logs.{places_from, recorded, place_in, IsSeat}
 use Rattle.ledger_core.specs.Shared.{LedgerId, LedgerView, SeatView, seat_view, Sees}
 use Rattle.ledger_core.specs.Closing.{AreAllSeats, HasSeat, IsWhole, HaveMet, written, PlacesSeat, PlacesEach, HasNumber, ArePlaced, operations_in}
-use Rattle.ledger_core.proofs.Histories.{legal_front}
+use Rattle.journal_core.proofs.Histories.{legal_front}
 use Rattle.ledger_core.proofs.Seats.{places_kept}
 use Rattle.ledger_core.proofs.Meetings.{get-set_here, get-set_else, some_at, same_at}
 
@@ -188,7 +188,7 @@ same_lists (x ∷ xs) (y ∷ ys) size h =
     λ i. first i ∷ same_lists xs ys (omega arith) (λ p e at. h (suc p) e at) i
 
 -- a seat that has met the others has its operations where the history has them
-placed_seat : (history : List Entry) (v w : SeatView) → HasSeat history v → Sees v w → Rattle.ledger_core.specs.Shared.Knows w → Rattle.ledger_core.specs.History.Begins history w.seen → PlacesSeat history w
+placed_seat : (history : List Entry) (v w : SeatView) → HasSeat history v → Sees v w → Rattle.ledger_core.specs.Shared.Knows w → Rattle.journal_core.specs.History.Begins history w.seen → PlacesSeat history w
 placed_seat history v w has sees knows begins =
     let own : calls_of w.number history ≡ w.mine = ap (λ (z : SeatView). calls_of z.number history) sees.1 ∙ has.own ∙ sym (ap (λ (z : SeatView). z.mine) sees.1) in
     record { own = own; places = sym (places_kept w.number history w.seen begins (own ∙ sym knows.own)) }

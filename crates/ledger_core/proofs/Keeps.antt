@@ -6,16 +6,16 @@ use mathlib.Core.Option.{none, some, some-injective, some-ne-none}
 use lib.ListN.{get_elem?}
 use Rattle.atomic_table.specs.Table.{State, step, keeps, stepped, Allows, Splits, Joins, opening}
 use Rattle.atomic_table.proofs.Lists.{at_set}
-use Rattle.ledger_core.specs.declared.entry.Way.{Way}
-use Rattle.ledger_core.specs.declared.entry.Way.TheVariants.{Sealed, Void}
-use Rattle.ledger_core.specs.declared.entry.Event.TheVariants.{Granted, Exhausted, Settled}
-use Rattle.ledger_core.specs.declared.entry.Entry.{Entry}
+use Rattle.journal_core.specs.declared.entry.Way.{Way}
+use Rattle.journal_core.specs.declared.entry.Way.TheVariants.{Sealed, Void}
+use Rattle.journal_core.specs.declared.entry.Event.TheVariants.{Granted, Exhausted, Settled}
+use Rattle.journal_core.specs.declared.entry.Entry.{Entry}
 use Rattle.ledger_core.specs.declared.table.View.{View}
-use Rattle.ledger_core.specs.History.{Terms, IsLawful, entry, granted, refused, times_granted, times_settled, calls_of, MayFollow, Legal, Begins}
+use Rattle.journal_core.specs.History.{Terms, IsLawful, entry, granted, refused, times_granted, times_settled, calls_of, MayFollow, Legal}
 use Rattle.ledger_core.specs.Rule.{packed, StandsFor, Fits, Apart, HasHistory, IsKept, newcomer, added, Finds, Adds, issue_reply, Mine, issued, settled, looked, first_seat, other_seats, note_of, hears, nobody}
-use Rattle.ledger_core.proofs.Histories.{MayReply, follows, calls_push, begins_refl, begins_more, legal_push, legal_none}
-use Rattle.ledger_core.proofs.Bounds.{within}
-use Rattle.ledger_core.proofs.Owners.{still_open}
+use Rattle.journal_core.proofs.Histories.{MayReply, follows, calls_push, begins_refl, begins_more, legal_push, legal_none}
+use Rattle.journal_core.proofs.Bounds.{within}
+use Rattle.journal_core.proofs.Owners.{still_open}
 use Rattle.ledger_core.proofs.Packing.{weight, packed_push, counts}
 
 abbrev Table : Type 0

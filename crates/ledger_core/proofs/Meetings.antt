@@ -4,15 +4,15 @@
 use Rattle.std.proofs.Common.{◌≡◌, ◌≢◌, ℕ, zero, suc, ◌+◌, ◌<◌, ◌≤◌, List, [], ◌∷◌, ◌++◌, length, get_or, set, refl, sym, ap, ◌∙◌, subst, arith, length-append, append_assoc, append-nil}
 use mathlib.Core.Logic.{dite}
 use native.Mathlib.Decide.{ℕ_discrete}
-use Rattle.std.specs.Prelude.{Some, None, slice_get}
+use Rattle.std.specs.Prelude.{Some, slice_get}
 use Rattle.std.proofs.lemmas.List.{length-set, set-get_or}
 use Rattle.std.proofs.lemmas.Option.{slice_get_within, slice_get-get_or}
-use Rattle.ledger_core.specs.declared.entry.Entry.{Entry}
-use Rattle.ledger_core.specs.History.{Terms, Begins, calls_of}
+use Rattle.journal_core.specs.declared.entry.Entry.{Entry}
+use Rattle.journal_core.specs.History.{Terms, Begins, calls_of}
 use Rattle.ledger_core.specs.Rule.{Mine}
-use Rattle.ledger_core.specs.Shared.{LedgerId, SeatView, seat_view, Knows, Sees}
-use Rattle.ledger_core.specs.Closing.{HasSeat, IsPassed, ArePassed, HaveMet}
-use Rattle.ledger_core.proofs.Histories.{begins_refl, begins_trans}
+use Rattle.ledger_core.specs.Shared.{LedgerId, SeatView, seat_view, Sees}
+use Rattle.ledger_core.specs.Closing.{IsPassed, ArePassed, HaveMet}
+use Rattle.journal_core.proofs.Histories.{begins_refl, begins_trans}
 use Rattle.ledger_core.proofs.Seats.{calls_both}
 
 -- places of a list

@@ -1,17 +1,17 @@
 -- The word of a history: its three counts never carry into one another, and it tells the place and the reply of the next entry.
-use Rattle.std.proofs.Common.{◌≡◌, ℕ, ◌+◌, ◌/◌, ◌%◌, ◌<◌, ◌≤◌, min, Bool, true, false, cond, ltb, List, [], ◌∷◌, ◌++◌, length, refl, sym, ap, ◌∙◌, arith, ltb-true, ltb-false, le-ltb}
+use Rattle.std.proofs.Common.{◌≡◌, ℕ, ◌+◌, ◌/◌, ◌%◌, ◌<◌, min, Bool, true, false, cond, ltb, List, [], ◌∷◌, ◌++◌, length, refl, sym, ap, ◌∙◌, arith, ltb-true, ltb-false, le-ltb}
 use Rattle.std.proofs.lemmas.List.Sums.{sum_by-cons}
-use Rattle.ledger_core.specs.declared.entry.Way.TheVariants.{Sealed, Void}
-use Rattle.ledger_core.specs.declared.entry.Event.{Event}
-use Rattle.ledger_core.specs.declared.entry.Event.TheVariants.{Granted, Exhausted, Settled}
-use Rattle.ledger_core.specs.declared.entry.Entry.{Entry}
-use Rattle.ledger_core.specs.declared.entry.Tally.{Tally}
-use Rattle.ledger_core.specs.History.{Terms, IsLawful, entry, is_granted, is_exhausted, is_sealed, is_void, granted, refused, sealed, voided, tally_of, Legal}
+use Rattle.journal_core.specs.declared.entry.Way.TheVariants.{Sealed, Void}
+use Rattle.journal_core.specs.declared.entry.Event.{Event}
+use Rattle.journal_core.specs.declared.entry.Event.TheVariants.{Granted, Exhausted, Settled}
+use Rattle.journal_core.specs.declared.entry.Entry.{Entry}
+use Rattle.journal_core.specs.declared.entry.Tally.{Tally}
+use Rattle.journal_core.specs.History.{Terms, IsLawful, entry, is_granted, is_exhausted, is_sealed, is_void, granted, refused, sealed, voided, tally_of, Legal}
 use Rattle.ledger_core.specs.Rule.{packed, issue_reply}
 use Rattle.ledger_core.specs.Logs.{place_of_word}
-use Rattle.ledger_core.proofs.Histories.{count_push}
-use Rattle.ledger_core.proofs.Bounds.{within, few_refusals}
-use Rattle.ledger_core.proofs.Owners.{few_settled}
+use Rattle.journal_core.proofs.Histories.{count_push}
+use Rattle.journal_core.proofs.Bounds.{within, few_refusals}
+use Rattle.journal_core.proofs.Owners.{few_settled}
 
 -- what an event adds to the word
 abbrev pub weight : Event → ℕ

@@ -3,22 +3,22 @@ use Rattle.std.proofs.Common.{◌≡◌, ◌≢◌, ℕ, zero, suc, ◌+◌, ◌
 use mathlib.Core.Logic.{dite}
 use mathlib.Core.List.{map-append}
 use native.Mathlib.Decide.{ℕ_discrete}
-use Rattle.std.proofs.lemmas.List.Sums.{sum_by-cons, length-filter, count_by-le-length}
+use Rattle.std.proofs.lemmas.List.Sums.{length-filter, count_by-le-length}
 use Rattle.std.proofs.lemmas.List.{length-map, length-set, get_or-set_same, get_or-set_other}
 use Rattle.std.proofs.lemmas.Bool.{eqb-true}
-use Rattle.ledger_core.specs.declared.entry.Way.{Way}
-use Rattle.ledger_core.specs.declared.entry.Event.{Event}
-use Rattle.ledger_core.specs.declared.entry.Event.TheVariants.{Granted, Exhausted, Settled}
-use Rattle.ledger_core.specs.declared.entry.Entry.{Entry}
+use Rattle.journal_core.specs.declared.entry.Way.{Way}
+use Rattle.journal_core.specs.declared.entry.Event.{Event}
+use Rattle.journal_core.specs.declared.entry.Event.TheVariants.{Granted, Exhausted, Settled}
+use Rattle.journal_core.specs.declared.entry.Entry.{Entry}
 use Rattle.ledger_core.specs.declared.table.Record.{Record}
 use Rattle.ledger_core.specs.declared.table.View.{View}
-use Rattle.ledger_core.specs.History.{Terms, IsLawful, entry, is_exhausted, grants, settles, granted, refused, times_granted, times_settled, calls_of, Legal, Begins}
+use Rattle.journal_core.specs.History.{Terms, IsLawful, entry, is_exhausted, grants, settles, granted, refused, times_granted, times_settled, calls_of, Legal, Begins}
 use Rattle.ledger_core.specs.Rule.{knower, other_seats, hears, added, Finds, Adds, Issues, Settles, issue_reply, IsHeld, Mine}
 use Rattle.ledger_core.specs.Logs.{places_from, recorded, place_in, place_of_word, is_held, held_after, HasMark, IsMarked, Steps, IsSeat, from_seat}
 use Rattle.ledger_core.specs.Shared.{LedgerId, SeatView, fresh_seat, fresh_seats}
-use Rattle.ledger_core.proofs.Histories.{MayReply, reply_of, calls_push, legal_none, legal_front, count_push}
-use Rattle.ledger_core.proofs.Bounds.{within, few_refusals}
-use Rattle.ledger_core.proofs.Owners.{in_range, few_settled, owned, count_calls_le, count_same, count_more}
+use Rattle.journal_core.proofs.Histories.{MayReply, reply_of, calls_push, legal_none, legal_front, count_push}
+use Rattle.journal_core.proofs.Bounds.{within, few_refusals}
+use Rattle.journal_core.proofs.Owners.{in_range, few_settled, owned, count_calls_le, count_same, count_more}
 use Rattle.ledger_core.proofs.Packing.{counts, counted, place_is, reply_is}
 
 -- places

@@ -1,8 +1,8 @@
 -- The end of a ledger: the seats meet, and their logs are put together into the one history.
 use Rattle.std.specs.Prelude.{◌≡◌, ℕ, ◌<◌, List, length, fold, slice_get, slice_set, sum_by, Some}
-use Rattle.ledger_core.specs.declared.entry.Entry.{Entry}
+use Rattle.journal_core.specs.declared.entry.Entry.{Entry}
 use Rattle.ledger_core.specs.declared.table.Record.{Record}
-use Rattle.ledger_core.specs.History.{Terms, Legal, Begins, calls_of}
+use Rattle.journal_core.specs.History.{Terms, Legal, Begins, calls_of}
 use Rattle.ledger_core.specs.Logs.{places_from}
 use Rattle.ledger_core.specs.Shared.{LedgerView, SeatView, Knows, Sees}
 

@@ -1,12 +1,12 @@
 -- What the fields of a seat say: its own log has its own operations in order, each with the place where it stands.
 use Rattle.std.specs.Prelude.{◌≡◌, ℕ, ◌+◌, ◌-◌, ◌/◌, ◌%◌, ◌<◌, ◌≤◌, Bool, true, false, ◌&&◌, if◌then◌else◌, nat_eq, nat_lt, List, [], ◌∷◌, ◌++◌, length, map, slice_set, ⊤, Option, Some, None}
 use Rattle.std.specs.List.{slice_index_or}
-use Rattle.ledger_core.specs.declared.entry.Event.{Event}
-use Rattle.ledger_core.specs.declared.entry.Event.TheVariants.{Granted, Exhausted, Settled}
-use Rattle.ledger_core.specs.declared.entry.Entry.{Entry}
+use Rattle.journal_core.specs.declared.entry.Event.{Event}
+use Rattle.journal_core.specs.declared.entry.Event.TheVariants.{Granted, Exhausted, Settled}
+use Rattle.journal_core.specs.declared.entry.Entry.{Entry}
 use Rattle.ledger_core.specs.declared.table.Record.{Record}
 use Rattle.ledger_core.specs.declared.table.View.{View}
-use Rattle.ledger_core.specs.History.{Terms, IsLawful, Legal, calls_of, refused, times_granted, times_settled}
+use Rattle.journal_core.specs.History.{Terms, IsLawful, Legal, calls_of, refused, times_granted, times_settled}
 use Rattle.ledger_core.specs.Rule.{Mine}
 
 -- the places of the entries of a seat, where the list begins at place n

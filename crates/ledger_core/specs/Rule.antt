@@ -5,13 +5,13 @@ use mathlib.Core.Option.{some}
 use lib.ListN.{get_elem?}
 use Rattle.atomic_table.specs.Table.{State, Me, Step}
 use Rattle.atomic_table.specs.Seated.{TableId}
-use Rattle.ledger_core.specs.declared.entry.Way.{Way}
-use Rattle.ledger_core.specs.declared.entry.Event.{Event}
-use Rattle.ledger_core.specs.declared.entry.Event.TheVariants.{Granted, Exhausted, Settled}
-use Rattle.ledger_core.specs.declared.entry.Entry.{Entry}
+use Rattle.journal_core.specs.declared.entry.Way.{Way}
+use Rattle.journal_core.specs.declared.entry.Event.{Event}
+use Rattle.journal_core.specs.declared.entry.Event.TheVariants.{Granted, Exhausted, Settled}
+use Rattle.journal_core.specs.declared.entry.Entry.{Entry}
 use Rattle.ledger_core.specs.declared.table.View.{View}
-use Rattle.ledger_core.specs.Range.{range_of}
-use Rattle.ledger_core.specs.History.{Terms, IsLawful, Legal, Begins, calls_of, granted, refused, sealed, voided, times_granted, times_settled, entry}
+use Rattle.journal_core.specs.Range.{range_of}
+use Rattle.journal_core.specs.History.{Terms, IsLawful, Legal, Begins, calls_of, granted, refused, sealed, voided, times_granted, times_settled, entry}
 
 -- the three counts of a history in one word: issues from bit 0, sealed from bit 20, void from bit 40
 abbrev pub packed : List Entry → ℕ

@@ -1,17 +1,17 @@
 -- The shared ledger as its callers see it: of each seat its ledger, range, number, what it has seen, and its own operations.
-use Rattle.std.specs.Prelude.{◌≡◌, ◌⊎◌, ℕ, zero, suc, ◌+◌, ◌≤◌, ◌<◌, List, [], ◌∷◌, ◌++◌, slice_get, Some}
+use Rattle.std.specs.Prelude.{◌≡◌, ℕ, zero, suc, ◌<◌, List, [], ◌∷◌, ◌++◌}
 use Rattle.atomic_table.specs.Seated.{TableId}
-use Rattle.ledger_core.specs.declared.entry.Way.{Way}
-use Rattle.ledger_core.specs.declared.entry.Event.{Event}
-use Rattle.ledger_core.specs.declared.entry.Event.TheVariants.{Exhausted}
-use Rattle.ledger_core.specs.declared.entry.Entry.{Entry}
+use Rattle.journal_core.specs.declared.entry.Way.{Way}
+use Rattle.journal_core.specs.declared.entry.Event.{Event}
+use Rattle.journal_core.specs.declared.entry.Event.TheVariants.{Exhausted}
+use Rattle.journal_core.specs.declared.entry.Entry.{Entry}
 use Rattle.ledger_core.specs.declared.fault.OpenLedgerFault.{OpenLedgerFault}
 use Rattle.ledger_core.specs.declared.fault.OpenLedgerFault.TheVariants.{BadSeats, OutOfMemory as NotOpened}
 use Rattle.ledger_core.specs.declared.fault.IssueFault.{IssueFault}
 use Rattle.ledger_core.specs.declared.fault.IssueFault.TheVariants.{SeatClosed, OutOfMemory as NotIssued, Exhausted as NoNumber}
 use Rattle.ledger_core.specs.declared.fault.SettleFault.{SettleFault}
 use Rattle.ledger_core.specs.declared.fault.SettleFault.TheVariants.{NotOpen, OutOfMemory as NotSettled}
-use Rattle.ledger_core.specs.History.{Terms, IsLawful, Legal, Begins, entry, calls_of, refused, times_granted, times_settled}
+use Rattle.journal_core.specs.History.{Terms, IsLawful, Legal, entry, calls_of, refused, times_granted, times_settled}
 
 -- which ledger it is: what no other ledger shares with it. Clauses compare it, and do nothing else with it.
 abbrev pub LedgerId : Type 0

@@ -4,15 +4,15 @@
 //! any seat had done, and each seat has seen it in the second, so it has of each seat no more than that seat's own operations.
 //! Each record of a seat's log then goes to its place.
 ghost use Rattle.std.specs.Prelude.{◌≡◌, ℕ, List, ◌<◌, ◌≤◌, ◌^◌, [], IfOk, length, slice_get, Some};
-ghost use Rattle.ledger_core.specs.History.{Begins};
+ghost use Rattle.journal_core.specs.History.{Begins};
 ghost use Rattle.ledger_core.specs.Shared.{Knows, LedgerId, SeatView, Sees};
 ghost use Rattle.ledger_core.specs.Closing.{AreAllSeats, ArePassed, ArePlaced, HaveMet, IsPassed, IsWhole, operations_in, written};
 
-use crate::entry::{Entry, Event};
 use crate::ledger::Ledger;
 use crate::seat::{Seat, learn_in};
 use crate::steps::write_step;
 use crate::table::{Record, Token, Word};
+use journal_core::{Entry, Event};
 use std::alloc::{AllocError, Global};
 
 // The seat sees what the note shows, and writes a note of what it has seen.

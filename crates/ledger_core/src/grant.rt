@@ -3,11 +3,10 @@
 //! A grant can't be copied, and is spent once. Its prefix can be read any number of times, so that one sealing alone uses it is
 //! the caller's care. A grant or a spent number that is dropped leaves its number granted and open.
 ghost use Rattle.std.specs.Prelude.{◌≡◌};
-ghost use Rattle.ledger_core.specs.declared.entry.Way.TheVariants.{Sealed, Void};
-ghost use Rattle.ledger_core.specs.Range.{prefix_of};
+ghost use Rattle.journal_core.specs.declared.entry.Way.TheVariants.{Sealed, Void};
+ghost use Rattle.journal_core.specs.Range.{prefix_of};
 
-use crate::device::{Device, prefix};
-use crate::entry::Way;
+use journal_core::{Device, Way, prefix};
 use std::marker::Model;
 
 /// A number that was granted and not used yet.

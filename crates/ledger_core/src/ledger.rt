@@ -4,23 +4,20 @@
 //! tried again. Whatever the schedule, the operations of all seats are one legal history, each once, and what each seat has
 //! seen is a beginning of it.
 ghost use Rattle.std.specs.Prelude.{◌≡◌, ◌<◌, ◌↔◌, ◌⊎◌, [], IfOk, IfErr, replicate, false};
-ghost use Rattle.ledger_core.specs.declared.entry.Event.TheVariants.{Granted, Settled};
+ghost use Rattle.journal_core.specs.declared.entry.Event.TheVariants.{Granted, Settled};
 ghost use Rattle.ledger_core.specs.declared.fault.IssueFault.TheVariants.{SeatClosed};
 ghost use Rattle.ledger_core.specs.Closing.{AreAllSeats, IsWhole};
-ghost use Rattle.ledger_core.specs.History.{Begins, IsLawful, tally_of};
-ghost use Rattle.ledger_core.specs.Journal.{terms_of};
+ghost use Rattle.journal_core.specs.History.{Begins, IsLawful, tally_of};
+ghost use Rattle.journal_core.specs.Journal.{terms_of};
 ghost use Rattle.ledger_core.specs.Shared.{Extends, Holds, IsClosedSeat, IsSameSeat, Knows, Sees, Unissued, Unsettled, fresh_seats};
 
 use crate::close::{operations_of, put_together, room};
-use crate::entry::Tally;
 use crate::fault::{IssueFault, OpenLedgerFault, SettleFault};
 use crate::grant::{Grant, Spent};
-use crate::journal::Journal;
-use crate::range::Range;
 use crate::seat::{Seat, issue_in, learn_in, look_in, settle_in, tally_of_word};
-use crate::standing::MAX_SEATS;
 use crate::steps::{deal_step, open_word, write_step};
 use crate::table::{Opening, Own, Word};
+use journal_core::{Journal, MAX_SEATS, Range, Tally};
 use std::alloc::{AllocError, Global};
 use std::marker::Model;
 
@@ -34,7 +31,7 @@ pub struct Ledger {
 
 impl Model for Ledger {
     ghost use Rattle.std.specs.Prelude.{◌≡◌};
-    ghost use Rattle.ledger_core.specs.History.{IsLawful};
+    ghost use Rattle.journal_core.specs.History.{IsLawful};
     ghost use Rattle.ledger_core.specs.Shared.{LedgerView};
 
     ghost Value = { LedgerView };

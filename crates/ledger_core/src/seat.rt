@@ -4,16 +4,16 @@
 //! what the seat has seen: the counts in the word that the step found add up to it.
 ghost use Rattle.std.specs.Prelude.{◌≡◌, ℕ, ◌+◌, ◌/◌, ◌%◌, ◌^◌, ◌<◌, ◌≤◌, ◌↔◌, min, false, nat_lt, IsTrue, IfSome, length, vec_len, vec_capacity, [], ◌∷◌, ◌++◌, ◌||◌};
 ghost use Rattle.std.specs.List.{slice_index_or};
-ghost use Rattle.ledger_core.specs.declared.entry.Event.TheVariants.{Granted, Exhausted, Settled};
-ghost use Rattle.ledger_core.specs.History.{Begins, IsLawful, entry, is_exhausted, refused};
+ghost use Rattle.journal_core.specs.declared.entry.Event.TheVariants.{Granted, Exhausted, Settled};
+ghost use Rattle.journal_core.specs.History.{Begins, IsLawful, entry, is_exhausted, refused};
 ghost use Rattle.ledger_core.specs.Rule.{issue_reply, knower, packed, IsHeld};
 ghost use Rattle.ledger_core.specs.Logs.{HasMark, IsMarked, IsSeat, Steps, event_of, held_after, place_of_word};
 ghost use Rattle.ledger_core.specs.Shared.{Holds, IsClosedSeat, Knows, fresh_seat};
 
-use crate::entry::{Entry, Event, Tally, Way};
 use crate::grant::Spent;
 use crate::steps::{hear_step, issue_step, look_step, settle_step};
 use crate::table::{Opening, Own, Record, Token, Word};
+use journal_core::{Entry, Event, Tally, Way};
 use std::marker::Model;
 
 /// One more than each count of the word can be.

@@ -1,12 +1,12 @@
 //! The steps of a seat on the ledger's word, each one atomic operation.
 ghost use Rattle.std.specs.Prelude.{◌≡◌, ◌<◌, [], IfOk};
-ghost use Rattle.ledger_core.specs.declared.entry.Way.TheVariants.{Sealed, Void};
-ghost use Rattle.ledger_core.specs.History.{IsLawful, refused};
+ghost use Rattle.journal_core.specs.declared.entry.Way.TheVariants.{Sealed, Void};
+ghost use Rattle.journal_core.specs.History.{IsLawful, refused};
 ghost use Rattle.ledger_core.specs.Rule.{newcomer, MayStep, IsHeld, Issues, Settles, Looks, note_of, hears, first_seat, other_seats};
 
-use crate::entry::Way;
 use crate::table::{Deal, Hear, Issue, Look, Naming, Opening, Seal, Token, Waste, Word, Write};
 use atomic_table::Table;
+use journal_core::Way;
 use std::alloc::{AllocError, Global};
 use std::marker::Brand;
 

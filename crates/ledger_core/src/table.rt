@@ -3,11 +3,10 @@
 //! The history stands in no memory. The rule says that there is one, that it is legal, that the word has its three counts,
 //! and that each seat has seen a beginning of it in which the seat's own operations are all that there is of that seat.
 ghost use Rattle.std.specs.Prelude.{◌≡◌};
-ghost use Rattle.ledger_core.specs.Journal.{terms_of};
+ghost use Rattle.journal_core.specs.Journal.{terms_of};
 
-use crate::entry::Entry;
-use crate::range::Range;
 use atomic_table::{Join, Play, Seat, Split, Table, TableRule};
+use journal_core::{Entry, Range};
 use std::alloc::Global;
 use std::collections::LinkedList;
 use std::marker::{Brand, Model, PhantomData};
@@ -20,7 +19,7 @@ pub struct Opening {
 }
 
 impl Model for Opening {
-    ghost use Rattle.ledger_core.specs.History.{Terms};
+    ghost use Rattle.journal_core.specs.History.{Terms};
 
     ghost Value = { Terms };
 
@@ -115,7 +114,7 @@ pub struct Seal<N> {
 
 impl<N: Naming> Play<(), View> for Seal<N> {
     ghost use Rattle.ledger_core.specs.Rule.{settled};
-    ghost use Rattle.ledger_core.specs.declared.entry.Way.TheVariants.{Sealed};
+    ghost use Rattle.journal_core.specs.declared.entry.Way.TheVariants.{Sealed};
 
     ghost then = { settled N.number Sealed };
 }
@@ -127,7 +126,7 @@ pub struct Waste<N> {
 
 impl<N: Naming> Play<(), View> for Waste<N> {
     ghost use Rattle.ledger_core.specs.Rule.{settled};
-    ghost use Rattle.ledger_core.specs.declared.entry.Way.TheVariants.{Void};
+    ghost use Rattle.journal_core.specs.declared.entry.Way.TheVariants.{Void};
 
     ghost then = { settled N.number Void };
 }

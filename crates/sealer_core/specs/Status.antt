@@ -1,7 +1,7 @@
 -- Exit statuses.
 use Rattle.std.specs.Prelude.{ℕ}
-use Rattle.ledger_core.specs.declared.verdict.Verdict.{Verdict}
-use Rattle.ledger_core.specs.declared.verdict.Verdict.TheVariants.{Legal, Malformed, Illegal}
+use Rattle.journal_core.specs.declared.verdict.Verdict.{Verdict}
+use Rattle.journal_core.specs.declared.verdict.Verdict.TheVariants.{Legal, Malformed, Illegal}
 
 -- of an audit
 abbrev pub status_of : Verdict → ℕ

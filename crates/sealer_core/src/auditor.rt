@@ -1,7 +1,7 @@
 //! `sealer audit`: the verdict on a journal.
 ghost use Rattle.std.specs.Prelude.{◌≡◌, ◌≢◌, ◌<◌, [], ◌∷◌, ◌++◌, length, IfErr, IfOk, IfSome, IsErrOf, OnOk};
-ghost use Rattle.ledger_core.specs.declared.auditing.AuditFault.TheVariants.{Read, Write};
-ghost use Rattle.ledger_core.specs.declared.verdict.Verdict.{Verdict};
+ghost use Rattle.journal_core.specs.declared.auditing.AuditFault.TheVariants.{Read, Write};
+ghost use Rattle.journal_core.specs.declared.verdict.Verdict.{Verdict};
 ghost use Rattle.ledger_core.specs.AuditFaults.{is_read, is_write};
 ghost use Rattle.ledger_core.specs.Streams.{Appends, AppendsFront, IsAtEnd, Keeps, counted};
 ghost use Rattle.ledger_core.specs.Verdict.{IsVerdict, verdict_text};

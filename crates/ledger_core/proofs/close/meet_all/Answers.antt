@@ -1,4 +1,4 @@
-use Rattle.std.proofs.Common.{List, ◌∙◌, ap, subst}
+use Rattle.std.proofs.Common.{List, subst}
 use Rattle.ledger_core.specs.Shared.{SeatView}
 use Rattle.ledger_core.specs.Closing.{ArePassed}
 use Rattle.ledger_core.proofs.Meetings.{still_ours, have_met, unchanged}

@@ -1,5 +1,5 @@
-use Rattle.std.proofs.Common.{◌∙◌, ap, subst}
-use Rattle.ledger_core.specs.History.{IsLawful}
+use Rattle.std.proofs.Common.{◌∙◌, subst}
+use Rattle.journal_core.specs.History.{IsLawful}
 use Rattle.ledger_core.specs.Shared.{LedgerView}
 use Rattle.ledger_core.proofs.Closing.{closes}
 use Rattle.ledger_core.proofs.close.put_together.Goals as goal

@@ -1,5 +1,4 @@
-use Rattle.std.proofs.Common.{◌≡◌, ◌≤◌, ℕ, []}
-use Rattle.ledger_core.specs.Shared.{SeatView}
+use Rattle.std.proofs.Common.{◌≡◌, []}
 use Rattle.ledger_core.proofs.Meetings.{AreOnWay}
 use Rattle.ledger_core.proofs.close.round.Given as goal
 

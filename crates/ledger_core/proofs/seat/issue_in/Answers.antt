@@ -1,5 +1,5 @@
 use Rattle.std.proofs.Common.{ap, ◌∙◌, sym, subst}
-use Rattle.ledger_core.specs.Range.{Numbers}
+use Rattle.journal_core.specs.Range.{Numbers}
 use Rattle.ledger_core.specs.Logs.{HasMark, held_after}
 use Rattle.ledger_core.proofs.Seats.{seat_issues, found_small, steps_by, reply_marked}
 use Rattle.ledger_core.proofs.seat.issue_in.Goals as goal

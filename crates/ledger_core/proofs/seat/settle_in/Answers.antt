@@ -1,6 +1,6 @@
 use Rattle.std.proofs.Common.{ap, ◌∙◌, arith}
-use Rattle.ledger_core.specs.declared.entry.Event.TheVariants.{Settled}
-use Rattle.ledger_core.specs.Range.{Numbers}
+use Rattle.journal_core.specs.declared.entry.Event.TheVariants.{Settled}
+use Rattle.journal_core.specs.Range.{Numbers}
 use Rattle.ledger_core.specs.Logs.{held_after}
 use Rattle.ledger_core.proofs.Seats.{seat_settles, found_small, held_inside}
 use Rattle.ledger_core.proofs.seat.settle_in.Goals as goal

@@ -1,7 +1,7 @@
-use Rattle.std.proofs.Common.{◌≡◌, ℕ, List, ap, sym, ◌∙◌, subst}
+use Rattle.std.proofs.Common.{ℕ, List, ap, sym, ◌∙◌, subst}
 use Rattle.std.proofs.lemmas.Bool.{eqb-true}
-use Rattle.ledger_core.specs.declared.entry.Entry.{Entry}
-use Rattle.ledger_core.specs.Range.{Numbers}
+use Rattle.journal_core.specs.declared.entry.Entry.{Entry}
+use Rattle.journal_core.specs.Range.{Numbers}
 use Rattle.ledger_core.specs.Rule.{IsHeld}
 use Rattle.ledger_core.specs.Logs.{IsMarked}
 use Rattle.ledger_core.specs.Shared.{SeatView}

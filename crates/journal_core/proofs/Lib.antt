@@ -1,0 +1,16 @@
+pub mod Books
+pub mod Bounds
+pub mod Fronts
+pub mod Histories
+pub mod Inputs
+pub mod Judging
+pub mod Lines
+pub mod Numbers
+pub mod Owners
+pub mod Prefixes
+pub mod ReadLemmas
+pub mod Reading
+pub mod Separators
+pub mod Texts
+pub mod Tracking
+pub mod Unique

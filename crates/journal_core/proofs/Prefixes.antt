@@ -1,0 +1,78 @@
+-- No prefix is granted twice: the numbers granted rise along a legal history, and a prefix tells its number.
+use Rattle.std.proofs.Common.{◌≡◌, ◌≢◌, ◌⊎◌, ℕ, zero, suc, ◌+◌, ◌/◌, ◌%◌, ◌<◌, ◌≤◌, cond, true, List, [], ◌∷◌, ◌++◌, length, refl, sym, ap, ◌∙◌, subst, inl, inr, ⊎_elim, arith}
+use mathlib.Core.Logic.{dite}
+use native.Mathlib.Decide.{dec_le}
+use Rattle.std.specs.Prelude.{Some, None, slice_get}
+use Rattle.journal_core.specs.declared.entry.Event.TheVariants.{Granted}
+use Rattle.journal_core.specs.declared.entry.Entry.{Entry}
+use Rattle.journal_core.specs.Range.{prefix_of}
+use Rattle.journal_core.specs.History.{Terms, entry, is_granted, granted, MayFollow, Legal}
+use Rattle.journal_core.specs.Prefixes.{GrantsOnce}
+use Rattle.journal_core.proofs.Histories.{count_push, induct, reply_of}
+use Rattle.journal_core.proofs.Bounds.{within}
+
+-- the entry at a place of a list that is one longer
+at_snoc : (l : List Entry) (e x : Entry) (i : ℕ) → slice_get (l ++ e ∷ []) i ≡ Some x → ((slice_get l i ≡ Some x) × (i < length l)) ⊎ ((e ≡ x) × (i ≡ length l))
+at_snoc [] e x zero at = inr (cc, refl)
+at_snoc [] e x (suc i) at = absurd (cc)
+at_snoc (y ∷ ys) e x zero at = inl (at, omega arith)
+at_snoc (y ∷ ys) e x (suc i) at =
+    ⊎_elim (λ (h : (slice_get ys i ≡ Some x) × (i < length ys)). let a = h.1 in inl (h.0, omega arith)) (λ (h : (e ≡ x) × (i ≡ length ys)). let a = h.1 in inr (h.0, omega arith)) (at_snoc ys e x i at)
+
+-- the numbers granted rise
+record AreRising (terms : Terms) (history : List Entry) : Type 0 where
+  below : (i n s : ℕ) → slice_get history i ≡ Some (entry s (Granted n)) → (terms.range.lo ≤ n) × (n < terms.range.lo + granted history)
+  rising : (i j m n s t : ℕ) → i < j → slice_get history i ≡ Some (entry s (Granted m)) → slice_get history j ≡ Some (entry t (Granted n)) → m < n
+
+next_number : (terms : Terms) (history : List Entry) (e : Entry) (n s : ℕ) → MayFollow terms history e → e ≡ entry s (Granted n) → n ≡ terms.range.lo + granted history
+next_number terms history e n s may is = (reply_of terms history (entry s (Granted n)) (subst (MayFollow terms history) is may)).0
+
+grow_rising : (terms : Terms) (history : List Entry) (e : Entry) → MayFollow terms history e → AreRising terms history → AreRising terms (history ++ e ∷ [])
+grow_rising terms history e may p = record {
+  below = λ i n s at.
+      let more = count_push is_granted history e in
+      ⊎_elim
+      (λ (h : (slice_get history i ≡ Some (entry s (Granted n))) × (i < length history)). let b = p.below i n s h.0 in let lo = b.0 in let hi = b.1 in (lo, omega arith))
+      (λ (h : (e ≡ entry s (Granted n)) × (i ≡ length history)).
+      let is = next_number terms history e n s may h.0 in
+      let one : cond {A = ℕ} (is_granted e) 1 0 ≡ 1 = ap (λ (z : Entry). cond {A = ℕ} (is_granted z) 1 0) h.0 in ((omega arith), (omega arith)))
+      (at_snoc history e (entry s (Granted n)) i at);
+  rising = λ i j m n s t less ati atj.
+      ⊎_elim
+      (λ (h : (slice_get history j ≡ Some (entry t (Granted n))) × (j < length history)).
+      ⊎_elim
+      (λ (g : (slice_get history i ≡ Some (entry s (Granted m))) × (i < length history)). p.rising i j m n s t less g.0 h.0)
+      (λ (g : (e ≡ entry s (Granted m)) × (i ≡ length history)). let a = g.1 in let b = h.1 in absurd (omega arith))
+      (at_snoc history e (entry s (Granted m)) i ati))
+      (λ (h : (e ≡ entry t (Granted n)) × (j ≡ length history)).
+      ⊎_elim
+      (λ (g : (slice_get history i ≡ Some (entry s (Granted m))) × (i < length history)). let is = next_number terms history e n t may h.0 in let b = (p.below i m s g.0).1 in omega arith)
+      (λ (g : (e ≡ entry s (Granted m)) × (i ≡ length history)). let a = g.1 in let b = h.1 in absurd (omega arith))
+      (at_snoc history e (entry s (Granted m)) i ati))
+      (at_snoc history e (entry t (Granted n)) j atj);
+}
+
+are_rising : (terms : Terms) (history : List Entry) → Legal terms history → AreRising terms history
+are_rising terms = induct terms (AreRising terms) record { below = λ i n s at. absurd (cc); rising = λ i j m n s t less ati atj. absurd (cc) } (grow_rising terms)
+
+-- a prefix tells its number
+pub prefix_tells : (device m n : ℕ) → prefix_of device m ≡ prefix_of device n → m ≡ n
+prefix_tells device m n same =
+    let a : m / 16777216 ≡ n / 16777216 = cc in
+    let b : m / 65536 % 256 ≡ n / 65536 % 256 = cc in
+    let c : m / 256 % 256 ≡ n / 256 % 256 = cc in
+    let d : m % 256 ≡ n % 256 = cc in
+    omega arith
+
+pub grants_once : (terms : Terms) (history : List Entry) → Legal terms history → GrantsOnce terms history
+grants_once terms history legal =
+    let r = are_rising terms history legal in
+    let w = (within terms history legal).0 in
+    record {
+      inside = λ i n s at. let b = r.below i n s at in let lo = b.0 in let hi = b.1 in (lo, omega arith);
+      once = λ i j m n s t apart ati atj same.
+          let number = prefix_tells terms.range.device m n same in
+          dite (dec_le i j)
+          (λ le. let less = r.rising i j m n s t (omega arith) ati atj in omega arith)
+          (λ gt. let less = r.rising j i n m t s (omega arith) atj ati in omega arith);
+    }

@@ -1,0 +1,15 @@
+pub mod Audit
+pub mod AuditFaults
+pub mod Book
+pub mod Booked
+pub mod History
+pub mod Journal
+pub mod Judged
+pub mod Line
+pub mod Prefixes
+pub mod Range
+pub mod Reads
+pub mod Standing
+pub mod Streams
+pub mod Text
+pub mod Verdict

@@ -1,0 +1,57 @@
+//! Devices and the prefixes of their nonces: the deterministic construction of NIST SP 800-38D, section 8.2.1.
+//!
+//! The fixed field is the device's number in 3 bytes. Under one key no two devices have one number.
+ghost use Rattle.std.specs.Prelude.{◌≡◌, ◌≤◌, SomeIff};
+ghost use Rattle.journal_core.specs.Range.{prefix_of};
+
+use std::marker::Model;
+
+/// The number of one device: 0 to 16,777,215.
+#[derive(Clone, Copy, PartialEq, Eq, Debug)]
+pub struct Device {
+    number: u32,
+}
+
+impl Model for Device {
+    ghost use Rattle.std.specs.Prelude.{ℕ, ◌≤◌};
+
+    ghost Value = { ℕ };
+
+    ghost view = { λ d. d.number };
+
+    ghost invariant = { λ d. d.number ≤ 16777215 };
+
+    ghost inverse = { λ n. record { number = n } };
+}
+
+impl Device {
+    /// The greatest number of a device: what 3 bytes hold.
+    pub const MAX: u32 = (1 << 24) - 1;
+
+    /// The device of this number, or `None` over 16,777,215.
+    pub fn new(number: u32) -> Option<Device>
+        ensures { SomeIff result (number ≤ 16777215) number }
+    {
+        if number > Device::MAX {
+            return None;
+        }
+        Some(Device { number })
+    }
+
+    /// The device's number.
+    pub fn number(self) -> u32
+        ensures value { result ≡ self }
+        ensures small { result ≤ 16777215 }
+    {
+        self.number
+    }
+}
+
+/// The first 7 bytes of every nonce of the file `number` of `device`: the device in 3 and the number in 4 big-endian bytes.
+pub fn prefix(device: Device, number: u32) -> [u8; 7]
+    ensures { result ≡ prefix_of device number }
+{
+    let [_, a, b, c] = device.number.to_be_bytes();
+    let [d, e, f, g] = number.to_be_bytes();
+    [a, b, c, d, e, f, g]
+}

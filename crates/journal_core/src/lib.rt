@@ -1,0 +1,34 @@
+//! The ledger of file numbers, as a list: which device sealed under which number, and how each number ended.
+//!
+//! A number makes the prefix of every nonce of one sealing, so no number may be issued twice. This crate has the words of
+//! that promise (device, range, prefix, entry, legal history), the ledger of one thread, the journal and its audit, and the
+//! readers and writers over which the whole product works. The ledger of many threads stands on it, in `ledger_core`.
+#![tactic(auto)]
+
+pub mod auditing;
+mod auditor;
+pub mod book;
+pub mod device;
+pub mod entry;
+pub mod input;
+pub mod journal;
+pub mod laws;
+mod line;
+pub mod memory;
+pub mod range;
+pub mod standing;
+mod state;
+pub mod stream;
+pub mod verdict;
+
+pub use crate::auditing::{AuditFault, audit};
+pub use crate::book::{Book, BookFault};
+pub use crate::device::{Device, prefix};
+pub use crate::entry::{Entry, Event, Tally, Way};
+pub use crate::input::{ReadFault, fill, read_to_limit};
+pub use crate::journal::Journal;
+pub use crate::memory::{FromMemory, Schedule, ToMemory};
+pub use crate::range::{BadRange, Range};
+pub use crate::standing::MAX_SEATS;
+pub use crate::stream::{Failed, FromRead, Sink, Source, ToWrite, write_all};
+pub use crate::verdict::Verdict;

@@ -1,0 +1,124 @@
+//! The lines of a journal, read from text: exactly the lines that `Journal::text` writes.
+ghost use Rattle.std.specs.Prelude.{◌≡◌, ℕ, ◌∷◌, ◌++◌, ◌<◌, List, IfSome, IsTrue, MatchOption, Some, ◌↔◌};
+ghost use Rattle.std.specs.Fmt.{decimal};
+ghost use Rattle.journal_core.specs.History.{Terms, IsLawful};
+ghost use Rattle.journal_core.specs.Journal.{terms_of};
+ghost use Rattle.journal_core.specs.Line.{HasNoSpace};
+ghost use Rattle.journal_core.specs.Text.{entry_text, event_text, terms_text, way_text};
+ghost use Rattle.journal_core.specs.Verdict.{IsNumberOf32Bits, IsWritable};
+
+use crate::device::Device;
+use crate::entry::{Entry, Event, Way};
+use crate::range::Range;
+use crate::standing::MAX_SEATS;
+
+fn is_word(text: &str, word: &str) -> bool
+    ensures { IsTrue result ↔ (text.now ≡ word.now) }
+{
+    text == word
+}
+
+// A decimal number of 32 bits without leading zeros.
+fn number(text: &str) -> Option<u32>
+    ensures sound { IfSome result (λ n. text.now ≡ decimal n) }
+    ensures complete { (n : ℕ) → n < 4294967296 → text.now ≡ decimal n → result ≡ Some n }
+{
+    let bytes = text.as_bytes();
+    if bytes.is_empty() {
+        return None;
+    }
+    let first = bytes[0];
+    if first == b'+' {
+        return None;
+    }
+    if first == b'0' && bytes.len() > 1 {
+        return None;
+    }
+    text.parse().ok()
+}
+
+// A word up to the first space, and what follows that space.
+fn word_then(text: &str) -> Option<(&str, &str)>
+    ensures sound { IfSome result (λ r. text.now ≡ r.0.now ++ 32 ∷ r.1.now) }
+    ensures complete { (word rest : List ℕ) → HasNoSpace word → text.now ≡ word ++ 32 ∷ rest
+        → MatchOption result ⊥ (λ r. (r.0.now ≡ word) × (r.1.now ≡ rest)) }
+{
+    text.split_once(' ')
+}
+
+// A number, a space, and what follows.
+fn number_then(text: &str) -> Option<(u32, &str)>
+    ensures sound { IfSome result (λ r. text.now ≡ decimal r.0 ++ 32 ∷ r.1.now) }
+    ensures complete { (n : ℕ) (rest : List ℕ) → n < 4294967296 → text.now ≡ decimal n ++ 32 ∷ rest
+        → MatchOption result ⊥ (λ r. (r.0 ≡ n) × (r.1.now ≡ rest)) }
+{
+    let (word, rest) = word_then(text)?;
+    let n = number(word)?;
+    Some((n, rest))
+}
+
+// The event that this text names.
+fn event_in(text: &str) -> Option<Event>
+    ensures sound { IfSome result (λ event. IsNumberOf32Bits event × (text.now ≡ event_text event)) }
+    ensures complete { (event : Event) → IsNumberOf32Bits event → text.now ≡ event_text event → result ≡ Some event }
+{
+    let (word, rest) = word_then(text)?;
+    if is_word(word, "issue") {
+        if is_word(rest, "none") {
+            return Some(Event::Exhausted);
+        }
+        let n = number(rest)?;
+        return Some(Event::Granted(n));
+    }
+    let way = way_in(word)?;
+    let n = number(rest)?;
+    Some(Event::Settled(n, way))
+}
+
+fn way_in(word: &str) -> Option<Way>
+    ensures sound { IfSome result (λ way. word.now ≡ way_text way) }
+    ensures complete { (way : Way) → word.now ≡ way_text way → result ≡ Some way }
+{
+    if is_word(word, "sealed") {
+        Some(Way::Sealed)
+    } else if is_word(word, "void") {
+        Some(Way::Void)
+    } else {
+        None
+    }
+}
+
+/// The entry that a line names, where it names one.
+pub(crate) fn entry_in(line: &str) -> Option<Entry>
+    ensures sound { IfSome result (λ e. IsWritable e × (line.now ≡ entry_text e)) }
+    ensures complete { (e : Entry) → IsWritable e → line.now ≡ entry_text e → result ≡ Some e }
+{
+    let (seat, text) = number_then(line)?;
+    let event = event_in(text)?;
+    if seat >= MAX_SEATS {
+        return None;
+    }
+    Some(Entry { seat, event })
+}
+
+/// The range and the number of seats that a range line names, where it is one.
+pub(crate) fn terms_in(line: &str) -> Option<(Range, u32)>
+    ensures sound { IfSome result (λ r. IsLawful (terms_of r.0 r.1) × (line.now ≡ terms_text (terms_of r.0 r.1))) }
+    ensures complete { (terms : Terms) → IsLawful terms → line.now ≡ terms_text terms
+        → MatchOption result ⊥ (λ r. terms_of r.0 r.1 ≡ terms) }
+{
+    let (word, rest) = word_then(line)?;
+    if !is_word(word, "range") {
+        return None;
+    }
+    let (device, rest) = number_then(rest)?;
+    let (lo, rest) = number_then(rest)?;
+    let (size, rest) = number_then(rest)?;
+    let seats = number(rest)?;
+    let device = Device::new(device)?;
+    let range = Range::new(device, lo, size).ok()?;
+    if seats == 0 || seats > MAX_SEATS {
+        return None;
+    }
+    Some((range, seats))
+}

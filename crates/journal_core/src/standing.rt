@@ -1,0 +1,158 @@
+//! What a running ledger keeps of its history: the counts, which seats are closed, and what became of each number.
+//!
+//! It takes memory for the numbers of the range, once, and answers each call in the same few steps however long the history.
+ghost use Rattle.std.specs.Prelude.{◌≡◌, ◌<◌, ◌↔◌, false, length, IfOk, IsTrue};
+ghost use Rattle.journal_core.specs.History.{IsLawful};
+ghost use Rattle.journal_core.specs.Journal.{terms_of};
+ghost use Rattle.journal_core.specs.Standing.{CanFollow, IsSmall, after, answer_of, fresh, is_closed, issued, number_at};
+
+use crate::entry::{Entry, Event, Tally, Way};
+use crate::range::Range;
+use std::alloc::{AllocError, Global};
+use std::marker::Model;
+
+/// The greatest number of seats.
+pub const MAX_SEATS: u32 = 64;
+
+// A number that was issued: to which seat, and whether it was settled since.
+#[derive(Clone, Copy)]
+struct Issued {
+    seat: u32,
+    settled: bool,
+}
+
+#[derive(Drop)]
+pub(crate) struct Standing {
+    range: Range,
+    seats: u32,
+    tally: Tally,
+    closed: [bool; MAX_SEATS as usize],
+    numbers: Vec<Issued>,
+}
+
+impl Model for Standing {
+    ghost use Rattle.std.specs.Prelude.{◌≤◌, vec_len, vec_capacity};
+    ghost use Rattle.journal_core.specs.History.{IsLawful};
+    ghost use Rattle.journal_core.specs.Journal.{terms_of};
+    ghost use Rattle.journal_core.specs.Standing.{StandingView, standing_of};
+
+    ghost Value = { StandingView };
+
+    ghost view = { λ s. standing_of (terms_of s.range s.seats) s.tally s.closed s.numbers.items };
+
+    ghost invariant = { λ s. IsLawful (terms_of s.range s.seats) × (vec_len s.numbers ≤ s.range.size) × (s.range.size ≤ vec_capacity s.numbers) };
+}
+
+impl Standing {
+    // Before the first call. It makes room for all numbers of the range.
+    pub(crate) fn new(alloc: Global, range: Range, seats: u32) -> Result<Standing, AllocError>
+        requires { IsLawful (terms_of range seats) }
+        ensures { IfOk result (λ s. s ≡ fresh (terms_of range seats)) }
+    {
+        let numbers = Vec::with_capacity(alloc, range.size() as usize)?;
+        Ok(Standing {
+            range,
+            seats,
+            tally: Tally::default(),
+            closed: [false; MAX_SEATS as usize],
+            numbers,
+        })
+    }
+
+    pub(crate) fn range(&self) -> Range
+        ensures { result ≡ self.now.terms.range }
+    {
+        self.range
+    }
+
+    pub(crate) fn seats(&self) -> u32
+        ensures { result ≡ self.now.terms.seats }
+    {
+        self.seats
+    }
+
+    pub(crate) fn tally(&self) -> Tally
+        ensures { result ≡ self.now.tally }
+    {
+        self.tally
+    }
+
+    pub(crate) fn is_closed(&self, seat: u32) -> bool
+        requires { seat < self.now.terms.seats }
+        ensures { result ≡ is_closed self.now seat }
+    {
+        self.closed[seat as usize]
+    }
+
+    // What an issue is answered.
+    pub(crate) fn answer(&self) -> Event
+        ensures { result ≡ answer_of self.now }
+    {
+        let issued = self.numbers.len() as u32;
+        if issued < self.range.size() {
+            Event::Granted(self.range.lo() + issued)
+        } else {
+            Event::Exhausted
+        }
+    }
+
+    // Whether this entry may be the next.
+    pub(crate) fn can_follow(&self, entry: Entry) -> bool
+        ensures { IsTrue result ↔ CanFollow self.now entry }
+    {
+        if entry.seat >= self.seats {
+            return false;
+        }
+        let closed = self.closed[entry.seat as usize];
+        let (lo, size) = (self.range.lo(), self.range.size());
+        let issued = self.numbers.len() as u32;
+        match entry.event {
+            Event::Granted(number) => issued < size && number == lo + issued && !closed,
+            Event::Exhausted => issued == size && !closed,
+            Event::Settled(number, _) => number >= lo && self.is_open(entry.seat, number - lo),
+        }
+    }
+
+    // Whether the k-th number was issued to this seat and not settled since.
+    fn is_open(&self, seat: u32, k: u32) -> bool
+        ensures { IsTrue result ↔ ((k < length self.now.numbers) × (number_at self.now k ≡ issued seat false)) }
+    {
+        match self.numbers.get(k as usize) {
+            Some(number) => number.seat == seat && !number.settled,
+            None => false,
+        }
+    }
+
+    // Takes the next entry. No count of a legal history comes to its end.
+    pub(crate) fn take(&mut self, entry: Entry)
+        requires { CanFollow self.old entry }
+        ensures { IsSmall self.old.tally → self.new ≡ after self.old entry.seat entry.event }
+    {
+        match entry.event {
+            Event::Granted(_) => {
+                self.tally.granted = self.tally.granted.saturating_add(1);
+                let number = Issued {
+                    seat: entry.seat,
+                    settled: false,
+                };
+                self.numbers.push(number).unwrap();
+            }
+            Event::Exhausted => {
+                self.tally.refused = self.tally.refused.saturating_add(1);
+                self.closed[entry.seat as usize] = true;
+            }
+            Event::Settled(number, way) => {
+                match way {
+                    Way::Sealed => {
+                        self.tally.sealed = self.tally.sealed.saturating_add(1);
+                    }
+                    Way::Void => {
+                        self.tally.void = self.tally.void.saturating_add(1);
+                    }
+                }
+                let k = number - self.range.lo();
+                self.numbers[k as usize].settled = true;
+            }
+        }
+    }
+}

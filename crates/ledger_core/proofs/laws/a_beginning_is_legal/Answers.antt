@@ -1,7 +1,0 @@
-use Rattle.std.proofs.Common.{subst}
-use Rattle.ledger_core.specs.History.{Legal}
-use Rattle.ledger_core.proofs.Histories.{legal_front}
-use Rattle.ledger_core.proofs.laws.a_beginning_is_legal.Goals as goal
-
-pub returns : goal.returns
-returns c = λ terms front whole legal begins. legal_front terms front begins.0 (subst (Legal terms) begins.1 legal)

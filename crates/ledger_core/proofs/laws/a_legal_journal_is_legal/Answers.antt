@@ -1,5 +1,0 @@
-use Rattle.ledger_core.proofs.Unique.{legal_verdict}
-use Rattle.ledger_core.proofs.laws.a_legal_journal_is_legal.Goals as goal
-
-pub returns : goal.returns
-returns c = legal_verdict

@@ -1,5 +1,0 @@
-use Rattle.ledger_core.proofs.Unique.{same_verdict}
-use Rattle.ledger_core.proofs.laws.bytes_have_one_verdict.Goals as goal
-
-pub returns : goal.returns
-returns c = same_verdict
