@@ -1,7 +1,7 @@
 -- Each number granted belongs to one seat, which alone may settle it, once.
 use Rattle.std.proofs.Common.{◌≡◌, ◌≢◌, ℕ, zero, suc, ◌+◌, ◌-◌, ◌<◌, ◌≤◌, Bool, true, false, cond, nat_eq, List, [], ◌∷◌, ◌++◌, count_by, refl, sym, ap, ◌∙◌, subst, arith, eq-eqb, ne_eqb}
 use mathlib.Core.Logic.{dite}
-use native.Mathlib.Decide.{ℕ_discrete}
+use native.Mathlib.Decide.{ℕ_discrete, dec_le}
 use Rattle.std.proofs.lemmas.List.Sums.{sum_by-cons}
 use Rattle.journal_core.specs.declared.entry.Way.{Way}
 use Rattle.journal_core.specs.declared.entry.Way.TheVariants.{Sealed, Void}
@@ -107,11 +107,14 @@ sum_below_start : (n : ℕ) (f : ℕ → ℕ) → ((t : ℕ) → f t ≡ 0) → 
 sum_below_start zero f is = refl
 sum_below_start (suc n) f is = let r = sum_below_start n f is in let e = is n in omega arith
 
+numbered : (terms : Terms) (history : List Entry) → Legal terms history → Numbered terms history
+numbered terms = induct terms (Numbered terms) (sym (sum_below_start terms.range.size (λ i. times_settled (terms.range.lo + i) []) (λ i. refl)), legal_none terms)
+    (λ history e may p. (grow_numbered terms history e.seat e.event (reply_of terms history e may) p.1 p.0, legal_push terms history e p.1 may))
+
 -- no more settled than the range has numbers
 pub few_settled : (terms : Terms) (history : List Entry) → Legal terms history → sealed history + voided history ≤ terms.range.size
 few_settled terms history legal =
-    let s : Numbered terms history = induct terms (Numbered terms) (sym (sum_below_start terms.range.size (λ i. times_settled (terms.range.lo + i) []) (λ i. refl)), legal_none terms)
-    (λ history e may p. (grow_numbered terms history e.seat e.event (reply_of terms history e may) p.1 p.0, legal_push terms history e p.1 may)) history legal in
+    let s : Numbered terms history = numbered terms history legal in
     let r = sum_below_ones terms.range.size (λ i. times_settled (terms.range.lo + i) history) (λ i. settled_once terms history legal (terms.range.lo + i)) in let q = s.0 in omega arith
 
 -- a number is granted to one seat, and settled by that seat
@@ -217,3 +220,19 @@ owned terms = induct terms (Owned terms)
 -- what is open at its seat is settled nowhere
 pub still_open : (terms : Terms) (history : List Entry) (t n : ℕ) → Legal terms history → 0 < times_granted n (calls_of t history) → times_settled n (calls_of t history) ≡ 0 → times_settled n history ≡ 0
 still_open terms history t n legal held none_yet = (owned terms history legal).by_it n t held ∙ none_yet
+
+-- where each term is at most 1 and none stands past a place, the sum is at most that place
+sum_below_cut : (n m : ℕ) (f : ℕ → ℕ) → ((t : ℕ) → f t ≤ 1) → ((t : ℕ) → m ≤ t → f t ≡ 0) → sum_below n f ≤ m
+sum_below_cut zero m f ones none = omega arith
+sum_below_cut (suc n) m f ones none = dite (dec_le m n)
+    (λ past. let r = sum_below_cut n m f ones none in let e = none n past in omega arith)
+    (λ before. let r = sum_below_ones n f ones in let e = ones n in omega arith)
+
+-- no more settled than granted
+pub settled_were_granted : (terms : Terms) (history : List Entry) → Legal terms history → sealed history + voided history ≤ granted history
+settled_were_granted terms history legal =
+    let s : Numbered terms history = numbered terms history legal in
+    let o = owned terms history legal in
+    let r = sum_below_cut terms.range.size (granted history) (λ i. times_settled (terms.range.lo + i) history) (λ i. settled_once terms history legal (terms.range.lo + i))
+    (λ i past. dite (ℕ_discrete (times_settled (terms.range.lo + i) history) 0) (λ is. is) (λ not. let b = o.below (terms.range.lo + i) (omega arith) in absurd (omega arith))) in
+    let q = s.0 in omega arith

@@ -1,8 +1,8 @@
 //! Laws of the words that the ledger's contracts use. Each function's contract is the law, and it does nothing.
-ghost use Rattle.std.specs.Prelude.{◌≡◌, ◌<◌, ◌≤◌, ℕ, List};
+ghost use Rattle.std.specs.Prelude.{◌≡◌, ◌<◌, ◌≤◌, ◌+◌, ℕ, List};
 ghost use Rattle.journal_core.specs.declared.entry.Entry.{Entry};
 ghost use Rattle.journal_core.specs.declared.verdict.Verdict.{Verdict};
-ghost use Rattle.journal_core.specs.History.{Begins, IsLawful, Legal, Terms, tally_of};
+ghost use Rattle.journal_core.specs.History.{Begins, IsLawful, Legal, Terms, granted, refused, sealed, tally_of, voided};
 ghost use Rattle.journal_core.specs.Prefixes.{GrantsOnce};
 ghost use Rattle.journal_core.specs.Range.{prefix_of};
 ghost use Rattle.journal_core.specs.Text.{journal_text};
@@ -13,6 +13,13 @@ use crate::journal::Journal;
 /// Each beginning of a legal history is legal.
 pub fn a_beginning_is_legal()
     ensures { (terms : Terms) (front whole : List Entry) → Legal terms whole → Begins front whole → Legal terms front }
+{}
+
+/// The counts of a legal history stay small: at most 65,535 issues are granted and 64 refused, and no more numbers are settled than
+/// were granted.
+pub fn counts_stay_small()
+    ensures { (terms : Terms) (history : List Entry) → IsLawful terms → Legal terms history
+        → (granted history ≤ 65535) × (refused history ≤ 64) × (sealed history + voided history ≤ granted history) }
 {}
 
 /// No list of bytes has two verdicts.

@@ -1,7 +1,7 @@
 -- A note goes round the seats, and what it shows after the first round is the history of all.
 -- No less: each seat showed it what that seat had seen, its own operations with it. No more: each seat has seen it in the second round,
 -- and of its own operations a seat has seen just those that it made.
-use Rattle.std.proofs.Common.{◌≡◌, ◌≢◌, ℕ, zero, suc, ◌+◌, ◌<◌, ◌≤◌, List, [], ◌∷◌, ◌++◌, length, get_or, set, refl, sym, ap, ◌∙◌, subst, arith, length-append, append_assoc, append-nil}
+use Rattle.std.proofs.Common.{◌≡◌, ◌≢◌, ℕ, zero, suc, ◌+◌, ◌<◌, ◌≤◌, ◌⊎◌, inl, inr, ⊎_elim, List, [], ◌∷◌, ◌++◌, length, get_or, set, refl, sym, ap, ◌∙◌, subst, arith, length-append, append_assoc, append-nil}
 use mathlib.Core.Logic.{dite}
 use native.Mathlib.Decide.{ℕ_discrete}
 use Rattle.std.specs.Prelude.{Some, slice_get}
@@ -10,8 +10,8 @@ use Rattle.std.proofs.lemmas.Option.{slice_get_within, slice_get-get_or}
 use Rattle.journal_core.specs.declared.entry.Entry.{Entry}
 use Rattle.journal_core.specs.History.{Terms, Begins, calls_of}
 use Rattle.ledger_core.specs.Rule.{Mine}
-use Rattle.ledger_core.specs.Shared.{LedgerId, SeatView, seat_view, Sees}
-use Rattle.ledger_core.specs.Closing.{IsPassed, ArePassed, HaveMet}
+use Rattle.ledger_core.specs.Shared.{LedgerId, SeatView, seat_view, Agree, Knows, Sees}
+use Rattle.ledger_core.specs.Closing.{HasSeat, IsPassed, ArePassed, HaveMet}
 use Rattle.journal_core.proofs.Histories.{begins_refl, begins_trans}
 use Rattle.ledger_core.proofs.Seats.{calls_both}
 
@@ -107,6 +107,40 @@ same_between t mine xs ys zs a b first last =
     empty [] e = refl
     empty (x ∷ xs) e = absurd (omega arith)
 
+-- of two histories that begin a third one begins the other
+begins_both : (xs ys zs : List Entry) → Begins xs zs → Begins ys zs → Begins xs ys ⊎ Begins ys xs
+begins_both [] ys zs a b = inl (ys, refl)
+begins_both (x ∷ xs) [] zs a b = inr (x ∷ xs, refl)
+begins_both (x ∷ xs) (y ∷ ys) zs a b =
+    let both : x ∷ (xs ++ a.0) ≡ y ∷ (ys ++ b.0) = sym a.1 ∙ b.1 in
+    let head : x ≡ y = cc in
+    let tail : xs ++ a.0 ≡ ys ++ b.0 = cc in
+    ⊎_elim
+    (λ (l : Begins xs ys). inl (l.0, λ i. sym head i ∷ l.1 i))
+    (λ (r : Begins ys xs). inr (r.0, λ i. head i ∷ r.1 i))
+    (begins_both xs ys (xs ++ a.0) (a.0, refl) (b.0, tail))
+
+-- what a beginning has of a seat are that seat's first operations
+calls_begin : (t : ℕ) (xs ys mine : List Entry) → Begins xs ys → calls_of t ys ≡ mine → Begins (calls_of t xs) mine
+calls_begin t xs ys mine b own = (calls_of t b.0, sym own ∙ ap (calls_of t) b.1 ∙ calls_both t xs b.0)
+
+-- seats of one history agree
+pub agree : (history : List Entry) (v w : SeatView) → HasSeat history v → HasSeat history w → Agree v w
+agree history v w a b = record {
+  history = begins_both v.seen w.seen history a.seen b.seen;
+  of_other = calls_begin w.number v.seen history w.mine a.seen b.own;
+  of_one = calls_begin v.number w.seen history v.mine b.seen a.own;
+}
+
+-- what a seat sees later has of it the same operations
+own_later : (v w : SeatView) → Sees v w → Knows w → calls_of v.number w.seen ≡ v.mine
+own_later v w s knows = subst (λ (z : SeatView). calls_of z.number w.seen ≡ z.mine) (s.1 ∙ ap (λ l. record v { seen = l }) (sym (ap (λ (z : SeatView). z.seen) s.1))) knows.own
+
+-- two seats agree where the first then sees xs, with what the second had seen, and the second ys, which begins with xs
+pub agree_before : (v w : SeatView) (xs ys : List Entry) → Begins v.seen xs → Begins w.seen xs → Begins xs ys → calls_of v.number xs ≡ v.mine → calls_of w.number w.seen ≡ w.mine → calls_of w.number ys ≡ w.mine → Agree v w
+agree_before v w xs ys a b further own other_own later =
+    agree xs v w record { seen = a; own = own } record { seen = b; own = same_between w.number w.mine w.seen xs ys b further other_own later }
+
 -- twice round
 pub have_met : (from history to : List Entry) (old mid new : List SeatView) → ArePassed from history old mid → ArePassed history to mid new → HaveMet old new history
 have_met from history to old mid new first second = record {
@@ -119,16 +153,13 @@ have_met from history to old mid new first second = record {
       record {
         seen = begun;
         own = same_between v.number v.mine v.seen history q.0.seen begun q.2.from p.2.known.own
-            (subst (λ (z : SeatView). calls_of z.number q.0.seen ≡ z.mine) (same_two v q.0 same) q.2.knows.own);
+            (own_later v q.0 same q.2.knows);
       };
   after = λ i v there.
       let p = first.each i v there in
       let q = second.each i p.0 p.1 in
       (q.0, q.1, sees_then v p.0 q.0 p.2.sees q.2.sees, q.2.knows, q.2.from);
 }
-  where
-    same_two : (v w : SeatView) → Sees v w → w ≡ record v { seen = w.seen }
-    same_two v w s = s.1 ∙ ap (λ l. record v { seen = l }) (sym (ap (λ (z : SeatView). z.seen) s.1))
 
 -- a seat that wrote a note is as it was
 pub unchanged : (seats : List SeatView) (at : ℕ) (d : SeatView) (z y : LedgerId) (k : Terms) (t : ℕ) (me w : Mine) → y ≡ z → w ≡ me → seat_view z k t me.0.seen me.0.mine ≡ get_or seats at d

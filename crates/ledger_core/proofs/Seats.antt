@@ -221,6 +221,10 @@ seat_hears k t closed log held me w note s is = subst (IsSeat k t closed log hel
   held_is = s.held_is;
 }
 
+-- and stays as it is
+pub seat_stays : (k : Terms) (t : ℕ) (closed : Bool) (log : List Record) (held : List Bool) (me w : Mine) → IsSeat k t closed log held me → w.0 ≡ me.0 → w.1 ≡ me.1 → IsSeat k t closed log held w
+seat_stays k t closed log held me w s view slots = subst (IsSeat k t closed log held) (λ i. (sym view i, sym slots i)) s
+
 -- an operation of the seat, which the word told
 
 or_more : (a b : Bool) (n m : ℕ) → b ≡ ltb 0 n → m ≡ n + cond {A = ℕ} a 1 0 → (a || b) ≡ ltb 0 m

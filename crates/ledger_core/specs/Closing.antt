@@ -21,7 +21,13 @@ pub record IsWhole (terms : Terms) (seats : List SeatView) (history : List Entry
   pub legal : Legal terms history
   pub each : (i : ℕ) (seat : SeatView) → slice_get seats i ≡ Some seat → HasSeat history seat
 
--- how the seats meet
+-- seats that have met: one history begins with what each seat had seen, and has of each its own operations; and each seat has now seen all of it
+pub record HaveMet (old new : List SeatView) (history : List Entry) : Type 0 where
+  pub count : length new ≡ length old
+  pub before : (i : ℕ) (v : SeatView) → slice_get old i ≡ Some v → HasSeat history v
+  pub after : (i : ℕ) (v : SeatView) → slice_get old i ≡ Some v → (w : SeatView) × (slice_get new i ≡ Some w) × Sees v w × Knows w × Begins history w.seen
+
+-- how they meet
 
 -- a seat on the way of a note, which showed `before` as it came and shows `after` as it goes on
 pub record IsPassed (before after : List Entry) (old new : SeatView) : Type 0 where
@@ -36,12 +42,6 @@ pub record ArePassed (before after : List Entry) (old new : List SeatView) : Typ
   pub count : length new ≡ length old
   pub on : Begins before after
   pub each : (i : ℕ) (v : SeatView) → slice_get old i ≡ Some v → (w : SeatView) × (slice_get new i ≡ Some w) × IsPassed before after v w
-
--- one history begins with what each seat had seen, and has of each its own operations; and each seat has now seen all of it
-pub record HaveMet (old new : List SeatView) (history : List Entry) : Type 0 where
-  pub count : length new ≡ length old
-  pub before : (i : ℕ) (v : SeatView) → slice_get old i ≡ Some v → HasSeat history v
-  pub after : (i : ℕ) (v : SeatView) → slice_get old i ≡ Some v → (w : SeatView) × (slice_get new i ≡ Some w) × Sees v w × Knows w × Begins history w.seen
 
 -- how their logs are put together
 

@@ -1,5 +1,5 @@
 -- The shared ledger as its callers see it: of each seat its ledger, range, number, what it has seen, and its own operations.
-use Rattle.std.specs.Prelude.{◌≡◌, ℕ, zero, suc, ◌<◌, List, [], ◌∷◌, ◌++◌}
+use Rattle.std.specs.Prelude.{◌≡◌, ◌⊎◌, ℕ, zero, suc, ◌<◌, List, [], ◌∷◌, ◌++◌}
 use Rattle.atomic_table.specs.Seated.{TableId}
 use Rattle.journal_core.specs.declared.entry.Way.{Way}
 use Rattle.journal_core.specs.declared.entry.Event.{Event}
@@ -11,9 +11,9 @@ use Rattle.ledger_core.specs.declared.fault.IssueFault.{IssueFault}
 use Rattle.ledger_core.specs.declared.fault.IssueFault.TheVariants.{SeatClosed, OutOfMemory as NotIssued, Exhausted as NoNumber}
 use Rattle.ledger_core.specs.declared.fault.SettleFault.{SettleFault}
 use Rattle.ledger_core.specs.declared.fault.SettleFault.TheVariants.{NotOpen, OutOfMemory as NotSettled}
-use Rattle.journal_core.specs.History.{Terms, IsLawful, Legal, entry, calls_of, refused, times_granted, times_settled}
+use Rattle.journal_core.specs.History.{Terms, IsLawful, Legal, entry, calls_of, refused, times_granted, times_settled, Begins}
 
--- which ledger it is: what no other ledger shares with it. Clauses compare it, and do nothing else with it.
+-- which ledger it is. Clauses only compare it: a seat goes with the ledger that has its id. No clause says that two ledgers differ in it.
 abbrev pub LedgerId : Type 0
 LedgerId = TableId
 
@@ -67,6 +67,12 @@ Extends old event new =
 -- a look: what the seat has seen goes on from before, and its own operations stay
 abbrev pub Sees : SeatView → SeatView → Type 0
 Sees old new = (between : List Entry) × (new ≡ record old { seen = old.seen ++ between })
+
+-- any two seats of a ledger: of what they have seen one begins the other, and what the one has seen of the other are the other's own operations, from the first on
+pub record Agree (one other : SeatView) : Type 0 where
+  pub history : Begins one.seen other.seen ⊎ Begins other.seen one.seen
+  pub of_other : Begins (calls_of other.number one.seen) other.mine
+  pub of_one : Begins (calls_of one.number other.seen) one.mine
 
 -- the seat has met the end of the range
 abbrev pub IsClosedSeat : SeatView → Type 0

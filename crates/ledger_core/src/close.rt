@@ -4,8 +4,7 @@
 //! any seat had done, and each seat has seen it in the second, so it has of each seat no more than that seat's own operations.
 //! Each record of a seat's log then goes to its place.
 ghost use Rattle.std.specs.Prelude.{◌≡◌, ℕ, List, ◌<◌, ◌≤◌, ◌^◌, [], IfOk, length, slice_get, Some};
-ghost use Rattle.journal_core.specs.History.{Begins};
-ghost use Rattle.ledger_core.specs.Shared.{Knows, LedgerId, SeatView, Sees};
+ghost use Rattle.ledger_core.specs.Shared.{SeatView};
 ghost use Rattle.ledger_core.specs.Closing.{AreAllSeats, ArePassed, ArePlaced, HaveMet, IsPassed, IsWhole, operations_in, written};
 
 use crate::ledger::Ledger;
@@ -48,8 +47,8 @@ fn round(word: &Word, seats: &mut [Seat], mut note: Token) -> Token
     note
 }
 
-// The seats meet in the order of their numbers, twice round.
-fn meet_all(word: &Word, seats: &mut [Seat])
+/// The seats meet in their order, twice round.
+pub fn meet_all(word: &Word, seats: &mut [Seat])
     requires word { word.now.shared.table_id.words ≡ 1 }
     requires ours { (i : ℕ) (v : SeatView) → slice_get seats.old i ≡ Some v → v.ledger ≡ word.now.shared.table_id }
     requires some { 0 < length seats.old }

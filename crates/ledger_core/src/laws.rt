@@ -1,10 +1,15 @@
 //! Laws of the ledger's words, and of what a seat has seen. Each function's contract is the law, and it does nothing.
+ghost use Rattle.std.specs.Prelude.{◌≡◌, ℕ, List, Some, slice_get};
+ghost use Rattle.journal_core.specs.declared.entry.Entry.{Entry};
+ghost use Rattle.journal_core.specs.History.{Terms};
 ghost use Rattle.journal_core.specs.Prefixes.{GrantsOnce};
+ghost use Rattle.ledger_core.specs.Closing.{IsWhole};
+ghost use Rattle.ledger_core.specs.Shared.{Agree, SeatView};
 
 use crate::seat::Seat;
 pub use journal_core::laws::{
     a_beginning_is_legal, a_legal_journal_is_legal, a_prefix_tells_its_number,
-    bytes_have_one_verdict, grants_of_journal,
+    bytes_have_one_verdict, counts_stay_small, grants_of_journal,
 };
 
 /// All prefixes granted in what a seat has seen lie in the range of its ledger, and none is granted twice.
@@ -13,3 +18,10 @@ pub fn grants_seen(seat: &Seat)
 {
     let _knows = seat.number();
 }
+
+/// Any two seats of one whole history agree: of what they have seen one begins the other, and what the one has seen of the other are
+/// the other's own operations, from the first on.
+pub fn seats_agree()
+    ensures { (terms : Terms) (seats : List SeatView) (history : List Entry) (i j : ℕ) (one other : SeatView) → IsWhole terms seats history
+        → slice_get seats i ≡ Some one → slice_get seats j ≡ Some other → Agree one other }
+{}

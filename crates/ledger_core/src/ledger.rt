@@ -3,18 +3,19 @@
 //! An operation is one addition to one atomic word, and a tally is one load. Nobody waits: there is no lock, and no step is
 //! tried again. Whatever the schedule, the operations of all seats are one legal history, each once, and what each seat has
 //! seen is a beginning of it.
-ghost use Rattle.std.specs.Prelude.{◌≡◌, ◌<◌, ◌↔◌, ◌⊎◌, [], IfOk, IfErr, replicate, false};
+ghost use Rattle.std.specs.Prelude.{◌≡◌, ◌<◌, ◌↔◌, ◌⊎◌, ℕ, List, [], Some, IfOk, IfErr, slice_get, replicate, false};
+ghost use Rattle.journal_core.specs.declared.entry.Entry.{Entry};
 ghost use Rattle.journal_core.specs.declared.entry.Event.TheVariants.{Granted, Settled};
 ghost use Rattle.ledger_core.specs.declared.fault.IssueFault.TheVariants.{SeatClosed};
-ghost use Rattle.ledger_core.specs.Closing.{AreAllSeats, IsWhole};
+ghost use Rattle.ledger_core.specs.Closing.{AreAllSeats, HaveMet, IsWhole};
 ghost use Rattle.journal_core.specs.History.{Begins, IsLawful, tally_of};
 ghost use Rattle.journal_core.specs.Journal.{terms_of};
-ghost use Rattle.ledger_core.specs.Shared.{Extends, Holds, IsClosedSeat, IsSameSeat, Knows, Sees, Unissued, Unsettled, fresh_seats};
+ghost use Rattle.ledger_core.specs.Shared.{Agree, Extends, Holds, IsClosedSeat, IsSameSeat, Knows, SeatView, Sees, Unissued, Unsettled, fresh_seats};
 
-use crate::close::{operations_of, put_together, room};
+use crate::close::{meet_all, operations_of, put_together, room};
 use crate::fault::{IssueFault, OpenLedgerFault, SettleFault};
 use crate::grant::{Grant, Spent};
-use crate::seat::{Seat, issue_in, learn_in, look_in, settle_in, tally_of_word};
+use crate::seat::{Seat, check_in, issue_in, learn_in, look_in, settle_in, tally_of_word};
 use crate::steps::{deal_step, open_word, write_step};
 use crate::table::{Opening, Own, Word};
 use journal_core::{Journal, MAX_SEATS, Range, Tally};
@@ -139,11 +140,15 @@ impl Ledger {
     }
 
     /// Lets the first seat see what either has seen, and then the second what the first has seen. It waits for nobody.
+    ///
+    /// Two seats of one ledger always agree: of what they have seen one begins the other. Here this shows.
     pub fn meet(&self, first: &mut Seat, second: &mut Seat)
         requires first { first.old.ledger ≡ self.now.ledger }
         requires second { second.old.ledger ≡ self.now.ledger }
         ensures first { Sees first.old first.new × Begins second.old.seen first.new.seen }
         ensures second { Sees second.old second.new × Begins first.new.seen second.new.seen }
+        ensures agreed { Agree first.old second.old }
+        ensures agree { Agree first.new second.new }
         ensures knows { Knows first.new × Knows second.new }
     {
         let note = write_step(&self.word, &mut second.token);
@@ -164,6 +169,26 @@ impl Ledger {
             &mut second.token,
             note,
         );
+        let note = write_step(&self.word, &mut second.token);
+        check_in(
+            &self.word,
+            &first.opening,
+            first.number,
+            &first.own,
+            &mut first.token,
+            note,
+        );
+    }
+
+    /// Lets seats meet, twice round in their order: each then sees one history with all that any of them has seen and done. It
+    /// waits for nobody, and takes no memory.
+    pub fn meet_all(&self, seats: &mut [Seat])
+        requires ours { (i : ℕ) (seat : SeatView) → slice_get seats.old i ≡ Some seat → seat.ledger ≡ self.now.ledger }
+        ensures { (history : List Entry) × HaveMet seats.old seats.new history }
+    {
+        if !seats.is_empty() {
+            meet_all(&self.word, seats);
+        }
     }
 
     /// The journal of the whole history. The seats are all that `open` gave, in the order of their numbers.

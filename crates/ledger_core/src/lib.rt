@@ -5,6 +5,7 @@
 #![tactic(auto)]
 
 mod close;
+mod counts;
 pub mod fault;
 pub mod grant;
 pub mod laws;

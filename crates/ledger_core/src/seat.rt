@@ -2,22 +2,20 @@
 //!
 //! The seat's own log has its operations in order. Record j of it has entry j of them and the place where that entry stands in
 //! what the seat has seen: the counts in the word that the step found add up to it.
-ghost use Rattle.std.specs.Prelude.{◌≡◌, ℕ, ◌+◌, ◌/◌, ◌%◌, ◌^◌, ◌<◌, ◌≤◌, ◌↔◌, min, false, nat_lt, IsTrue, IfSome, length, vec_len, vec_capacity, [], ◌∷◌, ◌++◌, ◌||◌};
+ghost use Rattle.std.specs.Prelude.{◌≡◌, ℕ, ◌+◌, ◌/◌, ◌%◌, ◌^◌, ◌<◌, ◌≤◌, ◌↔◌, min, false, IsTrue, length, vec_len, vec_capacity, [], ◌∷◌, ◌++◌, ◌||◌};
 ghost use Rattle.std.specs.List.{slice_index_or};
 ghost use Rattle.journal_core.specs.declared.entry.Event.TheVariants.{Granted, Exhausted, Settled};
-ghost use Rattle.journal_core.specs.History.{Begins, IsLawful, entry, is_exhausted, refused};
+ghost use Rattle.journal_core.specs.History.{Begins, IsLawful, calls_of, entry, is_exhausted};
 ghost use Rattle.ledger_core.specs.Rule.{issue_reply, knower, packed, IsHeld};
 ghost use Rattle.ledger_core.specs.Logs.{HasMark, IsMarked, IsSeat, Steps, event_of, held_after, place_of_word};
 ghost use Rattle.ledger_core.specs.Shared.{Holds, IsClosedSeat, Knows, fresh_seat};
 
+use crate::counts::counts_in;
 use crate::grant::Spent;
-use crate::steps::{hear_step, issue_step, look_step, settle_step};
+use crate::steps::{check_step, hear_step, issue_step, look_step, settle_step};
 use crate::table::{Opening, Own, Record, Token, Word};
-use journal_core::{Entry, Event, Tally, Way};
+use journal_core::{Entry, Event, Tally};
 use std::marker::Model;
-
-/// One more than each count of the word can be.
-const COUNT: u64 = 1 << 20;
 
 /// A seat of a shared ledger.
 #[derive(Drop)]
@@ -76,7 +74,7 @@ impl Seat {
         ensures { IsTrue result ↔ Holds self.now spent.now }
     {
         spent.device() == self.opening.range().device()
-            && is_held(&self.opening, &self.own, spent.number())
+            && is_marked(&self.opening, &self.own, spent.number())
     }
 
     // How many operations the seat has made.
@@ -89,7 +87,7 @@ impl Seat {
 }
 
 // Whether the number is of the range, and held.
-fn is_held(opening: &Opening, own: &Own, number: u32) -> bool
+fn is_marked(opening: &Opening, own: &Own, number: u32) -> bool
     requires { length own.now.held.items ≡ opening.now.range.size }
     ensures { IsTrue result ↔ IsMarked opening.now own.now.held.items number }
 {
@@ -108,15 +106,17 @@ fn place(found: u64) -> u32
     requires { found < 2 ^ 60 }
     ensures { result ≡ place_of_word found }
 {
-    (found % COUNT + found / COUNT % COUNT + found / (COUNT * COUNT)) as u32
+    let counts = counts_in(found);
+    counts.issues + counts.sealed + counts.void
 }
 
 // The number that is granted where this word was found, or none.
 fn reply(opening: &Opening, found: u64) -> Option<u32>
-    requires { opening.now.range.lo + opening.now.range.size ≤ 2 ^ 32 }
+    requires numbers { opening.now.range.lo + opening.now.range.size ≤ 2 ^ 32 }
+    requires word { found < 2 ^ 60 }
     ensures { event_of result ≡ issue_reply opening.now (found % 1048576) }
 {
-    let issues = (found % COUNT) as u32;
+    let issues = counts_in(found).issues;
     if issues < opening.range().size() {
         Some(opening.range().lo() + issues)
     } else {
@@ -153,22 +153,22 @@ fn keep(own: &mut Own, lo: u32, kept: Record)
 pub(crate) fn issue_in(
     word: &Word,
     opening: &Opening,
-    number: u32,
+    seat: u32,
     own: &mut Own,
     token: &mut Token,
 ) -> Option<u32>
     requires table { (token.old.table_id ≡ word.now.shared.table_id) × (word.now.shared.table_id.words ≡ 1) }
-    requires seat { IsSeat opening.now number own.old.closed own.old.log.items own.old.held.items token.old.me }
+    requires seat { IsSeat opening.now seat own.old.closed own.old.log.items own.old.held.items token.old.me }
     requires clear { own.old.closed ≡ false }
     requires room { vec_len own.old.log < vec_capacity own.old.log }
     ensures table { token.new.table_id ≡ token.old.table_id }
-    ensures seat { IsSeat opening.now number own.new.closed own.new.log.items own.new.held.items token.new.me }
-    ensures step { Steps token.old.me.0 (entry number (event_of result)) token.new.me.0 }
+    ensures seat { IsSeat opening.now seat own.new.closed own.new.log.items own.new.held.items token.new.me }
+    ensures step { Steps token.old.me.0 (entry seat (event_of result)) token.new.me.0 }
 {
     let found = issue_step(word, token);
     let granted = reply(opening, found);
     let entry = Entry {
-        seat: number,
+        seat,
         event: event_of(granted),
     };
     let place = place(found);
@@ -180,23 +180,23 @@ pub(crate) fn issue_in(
 pub(crate) fn settle_in(
     word: &Word,
     opening: &Opening,
-    number: u32,
+    seat: u32,
     own: &mut Own,
     token: &mut Token,
     spent: &Spent,
 )
     requires table { (token.old.table_id ≡ word.now.shared.table_id) × (word.now.shared.table_id.words ≡ 1) }
-    requires seat { IsSeat opening.now number own.old.closed own.old.log.items own.old.held.items token.old.me }
+    requires seat { IsSeat opening.now seat own.old.closed own.old.log.items own.old.held.items token.old.me }
     requires held { IsHeld spent.now.number token.old.me.0.mine }
     requires room { vec_len own.old.log < vec_capacity own.old.log }
     ensures table { token.new.table_id ≡ token.old.table_id }
-    ensures seat { IsSeat opening.now number own.new.closed own.new.log.items own.new.held.items token.new.me }
-    ensures step { Steps token.old.me.0 (entry number (Settled spent.now.number spent.now.way)) token.new.me.0 }
+    ensures seat { IsSeat opening.now seat own.new.closed own.new.log.items own.new.held.items token.new.me }
+    ensures step { Steps token.old.me.0 (entry seat (Settled spent.now.number spent.now.way)) token.new.me.0 }
 {
     let (settled, way) = (spent.number(), spent.way());
     let found = settle_step(word, token, settled, way);
     let entry = Entry {
-        seat: number,
+        seat,
         event: Event::Settled(settled, way),
     };
     let place = place(found);
@@ -207,14 +207,14 @@ pub(crate) fn settle_in(
 pub(crate) fn look_in(
     word: &Word,
     opening: &Opening,
-    number: u32,
+    seat: u32,
     own: &Own,
     token: &mut Token,
 ) -> u64
     requires table { (token.old.table_id ≡ word.now.shared.table_id) × (word.now.shared.table_id.words ≡ 1) }
-    requires seat { IsSeat opening.now number own.now.closed own.now.log.items own.now.held.items token.old.me }
+    requires seat { IsSeat opening.now seat own.now.closed own.now.log.items own.now.held.items token.old.me }
     ensures table { token.new.table_id ≡ token.old.table_id }
-    ensures seat { IsSeat opening.now number own.now.closed own.now.log.items own.now.held.items token.new.me }
+    ensures seat { IsSeat opening.now seat own.now.closed own.now.log.items own.now.held.items token.new.me }
     ensures seen { Begins token.old.me.0.seen token.new.me.0.seen × (token.new.me.0.mine ≡ token.old.me.0.mine) }
     ensures told { Begins token.old.me.0.told token.new.me.0.seen }
     ensures word { result ≡ packed token.new.me.0.seen }
@@ -226,21 +226,42 @@ pub(crate) fn look_in(
 pub(crate) fn learn_in(
     word: &Word,
     opening: &Opening,
-    number: u32,
+    seat: u32,
     own: &Own,
     token: &mut Token,
     note: Token,
 )
     requires table { (token.old.table_id ≡ word.now.shared.table_id) × (word.now.shared.table_id.words ≡ 1) }
     requires note { (note.table_id ≡ token.old.table_id) × (note.me.1 ≡ []) }
-    requires seat { IsSeat opening.now number own.now.closed own.now.log.items own.now.held.items token.old.me }
+    requires seat { IsSeat opening.now seat own.now.closed own.now.log.items own.now.held.items token.old.me }
     ensures table { token.new.table_id ≡ token.old.table_id }
-    ensures seat { IsSeat opening.now number own.now.closed own.now.log.items own.now.held.items token.new.me }
+    ensures seat { IsSeat opening.now seat own.now.closed own.now.log.items own.now.held.items token.new.me }
     ensures seen { Begins token.old.me.0.seen token.new.me.0.seen × (token.new.me.0.mine ≡ token.old.me.0.mine) }
     ensures told { Begins note.me.0.seen token.new.me.0.seen }
 {
     hear_step(word, token, note);
-    look_in(word, opening, number, own, token);
+    look_in(word, opening, seat, own, token);
+}
+
+// The seat stays as it is, once it has made sure that what a note shows of it are its own operations.
+pub(crate) fn check_in(
+    word: &Word,
+    opening: &Opening,
+    seat: u32,
+    own: &Own,
+    token: &mut Token,
+    note: Token,
+)
+    requires table { (token.old.table_id ≡ word.now.shared.table_id) × (word.now.shared.table_id.words ≡ 1) }
+    requires note { (note.table_id ≡ token.old.table_id) × (note.me.1 ≡ []) }
+    requires seat { IsSeat opening.now seat own.now.closed own.now.log.items own.now.held.items token.old.me }
+    ensures table { token.new.table_id ≡ token.old.table_id }
+    ensures seat { IsSeat opening.now seat own.now.closed own.now.log.items own.now.held.items token.new.me }
+    ensures same { (token.new.me.0.seen ≡ token.old.me.0.seen) × (token.new.me.0.mine ≡ token.old.me.0.mine) }
+    ensures shown { Begins (calls_of seat note.me.0.seen) token.old.me.0.mine }
+{
+    hear_step(word, token, note);
+    check_step(word, token);
 }
 
 // The counts that a word tells. Of the issues, as many were granted as the range has numbers.
@@ -250,12 +271,12 @@ pub(crate) fn tally_of_word(opening: &Opening, found: u64) -> Tally
     ensures granted { result.granted ≡ min (found % 1048576) opening.now.range.size }
     ensures settled { (result.sealed ≡ (found / 1048576) % 1048576) × (result.void ≡ found / 1099511627776) }
 {
-    let issues = (found % COUNT) as u32;
-    let granted = issues.min(opening.range().size());
+    let counts = counts_in(found);
+    let granted = counts.issues.min(opening.range().size());
     Tally {
         granted,
-        refused: issues - granted,
-        sealed: (found / COUNT % COUNT) as u32,
-        void: (found / (COUNT * COUNT)) as u32,
+        refused: counts.issues - granted,
+        sealed: counts.sealed,
+        void: counts.void,
     }
 }

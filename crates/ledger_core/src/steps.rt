@@ -2,22 +2,16 @@
 ghost use Rattle.std.specs.Prelude.{◌≡◌, ◌<◌, [], IfOk};
 ghost use Rattle.journal_core.specs.declared.entry.Way.TheVariants.{Sealed, Void};
 ghost use Rattle.journal_core.specs.History.{IsLawful, refused};
-ghost use Rattle.ledger_core.specs.Rule.{newcomer, MayStep, IsHeld, Issues, Settles, Looks, note_of, hears, first_seat, other_seats};
+ghost use Rattle.ledger_core.specs.Rule.{newcomer, MayStep, IsHeld, Checks, Issues, Settles, Looks, note_of, hears, first_seat, other_seats};
 
-use crate::table::{Deal, Hear, Issue, Look, Naming, Opening, Seal, Token, Waste, Word, Write};
+use crate::counts::{ISSUED, SEALED, VOID};
+use crate::table::{
+    Check, Deal, Hear, Issue, Look, Naming, Opening, Seal, Token, Waste, Word, Write,
+};
 use atomic_table::Table;
 use journal_core::Way;
 use std::alloc::{AllocError, Global};
 use std::marker::Brand;
-
-/// What an issue adds to the word: 1, in the count from bit 0.
-const ISSUED: u64 = 1;
-
-/// What a number settled as sealed adds to the word: 1, in the count from bit 20.
-const SEALED: u64 = 1 << 20;
-
-/// What a number settled as void adds to the word: 1, in the count from bit 40.
-const VOID: u64 = 1 << 40;
 
 // A word with all counts at 0, and a token that stands for all seats.
 pub fn open_word(alloc: Global, opening: &Opening) -> Result<(Word, Token), AllocError>
@@ -74,6 +68,15 @@ pub fn look_step(word: &Word, token: &mut Token) -> u64
     ensures step { Looks token.old.me.0 result token.new.me.0 }
 {
     word.shared.load::<Look>(token, 0)
+}
+
+// The seat makes sure what the history now has of it.
+pub fn check_step(word: &Word, token: &mut Token) -> u64
+    requires table { MayStep word.now.shared.table_id token.old.table_id token.old.me }
+    ensures table { (token.new.table_id ≡ token.old.table_id) × (token.new.me.1 ≡ token.old.me.1) }
+    ensures step { Checks token.old.me.0 result token.new.me.0 }
+{
+    word.shared.load::<Check>(token, 0)
 }
 
 // A note of what this seat has seen.

@@ -140,6 +140,15 @@ impl Play<(), View> for Look {
     ghost then = { looked };
 }
 
+/// The word is loaded, and the seat's view stays.
+pub struct Check;
+
+impl Play<(), View> for Check {
+    ghost use Rattle.ledger_core.specs.Rule.{checked};
+
+    ghost then = { checked };
+}
+
 /// The first of a new ledger's seats is cut from the others.
 pub struct Deal;
 

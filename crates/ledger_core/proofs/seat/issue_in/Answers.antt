@@ -4,6 +4,9 @@ use Rattle.ledger_core.specs.Logs.{HasMark, held_after}
 use Rattle.ledger_core.proofs.Seats.{seat_issues, found_small, steps_by, reply_marked}
 use Rattle.ledger_core.proofs.seat.issue_in.Goals as goal
 
+pub reply-granted-requires-clause-word : goal.reply-granted-requires-clause-word
+reply-granted-requires-clause-word c = let a = c.issue_step-found.ensures.step in found_small _ _ _ _ _ _ _ a.0 c.requires.seat a.1.0
+
 pub place-place-requires : goal.place-place-requires
 place-place-requires c = let a = c.issue_step-found.ensures.step in found_small _ _ _ _ _ _ _ a.0 c.requires.seat a.1.0
 

@@ -1,0 +1,34 @@
+//! The layout of the ledger's word: three counts of 20 bits. A step adds 1 to one of them.
+ghost use Rattle.std.specs.Prelude.{◌≡◌, ◌/◌, ◌%◌, ◌^◌, ◌<◌};
+
+/// What an issue adds to the word: 1, in the count from bit 0.
+pub const ISSUED: u64 = 1;
+
+/// What a number settled as sealed adds to the word: 1, in the count from bit 20.
+pub const SEALED: u64 = 1 << 20;
+
+/// What a number settled as void adds to the word: 1, in the count from bit 40.
+pub const VOID: u64 = 1 << 40;
+
+/// The three counts of a word.
+#[derive(Clone, Copy)]
+pub struct Counts {
+    /// Grants and refusals.
+    pub issues: u32,
+    pub sealed: u32,
+    pub void: u32,
+}
+
+/// The counts in this word.
+pub fn counts_in(word: u64) -> Counts
+    requires { word < 2 ^ 60 }
+    ensures issues { result.issues ≡ word % 1048576 }
+    ensures sealed { result.sealed ≡ (word / 1048576) % 1048576 }
+    ensures void { result.void ≡ word / 1099511627776 }
+{
+    Counts {
+        issues: (word % SEALED) as u32,
+        sealed: (word / SEALED % SEALED) as u32,
+        void: (word / VOID) as u32,
+    }
+}
