@@ -8,9 +8,10 @@ use Rattle.std.specs.Prelude.{Some, slice_get}
 use Rattle.std.proofs.lemmas.List.{length-set, set-get_or}
 use Rattle.std.proofs.lemmas.Option.{slice_get_within, slice_get-get_or}
 use Rattle.journal_core.specs.declared.entry.Entry.{Entry}
-use Rattle.journal_core.specs.History.{Terms, Begins, calls_of}
-use Rattle.ledger_core.specs.Rule.{Mine}
-use Rattle.ledger_core.specs.Shared.{LedgerId, SeatView, seat_view, Agree, Knows, Sees}
+use Rattle.journal_core.specs.History.{Begins, calls_of}
+use Rattle.ledger_core.specs.declared.table.View.{View}
+use Rattle.ledger_core.specs.Rule.{Checks, Finds, hears}
+use Rattle.ledger_core.specs.Shared.{LedgerId, SeatView, Agree, Knows, Sees}
 use Rattle.ledger_core.specs.Closing.{HasSeat, IsPassed, ArePassed, HaveMet}
 use Rattle.journal_core.proofs.Histories.{begins_refl, begins_trans}
 use Rattle.ledger_core.proofs.Seats.{calls_both}
@@ -141,6 +142,20 @@ pub agree_before : (v w : SeatView) (xs ys : List Entry) → Begins v.seen xs �
 agree_before v w xs ys a b further own other_own later =
     agree xs v w record { seen = a; own = own } record { seen = b; own = same_between w.number w.mine w.seen xs ys b further other_own later }
 
+-- the same, by what the steps of a meeting tell: the note `one` is of the second seat w, the note `two` of the first as it then is, x
+pub agree_met : (v w w' x y : SeatView) (one two : List Entry) → Sees v x → Knows x → one ≡ w.seen → Begins one x.seen → w' ≡ w → two ≡ x.seen → Begins two y.seen → Sees w' y → Knows w' → Knows y → Agree v w
+agree_met v w w' x y one two sees knows shown told same shown' told' sees' known' knows' =
+    let second = subst (λ (z : SeatView). Sees z y) same sees' in
+    let known = subst Knows same known' in
+    agree_before v w x.seen y.seen (sees_begins v x sees) (subst (λ l. Begins l x.seen) shown told) (subst (λ l. Begins l y.seen) shown' told')
+    (own_later v x sees knows) known.own (own_later w y second knows')
+
+-- what a note shows of the seat that makes sure of it
+pub shows_own : (v note w after : View) (n t : ℕ) → w ≡ hears v note → v.seat ≡ t → Checks w n after → Begins (calls_of t note.seen) v.mine
+shows_own v note w after n t is seat checks =
+    let f = subst (λ (z : View). Finds z n checks.0) is checks.1 in
+    calls_begin t note.seen checks.0 v.mine f.told (subst (λ z. calls_of z checks.0 ≡ v.mine) seat f.own)
+
 -- twice round
 pub have_met : (from history to : List Entry) (old mid new : List SeatView) → ArePassed from history old mid → ArePassed history to mid new → HaveMet old new history
 have_met from history to old mid new first second = record {
@@ -161,8 +176,6 @@ have_met from history to old mid new first second = record {
       (q.0, q.1, sees_then v p.0 q.0 p.2.sees q.2.sees, q.2.knows, q.2.from);
 }
 
--- a seat that wrote a note is as it was
-pub unchanged : (seats : List SeatView) (at : ℕ) (d : SeatView) (z y : LedgerId) (k : Terms) (t : ℕ) (me w : Mine) → y ≡ z → w ≡ me → seat_view z k t me.0.seen me.0.mine ≡ get_or seats at d
-    → set seats at (seat_view y k t w.0.seen w.0.mine) ≡ seats
-unchanged seats at d z y k t me w table same is =
-    ap (set seats at) ((λ i. seat_view (table i) k t (same i).0.seen (same i).0.mine) ∙ is) ∙ set-get_or seats at d
+-- a seat that is as it was
+pub unchanged : (seats : List SeatView) (at : ℕ) (d v : SeatView) → v ≡ get_or seats at d → set seats at v ≡ seats
+unchanged seats at d v is = ap (set seats at) is ∙ set-get_or seats at d

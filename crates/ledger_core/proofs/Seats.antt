@@ -13,7 +13,7 @@ use Rattle.journal_core.specs.declared.entry.Entry.{Entry}
 use Rattle.ledger_core.specs.declared.table.Record.{Record}
 use Rattle.ledger_core.specs.declared.table.View.{View}
 use Rattle.journal_core.specs.History.{Terms, IsLawful, entry, is_exhausted, grants, settles, granted, refused, times_granted, times_settled, calls_of, Legal, Begins}
-use Rattle.ledger_core.specs.Rule.{knower, other_seats, hears, added, Finds, Adds, Issues, Settles, issue_reply, IsHeld, Mine}
+use Rattle.ledger_core.specs.Rule.{knower, other_seats, added, Finds, Adds, Issues, Settles, issue_reply, IsHeld, Mine}
 use Rattle.ledger_core.specs.Logs.{places_from, recorded, place_in, place_of_word, is_held, held_after, HasMark, IsMarked, Steps, IsSeat, from_seat}
 use Rattle.ledger_core.specs.Shared.{LedgerId, SeatView, fresh_seat, fresh_seats}
 use Rattle.journal_core.proofs.Histories.{MayReply, reply_of, calls_push, legal_none, legal_front, count_push}
@@ -202,28 +202,6 @@ seat_looks k t closed log held me w n history s f is slots =
       all_held = s.all_held;
       held_is = λ j inside. s.held_is j inside ∙ sym (ap (λ (z : View). is_held (k.range.lo + j) z.mine) is);
     }
-
--- the seat is told of what a note shows
-pub seat_hears : (k : Terms) (t : ℕ) (closed : Bool) (log : List Record) (held : List Bool) (me w : Mine) (note : View) → IsSeat k t closed log held me → w ≡ (hears me.0 note, me.1) → IsSeat k t closed log held w
-seat_hears k t closed log held me w note s is = subst (IsSeat k t closed log held) (sym is) record {
-  one_seat = s.one_seat;
-  no_slots = s.no_slots;
-  terms = s.terms;
-  number = s.number;
-  inside = s.inside;
-  lawful = s.lawful;
-  legal = s.legal;
-  own = s.own;
-  entries = s.entries;
-  places = s.places;
-  closed_is = s.closed_is;
-  all_held = s.all_held;
-  held_is = s.held_is;
-}
-
--- and stays as it is
-pub seat_stays : (k : Terms) (t : ℕ) (closed : Bool) (log : List Record) (held : List Bool) (me w : Mine) → IsSeat k t closed log held me → w.0 ≡ me.0 → w.1 ≡ me.1 → IsSeat k t closed log held w
-seat_stays k t closed log held me w s view slots = subst (IsSeat k t closed log held) (λ i. (sym view i, sym slots i)) s
 
 -- an operation of the seat, which the word told
 

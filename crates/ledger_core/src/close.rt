@@ -8,8 +8,7 @@ ghost use Rattle.ledger_core.specs.Shared.{SeatView};
 ghost use Rattle.ledger_core.specs.Closing.{AreAllSeats, ArePassed, ArePlaced, HaveMet, IsPassed, IsWhole, operations_in, written};
 
 use crate::ledger::Ledger;
-use crate::seat::{Seat, learn_in};
-use crate::steps::write_step;
+use crate::seat::{Seat, learn, show};
 use crate::table::{Record, Token, Word};
 use journal_core::{Entry, Event};
 use std::alloc::{AllocError, Global};
@@ -22,15 +21,8 @@ fn pass(word: &Word, seat: &mut Seat, note: Token) -> Token
     ensures note { (result.table_id ≡ word.now.shared.table_id) × (result.me.1 ≡ []) }
     ensures on { IsPassed note.me.0.seen result.me.0.seen seat.old seat.new }
 {
-    learn_in(
-        word,
-        &seat.opening,
-        seat.number,
-        &seat.own,
-        &mut seat.token,
-        note,
-    );
-    write_step(word, &mut seat.token)
+    learn(word, seat, note);
+    show(word, seat)
 }
 
 // The note goes from seat to seat.
@@ -55,7 +47,7 @@ pub fn meet_all(word: &Word, seats: &mut [Seat])
     ensures { (history : List Entry) × HaveMet seats.old seats.new history }
 {
     let first = &mut seats[0];
-    let note = write_step(word, &mut first.token);
+    let note = show(word, first);
     let note = round(word, seats, note);
     round(word, seats, note);
 }

@@ -56,10 +56,8 @@ impl Grant {
     pub fn used(self) -> Spent
         ensures { result ≡ record { device = self.device; number = self.number; way = Sealed } }
     {
-        let Grant { device, number } = self;
         Spent {
-            device,
-            number,
+            grant: self,
             way: Way::Sealed,
         }
     }
@@ -75,8 +73,7 @@ impl Grant {
 /// A number that was used or given up, and is to be settled.
 #[derive(Debug, Drop)]
 pub struct Spent {
-    device: Device,
-    number: u32,
+    grant: Grant,
     way: Way,
 }
 
@@ -85,7 +82,7 @@ impl Model for Spent {
 
     ghost Value = { SpentView };
 
-    ghost view = { λ s. record { device = s.device; number = s.number; way = s.way } };
+    ghost view = { λ s. record { device = s.grant.device; number = s.grant.number; way = s.way } };
 }
 
 impl Spent {
@@ -93,14 +90,14 @@ impl Spent {
     pub fn number(&self) -> u32
         ensures { result ≡ self.now.number }
     {
-        self.number
+        self.grant.number()
     }
 
     /// The device of the range.
     pub fn device(&self) -> Device
         ensures { result ≡ self.now.device }
     {
-        self.device
+        self.grant.device()
     }
 
     /// How the number ended.
@@ -114,14 +111,8 @@ impl Spent {
     pub fn spoil(self) -> Spent
         ensures { result ≡ record { device = self.device; number = self.number; way = Void } }
     {
-        let Spent {
-            device,
-            number,
-            way: _,
-        } = self;
         Spent {
-            device,
-            number,
+            grant: self.grant,
             way: Way::Void,
         }
     }

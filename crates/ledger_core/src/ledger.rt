@@ -15,8 +15,8 @@ ghost use Rattle.ledger_core.specs.Shared.{Agree, Extends, Holds, IsClosedSeat, 
 use crate::close::{meet_all, operations_of, put_together, room};
 use crate::fault::{IssueFault, OpenLedgerFault, SettleFault};
 use crate::grant::{Grant, Spent};
-use crate::seat::{Seat, check_in, issue_in, learn_in, look_in, settle_in, tally_of_word};
-use crate::steps::{deal_step, open_word, write_step};
+use crate::seat::{Seat, check, issue_in, learn, look_in, settle_in, show, tally_of_word};
+use crate::steps::{deal_step, open_word};
 use crate::table::{Opening, Own, Word};
 use journal_core::{Journal, MAX_SEATS, Range, Tally};
 use std::alloc::{AllocError, Global};
@@ -151,33 +151,12 @@ impl Ledger {
         ensures agree { Agree first.new second.new }
         ensures knows { Knows first.new × Knows second.new }
     {
-        let note = write_step(&self.word, &mut second.token);
-        learn_in(
-            &self.word,
-            &first.opening,
-            first.number,
-            &first.own,
-            &mut first.token,
-            note,
-        );
-        let note = write_step(&self.word, &mut first.token);
-        learn_in(
-            &self.word,
-            &second.opening,
-            second.number,
-            &second.own,
-            &mut second.token,
-            note,
-        );
-        let note = write_step(&self.word, &mut second.token);
-        check_in(
-            &self.word,
-            &first.opening,
-            first.number,
-            &first.own,
-            &mut first.token,
-            note,
-        );
+        let others = show(&self.word, second);
+        learn(&self.word, first, others);
+        let both = show(&self.word, first);
+        learn(&self.word, second, both);
+        let last = show(&self.word, second);
+        check(&self.word, first, last);
     }
 
     /// Lets seats meet, twice round in their order: each then sees one history with all that any of them has seen and done. It

@@ -8,11 +8,11 @@ ghost use Rattle.journal_core.specs.declared.entry.Event.TheVariants.{Granted, E
 ghost use Rattle.journal_core.specs.History.{Begins, IsLawful, calls_of, entry, is_exhausted};
 ghost use Rattle.ledger_core.specs.Rule.{issue_reply, knower, packed, IsHeld};
 ghost use Rattle.ledger_core.specs.Logs.{HasMark, IsMarked, IsSeat, Steps, event_of, held_after, place_of_word};
-ghost use Rattle.ledger_core.specs.Shared.{Holds, IsClosedSeat, Knows, fresh_seat};
+ghost use Rattle.ledger_core.specs.Shared.{Holds, IsClosedSeat, Knows, Sees, fresh_seat};
 
 use crate::counts::counts_in;
 use crate::grant::Spent;
-use crate::steps::{check_step, hear_step, issue_step, look_step, settle_step};
+use crate::steps::{check_step, hear_step, issue_step, look_step, settle_step, write_step};
 use crate::table::{Opening, Own, Record, Token, Word};
 use journal_core::{Entry, Event, Tally};
 use std::marker::Model;
@@ -222,46 +222,39 @@ pub(crate) fn look_in(
     look_step(word, token)
 }
 
-// The same, with what a note shows.
-pub(crate) fn learn_in(
-    word: &Word,
-    opening: &Opening,
-    seat: u32,
-    own: &Own,
-    token: &mut Token,
-    note: Token,
-)
-    requires table { (token.old.table_id ≡ word.now.shared.table_id) × (word.now.shared.table_id.words ≡ 1) }
-    requires note { (note.table_id ≡ token.old.table_id) × (note.me.1 ≡ []) }
-    requires seat { IsSeat opening.now seat own.now.closed own.now.log.items own.now.held.items token.old.me }
-    ensures table { token.new.table_id ≡ token.old.table_id }
-    ensures seat { IsSeat opening.now seat own.now.closed own.now.log.items own.now.held.items token.new.me }
-    ensures seen { Begins token.old.me.0.seen token.new.me.0.seen × (token.new.me.0.mine ≡ token.old.me.0.mine) }
-    ensures told { Begins note.me.0.seen token.new.me.0.seen }
+// A note of what the seat has seen.
+pub(crate) fn show(word: &Word, seat: &mut Seat) -> Token
+    requires table { (seat.old.ledger ≡ word.now.shared.table_id) × (word.now.shared.table_id.words ≡ 1) }
+    ensures same { seat.new ≡ seat.old }
+    ensures known { Knows seat.old }
+    ensures note { (result.table_id ≡ word.now.shared.table_id) × (result.me.1 ≡ []) }
+    ensures shown { result.me.0.seen ≡ seat.old.seen }
 {
-    hear_step(word, token, note);
-    look_in(word, opening, seat, own, token);
+    write_step(word, &mut seat.token)
 }
 
-// The seat stays as it is, once it has made sure that what a note shows of it are its own operations.
-pub(crate) fn check_in(
-    word: &Word,
-    opening: &Opening,
-    seat: u32,
-    own: &Own,
-    token: &mut Token,
-    note: Token,
-)
-    requires table { (token.old.table_id ≡ word.now.shared.table_id) × (word.now.shared.table_id.words ≡ 1) }
-    requires note { (note.table_id ≡ token.old.table_id) × (note.me.1 ≡ []) }
-    requires seat { IsSeat opening.now seat own.now.closed own.now.log.items own.now.held.items token.old.me }
-    ensures table { token.new.table_id ≡ token.old.table_id }
-    ensures seat { IsSeat opening.now seat own.now.closed own.now.log.items own.now.held.items token.new.me }
-    ensures same { (token.new.me.0.seen ≡ token.old.me.0.seen) × (token.new.me.0.mine ≡ token.old.me.0.mine) }
-    ensures shown { Begins (calls_of seat note.me.0.seen) token.old.me.0.mine }
+// The seat sees what a note shows, and the history so far.
+pub(crate) fn learn(word: &Word, seat: &mut Seat, note: Token)
+    requires table { (seat.old.ledger ≡ word.now.shared.table_id) × (word.now.shared.table_id.words ≡ 1) }
+    requires note { (note.table_id ≡ word.now.shared.table_id) × (note.me.1 ≡ []) }
+    ensures sees { Sees seat.old seat.new }
+    ensures told { Begins note.me.0.seen seat.new.seen }
+    ensures known { Knows seat.old }
+    ensures knows { Knows seat.new }
 {
-    hear_step(word, token, note);
-    check_step(word, token);
+    hear_step(word, &mut seat.token, note);
+    look_in(word, &seat.opening, seat.number, &seat.own, &mut seat.token);
+}
+
+// The seat makes sure that what a note shows of it are its own operations, and stays as it is.
+pub(crate) fn check(word: &Word, seat: &mut Seat, note: Token)
+    requires table { (seat.old.ledger ≡ word.now.shared.table_id) × (word.now.shared.table_id.words ≡ 1) }
+    requires note { (note.table_id ≡ word.now.shared.table_id) × (note.me.1 ≡ []) }
+    ensures same { seat.new ≡ seat.old }
+    ensures shown { Begins (calls_of seat.old.number note.me.0.seen) seat.old.mine }
+{
+    hear_step(word, &mut seat.token, note);
+    check_step(word, &mut seat.token);
 }
 
 // The counts that a word tells. Of the issues, as many were granted as the range has numbers.
