@@ -9,10 +9,10 @@ use Rattle.std.specs.Int.{w32, to_be_bytes, from_be_bytes}
 use Rattle.container_core.specs.declared.fault.OpenFault.{OpenFault}
 use Rattle.container_core.specs.declared.fault.OpenFault.TheVariants.{TooLong, ShortHeader, BadMagic, BadVersion, BadExponent, KeyMismatch, BadLength, Forged, OutOfMemory}
 use Rattle.container_core.specs.Chunks.{chunks, sealed_chunks, container_length, has_plaintext}
-use Rattle.container_core.specs.Stream.{nonce_of, prefix_in, is_nil, stream, opened_chunk, joined}
+use Rattle.container_core.specs.Stream.{nonce_of, prefix_in, is_nil, stream, opened_chunk}
 use Rattle.container_core.specs.Container.{hint_of, header_of, container}
 use Rattle.container_core.specs.Faults.{IsOfBytes}
-use Rattle.container_core.specs.Opening.{header_fault, first_fault, early_fault, unsealed, unless, opening}
+use Rattle.container_core.specs.Opening.{header_fault, first_fault, early_fault, unsealed, unless, opening, joined}
 use Rattle.container_core.proofs.PartsLemmas.{container_length-grows, has_plaintext-of, plaintext_of-has}
 use Rattle.container_core.proofs.HeaderLemmas.{length-hint_of, length-prefix_in, prefix_in-header_of, not_below}
 use Rattle.container_core.proofs.OpeningLemmas.{opening-container, container-opening, length-body}
@@ -95,7 +95,7 @@ of_all_tests false true true false e = tt
 of_all_tests false true true true false = tt
 of_all_tests false true true true true = tt
 
-header_fault-of_bytes : (key bytes : List ℕ) → IfSome (header_fault key bytes) IsOfBytes
+pub header_fault-of_bytes : (key bytes : List ℕ) → IfSome (header_fault key bytes) IsOfBytes
 unfolding header_fault
 header_fault-of_bytes key bytes =
     of_all_tests (nat_lt (length bytes) 24) (bytes_eq (take 8 bytes) (codes "STRMSEAL")) (eqb (get_or bytes 8 0) 1)

@@ -5,9 +5,9 @@ use Rattle.std.specs.Prelude.{nat_lt}
 use Rattle.container_core.specs.declared.fault.OpenFault.{OpenFault}
 use Rattle.container_core.specs.declared.fault.OpenFault.TheVariants.{TooLong, BadLength, Forged}
 use Rattle.container_core.specs.Chunks.{parts, cut_every, chunks, sealed_chunks, body_length, container_length, has_plaintext}
-use Rattle.container_core.specs.Stream.{prefix_in, sealed_chunk, opened_chunk, stream, joined}
+use Rattle.container_core.specs.Stream.{prefix_in, sealed_chunk, opened_chunk, stream}
 use Rattle.container_core.specs.Container.{header_of, container}
-use Rattle.container_core.specs.Opening.{header_fault, first_fault, early_fault, unsealed, unless, opening}
+use Rattle.container_core.specs.Opening.{header_fault, first_fault, early_fault, unsealed, unless, opening, joined}
 use Rattle.container_core.proofs.PartsLemmas.{chunks-short, chunks-long, sealed_chunks-short, sealed_chunks-long, is_nil-chunks, is_nil-sealed_chunks, body_count, has_plaintext-of, plaintext_of-has}
 use Rattle.container_core.proofs.StreamLemmas.{length-stream, unsealed-stream, stream-unsealed}
 use Rattle.container_core.proofs.HeaderLemmas.{length-header_of, good_header, header_fault-good, header-drop, header-faultless, good_header-of, not_below, at_most}

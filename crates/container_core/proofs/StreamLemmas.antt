@@ -6,8 +6,8 @@ use Rattle.aead_core.proofs.AeadLemmas.{length-enciphered, length-tag_of, opened
 use Rattle.container_core.specs.declared.fault.OpenFault.{OpenFault}
 use Rattle.container_core.specs.declared.fault.OpenFault.TheVariants.{Forged}
 use Rattle.container_core.specs.Chunks.{parts}
-use Rattle.container_core.specs.Stream.{nonce_of, prefix_in, is_nil, sealed_chunk, opened_chunk, stream, joined}
-use Rattle.container_core.specs.Opening.{unsealed}
+use Rattle.container_core.specs.Stream.{nonce_of, prefix_in, is_nil, sealed_chunk, opened_chunk, stream}
+use Rattle.container_core.specs.Opening.{unsealed, joined}
 use Rattle.container_core.proofs.PartsLemmas.{is_nil-parts}
 
 pub length-sealed_chunk : (key header : List ℕ) (number : ℕ) (last : Bool) (plain : List ℕ)

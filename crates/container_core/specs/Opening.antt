@@ -1,17 +1,17 @@
 -- Opening: the first fault of a container, or its plaintext.
-use Rattle.std.specs.Prelude.{ℕ, ◌+◌, ◌==◌, nat_lt, not, List, [], ◌∷◌, length, take, drop, slice_index, codes, Option, Some, None, Result, Ok, Err, if◌then◌else◌}
+use Rattle.std.specs.Prelude.{ℕ, ◌+◌, ◌==◌, nat_lt, not, List, [], ◌∷◌, ◌++◌, length, take, drop, slice_index, Option, Some, None, Result, Ok, Err, if◌then◌else◌}
 use Rattle.std.specs.Str.{bytes_eq}
 use Rattle.container_core.specs.declared.fault.OpenFault.{OpenFault}
 use Rattle.container_core.specs.declared.fault.OpenFault.TheVariants.{TooLong, ShortHeader, BadMagic, BadVersion, BadExponent, KeyMismatch, BadLength, Forged}
 use Rattle.container_core.specs.Chunks.{container_length, has_plaintext, sealed_chunks}
-use Rattle.container_core.specs.Stream.{is_nil, opened_chunk, joined}
-use Rattle.container_core.specs.Container.{hint_of}
+use Rattle.container_core.specs.Stream.{is_nil, opened_chunk}
+use Rattle.container_core.specs.Container.{magic, hint_of}
 
 -- the first fault of the header
 unfoldable pub header_fault : List ℕ → List ℕ → Option OpenFault
 header_fault key bytes =
     if nat_lt (length bytes) 24 then Some ShortHeader else
-    (if not (bytes_eq (take 8 bytes) (codes "STRMSEAL")) then Some BadMagic else
+    (if not (bytes_eq (take 8 bytes) magic) then Some BadMagic else
     (if not (slice_index bytes 8 == 1) then Some BadVersion else
     (if not (slice_index bytes 9 == 16) then Some BadExponent else
     (if not (bytes_eq (take 7 (drop 17 bytes)) (hint_of key)) then Some KeyMismatch else None))))
@@ -27,6 +27,12 @@ early_fault key most bytes =
     first_fault (if nat_lt (container_length most) (length bytes) then Some TooLong else None)
     (first_fault (header_fault key bytes)
     (if not (has_plaintext most (length bytes)) then Some BadLength else None))
+
+-- the plaintext of a chunk goes before that of the rest, unless one of them doesn't check
+abbrev pub joined : OpenFault → Option (List ℕ) → Result (List ℕ) OpenFault → Result (List ℕ) OpenFault
+joined forged None rest = Err forged
+joined forged (Some chunk) (Ok rest) = Ok (chunk ++ rest)
+joined forged (Some chunk) (Err fault) = Err fault
 
 -- the chunks opened one by one, the first of which has this number, and joined; or that the first of them doesn't check
 unfoldable pub unsealed : List ℕ → List ℕ → ℕ → List (List ℕ) → Result (List ℕ) OpenFault

@@ -1,6 +1,6 @@
 -- STREAM (Hoang, Reyhanitabar, Rogaway, Vizár, CRYPTO 2015) over the AEAD of RFC 8439: each chunk is sealed under a nonce
 -- that encodes a prefix, the chunk's number and whether it is the last. Here the associated data is the header.
-use Rattle.std.specs.Prelude.{ℕ, ◌+◌, ◌-◌, Bool, true, false, List, [], ◌∷◌, ◌++◌, length, take, drop, Option, Some, None, Result, Ok, Err, if◌then◌else◌}
+use Rattle.std.specs.Prelude.{ℕ, ◌+◌, ◌-◌, Bool, true, false, List, [], ◌∷◌, ◌++◌, length, take, drop, Option, if◌then◌else◌}
 use Rattle.std.specs.Int.{w32, to_be_bytes}
 use Rattle.aead_core.specs.Aead.{aead, opened}
 
@@ -34,9 +34,3 @@ unfoldable pub opened_chunk : List ℕ → List ℕ → ℕ → Bool → List �
 opened_chunk key header number last sealed =
     let bytes = length sealed - 16 in
     opened key (nonce_of (prefix_in header) number last) header (take bytes sealed) (drop bytes sealed)
-
--- the plaintext of a chunk goes before that of the rest, unless one of them doesn't check
-abbrev pub joined : {E : Type 0} → E → Option (List ℕ) → Result (List ℕ) E → Result (List ℕ) E
-joined forged None rest = Err forged
-joined forged (Some chunk) (Ok rest) = Ok (chunk ++ rest)
-joined forged (Some chunk) (Err fault) = Err fault

@@ -16,7 +16,7 @@ use crate::key::Key;
 use crate::{EXPONENT, HEADER, VERSION};
 use std::marker::Model;
 
-const MAGIC: &[u8; 8] = b"STRMSEAL";
+const MAGIC: [u8; 8] = *b"STRMSEAL";
 
 /// A header. Contracts see its bytes.
 #[derive(Drop)]
@@ -38,11 +38,11 @@ impl Header {
     pub fn of(key: &Key, prefix: [u8; 7]) -> Header
         ensures { result ≡ header_of key.now prefix }
     {
+        let [o, p, q, r, s, t, u, v] = MAGIC;
         let [a, b, c, d, e, f, g] = prefix;
         let [h, i, j, k, l, m, n] = key.hint();
         let image = [
-            b'S', b'T', b'R', b'M', b'S', b'E', b'A', b'L', VERSION, EXPONENT, a, b, c, d, e, f, g,
-            h, i, j, k, l, m, n,
+            o, p, q, r, s, t, u, v, VERSION, EXPONENT, a, b, c, d, e, f, g, h, i, j, k, l, m, n,
         ];
         Header { image }
     }

@@ -22,7 +22,7 @@ pub use crate::cutting::cut;
 pub use crate::fault::{OpenFault, SealFault};
 pub use crate::header::{Header, read_header};
 pub use crate::key::Key;
-pub use crate::places::Cut;
+pub use crate::places::{Cut, container_bytes};
 pub use crate::whole::{open, seal};
 
 /// Plaintext bytes of every chunk but the last: 2 to the exponent that the header names.

@@ -1,9 +1,24 @@
 //! Where the chunks of a container stand.
 ghost use Rattle.std.specs.Prelude.{◌≡◌, ℕ, ◌+◌, ◌-◌, ◌*◌, ◌<◌, ◌≤◌, List, [], length, take, drop, min, slice_index_or};
-ghost use Rattle.container_core.specs.Chunks.{chunk_count, body_length, sealed_chunks};
+ghost use Rattle.container_core.specs.Chunks.{chunk_count, body_length, container_length, sealed_chunks};
 
-use crate::{CHUNK, MAX_PLAIN, SEALED};
+use crate::{CHUNK, HEADER, MAX_PLAIN, SEALED, TAG};
 use std::marker::Model;
+
+// How many chunks a plaintext of so many bytes has.
+fn chunks_of(plain: u64) -> u64
+    ensures { result ≡ chunk_count plain }
+{
+    plain.saturating_sub(1) / CHUNK as u64 + 1
+}
+
+/// How many bytes the container of so many plaintext bytes has: 24 for the header, the plaintext, and 16 for each chunk.
+pub fn container_bytes(plain: u64) -> u64
+    requires { plain ≤ MAX_PLAIN }
+    ensures { result ≡ container_length plain }
+{
+    HEADER as u64 + plain + TAG as u64 * chunks_of(plain)
+}
 
 /// How the bytes behind a header are cut into chunks. Contracts see the number of plaintext bytes, which determines it.
 #[derive(Clone, Copy, PartialEq, Eq, Debug)]
@@ -32,11 +47,18 @@ impl Cut {
         Cut { plain }
     }
 
+    // How many bytes the plaintext has.
+    pub(crate) fn plain(self) -> u64
+        ensures { result ≡ self }
+    {
+        self.plain
+    }
+
     /// How many chunks there are: at least one.
     pub fn count(self) -> u32
         ensures { result ≡ chunk_count self }
     {
-        (self.plain.saturating_sub(1) / CHUNK as u64 + 1) as u32
+        chunks_of(self.plain) as u32
     }
 
     /// Where the ciphertext of a chunk begins, counted from the byte behind the header, and how many bytes it has.

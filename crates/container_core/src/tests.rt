@@ -64,11 +64,11 @@ fn zeros_sealed(alloc: Global, key: &Key, count: usize) -> Result<Vec<u8>, Fail>
     Ok(seal(alloc, key, PREFIX, plain.as_slice())?)
 }
 
-// Whether opening answers this fault.
-fn refuses(alloc: Global, key: &Key, bytes: &[u8], fault: OpenFault) -> bool {
+// The fault that opening answers, or none.
+fn fault_of(alloc: Global, key: &Key, bytes: &[u8]) -> Option<OpenFault> {
     match open(alloc, key, bytes) {
-        Ok(_plain) => false,
-        Err(found) => found == fault,
+        Ok(_plain) => None,
+        Err(fault) => Some(fault),
     }
 }
 
@@ -93,7 +93,8 @@ fn containers_of_zeros(rt: HostRuntime) -> Result<(), Fail> {
         let places = cut((bytes.len() - HEADER) as u64)?;
         assert_eq!(rt; places.count(), *chunks);
         let plain = open(rt.alloc(), &key, bytes.as_slice())?;
-        assert_eq!(rt; plain.len(), *count);
+        let zeros = vec![in rt.alloc(); 0; *count]?;
+        assert!(rt; plain.as_slice() == zeros.as_slice(), "of {count}");
     }
     Ok(())
 }
@@ -120,7 +121,10 @@ fn empty_chunk_behind_a_full_one_is_a_bad_length(rt: HostRuntime) -> Result<(), 
     bytes.extend_from_slice(&first)?;
     bytes.extend_from_slice(&last)?;
     assert_eq!(rt; bytes.len(), 65_592);
-    assert!(rt; refuses(rt.alloc(), &key, bytes.as_slice(), OpenFault::BadLength));
+    assert_eq!(rt;
+        fault_of(rt.alloc(), &key, bytes.as_slice()),
+        Some(OpenFault::BadLength)
+    );
     assert!(rt; open_chunk(&key, &header, 0, false, &mut chunk, &first));
     assert_eq!(rt; chunk, [0; 65536]);
     assert!(rt; !open_chunk(&key, &header, 0, true, &mut chunk, &first));
@@ -141,8 +145,9 @@ fn truncated_container_names_the_fault(rt: HostRuntime) -> Result<(), Fail> {
         let mut front = Vec::from_slice(rt.alloc(), bytes.as_slice())?;
         front.truncate(length);
         assert_eq!(rt; front.len(), length);
-        assert!(rt;
-            refuses(rt.alloc(), &key, front.as_slice(), fault),
+        assert_eq!(rt;
+            fault_of(rt.alloc(), &key, front.as_slice()),
+            Some(fault),
             "cut to {length}"
         );
     }
@@ -160,26 +165,25 @@ fn altered_container_names_the_first_fault(rt: HostRuntime) -> Result<(), Fail> 
     other.extend_from_slice(&bytes[HEADER + SEALED..HEADER + 2 * SEALED])?;
     other.extend_from_slice(&bytes[HEADER..HEADER + SEALED])?;
     other.extend_from_slice(&bytes[HEADER + 2 * SEALED..])?;
-    assert!(rt;
-        refuses(
-            alloc,
-            &key,
-            other.as_slice(),
-            OpenFault::Forged { chunk: 0 }
-        )
+    assert_eq!(rt;
+        fault_of(alloc, &key, other.as_slice()),
+        Some(OpenFault::Forged { chunk: 0 })
     );
-    assert!(rt;
-        refuses(
-            alloc,
-            &Key::new([0; 32]),
-            bytes.as_slice(),
-            OpenFault::KeyMismatch
-        )
+    let zeros = Key::new([0; 32]);
+    assert_eq!(rt;
+        fault_of(alloc, &zeros, bytes.as_slice()),
+        Some(OpenFault::KeyMismatch)
     );
     bytes[8] = 9;
-    assert!(rt; refuses(alloc, &key, bytes.as_slice(), OpenFault::BadVersion));
+    assert_eq!(rt;
+        fault_of(alloc, &key, bytes.as_slice()),
+        Some(OpenFault::BadVersion)
+    );
     bytes[0] = 0x54;
-    assert!(rt; refuses(alloc, &key, bytes.as_slice(), OpenFault::BadMagic));
+    assert_eq!(rt;
+        fault_of(alloc, &key, bytes.as_slice()),
+        Some(OpenFault::BadMagic)
+    );
     Ok(())
 }
 
@@ -197,7 +201,10 @@ fn good_tags_under_another_version(rt: HostRuntime) -> Result<(), Fail> {
         bytes.extend_from_slice(&chunk)?;
         bytes.extend_from_slice(&tag)?;
     }
-    assert!(rt; refuses(rt.alloc(), &key, bytes.as_slice(), OpenFault::BadVersion));
+    assert_eq!(rt;
+        fault_of(rt.alloc(), &key, bytes.as_slice()),
+        Some(OpenFault::BadVersion)
+    );
     Ok(())
 }
 

@@ -2,7 +2,7 @@
 ghost use Rattle.std.specs.Prelude.{◌≡◌, ℕ, ◌+◌, ◌<◌, ◌≤◌, ◌++◌, ◌⊎◌, ◌↔◌, List, length, Ok, Err, Some, None, IfOk, IfErr, OnOk, MatchResult};
 ghost use Rattle.container_core.specs.Container.{container};
 ghost use Rattle.container_core.specs.Chunks.{body_length, sealed_chunks};
-ghost use Rattle.container_core.specs.Opening.{opening, unsealed};
+ghost use Rattle.container_core.specs.Opening.{early_fault, opening, unsealed};
 ghost use Rattle.container_core.specs.Stream.{sealed_chunk, opened_chunk, prefix_in};
 
 use crate::chunk::{open_chunk, seal_chunk};
@@ -10,6 +10,7 @@ use crate::cutting::{MAX_BODY, cut};
 use crate::fault::{OpenFault, SealFault};
 use crate::header::{Header, read_header};
 use crate::key::Key;
+use crate::places::{Cut, container_bytes};
 use crate::{CHUNK, HEADER, MAX_PLAIN, SEALED, TAG};
 use std::alloc::{AllocError, Global};
 
@@ -33,20 +34,13 @@ fn append_sealed(
     out.extend_from_slice(&tag)
 }
 
-// How many bytes the container of so many plaintext bytes has.
-fn container_bytes(plain: usize) -> usize
-    requires { plain ≤ MAX_PLAIN }
-{
-    HEADER + plain + TAG * (plain.saturating_sub(1) / CHUNK + 1)
-}
-
 // The container of at most 2^40 plaintext bytes.
 fn sealed(alloc: Global, key: &Key, prefix: [u8; 7], plain: &[u8]) -> Result<Vec<u8>, AllocError>
     requires { length plain.now ≤ 1099511627776 }
     ensures { IfOk result (λ out. out.items ≡ container key.now prefix plain.now) }
 {
     let header = Header::of(key, prefix);
-    let mut out = Vec::with_capacity(alloc, container_bytes(plain.len()))?;
+    let mut out = Vec::with_capacity(alloc, container_bytes(plain.len() as u64) as usize)?;
     out.extend_from_slice(&header.bytes())?;
     let mut rest = plain;
     let mut number = 0;
@@ -106,14 +100,19 @@ fn append_opened(
 }
 
 // The chunks behind a header opened and joined.
-fn opened(alloc: Global, key: &Key, header: &Header, body: &[u8]) -> Result<Vec<u8>, OpenFault>
-    requires { (plain : ℕ) × (plain ≤ 1099511627776) × (length body.now ≡ body_length plain) }
+fn opened(
+    alloc: Global,
+    key: &Key,
+    header: &Header,
+    body: &[u8],
+    cut: Cut,
+) -> Result<Vec<u8>, OpenFault>
+    requires { length body.now ≡ body_length cut }
     ensures plaintext { IfOk result (λ out. unsealed key.now header.now 0 (sealed_chunks body.now) ≡ Ok out.items) }
     ensures refused { IfErr result (λ fault. (fault ≡ OpenFault.OutOfMemory)
         ⊎ (unsealed key.now header.now 0 (sealed_chunks body.now) ≡ Err fault)) }
 {
-    let count = (body.len() - 1) / SEALED + 1;
-    let Ok(mut out) = Vec::with_capacity(alloc, body.len() - TAG * count) else {
+    let Ok(mut out) = Vec::with_capacity(alloc, cut.plain() as usize) else {
         return Err(OpenFault::OutOfMemory);
     };
     let mut rest = body;
@@ -136,6 +135,7 @@ fn opened(alloc: Global, key: &Key, header: &Header, body: &[u8]) -> Result<Vec<
 fn answer(alloc: Global, key: &Key, bytes: &[u8]) -> Result<Vec<u8>, OpenFault>
     ensures plaintext { IfOk result (λ out. opening key.now 1099511627776 bytes.now ≡ Ok out.items) }
     ensures fault { IfErr result (λ fault. (fault ≡ OpenFault.OutOfMemory) ⊎ (opening key.now 1099511627776 bytes.now ≡ Err fault)) }
+    ensures memory { result ≡ Err OpenFault.OutOfMemory → early_fault key.now 1099511627776 bytes.now ≡ None }
 {
     if bytes.len() as u64 > MAX_CONTAINER {
         return Err(OpenFault::TooLong);
@@ -146,16 +146,19 @@ fn answer(alloc: Global, key: &Key, bytes: &[u8]) -> Result<Vec<u8>, OpenFault>
     };
     let (_, body) = bytes.split_at(HEADER);
     match cut(body.len() as u64) {
-        Ok(_cut) => opened(alloc, key, &header, body),
+        Ok(cut) => opened(alloc, key, &header, body, cut),
         Err(fault) => Err(fault),
     }
 }
 
 /// The plaintext of a container under a key, of at most 2^40 bytes, or the first fault that applies of those of `OpenFault`
-/// from `TooLong` to `Forged`. `OutOfMemory` where memory was refused.
+/// from `TooLong` to `Forged`. `OutOfMemory` where memory was refused, which is asked for only once all but the tags was tested.
 pub fn open(alloc: Global, key: &Key, bytes: &[u8]) -> Result<Vec<u8>, OpenFault>
     ensures plaintext { IfOk result (λ out. opening key.now 1099511627776 bytes.now ≡ Ok out.items) }
     ensures fault { IfErr result (λ fault. (fault ≡ OpenFault.OutOfMemory) ⊎ (opening key.now 1099511627776 bytes.now ≡ Err fault)) }
+
+    // Memory is taken only where neither the length nor the header has a fault.
+    ensures memory { result ≡ Err OpenFault.OutOfMemory → early_fault key.now 1099511627776 bytes.now ≡ None }
 
     // What opens is the container of its plaintext under the prefix that its header names, and such a container opens.
     ensures sealed { IfOk result (λ out. bytes.now ≡ container key.now (prefix_in bytes.now) out.items) }

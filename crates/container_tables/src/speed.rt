@@ -1,9 +1,9 @@
-//! Sealing and opening 64 MiB in memory, against the AEAD alone over the same chunks in place.
+//! Sealing and opening 64 MiB in memory, against the AEAD alone over the same chunks: in place, and into a fresh vector.
 
 use crate::{COUNTING, prefix_of};
 use aead_core::{open_in_place, seal_in_place};
-use anyhow::Result;
-use container_core::{CHUNK, Header, Key, nonce, open, seal};
+use anyhow::{Result, ensure};
+use container_core::{CHUNK, HEADER, Header, Key, SEALED, TAG, nonce, open, seal};
 use std::alloc::Global;
 use std::io::Print;
 use std::time::{Clock, Instant};
@@ -15,30 +15,80 @@ const TEXT: usize = 1 << 26;
 const COUNT: usize = 1024;
 
 /// How often each is done; the best time counts.
-const SAMPLES: u32 = 9;
+const SAMPLES: u32 = 15;
 
-// The AEAD alone, in place: the chunks sealed, and their tags.
-fn seal_in_chunks(header: &[u8; 24], text: &mut [u8], tags: &mut [[u8; 16]]) {
-    for (number, chunk) in text.chunks_mut(CHUNK).enumerate() {
-        if number < tags.len() && number < COUNT && chunk.len() <= CHUNK {
-            let nonce = nonce(prefix_of(0), number as u32, number + 1 == COUNT);
-            tags[number] = seal_in_place(&COUNTING, &nonce, header, chunk);
-        }
-    }
+// The nonce of a chunk of the text.
+fn nonce_of(number: usize) -> Result<[u8; 12]> {
+    ensure!(number < COUNT, "more chunks than the text has");
+    Ok(nonce(prefix_of(0), number as u32, number + 1 == COUNT))
 }
 
-// The AEAD alone, in place: the chunks opened, and how many of them checked.
-fn open_in_chunks(header: &[u8; 24], text: &mut [u8], tags: &[[u8; 16]]) -> usize {
-    let mut good = 0usize;
+// The AEAD alone, in place over memory that was touched before: the chunks sealed, and their tags.
+fn seal_in_chunks(header: &[u8; 24], text: &mut [u8], tags: &mut [[u8; 16]]) -> Result<()> {
     for (number, chunk) in text.chunks_mut(CHUNK).enumerate() {
-        if number < tags.len() && number < COUNT && chunk.len() <= CHUNK {
-            let nonce = nonce(prefix_of(0), number as u32, number + 1 == COUNT);
-            if open_in_place(&COUNTING, &nonce, header, chunk, &tags[number]) {
-                good = good.saturating_add(1);
-            }
-        }
+        let nonce = nonce_of(number)?;
+        ensure!(number < tags.len() && chunk.len() <= CHUNK, "a tag's place");
+        tags[number] = seal_in_place(&COUNTING, &nonce, header, chunk);
     }
-    good
+    Ok(())
+}
+
+// The AEAD alone, in place: the chunks opened.
+fn open_in_chunks(header: &[u8; 24], text: &mut [u8], tags: &[[u8; 16]]) -> Result<()> {
+    for (number, chunk) in text.chunks_mut(CHUNK).enumerate() {
+        let nonce = nonce_of(number)?;
+        ensure!(number < tags.len() && chunk.len() <= CHUNK, "a tag's place");
+        ensure!(
+            open_in_place(&COUNTING, &nonce, header, chunk, &tags[number]),
+            "a chunk does not check"
+        );
+    }
+    Ok(())
+}
+
+// The AEAD alone, as any call that gives a fresh vector has to use it: room reserved once, each chunk copied in and sealed
+// there, its tag behind it.
+fn seal_into_fresh(alloc: Global, header: &[u8; 24], text: &[u8]) -> Result<Vec<u8>> {
+    let mut out = Vec::with_capacity(alloc, TEXT + TAG * COUNT)?;
+    for (number, chunk) in text.chunks(CHUNK).enumerate() {
+        let nonce = nonce_of(number)?;
+        let begin = out.len();
+        out.extend_from_slice(chunk)?;
+        ensure!(chunk.len() <= CHUNK && begin <= out.len(), "a chunk's size");
+        let tag = seal_in_place(&COUNTING, &nonce, header, &mut out[begin..]);
+        out.extend_from_slice(&tag)?;
+    }
+    Ok(out)
+}
+
+// The same of opening.
+fn open_into_fresh(alloc: Global, header: &[u8; 24], sealed: &[u8]) -> Result<Vec<u8>> {
+    let mut out = Vec::with_capacity(alloc, TEXT)?;
+    for (number, chunk) in sealed.chunks(SEALED).enumerate() {
+        let nonce = nonce_of(number)?;
+        ensure!(
+            TAG <= chunk.len() && chunk.len() <= SEALED,
+            "a chunk's size"
+        );
+        let (text, end) = chunk.split_at(chunk.len() - TAG);
+        let mut tag = [0; TAG];
+        tag.copy_from_slice(end);
+        let begin = out.len();
+        out.extend_from_slice(text)?;
+        ensure!(
+            open_in_place(&COUNTING, &nonce, header, &mut out[begin..], &tag),
+            "a chunk does not check"
+        );
+    }
+    Ok(out)
+}
+
+// The best times so far, in nanoseconds.
+#[derive(Clone, Copy)]
+struct Best {
+    in_place: u64,
+    fresh: u64,
+    whole: u64,
 }
 
 fn nanos_since<C: Clock>(clock: &C, start: &Instant) -> Result<u64> {
@@ -46,10 +96,15 @@ fn nanos_since<C: Clock>(clock: &C, start: &Instant) -> Result<u64> {
     Ok(u64::try_from(nanos).unwrap_or(u64::MAX))
 }
 
-// Prints a time in microseconds.
-fn print_time<R: Print>(rt: &R, name: &str, nanos: u64) -> Result<()> {
-    let micros = nanos / 1000;
-    println!(rt; "{name}: {micros} microseconds")?;
+// Prints times in microseconds, and the last of them in thousandths of the one before.
+fn print_times<R: Print>(rt: &R, what: &str, name: &str, best: &Best) -> Result<()> {
+    let (in_place, fresh, whole) = (best.in_place / 1000, best.fresh / 1000, best.whole / 1000);
+    ensure!(fresh > 0, "too short a time");
+    let ratio = u128::from(whole) * 1000 / u128::from(fresh);
+    println!(rt; "{what} 64 MiB, microseconds")?;
+    println!(rt; "AEAD alone, in place: {in_place}")?;
+    println!(rt; "AEAD alone, into a fresh vector: {fresh}")?;
+    println!(rt; "{name}: {whole}, thousandths of the latter: {ratio}")?;
     Ok(())
 }
 
@@ -60,28 +115,47 @@ pub fn measure<R: Print + Clock>(rt: &R, alloc: Global) -> Result<()> {
     let plain = vec![in alloc; 7u8; TEXT]?;
     let mut text = vec![in alloc; 7u8; TEXT]?;
     let mut tags = [[0; 16]; COUNT];
-    let (mut sealing, mut opening) = (u64::MAX, u64::MAX);
-    let (mut whole_sealing, mut whole_opening) = (u64::MAX, u64::MAX);
-    let mut good = 0;
+    let mut sealing = Best {
+        in_place: u64::MAX,
+        fresh: u64::MAX,
+        whole: u64::MAX,
+    };
+    let mut opening = Best {
+        in_place: u64::MAX,
+        fresh: u64::MAX,
+        whole: u64::MAX,
+    };
     for _sample in 0..SAMPLES {
         let start = Instant::now(rt)?;
-        seal_in_chunks(&header, text.as_mut_slice(), &mut tags);
-        sealing = sealing.min(nanos_since(rt, &start)?);
+        seal_in_chunks(&header, text.as_mut_slice(), &mut tags)?;
+        sealing.in_place = sealing.in_place.min(nanos_since(rt, &start)?);
         let start = Instant::now(rt)?;
-        good = open_in_chunks(&header, text.as_mut_slice(), &tags);
-        opening = opening.min(nanos_since(rt, &start)?);
+        open_in_chunks(&header, text.as_mut_slice(), &tags)?;
+        opening.in_place = opening.in_place.min(nanos_since(rt, &start)?);
+        let start = Instant::now(rt)?;
+        let sealed = seal_into_fresh(alloc, &header, plain.as_slice())?;
+        sealing.fresh = sealing.fresh.min(nanos_since(rt, &start)?);
+        let start = Instant::now(rt)?;
+        let back = open_into_fresh(alloc, &header, sealed.as_slice())?;
+        opening.fresh = opening.fresh.min(nanos_since(rt, &start)?);
+        ensure!(back.as_slice() == plain.as_slice(), "the AEAD's plaintext");
+        drop(back);
         let start = Instant::now(rt)?;
         let bytes = seal(alloc, &key, prefix_of(0), plain.as_slice())?;
-        whole_sealing = whole_sealing.min(nanos_since(rt, &start)?);
+        sealing.whole = sealing.whole.min(nanos_since(rt, &start)?);
+        ensure!(
+            bytes.len() >= HEADER && &bytes[HEADER..] == sealed.as_slice(),
+            "the container"
+        );
+        drop(sealed);
         let start = Instant::now(rt)?;
         let back = open(alloc, &key, bytes.as_slice())?;
-        whole_opening = whole_opening.min(nanos_since(rt, &start)?);
-        good = good.min(back.len());
+        opening.whole = opening.whole.min(nanos_since(rt, &start)?);
+        ensure!(
+            back.as_slice() == plain.as_slice(),
+            "the container's plaintext"
+        );
     }
-    print_time(rt, "AEAD alone, sealing", sealing)?;
-    print_time(rt, "seal", whole_sealing)?;
-    print_time(rt, "AEAD alone, opening", opening)?;
-    print_time(rt, "open", whole_opening)?;
-    println!(rt; "{good} chunks checked")?;
-    Ok(())
+    print_times(rt, "sealing", "seal", &sealing)?;
+    print_times(rt, "opening", "open", &opening)
 }

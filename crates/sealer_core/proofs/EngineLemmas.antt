@@ -3,11 +3,12 @@ use Rattle.std.proofs.Common.{◌≡◌, ℕ, ◌+◌, ◌<◌, false, List, ◌
 use Rattle.container_core.specs.declared.fault.OpenFault.{OpenFault}
 use Rattle.container_core.specs.declared.fault.OpenFault.TheVariants.{TooLong, ShortHeader, BadMagic, BadVersion, BadExponent, KeyMismatch, BadLength, Forged, OutOfMemory, Read, Write}
 use Rattle.container_core.specs.Chunks.{container_length}
+use Rattle.container_core.specs.Faults.{IsOfBytes}
 use Rattle.container_core.specs.Opening.{opening}
 use Rattle.container_core.proofs.FaultLemmas.{opening-too_long}
 use Rattle.ledger_core.specs.Reads.{ConsumesExactly}
 use Rattle.ledger_core.specs.Streams.{Consumes, IsAtEnd}
-use Rattle.sealer_core.specs.Engine.{open_read_failed, IsOutside}
+use Rattle.sealer_core.specs.Engine.{open_read_failed}
 
 -- what opening answers of the bytes that were read to the end, it answers of the input
 pub opening-input : (key : List ℕ) (most : ℕ) (old new : Option (List ℕ)) (bytes : List ℕ) (answer : Result (List ℕ) OpenFault)
@@ -36,8 +37,8 @@ input-longer n (Some input) (Some rest) (front, read, long) =
     let same : length input ≡ length (front ++ rest) = ap (λ (l : List ℕ). length l) read in
     omega arith
 
-pub outside_memory : (fault : OpenFault) → fault ≡ OutOfMemory → IsOutside fault
-outside_memory fault e = subst IsOutside (sym e) tt
+pub memory_is_outside : (fault : OpenFault) → fault ≡ OutOfMemory → IsOfBytes fault → ⊥
+memory_is_outside fault e own = subst IsOfBytes e own
 
 pub no_failed_read : {A : Type 0} (result : Result A OpenFault) → (result ≡ Err Read → ⊥) → open_read_failed result ≡ false
 no_failed_read (Ok value) not = refl

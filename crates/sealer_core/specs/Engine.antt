@@ -46,10 +46,3 @@ WritesPlaintext key most input old new = (plain : List ℕ) × (opening key most
 -- the input opens, and a beginning of its plaintext was written
 abbrev pub BeginsPlaintext : List ℕ → ℕ → List ℕ → Option (List ℕ) → Option (List ℕ) → Type 0
 BeginsPlaintext key most input old new = (plain : List ℕ) × (opening key most input ≡ Ok plain) × AppendsFront old new plain
-
--- the fault isn't the input's own
-abbrev pub IsOutside : OpenFault → Type 0
-IsOutside opening_fault.OutOfMemory = Unit {0}
-IsOutside opening_fault.Read = Unit {0}
-IsOutside opening_fault.Write = Unit {0}
-IsOutside _ = ⊥

@@ -2,15 +2,16 @@
 //!
 //! An engine's input is all that its reader had left at the call. It is read whole before anything is written, so a refusal
 //! other than a failed write leaves the writer as it was; and nothing of a plaintext is written before every chunk was checked.
-ghost use Rattle.std.specs.Prelude.{◌≡◌, ◌≢◌, ◌+◌, ◌<◌, ◌≤◌, ◌⊎◌, length, Ok, Err, IfOk, IfErr, OnOk, OnErr, IfSome};
+ghost use Rattle.std.specs.Prelude.{◌≡◌, ◌≢◌, ◌+◌, ◌<◌, ◌≤◌, length, Ok, Err, IfOk, IfErr, OnOk, OnErr, IfSome};
 ghost use Rattle.container_core.specs.Chunks.{container_length};
 ghost use Rattle.container_core.specs.Container.{container};
+ghost use Rattle.container_core.specs.Faults.{IsOfBytes};
 ghost use Rattle.container_core.specs.Opening.{opening};
 ghost use Rattle.ledger_core.specs.Reads.{ConsumesExactly, ConsumesUpTo};
 ghost use Rattle.ledger_core.specs.Streams.{Appends, AppendsFront, IsAtEnd, Keeps, counted};
-ghost use Rattle.sealer_core.specs.Engine.{seal_read_failed, seal_write_failed, open_read_failed, open_write_failed, OpensTo, WritesPlaintext, BeginsPlaintext, IsOutside};
+ghost use Rattle.sealer_core.specs.Engine.{seal_read_failed, seal_write_failed, open_read_failed, open_write_failed, OpensTo, WritesPlaintext, BeginsPlaintext};
 
-use container_core::{CHUNK, HEADER, Key, OpenFault, SealFault, TAG, open, seal};
+use container_core::{Key, OpenFault, SealFault, container_bytes, open, seal};
 use ledger_core::{Failed, ReadFault, Sink, Source, read_to_limit, write_all};
 use std::alloc::Global;
 
@@ -19,7 +20,7 @@ mod tests;
 
 /// Reads all of an input of at most `max_bytes` bytes (2^40 at most) and writes its container under a key and a prefix.
 /// Answers the input's length. `TooLong` where a byte more was read, and nothing past it is; at `TooLong`, `OutOfMemory` and
-/// `Read` nothing was written, at `Write` a beginning of the container.
+/// `Read` nothing was written; at `Write` the whole input was read, and a beginning of its container was written.
 pub fn seal_one<R: Source, W: Sink>(
     alloc: Global,
     key: &Key,
@@ -39,7 +40,9 @@ pub fn seal_one<R: Source, W: Sink>(
     ensures more { result ≡ Err SealFault.TooLong → IfSome (R.left reader.old) (λ input. max_bytes < length input) }
     ensures too_long { result ≡ Err SealFault.TooLong → ConsumesExactly (R.left reader.old) (R.left reader.new) (max_bytes + 1) }
     ensures unwritten { result ≢ Err SealFault.Write → OnErr result (Keeps (W.taken writer.old) (W.taken writer.new)) }
+    ensures all_read { result ≡ Err SealFault.Write → IsAtEnd (R.left reader.new) }
     ensures begun { result ≡ Err SealFault.Write → IfSome (R.left reader.old) (λ input. AppendsFront (W.taken writer.old) (W.taken writer.new) (container key.now prefix input)) }
+    ensures bound { ConsumesUpTo (R.left reader.old) (R.left reader.new) (max_bytes + 1) }
 
     // A failed read is Read, a failed write is Write, and there is no other of the two.
     ensures read { R.failures reader.new ≡ counted (seal_read_failed result) (R.failures reader.old) }
@@ -51,21 +54,14 @@ pub fn seal_one<R: Source, W: Sink>(
         Err(ReadFault::OutOfMemory) => return Err(SealFault::OutOfMemory),
         Err(ReadFault::Read) => return Err(SealFault::Read),
     };
-    let Ok(bytes) = seal(alloc, key, prefix, plain.as_slice()) else {
-        return Err(SealFault::OutOfMemory);
+    let bytes = match seal(alloc, key, prefix, plain.as_slice()) {
+        Ok(bytes) => bytes,
+        Err(fault) => return Err(fault),
     };
     match write_all(writer, bytes.as_slice()) {
         Ok(()) => Ok(plain.len() as u64),
         Err(Failed) => Err(SealFault::Write),
     }
-}
-
-// Bytes of the container of so many plaintext bytes.
-fn container_bytes(plain: u64) -> u64
-    requires { plain ≤ 1099511627776 }
-    ensures { result ≡ container_length plain }
-{
-    HEADER as u64 + plain + TAG as u64 * (plain.saturating_sub(1) / CHUNK as u64 + 1)
 }
 
 // The plaintext of all that the reader has left.
@@ -78,7 +74,7 @@ fn read_plaintext<R: Source>(
     requires { max_bytes ≤ 1099511627776 }
     ensures end { OnOk result (IsAtEnd (R.left reader.new)) }
     ensures opened { IfOk result (λ out. IfSome (R.left reader.old) (λ input. opening key.now max_bytes input ≡ Ok out.items)) }
-    ensures fault { IfErr result (λ fault. IsOutside fault ⊎ IfSome (R.left reader.old) (λ input. opening key.now max_bytes input ≡ Err fault)) }
+    ensures fault { IfErr result (λ fault. IsOfBytes fault → IfSome (R.left reader.old) (λ input. opening key.now max_bytes input ≡ Err fault)) }
     ensures no_write { result ≢ Err OpenFault.Write }
     ensures bound { ConsumesUpTo (R.left reader.old) (R.left reader.new) (container_length max_bytes + 1) }
     ensures read { R.failures reader.new ≡ counted (open_read_failed result) (R.failures reader.old) }
@@ -94,7 +90,8 @@ fn read_plaintext<R: Source>(
 
 /// Reads a container and writes its plaintext, which has at most `max_bytes` bytes (2^40 at most), once every chunk was
 /// checked. Answers the plaintext's length, or the first fault of the container. At every fault but `Write` nothing was
-/// written, at `Write` a beginning of the plaintext. Of an input that is too long one byte past the longest container is read.
+/// written; at `Write` the whole input was read, and a beginning of its plaintext was written. Of an input that is too long
+/// one byte past the longest container is read.
 pub fn open_one<R: Source, W: Sink>(
     alloc: Global,
     key: &Key,
@@ -109,8 +106,9 @@ pub fn open_one<R: Source, W: Sink>(
     ensures written { OnOk result (IfSome (R.left reader.old) (λ input. WritesPlaintext key.now max_bytes input (W.taken writer.old) (W.taken writer.new))) }
 
     // The faults.
-    ensures fault { IfErr result (λ fault. IsOutside fault ⊎ IfSome (R.left reader.old) (λ input. opening key.now max_bytes input ≡ Err fault)) }
+    ensures fault { IfErr result (λ fault. IsOfBytes fault → IfSome (R.left reader.old) (λ input. opening key.now max_bytes input ≡ Err fault)) }
     ensures unwritten { result ≢ Err OpenFault.Write → OnErr result (Keeps (W.taken writer.old) (W.taken writer.new)) }
+    ensures all_read { result ≡ Err OpenFault.Write → IsAtEnd (R.left reader.new) }
     ensures begun { result ≡ Err OpenFault.Write → IfSome (R.left reader.old) (λ input. BeginsPlaintext key.now max_bytes input (W.taken writer.old) (W.taken writer.new)) }
     ensures bound { ConsumesUpTo (R.left reader.old) (R.left reader.new) (container_length max_bytes + 1) }
 
@@ -138,7 +136,7 @@ pub fn verify_one<R: Source>(
     requires { max_bytes ≤ 1099511627776 }
     ensures end { OnOk result (IsAtEnd (R.left reader.new)) }
     ensures length { IfOk result (λ n. IfSome (R.left reader.old) (λ input. OpensTo key.now max_bytes input n)) }
-    ensures fault { IfErr result (λ fault. IsOutside fault ⊎ IfSome (R.left reader.old) (λ input. opening key.now max_bytes input ≡ Err fault)) }
+    ensures fault { IfErr result (λ fault. IsOfBytes fault → IfSome (R.left reader.old) (λ input. opening key.now max_bytes input ≡ Err fault)) }
     ensures no_write { result ≢ Err OpenFault.Write }
     ensures bound { ConsumesUpTo (R.left reader.old) (R.left reader.new) (container_length max_bytes + 1) }
     ensures read { R.failures reader.new ≡ counted (open_read_failed result) (R.failures reader.old) }

@@ -5,12 +5,12 @@ use Rattle.container_core.specs.Chunks.{container_length}
 use Rattle.container_core.specs.Opening.{opening}
 use Rattle.container_core.proofs.LawLemmas.{opening-limits, opening-of_bytes}
 use Rattle.ledger_core.specs.Streams.{Consumes, counted}
-use Rattle.sealer_core.proofs.EngineLemmas.{opening-input, opening-longer, outside_memory, no_failed_read}
+use Rattle.sealer_core.proofs.EngineLemmas.{opening-input, opening-longer, memory_is_outside, no_failed_read}
 use Rattle.sealer_core.proofs.engine.read_plaintext.Goals as goal
 
 pub returns-in-Err-TooLong-clause-fault : goal.returns-in-Err-TooLong-clause-fault
 returns-in-Err-TooLong-clause-fault g c =
-    inr (opening-longer c.args.key.now c.args.max_bytes (g.R.Source.left c.args.reader.now) (g.R.Source.left c.read_to_limit.new.source)
+    λ own. (opening-longer c.args.key.now c.args.max_bytes (g.R.Source.left c.args.reader.now) (g.R.Source.left c.read_to_limit.new.source)
     (rw (← c.container_bytes.ensures) (c.in-Err-TooLong.ensures.too_long (ap (λ f. Err f) c.in-Err-TooLong.field-0-is))))
 
 pub returns-clause-opened : goal.returns-clause-opened
@@ -35,10 +35,10 @@ returns-clause-fault g c =
     (sym c.as_slice.ensures.value) c.in-Ok.ensures.bytes in
     let same = opening-limits c.args.key.now c.args.max_bytes 1099511627776 bytes c.requires short in
     IfErr-weaker c.open.result _ _
-    (λ fault cause. elim cause [
-      | inl memory ↦ inl (outside_memory fault memory)
-      | inr e ↦ inr (opening-input c.args.key.now c.args.max_bytes (g.R.Source.left c.args.reader.now)
-          (g.R.Source.left c.read_to_limit.new.source) bytes (Err fault) read c.in-Ok.ensures.end (same ∙ e))
+    (λ fault cause own. elim cause [
+      | inl memory ↦ absurd (memory_is_outside fault memory own)
+      | inr e ↦ opening-input c.args.key.now c.args.max_bytes (g.R.Source.left c.args.reader.now)
+          (g.R.Source.left c.read_to_limit.new.source) bytes (Err fault) read c.in-Ok.ensures.end (same ∙ e)
     ])
     c.open.ensures.fault
 
