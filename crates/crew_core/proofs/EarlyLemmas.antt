@@ -1,0 +1,69 @@
+-- Which fault shows before any chunk is opened.
+use Rattle.std.proofs.Common.{◌≡◌, ℕ, ◌+◌, ◌<◌, ◌≤◌, Bool, true, false, List, length, Option, Some, None, not, if◌then◌else◌, ap, ◌∙◌, arith}
+use Rattle.std.proofs.lemmas.Bool.{false_from_ne_true}
+use Rattle.std.proofs.lemmas.Bool.Decides.{nat_tests}
+use Rattle.std.specs.Prelude.{nat_lt}
+use Rattle.container_core.specs.declared.fault.OpenFault.{OpenFault}
+use Rattle.container_core.specs.declared.fault.OpenFault.TheVariants.{TooLong, ShortHeader, BadMagic, BadVersion, BadExponent, KeyMismatch, BadLength, Forged, OutOfMemory, Read, Write}
+use Rattle.container_core.specs.Chunks.{container_length, has_plaintext}
+use Rattle.container_core.specs.Cutting.{RefusesCut}
+use Rattle.container_core.specs.Opening.{header_fault, first_fault, early_fault}
+use Rattle.container_core.proofs.PartsLemmas.{has_plaintext-of, plaintext_of-has}
+use Rattle.container_core.proofs.HeaderLemmas.{not_below}
+use Rattle.container_core.proofs.OpeningLemmas.{no_early_fault}
+
+below : (m n : ℕ) → m < n → nat_lt m n ≡ true
+below m n e = grind (arith, nat_tests)
+
+pub early-too_long : (key : List ℕ) (most : ℕ) (bytes : List ℕ) → container_length most < length bytes → early_fault key most bytes ≡ Some TooLong
+unfolding early_fault
+early-too_long key most bytes long =
+    ap (λ (b : Bool). first_fault (if b then Some TooLong else None)
+    (first_fault (header_fault key bytes) (if not (has_plaintext most (length bytes)) then Some BadLength else None)))
+    (below (container_length most) (length bytes) long)
+
+pub early-header_fault : (key : List ℕ) (most : ℕ) (bytes : List ℕ) (fault : OpenFault) → length bytes ≤ container_length most
+    → header_fault key bytes ≡ Some fault → early_fault key most bytes ≡ Some fault
+unfolding early_fault
+early-header_fault key most bytes fault within bad =
+    let last : Option OpenFault = if not (has_plaintext most (length bytes)) then Some BadLength else None in
+    ap (λ (b : Bool). first_fault (if b then Some TooLong else None) (first_fault (header_fault key bytes) last))
+    (not_below (container_length most) (length bytes) within)
+    ∙ ap (λ (f : Option OpenFault). first_fault f last) bad
+
+early-bad_length : (key : List ℕ) (most : ℕ) (bytes : List ℕ) → length bytes ≤ container_length most
+    → header_fault key bytes ≡ None → ((n : ℕ) → n ≤ most → length bytes ≡ container_length n → ⊥)
+    → early_fault key most bytes ≡ Some BadLength
+unfolding early_fault
+early-bad_length key most bytes within good none =
+    let has = has_plaintext most (length bytes) in
+    let hasn't : has ≡ false = false_from_ne_true has (λ (e : has ≡ true). let (n, few, long) = plaintext_of-has most (length bytes) e in none n few long) in
+    ap (λ (b : Bool). first_fault (if b then Some TooLong else None) (first_fault (header_fault key bytes) (if not has then Some BadLength else None)))
+    (not_below (container_length most) (length bytes) within)
+    ∙ ap (λ (f : Option OpenFault). first_fault f (if not has then Some BadLength else None)) good
+    ∙ ap (λ (b : Bool). if not b then Some BadLength else None) hasn't
+
+pub early-none : (key : List ℕ) (most : ℕ) (bytes : List ℕ) (n : ℕ) → n ≤ most → length bytes ≡ container_length n
+    → header_fault key bytes ≡ None → early_fault key most bytes ≡ None
+early-none key most bytes n few long good =
+    no_early_fault key most bytes (grows n most few long) good (has_plaintext-of most (length bytes) n few long)
+  where
+    grows : (i m : ℕ) → i ≤ m → length bytes ≡ container_length i → length bytes ≤ container_length m
+    grows i m small e = omega arith
+
+-- what refuses the cutting of what stands behind the header
+pub early-refused : (key bytes : List ℕ) (body : ℕ) (fault : OpenFault) → length bytes ≡ 24 + body
+    → length bytes ≤ container_length 1099511627776 → header_fault key bytes ≡ None → RefusesCut body fault
+    → early_fault key 1099511627776 bytes ≡ Some fault
+early-refused key bytes body TooLong long within good refused = absurd (omega arith)
+early-refused key bytes body ShortHeader long within good refused = absurd refused
+early-refused key bytes body BadMagic long within good refused = absurd refused
+early-refused key bytes body BadVersion long within good refused = absurd refused
+early-refused key bytes body BadExponent long within good refused = absurd refused
+early-refused key bytes body KeyMismatch long within good refused = absurd refused
+early-refused key bytes body BadLength long within good refused =
+    early-bad_length key 1099511627776 bytes within good (λ n few e. refused.1 n (omega arith))
+early-refused key bytes body (Forged chunk) long within good refused = absurd refused
+early-refused key bytes body OutOfMemory long within good refused = absurd refused
+early-refused key bytes body Read long within good refused = absurd refused
+early-refused key bytes body Write long within good refused = absurd refused

@@ -1,0 +1,6 @@
+pub mod ValueLemmas
+pub mod AnswerLemmas
+pub mod DealLemmas
+pub mod EarlyLemmas
+pub mod RoomLemmas
+pub mod ShelfLemmas

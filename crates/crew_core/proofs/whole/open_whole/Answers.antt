@@ -1,0 +1,23 @@
+use Rattle.std.proofs.Common.{inl, inr, Err, ap, sym, ◌∙◌}
+use Rattle.std.proofs.lemmas.Result.{IfOk-weaker, IfErr-weaker}
+use Rattle.crew_core.specs.Answer.{whole_of}
+use Rattle.crew_core.proofs.AnswerLemmas.{named, opening-whole_of, opening-early}
+use Rattle.crew_core.proofs.whole.open_whole.Goals as goal
+
+pub returns-in-Err-clause-fault : goal.returns-in-Err-clause-fault
+returns-in-Err-clause-fault g c = inr (opening-early c.args.key.now c.args.container.now 1099511627776 c.in-Err.fault c.in-Err.ensures.fault)
+
+pub returns-clause-plaintext : goal.returns-clause-plaintext
+returns-clause-plaintext g c =
+    let whole = opening-whole_of c.args.key.now c.args.container.now 1099511627776 c.in-Ok.ensures.faultless ∙ ap (λ w. named (whole_of w)) (sym c.in-Ok.ensures.work) in
+    IfOk-weaker c.work_whole.result _ _ (λ out e. whole ∙ ap named e) c.work_whole.ensures.whole
+
+pub returns-clause-fault : goal.returns-clause-fault
+returns-clause-fault g c =
+    let whole = opening-whole_of c.args.key.now c.args.container.now 1099511627776 c.in-Ok.ensures.faultless ∙ ap (λ w. named (whole_of w)) (sym c.in-Ok.ensures.work) in
+    IfErr-weaker c.work_whole.result _ _
+    (λ fault cause. elim cause [
+      | inl memory ↦ inl memory
+      | inr (chunk, is, e) ↦ inr (whole ∙ ap named e ∙ ap (λ f. Err f) (sym is))
+    ])
+    c.work_whole.ensures.fault

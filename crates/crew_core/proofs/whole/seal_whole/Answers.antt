@@ -1,0 +1,11 @@
+use Rattle.std.proofs.Common.{ap, ◌∙◌}
+use Rattle.crew_core.specs.Answer.{whole_of}
+use Rattle.crew_core.proofs.AnswerLemmas.{whole_of_sealing}
+use Rattle.crew_core.proofs.whole.seal_whole.Goals as goal
+
+pub returns-in-Ok-clause-container : goal.returns-in-Ok-clause-container
+returns-in-Ok-clause-container g c =
+    let ok = ap whole_of c.sealing-work.ensures ∙ whole_of_sealing c.args.key.now c.prefix.result c.args.plain.now in
+    let end = c.in-Ok.ensures.whole in
+    let named = c.prefix.ensures in
+    cc (ok, end, named)

@@ -1,0 +1,8 @@
+pub mod Pieces
+pub mod Values
+pub mod Answer
+pub mod Faults
+pub mod Spending
+pub mod Parts
+pub mod Rooms
+pub mod Deal

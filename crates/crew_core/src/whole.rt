@@ -1,0 +1,63 @@
+//! A whole container sealed or opened by several workers.
+ghost use Rattle.std.specs.Prelude.{◌≡◌, ◌<◌, ◌≤◌, ◌⊎◌, length, Ok, Err, IfOk, IfErr, OnOk, OnErr};
+ghost use Rattle.container_core.specs.Container.{container};
+ghost use Rattle.container_core.specs.Opening.{opening};
+ghost use Rattle.crew_core.specs.Spending.{spent_as};
+ghost use Rattle.journal_core.specs.declared.entry.Way.TheVariants.{Sealed, Void};
+ghost use Rattle.ledger_core.specs.Range.{prefix_of};
+
+use crate::crew::work_whole;
+use crate::gate::Gate;
+use crate::work::Work;
+use container_core::{Key, OpenFault};
+use ledger_core::{Grant, Spent};
+use std::alloc::{AllocError, Global};
+use std::thread::Threads;
+
+/// Seals a plaintext of at most 2^40 bytes under the prefix of a grant, by 1 to 16 workers, of which the caller's thread is
+/// the first. The answer is the container, whatever the number of workers and the gate; or that memory was refused, to the
+/// caller or to a worker. The grant comes back spent: sealed with the container, void without one.
+pub fn seal_whole<R: Threads + Sync, G: Gate + Sync>(
+    rt: &R,
+    alloc: Global,
+    key: &Key,
+    grant: Grant,
+    plain: &[u8],
+    workers: u32,
+    gate: &G,
+) -> (Result<Vec<u8>, AllocError>, Spent)
+    requires plain { length plain.now ≤ 1099511627776 }
+    requires workers { (0 < workers) × (workers ≤ 16) }
+    ensures container { IfOk result.0 (λ out. out.items ≡ container key.now (prefix_of grant.device grant.number) plain.now) }
+    ensures sealed { OnOk result.0 (result.1 ≡ spent_as grant Sealed) }
+    ensures void { OnErr result.0 (result.1 ≡ spent_as grant Void) }
+{
+    let work = Work::sealing(key, grant.prefix(), plain);
+    match work_whole(rt, alloc, &work, workers, gate) {
+        Ok(bytes) => (Ok(bytes), grant.used()),
+        Err(_) => (Err(AllocError), grant.waste()),
+    }
+}
+
+/// Opens a container under a key by 1 to 16 workers, of which the caller's thread is the first. The answer is that of
+/// `container_core::open`, whatever the number of workers and the gate: the plaintext, or the first fault of those from
+/// `TooLong` to `Forged` of the least chunk that doesn't check; or `OutOfMemory` where memory was refused, to the caller or to
+/// a worker.
+pub fn open_whole<R: Threads + Sync, G: Gate + Sync>(
+    rt: &R,
+    alloc: Global,
+    key: &Key,
+    container: &[u8],
+    workers: u32,
+    gate: &G,
+) -> Result<Vec<u8>, OpenFault>
+    requires { (0 < workers) × (workers ≤ 16) }
+    ensures plaintext { IfOk result (λ out. opening key.now 1099511627776 container.now ≡ Ok out.items) }
+    ensures fault { IfErr result (λ fault. (fault ≡ OpenFault.OutOfMemory) ⊎ (opening key.now 1099511627776 container.now ≡ Err fault)) }
+{
+    let work = match Work::opening(key, container) {
+        Ok(work) => work,
+        Err(fault) => return Err(fault),
+    };
+    work_whole(rt, alloc, &work, workers, gate)
+}
