@@ -12,7 +12,7 @@ use Rattle.container_core.specs.Container.{header_of, container}
 use Rattle.container_core.specs.Opening.{joined, early_fault, unsealed, unless, opening}
 use Rattle.crew_core.specs.Pieces.{PieceView, WorkView, ShelfView, piece_of, empty_shelf, Fits, place_of, with_piece}
 use Rattle.crew_core.specs.Values.{numbered, values_of, sealing_of, opening_of}
-use Rattle.crew_core.specs.Answer.{answer, after_piece, after_front, value_in, IsFull, IsOf, shelf_whole, whole_of}
+use Rattle.crew_core.specs.Answer.{named, answer, after_piece, after_front, value_in, IsFull, IsOf, shelf_whole, whole_of}
 use Rattle.crew_core.specs.Rooms.{bytes_in}
 use Rattle.crew_core.specs.Deal.{IsMade}
 
@@ -148,11 +148,6 @@ answer-unsealed key header i (part ∷ rest) =
     let later = answer (numbered (opened_chunk key header) (i + 1) rest) in
     ap (λ r. joined (opens.Forged i) (opened_chunk key header i (is_nil rest) part) r) (answer-unsealed key header (i + 1) rest)
     ∙ joined-first i (opened_chunk key header i (is_nil rest) part) later (numbered (opened_chunk key header) (i + 1) rest) refl
-
--- the answer of one thread to an opening, as opening names it
-abbrev pub named : Result (List ℕ) ℕ → Result (List ℕ) OpenFault
-named (Ok plain) = Ok plain
-named (Err n) = Err (opens.Forged n)
 
 named-front : (r : Result (List ℕ) ℕ) → forged_from 0 r ≡ named (after_front [] r)
 named-front (Ok plain) = refl

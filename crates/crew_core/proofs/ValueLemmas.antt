@@ -92,3 +92,15 @@ pieces_bounds Opening count body (n, short, long, is) = (omega arith, omega arit
 pub body_small : (kind : Kind) (count : ℕ) (body : List ℕ) → IsCut kind count body → length body ≤ 1099780063232
 body_small Sealing count body (short, is) = omega arith
 body_small Opening count body (n, short, long, is) = omega arith
+
+-- as many values as parts, and each is of its part
+pub length-values : (kind : Kind) (key header body : List ℕ) → length (values_of kind key header body) ≡ length (parts_of kind body)
+unfolding values_of
+length-values kind key header body = length-numbered (value_at kind key header) 0 (parts_of kind body)
+
+pub get_or-values : (kind : Kind) (key header body : List ℕ) (n : ℕ) → n < length (parts_of kind body)
+    → get_or (values_of kind key header body) n None ≡ value_at kind key header n (eqb (n + 1) (length (parts_of kind body))) (get_or (parts_of kind body) n [])
+unfolding values_of
+get_or-values kind key header body n at =
+    get_or-numbered (value_at kind key header) 0 (parts_of kind body) n None [] at
+    ∙ ap (λ m. value_at kind key header m (eqb (n + 1) (length (parts_of kind body))) (get_or (parts_of kind body) n [])) (zero-add n)

@@ -1,5 +1,7 @@
 -- What one thread answers to a whole work: the pieces joined in the order of their numbers, or the least that doesn't check.
 use Rattle.std.specs.Prelude.{◌≡◌, ◌≢◌, ℕ, suc, ◌<◌, List, [], ◌∷◌, ◌++◌, length, Option, Some, None, map, slice_index_or, Result, Ok, Err}
+use Rattle.container_core.specs.declared.fault.OpenFault.{OpenFault}
+use Rattle.container_core.specs.declared.fault.OpenFault.TheVariants.{Forged}
 use Rattle.crew_core.specs.declared.work.Kind.{Kind}
 use Rattle.crew_core.specs.declared.work.Kind.TheVariants.{Sealing, Opening}
 use Rattle.crew_core.specs.Pieces.{PieceView, WorkView, ShelfView, piece_of}
@@ -53,3 +55,8 @@ pub record IsOf (w : WorkView) (s : ShelfView) : Type 0 where
   pub header : s.header ≡ w.header
   pub count : length s.places ≡ length w.values
   pub each : (n : ℕ) → slice_index_or s.places n None ≢ None → slice_index_or s.places n None ≡ Some (piece_of w n)
+
+-- the same, as opening names a chunk that doesn't check
+abbrev pub named : Result (List ℕ) ℕ → Result (List ℕ) OpenFault
+named (Ok plain) = Ok plain
+named (Err n) = Err (Forged n)

@@ -38,10 +38,10 @@ fn deal<G: Gate>(
     requires { (worker < workers) × (workers ≤ 16) }
     ensures { IfOk result (λ v. IsDeal work.now worker workers v.items) }
 {
-    let count = u64::from(work.count());
+    let end = u64::from(work.count());
     let mut pieces = Vec::new(alloc);
     let mut number = u64::from(worker);
-    while number < count {
+    while number < end {
         gate.pass(worker, number as u32);
         pieces.push(work.piece(alloc, number as u32)?)?;
         number += u64::from(workers);

@@ -9,6 +9,7 @@
 pub mod crew;
 pub mod fault;
 pub mod gate;
+pub mod laws;
 pub mod piece;
 mod room;
 pub mod shelf;

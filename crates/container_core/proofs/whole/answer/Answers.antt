@@ -1,4 +1,4 @@
-use Rattle.std.proofs.Common.{◌≡◌, ℕ, ◌+◌, ◌<◌, ◌≤◌, inl, inr, List, length, drop, Option, Some, Result, Err, refl, ap, sym, ◌∙◌, arith, subst}
+use Rattle.std.proofs.Common.{◌≡◌, ℕ, ◌+◌, ◌<◌, ◌≤◌, inl, inr, List, length, drop, Option, Result, Err, refl, ap, sym, ◌∙◌, arith, subst}
 use Rattle.std.proofs.lemmas.Result.{IfOk-weaker, IfErr-weaker}
 use Rattle.std.specs.Prelude.{IfSome}
 use Rattle.container_core.specs.declared.fault.OpenFault.{OpenFault}
@@ -6,7 +6,7 @@ use Rattle.container_core.specs.declared.fault.OpenFault.TheVariants.{OutOfMemor
 use Rattle.container_core.specs.Chunks.{sealed_chunks, container_length}
 use Rattle.container_core.specs.Cutting.{RefusesCut}
 use Rattle.container_core.specs.Faults.{IsOfBytes}
-use Rattle.container_core.specs.Opening.{header_fault, opening, unsealed}
+use Rattle.container_core.specs.Opening.{opening, unsealed}
 use Rattle.container_core.proofs.PartsLemmas.{has_plaintext-of}
 use Rattle.container_core.proofs.FaultLemmas.{opening-too_long, opening-header_fault, opening-body, opening-refused}
 use Rattle.container_core.proofs.LawLemmas.{header_fault-of_bytes}

@@ -2,7 +2,6 @@ use Rattle.std.proofs.Common.{ℕ, ◌≤◌, ◌⊎◌, inl, inr, Bool, List, l
 use Rattle.std.proofs.lemmas.Result.{IfOk-weaker, IfErr-weaker, IfErr-at_err}
 use Rattle.container_core.specs.declared.fault.OpenFault.TheVariants.{Read, Write}
 use Rattle.container_core.specs.Chunks.{container_length}
-use Rattle.container_core.specs.Opening.{opening}
 use Rattle.container_core.proofs.LawLemmas.{opening-limits, opening-of_bytes}
 use Rattle.ledger_core.specs.Streams.{Consumes, counted}
 use Rattle.sealer_core.proofs.EngineLemmas.{opening-input, opening-longer, memory_is_outside, no_failed_read}
