@@ -1,5 +1,5 @@
 //! The audit of a journal: from its bytes to the verdict.
-ghost use Rattle.std.specs.Prelude.{◌≡◌, ◌≢◌, ℕ, ◌<◌, List, [], ◌∷◌, ◌++◌, length, IfOk, IfErr, IfSome, IsErrOf, OnOk, Some};
+ghost use Rattle.std.specs.Prelude.{◌≡◌, ◌≢◌, ◌<◌, List, [], ◌∷◌, ◌++◌, length, IfOk, IfErr, IfSome, IsErrOf, OnOk, Some};
 ghost use Rattle.journal_core.specs.declared.entry.Entry.{Entry};
 ghost use Rattle.journal_core.specs.AuditFaults.{fault_number, is_read, is_write};
 ghost use Rattle.journal_core.specs.History.{Terms, IsLawful, Legal, tally_of};

@@ -2,7 +2,7 @@
 //!
 //! It keeps the state of the lines so far, and of the line under way at most 35 bytes: the longest line of a journal has 34, so a
 //! longer beginning is malformed whatever follows.
-ghost use Rattle.std.specs.Prelude.{◌≡◌, ℕ, ◌+◌, ◌≤◌, ◌<◌, List, [], ◌∷◌, ◌++◌, length, take, drop, IfOk, IfSome, MatchOption};
+ghost use Rattle.std.specs.Prelude.{◌≡◌, ℕ, ◌+◌, ◌≤◌, ◌<◌, List, [], ◌∷◌, ◌++◌, length, take, drop, IfOk, MatchOption};
 ghost use Rattle.journal_core.specs.Verdict.{IsLine, IsVerdict};
 
 use crate::state::State;

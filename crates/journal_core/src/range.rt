@@ -1,5 +1,5 @@
 //! Ranges: the file numbers that one run of one device may issue.
-ghost use Rattle.std.specs.Prelude.{◌≡◌, ◌+◌, ◌<◌, ◌≤◌, OkIff};
+ghost use Rattle.std.specs.Prelude.{◌≡◌, ◌+◌, ◌<◌, OkIff};
 ghost use Rattle.journal_core.specs.Range.{IsLawfulRange, range_of};
 
 use crate::device::Device;

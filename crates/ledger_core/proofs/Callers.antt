@@ -5,8 +5,9 @@ use native.Mathlib.Decide.{ℕ_discrete}
 use Rattle.std.specs.Prelude.{Some, slice_get}
 use Rattle.std.proofs.lemmas.List.{length-set}
 use Rattle.std.proofs.lemmas.Option.{slice_get_within, slice_get-get_or}
-use Rattle.ledger_core.specs.Shared.{LedgerId, LedgerView, SeatView, fresh_seat, fresh_seats, IsSameSeat}
-use Rattle.ledger_core.specs.Closing.{AreAllSeats}
+use Rattle.ledger_core.specs.Shared.{LedgerId, LedgerView, SeatView, fresh_seat, fresh_seats, IsSameSeat, Sees}
+use Rattle.ledger_core.specs.Closing.{AreAllSeats, HaveMet}
+use Rattle.journal_core.specs.declared.entry.Entry.{Entry}
 use Rattle.journal_core.specs.History.{Terms}
 use Rattle.ledger_core.proofs.Meetings.{get-set_here, get-set_else, some_at, same_at}
 
@@ -63,5 +64,23 @@ all_after_each ledger old new all count same = record {
       let its : get_or old i x ≡ v.0 = same_at old i (get_or old i x) v.0 (slice_get-get_or old i x inside) v.1 in
       let now : get_or new i x ≡ x = same_at new i (get_or new i x) x (slice_get-get_or new i x within) there in
       let s : IsSameSeat v.0 x = subst (λ (z : SeatView × SeatView). IsSameSeat z.0 z.1) (λ j. (its j, now j)) (same i x inside) in
+      (s.ledger ∙ was.0, s.terms ∙ was.1, s.number ∙ was.2);
+}
+
+-- a look leaves the seat the same
+pub same_of : (v w : SeatView) → Sees v w → IsSameSeat v w
+same_of v w s = record { ledger = ap (λ (z : SeatView). z.ledger) s.1; terms = ap (λ (z : SeatView). z.terms) s.1; number = ap (λ (z : SeatView). z.number) s.1 }
+
+-- a meeting of all of them
+pub all_met : (ledger : LedgerView) (old new : List SeatView) (history : List Entry) → AreAllSeats ledger old → HaveMet old new history → AreAllSeats ledger new
+all_met ledger old new history all met = record {
+  count = met.count ∙ all.count;
+  each = λ i x there.
+      let inside = slice_get_within new i x there in
+      let count = met.count in
+      let v = some_at old i (omega arith) in
+      let was = all.each i v.0 v.1 in
+      let now = met.after i v.0 v.1 in
+      let s = same_of v.0 x (subst (λ (z : SeatView). Sees v.0 z) (same_at new i now.0 x now.1 there) now.2) in
       (s.ledger ∙ was.0, s.terms ∙ was.1, s.number ∙ was.2);
 }

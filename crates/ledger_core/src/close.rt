@@ -3,7 +3,7 @@
 //! A note goes twice round the seats in the order of their numbers. What the note shows after the first round has all that
 //! any seat had done, and each seat has seen it in the second, so it has of each seat no more than that seat's own operations.
 //! Each record of a seat's log then goes to its place.
-ghost use Rattle.std.specs.Prelude.{◌≡◌, ℕ, List, ◌<◌, ◌≤◌, ◌^◌, [], IfOk, length, slice_get, Some};
+ghost use Rattle.std.specs.Prelude.{◌≡◌, ℕ, List, ◌<◌, ◌≤◌, [], IfOk, length, slice_get, Some};
 ghost use Rattle.ledger_core.specs.Shared.{SeatView};
 ghost use Rattle.ledger_core.specs.Closing.{AreAllSeats, ArePassed, ArePlaced, HaveMet, IsPassed, IsWhole, operations_in, written};
 

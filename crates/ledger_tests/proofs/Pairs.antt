@@ -1,12 +1,9 @@
 -- Two seats of a ledger that met are seats of it still.
-use Rattle.std.proofs.Common.{◌≡◌, ℕ, ◌+◌, ◌-◌, ◌<◌, ◌≤◌, List, [], ◌∷◌, ◌++◌, length, get_or, set, refl, sym, ap, ◌∙◌, subst, arith, length-append}
-use Rattle.std.proofs.lemmas.List.{length-set, set-append_left, set-append_right, get_or_append_left, get_or-append_right}
-use Rattle.ledger_core.specs.Shared.{LedgerView, SeatView, IsSameSeat, Sees}
+use Rattle.std.proofs.Common.{◌≡◌, ℕ, ◌-◌, ◌<◌, List, ◌++◌, length, get_or, set, refl, sym, ap, ◌∙◌, subst, arith, length-append}
+use Rattle.std.proofs.lemmas.List.{set-append_left, set-append_right, get_or_append_left, get_or-append_right}
+use Rattle.ledger_core.specs.Shared.{LedgerView, SeatView, Sees}
 use Rattle.ledger_core.specs.Closing.{AreAllSeats}
-use Rattle.ledger_core.proofs.Callers.{all_after}
-
-same_of : (v w : SeatView) → Sees v w → IsSameSeat v w
-same_of v w s = record { ledger = ap (λ (z : SeatView). z.ledger) s.1; terms = ap (λ (z : SeatView). z.terms) s.1; number = ap (λ (z : SeatView). z.number) s.1 }
+use Rattle.ledger_core.proofs.Callers.{all_after, same_of}
 
 pub all_after_two : (ledger : LedgerView) (seats front back : List SeatView) (i : ℕ) (a b x y : SeatView) → AreAllSeats ledger seats → seats ≡ front ++ back → i < length front → 0 < length back
     → a ≡ get_or front i a → b ≡ get_or back 0 b → Sees (get_or front i a) x → Sees (get_or back 0 b) y → AreAllSeats ledger (set front i x ++ set back 0 y)

@@ -71,14 +71,19 @@ impl Run {
         meet_two(&self.ledger, self.seats.as_mut_slice(), first, second);
     }
 
-    /// How many numbers are settled.
-    pub fn settled(&mut self) -> u32
-        requires { 0 < self.old.terms.seats }
+    /// All seats meet.
+    pub fn meet_all(&mut self)
         ensures { self.new ≡ self.old }
     {
-        let seat = &mut self.seats[0];
-        let tally = self.ledger.tally(seat);
-        tally.sealed.wrapping_add(tally.void)
+        meet_everyone(&self.ledger, self.seats.as_mut_slice());
+    }
+
+    /// The seat of this number.
+    pub fn seat(&self, seat: usize) -> &Seat
+        requires { seat < self.now.terms.seats }
+        ensures { result.now.number ≡ seat }
+    {
+        &self.seats[seat]
     }
 
     /// The seats, in so many threads, issue until the range is at its end and settle every number: the even ones as used, the odd
@@ -115,6 +120,14 @@ fn meet_two(ledger: &Ledger, seats: &mut [Seat], first: usize, second: usize)
 {
     let (front, back) = seats.split_at_mut(second);
     ledger.meet(&mut front[first], &mut back[0]);
+}
+
+// All of a ledger's seats meet.
+fn meet_everyone(ledger: &Ledger, seats: &mut [Seat])
+    requires { AreAllSeats ledger.now seats.old }
+    ensures { AreAllSeats ledger.now seats.new }
+{
+    ledger.meet_all(seats);
 }
 
 // Issues until no number is left, and settles each.

@@ -4,7 +4,7 @@ ghost use Rattle.ledger_core.specs.Journal.{terms_of};
 use crate::run::Run;
 use ledger_core::{
     Device, FromMemory, Grant, IssueFault, Journal, OpenLedgerFault, Range, Schedule, SettleFault,
-    Spent, Tally, ToMemory, audit,
+    Spent, Tally, ToMemory, Way, audit, laws,
 };
 use std::alloc::{AllocError, Global};
 use std::test::*;
@@ -24,23 +24,40 @@ fn open(alloc: Global, range: Range, seats: u32) -> Result<Run, OpenLedgerFault>
     }
 }
 
-fn issue(run: &mut Run, seat: usize) -> Result<Grant, IssueFault>
+// A call that is refused memory must leave the counts as they were.
+
+fn issue(run: &mut Run, seat: usize) -> Result<Result<Grant, IssueFault>, Fail>
     requires { seat < run.old.terms.seats }
     ensures { run.new ≡ run.old }
 {
-    match run.issue(seat) {
-        Err(IssueFault::OutOfMemory) => run.issue(seat),
-        other => other,
+    let before = run.tally(seat);
+    let mut answer = run.issue(seat);
+    if matches!(&answer, Err(IssueFault::OutOfMemory)) {
+        if run.tally(seat) != before {
+            return Err("a refused issue changed the counts".into());
+        }
+        answer = run.issue(seat);
     }
+    Ok(answer)
 }
 
-fn settle(run: &mut Run, seat: usize, spent: Spent) -> Result<(), (SettleFault, Spent)>
+fn settle(
+    run: &mut Run,
+    seat: usize,
+    spent: Spent,
+) -> Result<Result<(), (SettleFault, Spent)>, Fail>
     requires { seat < run.old.terms.seats }
     ensures { run.new ≡ run.old }
 {
+    let before = run.tally(seat);
     match run.settle(seat, spent) {
-        Err((SettleFault::OutOfMemory, spent)) => run.settle(seat, spent),
-        other => other,
+        Err((SettleFault::OutOfMemory, spent)) => {
+            if run.tally(seat) != before {
+                return Err("a refused settlement changed the counts".into());
+            }
+            Ok(run.settle(seat, spent))
+        }
+        other => Ok(other),
     }
 }
 
@@ -74,13 +91,13 @@ fn audited(alloc: Global, text: &str) -> Option<Vec<u8>> {
 }
 
 // What was settled is settled once more, which must be refused and handed back.
-fn refused(run: &mut Run, seat: usize, spent: Spent) -> Option<Spent>
+fn refused(run: &mut Run, seat: usize, spent: Spent) -> Result<Spent, Fail>
     requires { seat < run.old.terms.seats }
     ensures { run.new ≡ run.old }
 {
-    match settle(run, seat, spent) {
-        Err((SettleFault::NotOpen, spent)) => Some(spent),
-        _ => None,
+    match settle(run, seat, spent)? {
+        Err((SettleFault::NotOpen, spent)) => Ok(spent),
+        _ => Err("a number that is not open was settled".into()),
     }
 }
 
@@ -88,13 +105,13 @@ fn refused(run: &mut Run, seat: usize, spent: Spent) -> Option<Spent>
 #[test]
 fn two_seats_share_a_range(rt: HostRuntime) -> Result<(), Fail> {
     let mut run = open(rt.alloc(), range_of(7, 2)?, 2)?;
-    let seven = issue(&mut run, 0)?;
-    let eight = issue(&mut run, 1)?;
+    let seven = issue(&mut run, 0)??;
+    let eight = issue(&mut run, 1)??;
     assert_eq!(rt; (seven.number(), eight.number()), (7, 8));
     assert_eq!(rt; seven.prefix(), [0, 0, 1, 0, 0, 0, 7]);
-    assert_eq!(rt; issue(&mut run, 0).err(), Some(IssueFault::Exhausted));
-    assert_eq!(rt; issue(&mut run, 0).err(), Some(IssueFault::SeatClosed));
-    assert!(rt; settle(&mut run, 1, eight.used()).is_ok());
+    assert_eq!(rt; issue(&mut run, 0)?.err(), Some(IssueFault::Exhausted));
+    assert_eq!(rt; issue(&mut run, 0)?.err(), Some(IssueFault::SeatClosed));
+    assert!(rt; settle(&mut run, 1, eight.used())?.is_ok());
     let three = Tally {
         granted: 2,
         refused: 1,
@@ -102,9 +119,9 @@ fn two_seats_share_a_range(rt: HostRuntime) -> Result<(), Fail> {
         void: 0,
     };
     assert_eq!(rt; run.tally(1), three);
-    let seven = refused(&mut run, 1, seven.waste()).ok_or("a stranger's number was settled")?;
+    let seven = refused(&mut run, 1, seven.waste())?;
     assert_eq!(rt; (seven.number(), run.tally(1)), (7, three));
-    assert!(rt; settle(&mut run, 0, seven).is_ok());
+    assert!(rt; settle(&mut run, 0, seven)?.is_ok());
     assert_eq!(rt;
         run.tally(1),
         Tally {
@@ -223,7 +240,7 @@ fn a_number_is_settled_once(rt: HostRuntime) -> Result<(), Fail> {
     let mut other = Run::open(rt.alloc(), range_of(0, 3)?, 1)?;
     let zero = other.issue(0)?;
     let one = other.issue(0)?;
-    assert!(rt; refused(&mut run, 0, one.used()).is_some());
+    drop(refused(&mut run, 0, one.used())?);
     assert!(rt; run.settle(0, zero.used()).is_ok());
     let Ok(journal) = run.close() else {
         return Err("memory was refused".into());
@@ -232,6 +249,78 @@ fn a_number_is_settled_once(rt: HostRuntime) -> Result<(), Fail> {
     assert_eq!(rt;
         text.as_str(),
         "range 1 0 3 1\n0 issue 0\n0 issue 1\n0 void 1\n0 sealed 0\n"
+    );
+    Ok(())
+}
+
+// Meetings between any two operations leave the lines as they are, and what two seats count after one is the same.
+#[test]
+fn meetings_change_no_history(rt: HostRuntime) -> Result<(), Fail> {
+    let mut run = Run::open(rt.alloc(), range_of(7, 2)?, 2)?;
+    run.meet(0, 1);
+    let seven = run.issue(0)?;
+    run.meet(0, 1);
+    let eight = run.issue(1)?;
+    run.meet_all();
+    assert_eq!(rt; run.issue(0).err(), Some(IssueFault::Exhausted));
+    run.meet(0, 1);
+    assert!(rt; run.settle(1, eight.used()).is_ok());
+    run.meet(0, 1);
+    let all = Tally {
+        granted: 2,
+        refused: 1,
+        sealed: 1,
+        void: 0,
+    };
+    assert_eq!(rt; (run.tally(0), run.tally(1)), (all, all));
+    assert!(rt; run.settle(0, seven.waste()).is_ok());
+    run.meet_all();
+    let Ok(journal) = run.close() else {
+        return Err("memory was refused".into());
+    };
+    let text = journal.text(rt.alloc())?;
+    assert_eq!(rt;
+        text.as_str(),
+        "range 1 7 2 2\n0 issue 7\n1 issue 8\n0 issue none\n1 sealed 8\n0 void 7\n"
+    );
+    Ok(())
+}
+
+// What a seat, a grant and a spent number tell; and the laws, which are called like any function.
+#[test]
+fn seats_and_grants_tell_what_they_are(rt: HostRuntime) -> Result<(), Fail> {
+    let mut run = Run::open(rt.alloc(), range_of(7, 2)?, 2)?;
+    assert_eq!(rt; (run.seat(0).number(), run.seat(1).number()), (0, 1));
+    let seven = run.issue(0)?;
+    assert_eq!(rt; (seven.number(), seven.device().number()), (7, 1));
+    let eight = run.issue(1)?;
+    assert!(rt; !run.seat(0).closed());
+    assert!(rt; run.issue(0).is_err());
+    assert!(rt; run.seat(0).closed());
+    assert!(rt; !run.seat(1).closed());
+    let sealed = seven.used();
+    let void = eight.waste();
+    assert_eq!(rt; (sealed.number(), sealed.device().number()), (7, 1));
+    assert!(rt; sealed.way() == Way::Sealed && void.way() == Way::Void);
+    assert!(rt; run.seat(0).holds(&sealed) && !run.seat(1).holds(&sealed));
+    assert!(rt; run.seat(1).holds(&void) && !run.seat(0).holds(&void));
+    let device = Device::new(2).ok_or("device")?;
+    let mut other = Run::open(rt.alloc(), Range::new(device, 7, 2)?, 1)?;
+    let stranger = other.issue(0)?.used();
+    assert_eq!(rt; stranger.number(), 7);
+    assert!(rt; !run.seat(0).holds(&stranger));
+    drop(refused(&mut run, 0, stranger)?);
+    assert!(rt; run.settle(0, sealed).is_ok());
+    laws::grants_seen(run.seat(0));
+    laws::seats_agree();
+    laws::counts_stay_small();
+    let Ok(journal) = run.close() else {
+        return Err("memory was refused".into());
+    };
+    laws::grants_of_journal(&journal);
+    assert_eq!(rt;
+        journal.text(rt.alloc())?.as_str(),
+        "range 1 7 2 2\n0 issue 7\n1 issue 8\n0 issue none\n0 sealed 7\n"
     );
     Ok(())
 }
@@ -261,13 +350,17 @@ fn faults_have_their_numbers_and_texts(rt: HostRuntime) -> Result<(), Fail> {
         ),
         (25, 23)
     );
-    assert_eq!(rt;
-        format!(in alloc; "{}", SettleFault::OutOfMemory)?.as_str(),
-        "out of memory"
-    );
-    assert_eq!(rt;
-        format!(in alloc; "{}", OpenLedgerFault::OutOfMemory)?.as_str(),
-        "out of memory"
-    );
+    for (fault, text) in [
+        (SettleFault::NotOpen, "number not open"),
+        (SettleFault::OutOfMemory, "out of memory"),
+    ] {
+        assert_eq!(rt; format!(in alloc; "{fault}")?.as_str(), text);
+    }
+    for (fault, text) in [
+        (OpenLedgerFault::BadSeats, "bad seats"),
+        (OpenLedgerFault::OutOfMemory, "out of memory"),
+    ] {
+        assert_eq!(rt; format!(in alloc; "{fault}")?.as_str(), text);
+    }
     Ok(())
 }

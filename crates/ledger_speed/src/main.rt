@@ -1,0 +1,174 @@
+//! Measures the shared ledger: operations a second of 1, 2 and 4 threads that issue and settle, beside the same three counts under a
+//! `Mutex`.
+//!
+//! Without an argument each spends a short range once and prints its counts. With the argument `measure` it prints the speed of the
+//! best round over the greatest range. A round's time has the start and the end of its threads in it.
+#![tactic(auto)]
+
+use anyhow::Result;
+use ledger_core::{BadRange, Device, Range, Tally};
+use ledger_tests::Run;
+use std::alloc::Global;
+use std::env;
+use std::io::{self, Print};
+use std::sync::{Mutex, Wait};
+use std::thread::{Threads, for_each_mut};
+use std::time::{Clock, Instant};
+
+/// How many numbers are spent where nothing is measured.
+const SHORT: u32 = 1_000;
+
+/// How many rounds are measured of each.
+const ROUNDS: u32 = 40;
+
+/// The three counts of the ledger's word, as a lock's value.
+#[derive(Drop)]
+struct Counts {
+    issues: u32,
+    sealed: u32,
+    void: u32,
+}
+
+impl Counts {
+    // The next number below `size`, or none.
+    fn issue(&mut self, size: u32) -> Option<u32> {
+        let number = self.issues;
+        self.issues = number.saturating_add(1);
+        if number < size { Some(number) } else { None }
+    }
+
+    fn settle(&mut self, number: u32) {
+        if number % 2 == 0 {
+            self.sealed = self.sealed.saturating_add(1);
+        } else {
+            self.void = self.void.saturating_add(1);
+        }
+    }
+}
+
+// What a round took, and what it counted.
+#[derive(Clone, Copy)]
+struct Round {
+    nanos: u64,
+    tally: Tally,
+}
+
+fn nanos_since(clock: &impl Clock, start: Instant) -> io::Result<u64> {
+    let nanos = start.elapsed(clock)?.as_nanos();
+    Ok(u64::try_from(nanos).unwrap_or(u64::MAX))
+}
+
+// The threads spend the range of a ledger.
+fn ledger_round<R: Clock + Threads + Sync>(
+    rt: &R,
+    alloc: Global,
+    size: u32,
+    threads: u32,
+) -> Result<Round> {
+    let threads = threads.max(1);
+    let device = Device::new(1).ok_or(BadRange)?;
+    let range = Range::new(device, 0, size)?;
+    let mut run = Run::open(alloc, range, threads)?;
+    let start = Instant::now(rt)?;
+    run.spend(rt, threads);
+    let nanos = nanos_since(rt, start)?;
+    let tally = run.tally(0);
+    Ok(Round { nanos, tally })
+}
+
+// Issues until no number is left, and settles each.
+fn spend_counts<R: Wait>(rt: &R, counts: &Mutex<Counts>, size: u32) {
+    for _ in 0..=65_535 {
+        let Some(number) = counts.lock(rt).issue(size) else {
+            return;
+        };
+        counts.lock(rt).settle(number);
+    }
+}
+
+// The threads spend as many numbers of three counts under a lock.
+fn lock_round<R: Clock + Threads + Wait + Sync>(
+    rt: &R,
+    alloc: Global,
+    size: u32,
+    threads: u32,
+) -> Result<Round> {
+    let counts = Mutex::new(Counts {
+        issues: 0,
+        sealed: 0,
+        void: 0,
+    });
+    let mut workers = vec![in alloc; 0u32; threads as usize]?;
+    let start = Instant::now(rt)?;
+    let shared = &counts;
+    let work = |_worker: usize, _seat: &mut u32| spend_counts(rt, shared, size);
+    for_each_mut(rt, workers.as_mut_slice(), (threads as usize).max(1), &work);
+    let nanos = nanos_since(rt, start)?;
+    let counts = counts.into_inner();
+    let granted = counts.issues.min(size);
+    let tally = Tally {
+        granted,
+        refused: counts.issues - granted,
+        sealed: counts.sealed,
+        void: counts.void,
+    };
+    Ok(Round { nanos, tally })
+}
+
+fn show<R: Print>(rt: &R, name: &str, threads: u32, tally: Tally) -> io::Result<()> {
+    let Tally {
+        granted,
+        refused,
+        sealed,
+        void,
+    } = tally;
+    println!(rt;
+        "{name}, {threads} threads: {granted} granted, {refused} refused, {sealed} sealed, {void} void"
+    )
+}
+
+// Thousands of operations a second: an issue and a settlement for each number, and a refusal for each thread.
+fn speed(nanos: u64, threads: u32) -> u64 {
+    let operations = 2 * u64::from(Range::MAX_SIZE) + u64::from(threads);
+    operations.saturating_mul(1_000_000) / nanos.max(1)
+}
+
+fn measure<R: Clock + Print + Threads + Wait + Sync>(
+    rt: &R,
+    alloc: Global,
+    threads: u32,
+) -> Result<()> {
+    let mut ledger = u64::MAX;
+    let mut lock = u64::MAX;
+    for _round in 0..ROUNDS {
+        ledger = ledger.min(ledger_round(rt, alloc, Range::MAX_SIZE, threads)?.nanos);
+        lock = lock.min(lock_round(rt, alloc, Range::MAX_SIZE, threads)?.nanos);
+    }
+    let (ledger, lock) = (speed(ledger, threads), speed(lock, threads));
+    let hundredths = ledger.saturating_mul(100) / lock.max(1);
+    let (whole, part) = (hundredths / 100, hundredths % 100);
+    let (ledger, lock) = (ledger / 1_000, lock / 1_000);
+    println!(rt;
+        "{threads} threads: ledger {ledger}, lock {lock} million operations a second, ratio {whole}.{part:02}"
+    )?;
+    Ok(())
+}
+
+fn main(rt: HostRuntime) -> Result<()> {
+    let alloc = rt.alloc();
+    let mut measuring = false;
+    for word in env::args(&rt)? {
+        measuring = measuring || word.as_str() == "measure";
+    }
+    for threads in [1, 2, 4] {
+        if measuring {
+            measure(&rt, alloc, threads)?;
+        } else {
+            let ledger = ledger_round(&rt, alloc, SHORT, threads)?;
+            show(&rt, "ledger", threads, ledger.tally)?;
+            let lock = lock_round(&rt, alloc, SHORT, threads)?;
+            show(&rt, "lock", threads, lock.tally)?;
+        }
+    }
+    Ok(())
+}
