@@ -1,5 +1,6 @@
--- The numbers of the faults.
-use Rattle.std.specs.Prelude.{ℕ}
+-- The numbers of the faults, and their texts.
+use Rattle.std.specs.Prelude.{ℕ, List, ◌++◌, codes}
+use Rattle.std.specs.Fmt.{decimal}
 use Rattle.container_core.specs.declared.fault.OpenFault.{OpenFault}
 use Rattle.container_core.specs.declared.fault.OpenFault.TheVariants.{TooLong, ShortHeader, BadMagic, BadVersion, BadExponent, KeyMismatch, BadLength, Forged, OutOfMemory, Read, Write}
 use Rattle.container_core.specs.declared.fault.SealFault.{SealFault}
@@ -30,3 +31,23 @@ seal_number sealing.TooLong = 11
 seal_number sealing.OutOfMemory = 12
 seal_number sealing.Read = 13
 seal_number sealing.Write = 14
+
+-- what the program prints of a fault
+abbrev pub open_text : OpenFault → List ℕ
+open_text TooLong = codes "too long"
+open_text ShortHeader = codes "header cut short"
+open_text BadMagic = codes "not a sealed file"
+open_text BadVersion = codes "unknown version"
+open_text BadExponent = codes "unknown chunk size"
+open_text KeyMismatch = codes "sealed under another key"
+open_text BadLength = codes "wrong length"
+open_text (Forged chunk) = codes "chunk " ++ decimal chunk ++ codes " does not check"
+open_text OutOfMemory = codes "out of memory"
+open_text Read = codes "read failed"
+open_text Write = codes "write failed"
+
+abbrev pub seal_text : SealFault → List ℕ
+seal_text sealing.TooLong = codes "too long"
+seal_text sealing.OutOfMemory = codes "out of memory"
+seal_text sealing.Read = codes "read failed"
+seal_text sealing.Write = codes "write failed"

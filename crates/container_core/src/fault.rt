@@ -1,44 +1,35 @@
 //! Why a plaintext wasn't sealed, and why a container wasn't opened. The texts are those that the program prints.
-ghost use Rattle.std.specs.Prelude.{◌≡◌};
+ghost use Rattle.std.specs.Prelude.{◌≡◌, Some};
+ghost use Rattle.container_core.specs.Faults.{open_text, seal_text};
 
-use thiserror::Error;
+use std::error::Error;
+use std::fmt;
 
 /// Why a container wasn't opened. The first eight are tested in this order; `seal`, `open`, `read_header` and `cut` never
 /// answer `Read` or `Write`.
-#[derive(Clone, Copy, PartialEq, Eq, Debug, Error)]
+#[derive(Clone, Copy, PartialEq, Eq, Debug)]
 pub enum OpenFault {
     /// More bytes than the container of the greatest plaintext allowed.
-    #[error("too long")]
     TooLong,
     /// Fewer bytes than a header has.
-    #[error("header cut short")]
     ShortHeader,
     /// Bytes 0 to 7 aren't `STRMSEAL`.
-    #[error("not a sealed file")]
     BadMagic,
     /// Byte 8 isn't 1.
-    #[error("unknown version")]
     BadVersion,
     /// Byte 9 isn't 16.
-    #[error("unknown chunk size")]
     BadExponent,
     /// Bytes 17 to 23 aren't the key's hint.
-    #[error("sealed under another key")]
     KeyMismatch,
     /// What stands behind the header can't be cut into chunks.
-    #[error("wrong length")]
     BadLength,
     /// The least chunk whose tag differs.
-    #[error("chunk {chunk} does not check")]
     Forged { chunk: u32 },
     /// Memory was refused.
-    #[error("out of memory")]
     OutOfMemory,
     /// The reader failed.
-    #[error("read failed")]
     Read,
     /// The writer failed.
-    #[error("write failed")]
     Write,
 }
 
@@ -65,20 +56,38 @@ impl OpenFault {
     }
 }
 
+impl fmt::Display for OpenFault {
+    ghost output = { λ fault. Some (open_text fault) };
+
+    fn fmt<W: fmt::Write>(&self, f: &mut fmt::Formatter<W>) -> fmt::Result {
+        match *self {
+            OpenFault::TooLong => write!(f, "too long"),
+            OpenFault::ShortHeader => write!(f, "header cut short"),
+            OpenFault::BadMagic => write!(f, "not a sealed file"),
+            OpenFault::BadVersion => write!(f, "unknown version"),
+            OpenFault::BadExponent => write!(f, "unknown chunk size"),
+            OpenFault::KeyMismatch => write!(f, "sealed under another key"),
+            OpenFault::BadLength => write!(f, "wrong length"),
+            OpenFault::Forged { chunk } => write!(f, "chunk {chunk} does not check"),
+            OpenFault::OutOfMemory => write!(f, "out of memory"),
+            OpenFault::Read => write!(f, "read failed"),
+            OpenFault::Write => write!(f, "write failed"),
+        }
+    }
+}
+
+impl Error for OpenFault {}
+
 /// Why a plaintext wasn't sealed. `seal` never answers `Read` or `Write`.
-#[derive(Clone, Copy, PartialEq, Eq, Debug, Error)]
+#[derive(Clone, Copy, PartialEq, Eq, Debug)]
 pub enum SealFault {
     /// More bytes than the greatest plaintext allowed.
-    #[error("too long")]
     TooLong,
     /// Memory was refused.
-    #[error("out of memory")]
     OutOfMemory,
     /// The reader failed.
-    #[error("read failed")]
     Read,
     /// The writer failed.
-    #[error("write failed")]
     Write,
 }
 
@@ -97,3 +106,18 @@ impl SealFault {
         }
     }
 }
+
+impl fmt::Display for SealFault {
+    ghost output = { λ fault. Some (seal_text fault) };
+
+    fn fmt<W: fmt::Write>(&self, f: &mut fmt::Formatter<W>) -> fmt::Result {
+        match *self {
+            SealFault::TooLong => write!(f, "too long"),
+            SealFault::OutOfMemory => write!(f, "out of memory"),
+            SealFault::Read => write!(f, "read failed"),
+            SealFault::Write => write!(f, "write failed"),
+        }
+    }
+}
+
+impl Error for SealFault {}

@@ -1,60 +1,127 @@
-//! The program `sealer`: the command line, and the commands of `sealer_core` over standard input and output.
+//! The program `sealer`: the command line, and the commands of `sealer_core` over real files and the standard streams.
 //!
-//! Exit status: 0 all well; 1 the journal isn't legal; 2 a fault of usage, or of reading and writing.
+//! Exit status: 0 all well; 1 some file failed, or the journal isn't legal; 2 a fault of usage, of the key file, or of the
+//! program's own reading and writing.
 #![tactic(auto)]
 
-use clap::{Command, Error};
+mod arguments;
+mod files;
+
+use crate::arguments::{command, max_bytes, workers};
+use crate::files::{SystemFiles, open_file};
+use clap::{ArgMatches, Error};
+use container_core::Key;
 use ledger_core::{FromRead, ToWrite};
-use sealer_core::run_audit;
+use sealer_core::{KeyFault, OpenOptions, Outs, open_all, read_key, run_audit, verify_all};
 use std::alloc::Global;
 use std::io::{Read, Write};
 use std::process::ExitCode;
-use std::rt::Env;
+use std::rt::{Env, Files};
 
-/// The status of a fault of usage, or of the program's own reading and writing.
+/// The status of a fault of usage, of the key file, or of the program's own reading and writing.
 const FAULT: u8 = 2;
 
 fn main(rt: HostRuntime) -> ExitCode {
-    let status = match read_command_line(&rt) {
-        Ok(()) => audit_input(&rt, rt.alloc(), rt.stdin(), rt.stdout()),
-        Err(status) => status,
+    let Some(words) = command_line(&rt) else {
+        return ExitCode::from(FAULT);
+    };
+    let status = match parse(rt.alloc(), words.as_slice()) {
+        Ok(matches) => run(&rt, &matches, rt.stdin(), rt.stdout(), rt.stderr()),
+        Err(error) => told(&rt, &error),
     };
     ExitCode::from(status)
 }
 
-/// Reads the command line, which knows `audit` alone. Else its text is printed, and the answer is the exit status: 0 for a
-/// request for help, 2 for a fault of usage, or where the text could not be printed.
-fn read_command_line<R: Env + AllocGlobal + Print + Eprint>(rt: &R) -> Result<(), u8> {
+/// The words of the command line. A fault is printed.
+fn command_line<R: Env + AllocGlobal + Eprint>(rt: &R) -> Option<Vec<String>> {
     let Ok(arguments) = std::env::args(rt) else {
         let _ = eprintln!(rt; "usage: an argument is no text");
-        return Err(FAULT);
+        return None;
     };
     let words: Result<Vec<String>, _> = arguments.collect(rt.alloc());
-    let Ok(words) = words else {
-        let _ = eprintln!(rt; "usage: out of memory");
-        return Err(FAULT);
-    };
-    match parse(rt.alloc(), words.as_slice()) {
-        Ok(()) => Ok(()),
-        Err(error) => {
-            if error.print(rt).is_err() {
-                return Err(FAULT);
-            }
-            Err(if error.exit_code() == 0 { 0 } else { FAULT })
+    match words {
+        Ok(words) => Some(words),
+        Err(_) => {
+            let _ = eprintln!(rt; "usage: out of memory");
+            None
         }
     }
 }
 
-fn parse(alloc: Global, words: &[String]) -> Result<(), Error> {
-    let audit = Command::new(alloc, "audit").about(
-        "Audits the journal on standard input and prints the verdict: status 0 where it is legal, else 1",
-    );
-    let sealer = Command::new(alloc, "sealer")
-        .about("Seals, opens and verifies many files under one key, each under a number of its own")
-        .subcommand_required(true)
-        .subcommand(audit)?;
-    let _ = sealer.try_get_matches_from(words)?;
-    Ok(())
+fn parse<'a>(alloc: Global, words: &'a [String]) -> Result<ArgMatches<'a>, Error> {
+    command(alloc)?.try_get_matches_from(words)
+}
+
+/// Prints what the command line's parser says. The status is 0 for a request for help, 2 for a fault of usage, or where the text
+/// could not be printed.
+fn told<R: Print + Eprint>(rt: &R, error: &Error) -> u8 {
+    if error.print(rt).is_err() {
+        return FAULT;
+    }
+    if error.exit_code() == 0 { 0 } else { FAULT }
+}
+
+/// Runs the command that was asked for.
+fn run<R: Files + AllocGlobal + Eprint, I: Read + Drop, O: Write + Drop, E: Write + Drop>(
+    rt: &R,
+    matches: &ArgMatches<'_>,
+    input: I,
+    output: O,
+    errors: E,
+) -> u8 {
+    match matches.subcommand() {
+        Some(("open", asked)) => over_files(rt, asked, output, errors, false),
+        Some(("verify", asked)) => over_files(rt, asked, output, errors, true),
+        Some(("audit", _)) => audit_input(rt, rt.alloc(), input, output),
+        _ => FAULT,
+    }
+}
+
+/// Opens or verifies the files, once the key file was read.
+fn over_files<R: Files + AllocGlobal + Eprint, O: Write + Drop, E: Write + Drop>(
+    rt: &R,
+    matches: &ArgMatches<'_>,
+    output: O,
+    errors: E,
+    only_verify: bool,
+) -> u8 {
+    let (Some(path), Some(files)) = (matches.get_str("key"), matches.get_strs("FILE")) else {
+        return FAULT;
+    };
+    if files.is_empty() {
+        return FAULT;
+    }
+    let key = match key_of(rt, path) {
+        Ok(key) => key,
+        Err(fault) => {
+            let _ = eprintln!(rt; "key: {fault}");
+            return FAULT;
+        }
+    };
+    let options = OpenOptions {
+        files,
+        workers: workers(matches),
+        max_bytes: max_bytes(matches),
+    };
+    let mut folder = SystemFiles(rt);
+    let mut out = Outs {
+        lines: ToWrite(output),
+        faults: ToWrite(errors),
+        journal: None::<ToWrite<R::File>>,
+    };
+    if only_verify {
+        verify_all(rt.alloc(), &key, &mut folder, &options, &mut out)
+    } else {
+        open_all(rt.alloc(), &key, &mut folder, &options, &mut out)
+    }
+}
+
+/// The key in the file of this path.
+fn key_of<R: Files + AllocGlobal>(rt: &R, path: &str) -> Result<Key, KeyFault> {
+    match open_file(rt, path) {
+        Ok(mut reader) => read_key(&mut reader),
+        Err(_) => Err(KeyFault::CannotOpen),
+    }
 }
 
 /// Audits an input. A fault is printed on standard error, with status 2.

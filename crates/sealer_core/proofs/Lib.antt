@@ -1,1 +1,3 @@
 pub mod EngineLemmas
+pub mod KeyFiles
+pub mod Telling

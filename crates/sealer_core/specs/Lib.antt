@@ -1,2 +1,7 @@
 pub mod Engine
+pub mod Folder
+pub mod KeyFile
+pub mod Lines
+pub mod Memory
 pub mod Status
+pub mod Work

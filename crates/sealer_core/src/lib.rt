@@ -2,11 +2,21 @@
 #![tactic(auto)]
 
 pub mod auditor;
+pub mod commands;
 pub mod engine;
+pub mod folder;
+pub mod key_file;
+pub mod line;
+pub mod memory;
 pub mod run;
 
 pub use crate::auditor::run_audit;
+pub use crate::commands::{MAX_BYTES, MAX_WORKERS, OpenOptions, Outs, open_all, verify_all};
 pub use crate::engine::{open_one, seal_one, verify_one};
+pub use crate::folder::{Folder, FolderFault};
+pub use crate::key_file::{KeyFault, read_key};
+pub use crate::line::{FileFault, FileOutcome, Line};
+pub use crate::memory::{MemoryFolder, Pace, STEADY};
 pub use crate::run::{run_open, run_plain, run_seal, run_verify};
 
 #[cfg(test)]

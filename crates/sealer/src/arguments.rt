@@ -1,0 +1,193 @@
+//! The command line.
+ghost use Rattle.std.specs.Prelude.{◌<◌, ◌≤◌, ◌⊎◌, ◌≡◌, IfOk};
+
+use clap::{Arg, ArgAction, ArgMatches, Command, Error, value_parser};
+use sealer_core::{MAX_BYTES, MAX_WORKERS};
+use std::alloc::Global;
+use thiserror::Error as ThisError;
+
+/// Plaintext bytes of a file where no limit is given: 1 GiB.
+pub const DEFAULT_MAX_BYTES: u64 = 1 << 30;
+
+/// The greatest number of lanes.
+const MAX_LANES: u32 = 16;
+
+/// The greatest device number.
+const MAX_DEVICE: u32 = 16_777_215;
+
+/// The program's command: `open`, `verify` and `audit`.
+pub fn command<'a>(alloc: Global) -> Result<Command<'a>, Error> {
+    let open = file_command(
+        alloc,
+        "open",
+        "Checks each FILE whole, then writes its plaintext to the name without .stm",
+    )?;
+    let verify = file_command(alloc, "verify", "Checks each FILE whole and writes no file")?;
+    let audit = Command::new(alloc, "audit").about(
+        "Audits the journal on standard input and prints the verdict: status 0 where it is legal, else 1",
+    );
+    let sealer = Command::new(alloc, "sealer")
+        .about("Seals, opens and verifies many files under one key, each under a number of its own")
+        .subcommand_required(true)
+        .subcommand(open)?
+        .subcommand(verify)?
+        .subcommand(audit)?;
+    Ok(sealer)
+}
+
+// What every command over files takes.
+fn file_command<'a>(alloc: Global, name: &'a str, about: &'a str) -> Result<Command<'a>, Error> {
+    let key = Arg::new(alloc, "key")
+        .long("key")
+        .value_name("F")
+        .required(true)
+        .help("The key file: 64 hex digits");
+    let workers = Arg::new(alloc, "workers")
+        .long("workers")
+        .value_name("N")
+        .value_parser(value_parser!(u32).range(1..=16))
+        .default_value("1")
+        .help("Workers, 1 to 16; this version works with one, whatever is asked");
+    let max_bytes = Arg::new(alloc, "max-bytes")
+        .long("max-bytes")
+        .value_name("N")
+        .value_parser(value_parser!(u64).range(0..=1_099_511_627_776))
+        .default_value("1073741824")
+        .help("A FILE of more plaintext bytes is refused, 0 to 1099511627776");
+    let files = Arg::new(alloc, "FILE")
+        .required(true)
+        .num_args(1..)
+        .action(ArgAction::Append)
+        .help("The files, each worked in turn");
+    let command = Command::new(alloc, name)
+        .about(about)
+        .arg(key)?
+        .arg(workers)?
+        .arg(max_bytes)?
+        .arg(files)?;
+    Ok(command)
+}
+
+/// The number of workers, which the command line has tested.
+pub fn workers(matches: &ArgMatches<'_>) -> u32
+    ensures { (0 < result) × (result ≤ 16) }
+{
+    matches
+        .get_one::<u32>("workers")
+        .unwrap_or(1)
+        .max(1)
+        .min(MAX_WORKERS)
+}
+
+/// The greatest number of plaintext bytes, which the command line has tested.
+pub fn max_bytes(matches: &ArgMatches<'_>) -> u64
+    ensures { result ≤ 1099511627776 }
+{
+    matches
+        .get_one::<u64>("max-bytes")
+        .unwrap_or(DEFAULT_MAX_BYTES)
+        .min(MAX_BYTES)
+}
+
+/// The command `seal`. The program does not offer it before it can seal.
+pub fn seal_command<'a>(alloc: Global) -> Result<Command<'a>, Error> {
+    let ledger = Arg::new(alloc, "ledger")
+        .long("ledger")
+        .value_name("F")
+        .required(true)
+        .help("The ledger file, which is made where there is none");
+    let device = Arg::new(alloc, "device")
+        .long("device")
+        .value_name("N")
+        .required(true)
+        .value_parser(value_parser!(u32).range(0..=16_777_215))
+        .help("This machine's number under this key, 0 to 16777215; no two machines share one");
+    let lanes = Arg::new(alloc, "lanes")
+        .long("lanes")
+        .value_name("N")
+        .value_parser(value_parser!(u32).range(1..=16))
+        .default_value("1")
+        .help("How many files are sealed at once, 1 to 16");
+    let journal = Arg::new(alloc, "journal")
+        .long("journal")
+        .value_name("F")
+        .help("A new file for the run's journal");
+    let command = file_command(
+        alloc,
+        "seal",
+        "Seals each FILE to FILE.stm, each under a number of its own",
+    )?;
+    let command = command
+        .arg(ledger)?
+        .arg(device)?
+        .arg(lanes)?
+        .arg(journal)?;
+    Ok(command)
+}
+
+/// What `seal` is asked for.
+#[derive(Clone, Copy)]
+pub struct SealRequest<'m, 'a> {
+    pub key: &'a str,
+    pub ledger: &'a str,
+    pub device: u32,
+    pub files: &'m [&'a str],
+    pub workers: u32,
+    pub lanes: u32,
+    pub max_bytes: u64,
+    pub journal: Option<&'a str>,
+}
+
+/// Why the words of `seal`, which its parser took, are still a fault of usage.
+#[derive(Clone, Copy, PartialEq, Eq, Debug, ThisError)]
+pub enum SealUsage {
+    #[error("an argument is missing")]
+    Missing,
+    #[error("lanes and workers cannot both be above 1")]
+    LanesAndWorkers,
+}
+
+/// What `seal` is asked for, of words that its parser took.
+pub fn seal_request<'m, 'a>(matches: &'m ArgMatches<'a>) -> Result<SealRequest<'m, 'a>, SealUsage>
+    ensures device { IfOk result (λ request. request.device ≤ 16777215) }
+    ensures workers { IfOk result (λ request. (0 < request.workers) × (request.workers ≤ 16)) }
+    ensures lanes { IfOk result (λ request. (0 < request.lanes) × (request.lanes ≤ 16)) }
+    ensures one { IfOk result (λ request. (request.workers ≡ 1) ⊎ (request.lanes ≡ 1)) }
+    ensures max_bytes { IfOk result (λ request. request.max_bytes ≤ 1099511627776) }
+{
+    let (Some(key), Some(ledger)) = (matches.get_str("key"), matches.get_str("ledger")) else {
+        return Err(SealUsage::Missing);
+    };
+    let (Some(device), Some(files)) = (
+        matches.get_one::<u32>("device"),
+        matches.get_strs("FILE"),
+    ) else {
+        return Err(SealUsage::Missing);
+    };
+    let workers = workers(matches);
+    let lanes = lanes(matches);
+    if workers > 1 && lanes > 1 {
+        return Err(SealUsage::LanesAndWorkers);
+    }
+    Ok(SealRequest {
+        key,
+        ledger,
+        device: device.min(MAX_DEVICE),
+        files,
+        workers,
+        lanes,
+        max_bytes: max_bytes(matches),
+        journal: matches.get_str("journal"),
+    })
+}
+
+// The number of lanes, which the command line has tested.
+fn lanes(matches: &ArgMatches<'_>) -> u32
+    ensures { (0 < result) × (result ≤ 16) }
+{
+    matches
+        .get_one::<u32>("lanes")
+        .unwrap_or(1)
+        .max(1)
+        .min(MAX_LANES)
+}

@@ -1,0 +1,64 @@
+//! The file system as a folder.
+use ledger_core::{FromRead, ToWrite};
+use sealer_core::{Folder, FolderFault};
+use std::fs;
+use std::fs::{File, OpenFile};
+use std::io::{BufReader, ErrorKind};
+use std::rt::Files;
+
+/// Bytes of the buffer through which a file is read.
+const BUFFER: usize = 1 << 16;
+
+/// The files of the system, by their paths. A path that isn't absolute begins at the current directory.
+#[derive(Drop)]
+pub struct SystemFiles<'r, R: Files + AllocGlobal>(pub &'r R);
+
+/// Opens a file to be read. A directory is none.
+pub fn open_file<R: Files + AllocGlobal>(
+    rt: &R,
+    name: &str,
+) -> Result<FromRead<BufReader<R::File>>, FolderFault> {
+    let Ok(file) = File::open(rt, name) else {
+        return Err(FolderFault::Failed);
+    };
+    let Ok(metadata) = file.metadata() else {
+        return Err(FolderFault::Failed);
+    };
+    if metadata.is_dir() {
+        return Err(FolderFault::Failed);
+    }
+    match BufReader::with_capacity(rt.alloc(), BUFFER, file) {
+        Ok(reader) => Ok(FromRead(reader)),
+        Err(_) => Err(FolderFault::Failed),
+    }
+}
+
+impl<R: Files + AllocGlobal> Folder for SystemFiles<'_, R> {
+    type Reader = FromRead<BufReader<R::File>>;
+
+    // No buffer is wanted: who writes an output hands over a whole plaintext, or many chunks of it, in one call.
+    type Writer = ToWrite<R::File>;
+
+    fn open(&mut self, name: &str) -> Result<Self::Reader, FolderFault> {
+        match open_file(self.0, name) {
+            Ok(reader) => Ok(reader),
+            Err(_) => Err(FolderFault::Failed),
+        }
+    }
+
+    // The system makes the file only where there is none of the name, so no other program's file is ever replaced.
+    fn create(&mut self, name: &str) -> Result<Self::Writer, FolderFault> {
+        match File::create_new(self.0, name) {
+            Ok(file) => Ok(ToWrite(file)),
+            Err(error) if error.kind() == ErrorKind::AlreadyExists => Err(FolderFault::Exists),
+            Err(_) => Err(FolderFault::Failed),
+        }
+    }
+
+    fn remove(&mut self, name: &str) -> Result<(), FolderFault> {
+        match fs::remove_file(self.0, name) {
+            Ok(()) => Ok(()),
+            Err(_) => Err(FolderFault::Failed),
+        }
+    }
+}

@@ -1,0 +1,7 @@
+//! Tests of the commands of `sealer_core` over folders in memory, and of its key files.
+#![tactic(auto)]
+
+#[cfg(test)]
+mod files;
+#[cfg(test)]
+mod keys;
