@@ -117,11 +117,7 @@ pub fn seal_command<'a>(alloc: Global) -> Result<Command<'a>, Error> {
         "seal",
         "Seals each FILE to FILE.stm, each under a number of its own",
     )?;
-    let command = command
-        .arg(ledger)?
-        .arg(device)?
-        .arg(lanes)?
-        .arg(journal)?;
+    let command = command.arg(ledger)?.arg(device)?.arg(lanes)?.arg(journal)?;
     Ok(command)
 }
 
@@ -158,10 +154,8 @@ pub fn seal_request<'m, 'a>(matches: &'m ArgMatches<'a>) -> Result<SealRequest<'
     let (Some(key), Some(ledger)) = (matches.get_str("key"), matches.get_str("ledger")) else {
         return Err(SealUsage::Missing);
     };
-    let (Some(device), Some(files)) = (
-        matches.get_one::<u32>("device"),
-        matches.get_strs("FILE"),
-    ) else {
+    let (Some(device), Some(files)) = (matches.get_one::<u32>("device"), matches.get_strs("FILE"))
+    else {
         return Err(SealUsage::Missing);
     };
     let workers = workers(matches);

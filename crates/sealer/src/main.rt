@@ -17,6 +17,7 @@ use std::alloc::Global;
 use std::io::{Read, Write};
 use std::process::ExitCode;
 use std::rt::{Env, Files};
+use std::thread::Threads;
 
 /// The status of a fault of usage, of the key file, or of the program's own reading and writing.
 const FAULT: u8 = 2;
@@ -62,13 +63,12 @@ fn told<R: Print + Eprint>(rt: &R, error: &Error) -> u8 {
 }
 
 /// Runs the command that was asked for.
-fn run<R: Files + AllocGlobal + Eprint, I: Read + Drop, O: Write + Drop, E: Write + Drop>(
-    rt: &R,
-    matches: &ArgMatches<'_>,
-    input: I,
-    output: O,
-    errors: E,
-) -> u8 {
+fn run<
+    R: Files + AllocGlobal + Eprint + Threads + Sync,
+    I: Read + Drop,
+    O: Write + Drop,
+    E: Write + Drop,
+>(rt: &R, matches: &ArgMatches<'_>, input: I, output: O, errors: E) -> u8 {
     match matches.subcommand() {
         Some(("open", asked)) => over_files(rt, asked, output, errors, false),
         Some(("verify", asked)) => over_files(rt, asked, output, errors, true),
@@ -78,7 +78,7 @@ fn run<R: Files + AllocGlobal + Eprint, I: Read + Drop, O: Write + Drop, E: Writ
 }
 
 /// Opens or verifies the files, once the key file was read.
-fn over_files<R: Files + AllocGlobal + Eprint, O: Write + Drop, E: Write + Drop>(
+fn over_files<R: Files + AllocGlobal + Eprint + Threads + Sync, O: Write + Drop, E: Write + Drop>(
     rt: &R,
     matches: &ArgMatches<'_>,
     output: O,
@@ -110,9 +110,9 @@ fn over_files<R: Files + AllocGlobal + Eprint, O: Write + Drop, E: Write + Drop>
         journal: None::<ToWrite<R::File>>,
     };
     if only_verify {
-        verify_all(rt.alloc(), &key, &mut folder, &options, &mut out)
+        verify_all(rt, rt.alloc(), &key, &mut folder, &options, &mut out)
     } else {
-        open_all(rt.alloc(), &key, &mut folder, &options, &mut out)
+        open_all(rt, rt.alloc(), &key, &mut folder, &options, &mut out)
     }
 }
 

@@ -32,23 +32,23 @@ begun_more old new text more (front, (rest, split), appended) = (front, (rest ++
 pub untold : (status : ℕ) (told : List FileLine) (line : FileLine) (old new : Option (List ℕ)) (failures failures' : Option ℕ)
     → AreTold status told old new failures failures' → AreTold 2 (told ++ line ∷ []) old new failures failures'
 untold status told line old new failures failures' t = record {
-    range = lit≤ tt;
-    begun = subst (AppendsFront old new) (sym (lines_text-push told line)) (begun_more old new (lines_text told) (line_bytes line) t.begun);
-    whole = λ other. absurd (other refl);
-    stopped = ⊎_elim (λ same. inl same) (λ rose. inr (refl, rose.1)) t.stopped;
-  }
+  range = lit≤ tt;
+  begun = subst (AppendsFront old new) (sym (lines_text-push told line)) (begun_more old new (lines_text told) (line_bytes line) t.begun);
+  whole = λ other. absurd (other refl);
+  stopped = ⊎_elim (λ same. inl same) (λ rose. inr (refl, rose.1)) t.stopped;
+}
 
 -- the line's write failed
 pub broken : (status : ℕ) (told : List FileLine) (line : FileLine) (old mid new : Option (List ℕ)) (failures failures' failures'' : Option ℕ)
     → status ≢ 2 → AppendsFront mid new (line_bytes line) → failures'' ≡ counted true failures'
     → AreTold status told old mid failures failures' → AreTold 2 (told ++ line ∷ []) old new failures failures''
 broken status told line old mid new failures failures' failures'' other (front, (rest, split), appended) rose t = record {
-    range = lit≤ tt;
-    begun = subst (AppendsFront old new) (sym (lines_text-push told line))
+  range = lit≤ tt;
+  begun = subst (AppendsFront old new) (sym (lines_text-push told line))
       (lines_text told ++ front, (rest, ap (λ l. lines_text told ++ l) split ∙ sym (append_assoc (lines_text told) front rest)), Appends-trans old mid new (lines_text told) front (t.whole other).1 appended);
-    whole = λ two. absurd (two refl);
-    stopped = ⊎_elim (λ same. inr (refl, rose ∙ ap (counted true) same)) (λ two. absurd (other two.0)) t.stopped;
-  }
+  whole = λ two. absurd (two refl);
+  stopped = ⊎_elim (λ same. inr (refl, rose ∙ ap (counted true) same)) (λ two. absurd (other two.0)) t.stopped;
+}
 
 status-push : (told : List FileLine) (line : FileLine) (status : ℕ) → status ≡ status_of_lines told
     → (if is_failed line.outcome then 1 else status) ≡ status_of_lines (told ++ line ∷ [])
@@ -76,11 +76,11 @@ told_more status status' told line old mid new failures failures' failures'' oth
     let written = Appends-trans old mid new (lines_text told) (line_bytes line) (t.whole other).1 appended in
     let all : Appends old new (lines_text (told ++ line ∷ [])) = subst (Appends old new) (sym (lines_text-push told line)) written in
     record {
-    range = within (is_failed line.outcome) is t.range;
-    begun = (lines_text (told ++ line ∷ []), ([], sym (append-nil (lines_text (told ++ line ∷ [])))), all);
-    whole = λ two. (is ∙ status-push told line status (t.whole other).0, all);
-    stopped = ⊎_elim (λ kept. inl (same ∙ kept)) (λ two. absurd (other two.0)) t.stopped;
-  }
+      range = within (is_failed line.outcome) is t.range;
+      begun = (lines_text (told ++ line ∷ []), ([], sym (append-nil (lines_text (told ++ line ∷ [])))), all);
+      whole = λ two. (is ∙ status-push told line status (t.whole other).0, all);
+      stopped = ⊎_elim (λ kept. inl (same ∙ kept)) (λ two. absurd (other two.0)) t.stopped;
+    }
   where
     within : (b : Bool) → status' ≡ (if b then 1 else status) → status ≤ 2 → status' ≤ 2
     within true e h = omega arith
@@ -89,11 +89,11 @@ told_more status status' told line old mid new failures failures' failures'' oth
 -- of no file nothing is told
 pub nothing_told : (taken : Option (List ℕ)) (failures : Option ℕ) → AreTold 0 [] taken taken failures failures
 nothing_told taken failures = record {
-    range = lit≤ tt;
-    begun = ([], ([], refl), Appends-nil taken);
-    whole = λ other. (refl, Appends-nil taken);
-    stopped = inl refl;
-  }
+  range = lit≤ tt;
+  begun = ([], ([], refl), Appends-nil taken);
+  whole = λ other. (refl, Appends-nil taken);
+  stopped = inl refl;
+}
 
 pub stepped-nil : (steps : Option (List Step)) → steps ≡ stepped steps []
 stepped-nil None = refl
@@ -110,13 +110,13 @@ pub worked_more : (fits : FileOutcome → Type 0) (steps_for : FileLine → List
     → AreTold status' (w.lines ++ line ∷ []) old new failures failures'' → names ++ line.name ∷ [] ≡ names'
     → AreWorked fits steps_for names' status' old new failures failures'' steps steps''
 worked_more fits steps_for names names' line status status' old mid new failures failures' failures'' steps steps' steps'' w fit stepping told longer = record {
-    lines = w.lines ++ line ∷ [];
-    named = map-append (λ (l : FileLine). l.name) w.lines (line ∷ []) ∙ ap (λ l. l ++ line.name ∷ []) w.named ∙ longer;
-    fitting = All-push (λ (l : FileLine). fits l.outcome) w.lines line w.fitting fit;
-    told = told;
-    stepwise = stepping ∙ ap (λ s. stepped s (steps_for line)) w.stepwise ∙ stepped-stepped steps (flat_map steps_for w.lines) (steps_for line)
+  lines = w.lines ++ line ∷ [];
+  named = map-append (λ (l : FileLine). l.name) w.lines (line ∷ []) ∙ ap (λ l. l ++ line.name ∷ []) w.named ∙ longer;
+  fitting = All-push (λ (l : FileLine). fits l.outcome) w.lines line w.fitting fit;
+  told = told;
+  stepwise = stepping ∙ ap (λ s. stepped s (steps_for line)) w.stepwise ∙ stepped-stepped steps (flat_map steps_for w.lines) (steps_for line)
       ∙ ap (stepped steps) (ap (λ l. flat_map steps_for w.lines ++ l) (sym (append-nil (steps_for line))) ∙ sym (flat_map-append steps_for w.lines (line ∷ [])));
-  }
+}
 
 -- one name more
 pub names-step : (files : List (Bor (List ℕ))) (i : ℕ) (d : Bor (List ℕ)) → i < length files

@@ -7,12 +7,14 @@ ghost use Rattle.sealer_core.specs.Folder.{stepped};
 ghost use Rattle.sealer_core.specs.Lines.{FileLine, is_failed};
 ghost use Rattle.sealer_core.specs.Work.{output_of, IsOfOpening, IsOfVerifying, opening_steps, no_steps, IsOutcomeOf, steps_of, AreTold, AreWorked};
 
-use crate::engine::{read_plaintext, verify_one};
 use crate::folder::{Folder, FolderFault};
 use crate::line::{FileFault, FileOutcome, Line};
+use crate::run::{run_plain, run_verify};
 use container_core::{Key, OpenFault};
+use crew_core::Free;
 use ledger_core::{Failed, Sink, write_all};
 use std::alloc::Global;
+use std::thread::Threads;
 
 /// What a sealed file's name ends in.
 pub const SUFFIX: &str = ".stm";
@@ -63,18 +65,25 @@ fn output_name(name: &str) -> Option<&str>
     ensures { IfSome result (λ output. output.now ≡ output_of name.now) }
 {
     let output = name.strip_suffix(SUFFIX)?;
-    if output.is_empty() { None } else { Some(output) }
+    if output.is_empty() {
+        None
+    } else {
+        Some(output)
+    }
 }
 
 // Checks the whole container of one file, then creates its output and writes the plaintext.
-fn open_file<F: Folder>(
+fn open_file<T: Threads + Sync, F: Folder>(
+    rt: &T,
     alloc: Global,
     key: &Key,
     folder: &mut F,
     name: &str,
     max_bytes: u64,
+    workers: u32,
 ) -> FileOutcome
-    requires { max_bytes ≤ 1099511627776 }
+    requires max_bytes { max_bytes ≤ 1099511627776 }
+    requires workers { (0 < workers) × (workers ≤ 16) }
     ensures outcome { IsOfOpening result }
     ensures steps { F.steps folder.new ≡ stepped (F.steps folder.old) (opening_steps (record { name = name.now; outcome = result })) }
 {
@@ -84,7 +93,7 @@ fn open_file<F: Folder>(
     let Ok(mut reader) = folder.open(name) else {
         return FileOutcome::Failed(FileFault::CannotOpen);
     };
-    let plain = match read_plaintext(alloc, key, &mut reader, max_bytes) {
+    let plain = match run_plain(rt, alloc, key, &mut reader, max_bytes, workers, &Free) {
         Ok(plain) => plain,
         Err(fault) => return FileOutcome::Failed(FileFault::Unopened(fault)),
     };
@@ -103,21 +112,24 @@ fn open_file<F: Folder>(
 }
 
 // Checks the whole container of one file.
-fn verify_file<F: Folder>(
+fn verify_file<T: Threads + Sync, F: Folder>(
+    rt: &T,
     alloc: Global,
     key: &Key,
     folder: &mut F,
     name: &str,
     max_bytes: u64,
+    workers: u32,
 ) -> FileOutcome
-    requires { max_bytes ≤ 1099511627776 }
+    requires max_bytes { max_bytes ≤ 1099511627776 }
+    requires workers { (0 < workers) × (workers ≤ 16) }
     ensures outcome { IsOfVerifying result }
     ensures steps { F.steps folder.new ≡ F.steps folder.old }
 {
     let Ok(mut reader) = folder.open(name) else {
         return FileOutcome::Failed(FileFault::CannotOpen);
     };
-    match verify_one(alloc, key, &mut reader, max_bytes) {
+    match run_verify(rt, alloc, key, &mut reader, max_bytes, workers, &Free) {
         Ok(bytes) => FileOutcome::Good(bytes),
         Err(fault) => FileOutcome::Failed(FileFault::Unopened(fault)),
     }
@@ -135,13 +147,7 @@ fn worse(status: u8, outcome: FileOutcome) -> u8
 
 // Writes a file's line, unless one before it wasn't written. The answer is the status so far. A line for which memory is
 // refused is one that isn't written.
-fn tell<W: Sink>(
-    alloc: Global,
-    lines: &mut W,
-    status: u8,
-    name: &str,
-    outcome: FileOutcome,
-) -> u8
+fn tell<W: Sink>(alloc: Global, lines: &mut W, status: u8, name: &str, outcome: FileOutcome) -> u8
     ensures { (told : List FileLine) (first : Option (List ℕ)) (count : Option ℕ)
         → AreTold status told first (W.taken lines.old) count (W.failures lines.old)
         → AreTold result (told ++ record { name = name.now; outcome = outcome } ∷ []) first (W.taken lines.new) count (W.failures lines.new) }
@@ -159,25 +165,29 @@ fn tell<W: Sink>(
     }
 }
 
-fn work_file<F: Folder>(
+fn work_file<T: Threads + Sync, F: Folder>(
+    rt: &T,
     alloc: Global,
     key: &Key,
     folder: &mut F,
     name: &str,
     max_bytes: u64,
+    workers: u32,
     task: Task,
 ) -> FileOutcome
-    requires { max_bytes ≤ 1099511627776 }
+    requires max_bytes { max_bytes ≤ 1099511627776 }
+    requires workers { (0 < workers) × (workers ≤ 16) }
     ensures outcome { IsOutcomeOf task result }
     ensures steps { F.steps folder.new ≡ stepped (F.steps folder.old) (steps_of task (record { name = name.now; outcome = result })) }
 {
     match task {
-        Task::Open => open_file(alloc, key, folder, name, max_bytes),
-        Task::Verify => verify_file(alloc, key, folder, name, max_bytes),
+        Task::Open => open_file(rt, alloc, key, folder, name, max_bytes, workers),
+        Task::Verify => verify_file(rt, alloc, key, folder, name, max_bytes, workers),
     }
 }
 
-fn work_all<F: Folder, W: Sink>(
+fn work_all<T: Threads + Sync, F: Folder, W: Sink>(
+    rt: &T,
     alloc: Global,
     key: &Key,
     folder: &mut F,
@@ -185,13 +195,23 @@ fn work_all<F: Folder, W: Sink>(
     lines: &mut W,
     task: Task,
 ) -> u8
-    requires { options.now.max_bytes ≤ 1099511627776 }
+    requires max_bytes { options.now.max_bytes ≤ 1099511627776 }
+    requires workers { (0 < options.now.workers) × (options.now.workers ≤ 16) }
     ensures { AreWorked (IsOutcomeOf task) (steps_of task) (map (λ name. name.now) options.now.files.now) result
         (W.taken lines.old) (W.taken lines.new) (W.failures lines.old) (W.failures lines.new) (F.steps folder.old) (F.steps folder.new) }
 {
     let mut status = 0;
     for name in options.files {
-        let outcome = work_file(alloc, key, folder, name, options.max_bytes, task);
+        let outcome = work_file(
+            rt,
+            alloc,
+            key,
+            folder,
+            name,
+            options.max_bytes,
+            options.workers,
+            task,
+        );
         status = tell(alloc, lines, status, name, outcome);
     }
     status
@@ -200,7 +220,8 @@ fn work_all<F: Folder, W: Sink>(
 /// Opens each file: reads its container, checks all of it, and then writes the plaintext to the name without `.stm`, which
 /// must not be there yet. The answer is the exit status: 0 where every file was opened, 1 where one failed, 2 where a line
 /// couldn't be written. An output that couldn't be written whole is removed.
-pub fn open_all<F: Folder, L: Sink + Drop, E: Sink + Drop, J: Sink + Drop>(
+pub fn open_all<T: Threads + Sync, F: Folder, L: Sink + Drop, E: Sink + Drop, J: Sink + Drop>(
+    rt: &T,
     alloc: Global,
     key: &Key,
     folder: &mut F,
@@ -216,12 +237,13 @@ pub fn open_all<F: Folder, L: Sink + Drop, E: Sink + Drop, J: Sink + Drop>(
         (F.steps folder.old) (F.steps folder.new) }
     ensures others { (out.new.faults ≡ out.old.faults) × (out.new.journal ≡ out.old.journal) }
 {
-    work_all(alloc, key, folder, options, &mut out.lines, Task::Open)
+    work_all(rt, alloc, key, folder, options, &mut out.lines, Task::Open)
 }
 
 /// Checks each file's container, as `open_all` does, and makes no file. The answer is the exit status: 0 where every file is
 /// good, 1 where one failed, 2 where a line couldn't be written.
-pub fn verify_all<F: Folder, L: Sink + Drop, E: Sink + Drop, J: Sink + Drop>(
+pub fn verify_all<T: Threads + Sync, F: Folder, L: Sink + Drop, E: Sink + Drop, J: Sink + Drop>(
+    rt: &T,
     alloc: Global,
     key: &Key,
     folder: &mut F,
@@ -238,5 +260,13 @@ pub fn verify_all<F: Folder, L: Sink + Drop, E: Sink + Drop, J: Sink + Drop>(
     ensures nothing_made { F.steps folder.new ≡ F.steps folder.old }
     ensures others { (out.new.faults ≡ out.old.faults) × (out.new.journal ≡ out.old.journal) }
 {
-    work_all(alloc, key, folder, options, &mut out.lines, Task::Verify)
+    work_all(
+        rt,
+        alloc,
+        key,
+        folder,
+        options,
+        &mut out.lines,
+        Task::Verify,
+    )
 }

@@ -65,7 +65,7 @@ pub fn seal_one<R: Source, W: Sink>(
 }
 
 // The plaintext of all that the reader has left.
-pub(crate) fn read_plaintext<R: Source>(
+fn read_plaintext<R: Source>(
     alloc: Global,
     key: &Key,
     reader: &mut R,

@@ -136,7 +136,6 @@ impl MemoryFolder {
         }
     }
 
-
     fn add(&mut self, name: &str, room: usize, pace: Pace) -> Result<Content, FolderFault>
         ensures { OnOk result (self.new ≡ record self.old { names = self.old.names ++ name.now ∷ [] }) }
     {

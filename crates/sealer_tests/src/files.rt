@@ -6,7 +6,9 @@ use container_core::{Key, seal};
 use ledger_core::{Schedule, ToMemory};
 use sealer_core::{MemoryFolder, OpenOptions, Outs, Pace, open_all, verify_all};
 use std::alloc::Global;
+use std::rt::AllocGlobal;
 use std::test::Fail;
+use std::thread::Threads;
 
 const COUNTING: [u8; 32] = [
     0, 1, 2, 3, 4, 5, 6, 7, 8, 9, 10, 11, 12, 13, 14, 15, 16, 17, 18, 19, 20, 21, 22, 23, 24, 25,
@@ -37,8 +39,8 @@ fn outs(alloc: Global, lines: Schedule) -> Result<MemoryOuts, Fail> {
     })
 }
 
-fn open_within(
-    alloc: Global,
+fn open_within<R: AllocGlobal + Threads + Sync>(
+    rt: &R,
     folder: &mut MemoryFolder,
     files: &[&str],
     out: &mut MemoryOuts,
@@ -52,11 +54,11 @@ fn open_within(
         workers: 1,
         max_bytes,
     };
-    open_all(alloc, &Key::new(COUNTING), folder, &options, out)
+    open_all(rt, rt.alloc(), &Key::new(COUNTING), folder, &options, out)
 }
 
-fn verify_within(
-    alloc: Global,
+fn verify_within<R: AllocGlobal + Threads + Sync>(
+    rt: &R,
     folder: &mut MemoryFolder,
     files: &[&str],
     out: &mut MemoryOuts,
@@ -70,7 +72,7 @@ fn verify_within(
         workers: 1,
         max_bytes,
     };
-    verify_all(alloc, &Key::new(COUNTING), folder, &options, out)
+    verify_all(rt, rt.alloc(), &Key::new(COUNTING), folder, &options, out)
 }
 
 fn has_bytes(folder: &MemoryFolder, name: &str, bytes: &[u8]) -> bool {
@@ -86,7 +88,10 @@ fn a_file_is_opened_and_another_name_is_refused(rt: HostRuntime) -> Result<(), F
     folder.put("a.stm", &EMPTY)?;
     folder.put("b.txt", &EMPTY)?;
     let mut out = outs(rt.alloc(), Schedule::Never)?;
-    assert_eq!(rt; open_within(rt.alloc(), &mut folder, &["a.stm", "b.txt"], &mut out, 0), 1);
+    assert_eq!(rt;
+        open_within(&rt, &mut folder, &["a.stm", "b.txt"], &mut out, 0),
+        1
+    );
     assert_eq!(rt;
         out.lines.bytes(),
         b"opened a.stm bytes 0\nfailed b.txt: name does not end in .stm\n".as_slice()
@@ -102,8 +107,14 @@ fn a_good_file_is_verified_and_none_is_made(rt: HostRuntime) -> Result<(), Fail>
     folder.put("a.stm", &EMPTY)?;
     folder.put("b", &SECRET)?;
     let mut out = outs(rt.alloc(), Schedule::Never)?;
-    assert_eq!(rt; verify_within(rt.alloc(), &mut folder, &["a.stm", "b"], &mut out, 8), 0);
-    assert_eq!(rt; out.lines.bytes(), b"good a.stm bytes 0\ngood b bytes 8\n".as_slice());
+    assert_eq!(rt;
+        verify_within(&rt, &mut folder, &["a.stm", "b"], &mut out, 8),
+        0
+    );
+    assert_eq!(rt;
+        out.lines.bytes(),
+        b"good a.stm bytes 0\ngood b bytes 8\n".as_slice()
+    );
     assert!(rt; !folder.has("a"));
     Ok(())
 }
@@ -116,7 +127,7 @@ fn files_are_worked_in_order_and_a_name_twice(rt: HostRuntime) -> Result<(), Fai
     folder.put("c", b"kept")?;
     let mut out = outs(rt.alloc(), Schedule::Never)?;
     let files = ["a.stm", "m.stm", "a.stm", "c.stm", ".stm", "a"];
-    assert_eq!(rt; open_within(rt.alloc(), &mut folder, &files, &mut out, 1 << 30), 1);
+    assert_eq!(rt; open_within(&rt, &mut folder, &files, &mut out, 1 << 30), 1);
     assert_eq!(rt;
         out.lines.bytes(),
         b"opened a.stm bytes 8\n\
@@ -124,7 +135,8 @@ fn files_are_worked_in_order_and_a_name_twice(rt: HostRuntime) -> Result<(), Fai
           failed a.stm: output exists\n\
           failed c.stm: output exists\n\
           failed .stm: name does not end in .stm\n\
-          failed a: name does not end in .stm\n".as_slice()
+          failed a: name does not end in .stm\n"
+            .as_slice()
     );
     assert!(rt; has_bytes(&folder, "a", b"a secret"));
     assert!(rt; has_bytes(&folder, "c", b"kept"));
@@ -136,15 +148,23 @@ fn each_fault_of_a_container_has_its_text(rt: HostRuntime) -> Result<(), Fail> {
     let mut folder = MemoryFolder::new(rt.alloc());
     folder.put("header", &SECRET[..23])?;
     folder.put("length", &SECRET[..39])?;
-    for (name, place) in [("magic", 0), ("version", 8), ("size", 9), ("key", 17), ("tag", 47)] {
+    for (name, place) in [
+        ("magic", 0),
+        ("version", 8),
+        ("size", 9),
+        ("key", 17),
+        ("tag", 47),
+    ] {
         let mut altered = SECRET;
         altered[place] ^= 1;
         folder.put(name, &altered)?;
     }
     folder.put("long", &SECRET)?;
     let mut out = outs(rt.alloc(), Schedule::Never)?;
-    let files = ["header", "magic", "version", "size", "key", "length", "tag", "long"];
-    assert_eq!(rt; verify_within(rt.alloc(), &mut folder, &files, &mut out, 7), 1);
+    let files = [
+        "header", "magic", "version", "size", "key", "length", "tag", "long",
+    ];
+    assert_eq!(rt; verify_within(&rt, &mut folder, &files, &mut out, 7), 1);
     assert_eq!(rt;
         out.lines.bytes(),
         b"failed header: header cut short\n\
@@ -154,10 +174,11 @@ fn each_fault_of_a_container_has_its_text(rt: HostRuntime) -> Result<(), Fail> {
           failed key: too long\n\
           failed length: wrong length\n\
           failed tag: too long\n\
-          failed long: too long\n".as_slice()
+          failed long: too long\n"
+            .as_slice()
     );
     let mut out = outs(rt.alloc(), Schedule::Never)?;
-    assert_eq!(rt; verify_within(rt.alloc(), &mut folder, &files, &mut out, 8), 1);
+    assert_eq!(rt; verify_within(&rt, &mut folder, &files, &mut out, 8), 1);
     assert_eq!(rt;
         out.lines.bytes(),
         b"failed header: header cut short\n\
@@ -167,7 +188,8 @@ fn each_fault_of_a_container_has_its_text(rt: HostRuntime) -> Result<(), Fail> {
           failed key: sealed under another key\n\
           failed length: wrong length\n\
           failed tag: chunk 0 does not check\n\
-          good long bytes 8\n".as_slice()
+          good long bytes 8\n"
+            .as_slice()
     );
     Ok(())
 }
@@ -179,8 +201,11 @@ fn a_reader_that_fails_is_read_failed(rt: HostRuntime) -> Result<(), Fail> {
     for schedule in [Schedule::Bytes(30), Schedule::Bytes(48), Schedule::Call(3)] {
         folder.pace_readers(Pace { most: 9, schedule });
         let mut out = outs(rt.alloc(), Schedule::Never)?;
-        assert_eq!(rt; open_within(rt.alloc(), &mut folder, &["a.stm"], &mut out, 8), 1);
-        assert_eq!(rt; out.lines.bytes(), b"failed a.stm: read failed\n".as_slice());
+        assert_eq!(rt; open_within(&rt, &mut folder, &["a.stm"], &mut out, 8), 1);
+        assert_eq!(rt;
+            out.lines.bytes(),
+            b"failed a.stm: read failed\n".as_slice()
+        );
         assert!(rt; !folder.has("a"));
     }
     folder.pace_readers(Pace {
@@ -188,7 +213,7 @@ fn a_reader_that_fails_is_read_failed(rt: HostRuntime) -> Result<(), Fail> {
         schedule: Schedule::Never,
     });
     let mut out = outs(rt.alloc(), Schedule::Never)?;
-    assert_eq!(rt; open_within(rt.alloc(), &mut folder, &["a.stm"], &mut out, 8), 0);
+    assert_eq!(rt; open_within(&rt, &mut folder, &["a.stm"], &mut out, 8), 0);
     assert!(rt; has_bytes(&folder, "a", b"a secret"));
     Ok(())
 }
@@ -203,7 +228,10 @@ fn an_output_that_fails_is_removed(rt: HostRuntime) -> Result<(), Fail> {
         schedule: Schedule::Bytes(5),
     });
     let mut out = outs(rt.alloc(), Schedule::Never)?;
-    assert_eq!(rt; open_within(rt.alloc(), &mut folder, &["a.stm", "b.stm"], &mut out, 8), 1);
+    assert_eq!(rt;
+        open_within(&rt, &mut folder, &["a.stm", "b.stm"], &mut out, 8),
+        1
+    );
     assert_eq!(rt;
         out.lines.bytes(),
         b"failed a.stm: write failed\nopened b.stm bytes 0\n".as_slice()
@@ -223,8 +251,11 @@ fn the_line_is_the_same_where_the_output_stays(rt: HostRuntime) -> Result<(), Fa
     // The calls are the opening, the creation and the removal.
     folder.refuse_call(2);
     let mut out = outs(rt.alloc(), Schedule::Never)?;
-    assert_eq!(rt; open_within(rt.alloc(), &mut folder, &["a.stm"], &mut out, 8), 1);
-    assert_eq!(rt; out.lines.bytes(), b"failed a.stm: write failed\n".as_slice());
+    assert_eq!(rt; open_within(&rt, &mut folder, &["a.stm"], &mut out, 8), 1);
+    assert_eq!(rt;
+        out.lines.bytes(),
+        b"failed a.stm: write failed\n".as_slice()
+    );
     assert!(rt; has_bytes(&folder, "a", b"a sec"));
     Ok(())
 }
@@ -235,7 +266,10 @@ fn an_output_that_cannot_be_created(rt: HostRuntime) -> Result<(), Fail> {
     folder.put("a.stm", &SECRET)?;
     folder.refuse_call(1);
     let mut out = outs(rt.alloc(), Schedule::Never)?;
-    assert_eq!(rt; open_within(rt.alloc(), &mut folder, &["a.stm", "a.stm"], &mut out, 8), 1);
+    assert_eq!(rt;
+        open_within(&rt, &mut folder, &["a.stm", "a.stm"], &mut out, 8),
+        1
+    );
     assert_eq!(rt;
         out.lines.bytes(),
         b"failed a.stm: cannot create\nopened a.stm bytes 8\n".as_slice()
@@ -244,7 +278,9 @@ fn an_output_that_cannot_be_created(rt: HostRuntime) -> Result<(), Fail> {
 }
 
 #[test]
-fn behind_a_line_that_fails_no_other_is_tried_and_files_are_worked(rt: HostRuntime) -> Result<(), Fail> {
+fn behind_a_line_that_fails_no_other_is_tried_and_files_are_worked(
+    rt: HostRuntime,
+) -> Result<(), Fail> {
     let mut folder = MemoryFolder::new(rt.alloc());
     for name in ["a.stm", "b.stm", "c.stm"] {
         folder.put(name, &SECRET)?;
@@ -252,7 +288,7 @@ fn behind_a_line_that_fails_no_other_is_tried_and_files_are_worked(rt: HostRunti
     // The second line's write fails, and a third would be taken.
     let mut out = outs(rt.alloc(), Schedule::Call(1))?;
     let files = ["a.stm", "b.stm", "c.stm"];
-    assert_eq!(rt; open_within(rt.alloc(), &mut folder, &files, &mut out, 8), 2);
+    assert_eq!(rt; open_within(&rt, &mut folder, &files, &mut out, 8), 2);
     assert_eq!(rt; out.lines.bytes(), b"opened a.stm bytes 8\n".as_slice());
     for name in ["a", "b", "c"] {
         assert!(rt; has_bytes(&folder, name, b"a secret"));
@@ -264,7 +300,10 @@ fn behind_a_line_that_fails_no_other_is_tried_and_files_are_worked(rt: HostRunti
 fn a_failed_line_wins_over_a_failed_file(rt: HostRuntime) -> Result<(), Fail> {
     let mut folder = MemoryFolder::new(rt.alloc());
     let mut out = outs(rt.alloc(), Schedule::Bytes(9))?;
-    assert_eq!(rt; verify_within(rt.alloc(), &mut folder, &["a", "b"], &mut out, 8), 2);
+    assert_eq!(rt;
+        verify_within(&rt, &mut folder, &["a", "b"], &mut out, 8),
+        2
+    );
     assert_eq!(rt; out.lines.bytes(), b"failed a:".as_slice());
     Ok(())
 }
@@ -272,10 +311,18 @@ fn a_failed_line_wins_over_a_failed_file(rt: HostRuntime) -> Result<(), Fail> {
 #[test]
 fn an_output_is_a_file_like_any_other(rt: HostRuntime) -> Result<(), Fail> {
     let mut folder = MemoryFolder::new(rt.alloc());
-    let outer = seal(rt.alloc(), &Key::new(COUNTING), [0, 0, 1, 0, 0, 0, 1], &SECRET)?;
+    let outer = seal(
+        rt.alloc(),
+        &Key::new(COUNTING),
+        [0, 0, 1, 0, 0, 0, 1],
+        &SECRET,
+    )?;
     folder.put("a.stm.stm", outer.as_slice())?;
     let mut out = outs(rt.alloc(), Schedule::Never)?;
-    assert_eq!(rt; open_within(rt.alloc(), &mut folder, &["a.stm.stm", "a.stm"], &mut out, 48), 0);
+    assert_eq!(rt;
+        open_within(&rt, &mut folder, &["a.stm.stm", "a.stm"], &mut out, 48),
+        0
+    );
     assert_eq!(rt;
         out.lines.bytes(),
         b"opened a.stm.stm bytes 48\nopened a.stm bytes 8\n".as_slice()
