@@ -1,0 +1,12 @@
+mod Asks
+mod Effects
+mod Makes
+mod Moves
+mod Opens
+mod Owners
+mod Picks
+mod Ready
+mod Reserve
+mod Runs
+mod Shown
+mod Texts

@@ -1,0 +1,14 @@
+use Rattle.std.proofs.Common.{sym, subst, arith}
+use Rattle.sqlite.specs.State.{HasCleanDisk}
+use Rattle.sqlite.specs.Held.{state}
+use Rattle.sqlite.specs.Effect.{Database}
+use Rattle.sqlite.proofs.StateLemmas.{survives_then}
+use Rattle.reserve_core.specs.Reservations.{Holds}
+use Rattle.reserve_core.proofs.keeper.Keeper.reserve.Goals as goal
+
+pub returns-clause-crash : goal.returns-clause-crash
+returns-clause-crash g c =
+    rw (← c.self.view_is)
+    (survives_then (state g.S.Store c.self.inside.conn) (state g.S.Store c.mark_of.new.conn) (state g.S.Store c.append_range.new.conn) (λ _. ⊥) _ _ (λ _ db none. absurd none) (λ clean trees it lists hold.
+    let at_mid : HasCleanDisk (state g.S.Store c.mark_of.new.conn) = omega (arith, c.append_range.ensures.crash.clean) in
+    rw (c.as_slice-2.ensures, c.number-number.ensures.value) at (it.1 lists (subst (λ (d : Database). Holds d lists) (sym (c.mark_of.ensures.same at_mid it.0).0) hold))) c.mark_of.ensures.crash c.append_range.ensures.crash)

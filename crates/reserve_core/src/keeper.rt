@@ -1,0 +1,139 @@
+//! The keeper of a ledger file.
+ghost use Rattle.std.specs.Prelude.{◌≡◌, ◌≢◌, ◌↔◌, ◌+◌, ◌-◌, ◌^◌, ◌<◌, ◌≤◌, IsTrue, IfOk, IfErr, OnOk, OnErr, Err, MatchResult, ◌⊎◌};
+ghost use Rattle.sqlite.specs.Held.{state};
+ghost use Rattle.sqlite.specs.State.{HasCleanDisk, Survives};
+ghost use Rattle.reserve_core.specs.Faults.{IsBad};
+ghost use Rattle.reserve_core.specs.Reservations.{Lists, Holds, Opened, next_of, no_lists, reserved, spans_of};
+
+use crate::fault::ReserveFault;
+use crate::opening::open_tables;
+use crate::reads::{mark_of, ranges_of};
+use crate::writes::append_range;
+use ledger_core::{Device, Range};
+use sqlite::{Alter, Connection};
+use std::marker::Model;
+
+/// The ranges that were ever reserved, in a database that nobody else writes.
+pub struct Keeper<S: Alter> {
+    conn: Connection<S>,
+}
+
+impl<S: Alter + Drop> Drop for Keeper<S> {
+    fn drop(self) {
+        let Keeper { conn: _ } = self;
+    }
+}
+
+impl<S: Alter> Model for Keeper<S> {
+    ghost use Rattle.std.specs.Prelude.{◌≡◌, false, IsTrue};
+    ghost use Rattle.sqlite.specs.State.{HasCleanDisk};
+    ghost use Rattle.sqlite.specs.Held.{Held, held_code, state};
+    ghost use Rattle.reserve_core.specs.Writes.{IsReady};
+
+    ghost Value = { Held S };
+
+    ghost coded = { held_code S.code };
+
+    ghost view = { λ k. k.conn };
+
+    ghost invariant = { λ k. (k.conn.in_transaction ≡ false) × (HasCleanDisk (state S.Store k.conn) → IsTrue (state S.Store k.conn).is_open → IsReady (state S.Store k.conn)) };
+}
+
+impl<S: Alter> Keeper<S> {
+    /// Makes both tables in a database that has none, and checks them else: their schema, and that their rows are lists of adjacent
+    /// ranges, in one pass. Nobody else may write the database from now on.
+    ///
+    /// `BadStore` comes where one table is there and one of the two cannot be read by its column names, or where the rows hold no
+    /// lists; `Store` where the database refuses a statement, memory is refused, the tables are other than the keeper makes them, or
+    /// the connection is in a transaction. A refusal changes nothing and hands the connection back.
+    pub fn open(connection: Connection<S>) -> Result<Keeper<S>, (ReserveFault, Connection<S>)>
+        ensures opened { IfOk result (λ k. HasCleanDisk (state S.Store k) → IsTrue (state S.Store k).is_open → Opened (state S.Store connection).now (state S.Store k).now) }
+        ensures never { IfOk result (λ k. HasCleanDisk (state S.Store k) → IsBad (state S.Store connection).now → ⊥) }
+        ensures bad { IfErr result (λ e. HasCleanDisk (state S.Store e.1) → e.0 ≡ ReserveFault.BadStore → IsBad (state S.Store connection).now) }
+        ensures named { IfErr result (λ e. (e.0 ≡ ReserveFault.Store) ⊎ (e.0 ≡ ReserveFault.BadStore)) }
+        ensures same { IfErr result (λ e. HasCleanDisk (state S.Store e.1) → IsTrue (state S.Store e.1).is_open
+            → ((state S.Store e.1).now ≡ (state S.Store connection).now) × ((state S.Store e.1).committed ≡ (state S.Store connection).committed)) }
+        ensures crash { MatchResult result (λ k. Survives (state S.Store connection) (state S.Store k) (λ trees. (db : _) × Holds db no_lists × (trees ≡ db.trees)))
+            (λ e. Survives (state S.Store connection) (state S.Store e.1) (λ trees. (db : _) × Holds db no_lists × (trees ≡ db.trees))) }
+    {
+        let mut conn = connection;
+        match open_tables(&mut conn) {
+            Ok(()) => Ok(Keeper { conn }),
+            Err(fault) => Err((fault, conn)),
+        }
+    }
+
+    /// The greatest number of file numbers of a range.
+    pub const MAX_COUNT: u32 = Range::MAX_SIZE;
+
+    /// Reserves the next `count` file numbers of the key and device: 1 to 65,535 of them, each below 2^32.
+    ///
+    /// Once it answers `Ok` they are reserved for good, over crashes too. A crash during the call leaves the lists from before, or
+    /// those with the new range. Every refusal changes nothing, and names the first that holds of: no number, over 65,535 numbers,
+    /// fewer left than asked for. `Store` comes where the database refuses a statement or memory is refused.
+    pub fn reserve(
+        &mut self,
+        key_id: &[u8; 32],
+        device: Device,
+        count: u32,
+    ) -> Result<Range, ReserveFault>
+        ensures zero { (result ≡ Err ReserveFault.ZeroCount) ↔ (count ≡ 0) }
+        ensures many { (result ≡ Err ReserveFault.TooMany) ↔ (65535 < count) }
+        ensures spent { HasCleanDisk (state S.Store self.new) → (lists : Lists) → Holds (state S.Store self.old).now lists
+            → IfErr result (λ e. (left : _) → e ≡ ReserveFault.FieldSpent left → (2 ^ 32 < next_of (lists key_id.now device) + count) × (left ≡ 2 ^ 32 - next_of (lists key_id.now device))) }
+        ensures sound { HasCleanDisk (state S.Store self.new) → result ≢ Err ReserveFault.BadStore }
+        ensures appends { HasCleanDisk (state S.Store self.new) → (lists : Lists) → Holds (state S.Store self.old).now lists
+            → IfOk result (λ r. (r.device ≡ device) × (r.lo ≡ next_of (lists key_id.now device)) × (r.size ≡ count) × (r.lo + count ≤ 2 ^ 32)
+            × Holds (state S.Store self.new).now (reserved lists key_id.now device count)) }
+        ensures same { HasCleanDisk (state S.Store self.new) → IsTrue (state S.Store self.new).is_open
+            → OnErr result (((state S.Store self.new).now ≡ (state S.Store self.old).now) × ((state S.Store self.new).committed ≡ (state S.Store self.old).committed)) }
+        ensures crash { Survives (state S.Store self.old) (state S.Store self.new) (λ trees. (lists : Lists) → Holds (state S.Store self.old).now lists
+            → (db : _) × Holds db (reserved lists key_id.now device count) × (trees ≡ db.trees)) }
+        ensures lasts { HasCleanDisk (state S.Store self.new) → OnOk result ((trees : _) → (state S.Store self.new).may_leave trees → trees ≡ (state S.Store self.new).now.trees) }
+    {
+        if count == 0 {
+            return Err(ReserveFault::ZeroCount);
+        }
+        if count > 65_535 {
+            return Err(ReserveFault::TooMany);
+        }
+        let number = device.number();
+        let mark = mark_of(&mut self.conn, key_id.as_slice(), number)?;
+        let next = mark.unwrap_or(0);
+        if next + u64::from(count) > 0x1_0000_0000 {
+            let left = 0x1_0000_0000 - next;
+            return Err(ReserveFault::FieldSpent { left });
+        }
+        let Ok(range) = Range::new(device, next as u32, count) else {
+            return Err(ReserveFault::Store);
+        };
+        match append_range(&mut self.conn, key_id.as_slice(), number, mark, count) {
+            Ok(()) => Ok(range),
+            Err(_) => Err(ReserveFault::Store),
+        }
+    }
+
+    /// The ranges of the key and device, as (`lo`, `size`), in order of `lo`. A refusal is `Store` or `BadStore`. Nothing changes.
+    pub fn taken(
+        &mut self,
+        key_id: &[u8; 32],
+        device: Device,
+    ) -> Result<Vec<(u32, u64)>, ReserveFault>
+        ensures lists { HasCleanDisk (state S.Store self.new) → (lists : Lists) → Holds (state S.Store self.old).now lists
+            → IfOk result (λ ranges. spans_of ranges.items ≡ lists key_id.now device) }
+        ensures named { IfErr result (λ e. (e ≡ ReserveFault.Store) ⊎ (e ≡ ReserveFault.BadStore)) }
+        ensures same { HasCleanDisk (state S.Store self.new) → IsTrue (state S.Store self.new).is_open
+            → ((state S.Store self.new).now ≡ (state S.Store self.old).now) × ((state S.Store self.new).committed ≡ (state S.Store self.old).committed) }
+        ensures crash { Survives (state S.Store self.old) (state S.Store self.new) (λ _. ⊥) }
+    {
+        ranges_of(&mut self.conn, key_id.as_slice(), device.number())
+    }
+
+    /// Gives the connection back, as it is.
+    pub fn release(self) -> Connection<S>
+        ensures { result ≡ self }
+    {
+        let Keeper { conn } = self;
+        conn
+    }
+}

@@ -1,0 +1,18 @@
+//! Which file numbers of a key and device were ever reserved: ranges in two tables of an SQLite database, the ledger file.
+//!
+//! For each key id and device the ranges are adjacent from 0, so no number is in two of them. A range is reserved for good once
+//! `Keeper::reserve` answers, over crashes and power cuts too. One transaction moves the mark and takes the range.
+#![tactic(auto)]
+
+pub mod fault;
+pub mod keeper;
+pub mod laws;
+mod opening;
+mod reads;
+mod rows;
+mod schema;
+mod tables;
+mod writes;
+
+pub use crate::fault::ReserveFault;
+pub use crate::keeper::Keeper;

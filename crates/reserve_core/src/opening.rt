@@ -1,0 +1,42 @@
+//! What `Keeper::open` does: it makes both tables where there is none, and checks them else.
+ghost use Rattle.std.specs.Prelude.{◌≡◌, ◌⊎◌, IsTrue, IfErr, OnOk, OnErr, Err, false};
+ghost use Rattle.sqlite.specs.State.{HasCleanDisk, Survives};
+ghost use Rattle.sqlite.specs.Held.{state};
+ghost use Rattle.reserve_core.specs.Faults.{IsBad};
+ghost use Rattle.reserve_core.specs.Reservations.{Holds, Opened, no_lists};
+ghost use Rattle.reserve_core.specs.Writes.{IsReady};
+
+use crate::fault::ReserveFault;
+use crate::reads::check_rows;
+use crate::schema::{is_bad, is_blank, is_ledger};
+use crate::tables::make_tables;
+use sqlite::{Alter, Connection};
+
+pub(crate) fn open_tables<S: Alter>(conn: &mut Connection<S>) -> Result<(), ReserveFault>
+    ensures settled { OnOk result (conn.new.in_transaction ≡ false) }
+    ensures ready { HasCleanDisk (state S.Store conn.new) → IsTrue (state S.Store conn.new).is_open → OnOk result (IsReady (state S.Store conn.new)) }
+    ensures opened { HasCleanDisk (state S.Store conn.new) → IsTrue (state S.Store conn.new).is_open → OnOk result (Opened (state S.Store conn.old).now (state S.Store conn.new).now) }
+    ensures never { HasCleanDisk (state S.Store conn.new) → OnOk result (IsBad (state S.Store conn.old).now → ⊥) }
+    ensures bad { HasCleanDisk (state S.Store conn.new) → result ≡ Err ReserveFault.BadStore → IsBad (state S.Store conn.old).now }
+    ensures named { IfErr result (λ e. (e ≡ ReserveFault.Store) ⊎ (e ≡ ReserveFault.BadStore)) }
+    ensures same { HasCleanDisk (state S.Store conn.new) → IsTrue (state S.Store conn.new).is_open
+        → OnErr result (((state S.Store conn.new).now ≡ (state S.Store conn.old).now) × ((state S.Store conn.new).committed ≡ (state S.Store conn.old).committed)) }
+    ensures crash { Survives (state S.Store conn.old) (state S.Store conn.new) (λ trees. (db : _) × Holds db no_lists × (trees ≡ db.trees)) }
+{
+    if !conn.is_autocommit() {
+        return Err(ReserveFault::Store);
+    }
+    if is_blank(conn.schema()) {
+        return match make_tables(conn) {
+            Ok(()) => Ok(()),
+            Err(_) => Err(ReserveFault::Store),
+        };
+    }
+    if !is_ledger(conn.schema()) {
+        if is_bad(conn.schema()) {
+            return Err(ReserveFault::BadStore);
+        }
+        return Err(ReserveFault::Store);
+    }
+    check_rows(conn)
+}

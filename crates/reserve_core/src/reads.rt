@@ -1,0 +1,280 @@
+//! What the tables hold, read.
+ghost use Rattle.std.specs.Prelude.{◌≡◌, Err, ◌⊎◌, ◌≤◌, ◌<◌, ◌^◌, IsTrue, OnOk, IfOk, IfErr, true, false, [], ◌∷◌, pos, Ok, Some, None, map, filter, IsPermutation};
+ghost use Rattle.sqlite.specs.declared.types.Value.TheVariants.{Int};
+ghost use Rattle.sqlite.specs.Order.{column};
+ghost use Rattle.sqlite.specs.State.{HasCleanDisk, Survives, KeepsCommit, Shows};
+ghost use Rattle.sqlite.specs.Held.{state};
+ghost use Rattle.reserve_core.specs.Tables.{IsLedger};
+ghost use Rattle.reserve_core.specs.Reads.{is_for, shown_id, shown_mark, shown_next, shown_range, shown_taken};
+ghost use Rattle.reserve_core.specs.Reservations.{Adjacent, Lists, Holds, span_shown, spans_of};
+ghost use Rattle.reserve_core.specs.Writes.{HaveRowids, IsMarkOf, IsReady};
+
+use crate::fault::ReserveFault;
+use crate::rows::{do_rise, hold_lists, number_at};
+use sqlite::{Alter, Connection, Error, Row, Transaction, params};
+
+/// The rows that hold the mark of a key id and device.
+fn pick<S: Alter>(tx: &mut Transaction<'_, S>, key: &[u8], device: u32) -> Result<Vec<Row>, Error>
+    ensures same_reference { tx.new.conn.ghost_name ≡ tx.old.conn.ghost_name }
+    ensures open { HasCleanDisk (state S.Store tx.new.conn.now) → OnOk result (IsTrue (state S.Store tx.old.conn.now).is_open) }
+    ensures picked { HasCleanDisk (state S.Store tx.new.conn.now) → (lists : Lists) → Holds (state S.Store tx.old.conn.now).now lists
+        → IfOk result (λ rows. IsPermutation (map shown_next (filter (is_for key.now device) ((state S.Store tx.old.conn.now).now.trees 0))) rows.items) }
+    ensures kept { HasCleanDisk (state S.Store tx.new.conn.now) → IsTrue (state S.Store tx.old.conn.now).in_transaction → KeepsCommit (state S.Store tx.old.conn.now) (state S.Store tx.new.conn.now) }
+    ensures survives { Survives (state S.Store tx.old.conn.now) (state S.Store tx.new.conn.now) (λ _. ⊥) }
+{
+    tx.query_all(
+        "SELECT next FROM mark WHERE key_id = ?1 AND device = ?2",
+        params![key, device],
+    )
+}
+
+/// It reads in a transaction that it takes back, so that it commits nothing, whatever the schema is.
+fn next_rows<S: Alter>(conn: &mut Connection<S>, key: &[u8], device: u32) -> Result<Vec<Row>, Error>
+    requires settled { conn.old.in_transaction ≡ false }
+    ensures settled { conn.new.in_transaction ≡ false }
+    ensures was_open { HasCleanDisk (state S.Store conn.new) → IsTrue (state S.Store conn.new).is_open → IsTrue (state S.Store conn.old).is_open }
+    ensures open { HasCleanDisk (state S.Store conn.new) → OnOk result (IsTrue (state S.Store conn.old).is_open) }
+    ensures picked { HasCleanDisk (state S.Store conn.new) → (lists : Lists) → Holds (state S.Store conn.old).now lists
+        → IfOk result (λ rows. IsPermutation (map shown_next (filter (is_for key.now device) ((state S.Store conn.old).now.trees 0))) rows.items) }
+    ensures same { HasCleanDisk (state S.Store conn.new) → IsTrue (state S.Store conn.new).is_open → (state S.Store conn.old).now ≡ (state S.Store conn.old).committed
+        → ((state S.Store conn.new).now ≡ (state S.Store conn.old).now) × ((state S.Store conn.new).committed ≡ (state S.Store conn.old).committed) }
+    ensures crash { Survives (state S.Store conn.old) (state S.Store conn.new) (λ _. ⊥) }
+{
+    let mut tx = conn.transaction();
+    let rows = pick(&mut tx, key, device)?;
+    tx.rollback();
+    Ok(rows)
+}
+
+/// The mark that the rows hold, if there is one. Two rows are no lawful table.
+fn mark_in(rows: &[Row]) -> Result<Option<u64>, ReserveFault>
+    ensures none { rows.now ≡ [] → result ≡ Ok None }
+    ensures one { (n : _) → n ≤ 4294967296 → rows.now ≡ (Int (pos n) ∷ []) ∷ [] → result ≡ Ok (Some n) }
+    ensures bound { IfOk result (λ mark. (n : _) → mark ≡ Some n → n ≤ 4294967296) }
+    ensures named { IfErr result (λ e. e ≡ ReserveFault.BadStore) }
+{
+    match rows {
+        [] => Ok(None),
+        [row] => match number_at(row, 0) {
+            Some(next) if next <= 0x1_0000_0000 => Ok(Some(next)),
+            _ => Err(ReserveFault::BadStore),
+        },
+        _ => Err(ReserveFault::BadStore),
+    }
+}
+
+/// The mark of a key id and device: the number at which its next range begins. There is none where nothing was reserved.
+pub(crate) fn mark_of<S: Alter>(
+    conn: &mut Connection<S>,
+    key: &[u8],
+    device: u32,
+) -> Result<Option<u64>, ReserveFault>
+    requires settled { conn.old.in_transaction ≡ false }
+    requires ready { HasCleanDisk (state S.Store conn.old) → IsTrue (state S.Store conn.old).is_open → IsReady (state S.Store conn.old) }
+    ensures settled { conn.new.in_transaction ≡ false }
+    ensures was_open { HasCleanDisk (state S.Store conn.new) → IsTrue (state S.Store conn.new).is_open → IsTrue (state S.Store conn.old).is_open }
+    ensures open { HasCleanDisk (state S.Store conn.new) → OnOk result (IsTrue (state S.Store conn.old).is_open) }
+    ensures read { HasCleanDisk (state S.Store conn.new) → IfOk result (IsMarkOf (filter (is_for key.now device) ((state S.Store conn.old).now.trees 0))) }
+    ensures bound { IfOk result (λ mark. (n : _) → mark ≡ Some n → n ≤ 4294967296) }
+    ensures named { IfErr result (λ e. (e ≡ ReserveFault.Store) ⊎ (e ≡ ReserveFault.BadStore)) }
+    ensures sound { HasCleanDisk (state S.Store conn.new) → IfErr result (λ e. e ≡ ReserveFault.Store) }
+    ensures same { HasCleanDisk (state S.Store conn.new) → IsTrue (state S.Store conn.new).is_open
+        → ((state S.Store conn.new).now ≡ (state S.Store conn.old).now) × ((state S.Store conn.new).committed ≡ (state S.Store conn.old).committed) }
+    ensures crash { Survives (state S.Store conn.old) (state S.Store conn.new) (λ _. ⊥) }
+{
+    match next_rows(conn, key, device) {
+        Ok(rows) => mark_in(rows.as_slice()),
+        Err(_) => Err(ReserveFault::Store),
+    }
+}
+
+/// The rows of `mark` in the order of their keys.
+fn pick_marks<S: Alter>(tx: &mut Transaction<'_, S>) -> Result<Vec<Row>, Error>
+    ensures same_reference { tx.new.conn.ghost_name ≡ tx.old.conn.ghost_name }
+    ensures open { HasCleanDisk (state S.Store tx.new.conn.now) → OnOk result (IsTrue (state S.Store tx.old.conn.now).is_open) }
+    ensures shown { HasCleanDisk (state S.Store tx.new.conn.now) → IsTrue (state S.Store tx.old.conn.now).in_transaction → IsLedger (state S.Store tx.old.conn.now).now.schema
+        → OnOk result (Shows (state S.Store tx.old.conn.now) (state S.Store tx.new.conn.now) (state S.Store tx.old.conn.now).now (state S.Store tx.old.conn.now).committed true) }
+    ensures read { HasCleanDisk (state S.Store tx.new.conn.now) → IsLedger (state S.Store tx.old.conn.now).now.schema → IfOk result (λ rows. IsPermutation (map shown_mark ((state S.Store tx.old.conn.now).now.trees 0)) rows.items) }
+    ensures inside { HasCleanDisk (state S.Store tx.new.conn.now) → IsTrue (state S.Store tx.old.conn.now).in_transaction → OnOk result (IsTrue (state S.Store tx.new.conn.now).in_transaction) }
+    ensures kept { HasCleanDisk (state S.Store tx.new.conn.now) → IsTrue (state S.Store tx.old.conn.now).in_transaction → KeepsCommit (state S.Store tx.old.conn.now) (state S.Store tx.new.conn.now) }
+    ensures survives { Survives (state S.Store tx.old.conn.now) (state S.Store tx.new.conn.now) (λ _. ⊥) }
+{
+    tx.query_all(
+        "SELECT rowid, key_id, device, next FROM mark ORDER BY key_id, device",
+        &[],
+    )
+}
+
+/// The rows of `taken` in the order of their keys.
+fn pick_takings<S: Alter>(tx: &mut Transaction<'_, S>) -> Result<Vec<Row>, Error>
+    ensures same_reference { tx.new.conn.ghost_name ≡ tx.old.conn.ghost_name }
+    ensures open { HasCleanDisk (state S.Store tx.new.conn.now) → OnOk result (IsTrue (state S.Store tx.old.conn.now).is_open) }
+    ensures shown { HasCleanDisk (state S.Store tx.new.conn.now) → IsTrue (state S.Store tx.old.conn.now).in_transaction → IsLedger (state S.Store tx.old.conn.now).now.schema
+        → OnOk result (Shows (state S.Store tx.old.conn.now) (state S.Store tx.new.conn.now) (state S.Store tx.old.conn.now).now (state S.Store tx.old.conn.now).committed true) }
+    ensures read { HasCleanDisk (state S.Store tx.new.conn.now) → IsLedger (state S.Store tx.old.conn.now).now.schema → IfOk result (λ rows. IsPermutation (map shown_taken ((state S.Store tx.old.conn.now).now.trees 2)) rows.items) }
+    ensures inside { HasCleanDisk (state S.Store tx.new.conn.now) → IsTrue (state S.Store tx.old.conn.now).in_transaction → OnOk result (IsTrue (state S.Store tx.new.conn.now).in_transaction) }
+    ensures kept { HasCleanDisk (state S.Store tx.new.conn.now) → IsTrue (state S.Store tx.old.conn.now).in_transaction → KeepsCommit (state S.Store tx.old.conn.now) (state S.Store tx.new.conn.now) }
+    ensures survives { Survives (state S.Store tx.old.conn.now) (state S.Store tx.new.conn.now) (λ _. ⊥) }
+{
+    tx.query_all(
+        "SELECT rowid, key_id, device, lo, size FROM taken ORDER BY key_id, device, lo",
+        &[],
+    )
+}
+
+/// The rowids of `mark` in their order.
+fn pick_ids<S: Alter>(tx: &mut Transaction<'_, S>) -> Result<Vec<Row>, Error>
+    ensures same_reference { tx.new.conn.ghost_name ≡ tx.old.conn.ghost_name }
+    ensures open { HasCleanDisk (state S.Store tx.new.conn.now) → OnOk result (IsTrue (state S.Store tx.old.conn.now).is_open) }
+    ensures shown { HasCleanDisk (state S.Store tx.new.conn.now) → IsTrue (state S.Store tx.old.conn.now).in_transaction → IsLedger (state S.Store tx.old.conn.now).now.schema
+        → OnOk result (Shows (state S.Store tx.old.conn.now) (state S.Store tx.new.conn.now) (state S.Store tx.old.conn.now).now (state S.Store tx.old.conn.now).committed true) }
+    ensures read { HasCleanDisk (state S.Store tx.new.conn.now) → IsLedger (state S.Store tx.old.conn.now).now.schema → IfOk result (λ rows. IsPermutation (map shown_id ((state S.Store tx.old.conn.now).now.trees 0)) rows.items) }
+    ensures inside { HasCleanDisk (state S.Store tx.new.conn.now) → IsTrue (state S.Store tx.old.conn.now).in_transaction → OnOk result (IsTrue (state S.Store tx.new.conn.now).in_transaction) }
+    ensures kept { HasCleanDisk (state S.Store tx.new.conn.now) → IsTrue (state S.Store tx.old.conn.now).in_transaction → KeepsCommit (state S.Store tx.old.conn.now) (state S.Store tx.new.conn.now) }
+    ensures survives { Survives (state S.Store tx.old.conn.now) (state S.Store tx.new.conn.now) (λ _. ⊥) }
+{
+    tx.query_all("SELECT rowid FROM mark ORDER BY rowid", &[])
+}
+
+/// The rows of both tables, in the order of their keys, and the rowids of `mark` in their order.
+#[derive(Drop)]
+struct Everything {
+    marks: Vec<Row>,
+    taken: Vec<Row>,
+    ids: Vec<Row>,
+}
+
+/// It reads in a transaction that it takes back, as `next_rows`.
+fn read_all<S: Alter>(conn: &mut Connection<S>) -> Result<Everything, Error>
+    requires settled { conn.old.in_transaction ≡ false }
+    ensures settled { conn.new.in_transaction ≡ false }
+    ensures was_open { HasCleanDisk (state S.Store conn.new) → IsTrue (state S.Store conn.new).is_open → IsTrue (state S.Store conn.old).is_open }
+    ensures open { HasCleanDisk (state S.Store conn.new) → OnOk result (IsTrue (state S.Store conn.old).is_open) }
+    ensures read { HasCleanDisk (state S.Store conn.new) → IsLedger (state S.Store conn.old).now.schema → IfOk result (λ all.
+        IsPermutation (map shown_mark ((state S.Store conn.old).now.trees 0)) all.marks.items
+        × IsPermutation (map shown_taken ((state S.Store conn.old).now.trees 2)) all.taken.items
+        × IsPermutation (map shown_id ((state S.Store conn.old).now.trees 0)) all.ids.items) }
+    ensures same { HasCleanDisk (state S.Store conn.new) → IsTrue (state S.Store conn.new).is_open → (state S.Store conn.old).now ≡ (state S.Store conn.old).committed
+        → ((state S.Store conn.new).now ≡ (state S.Store conn.old).now) × ((state S.Store conn.new).committed ≡ (state S.Store conn.old).committed) }
+    ensures crash { Survives (state S.Store conn.old) (state S.Store conn.new) (λ _. ⊥) }
+{
+    let mut tx = conn.transaction();
+    let marks = pick_marks(&mut tx)?;
+    let taken = pick_takings(&mut tx)?;
+    let ids = pick_ids(&mut tx)?;
+    tx.rollback();
+    Ok(Everything { marks, taken, ids })
+}
+
+/// Whether the rows of the tables hold lists. Where they do not it is `BadStore`.
+pub(crate) fn check_rows<S: Alter>(conn: &mut Connection<S>) -> Result<(), ReserveFault>
+    requires settled { conn.old.in_transaction ≡ false }
+    ensures settled { conn.new.in_transaction ≡ false }
+    ensures was_open { HasCleanDisk (state S.Store conn.new) → IsTrue (state S.Store conn.new).is_open → IsTrue (state S.Store conn.old).is_open }
+    ensures open { HasCleanDisk (state S.Store conn.new) → OnOk result (IsTrue (state S.Store conn.old).is_open) }
+    ensures ok { HasCleanDisk (state S.Store conn.new) → IsLedger (state S.Store conn.old).now.schema
+        → OnOk result ((lists : Lists) × Holds (state S.Store conn.old).now lists × HaveRowids ((state S.Store conn.old).now.trees 0)) }
+    ensures bad { HasCleanDisk (state S.Store conn.new) → IsLedger (state S.Store conn.old).now.schema → result ≡ Err ReserveFault.BadStore
+        → (lists : Lists) → Holds (state S.Store conn.old).now lists → ⊥ }
+    ensures named { IfErr result (λ e. (e ≡ ReserveFault.Store) ⊎ (e ≡ ReserveFault.BadStore)) }
+    ensures same { HasCleanDisk (state S.Store conn.new) → IsTrue (state S.Store conn.new).is_open → (state S.Store conn.old).now ≡ (state S.Store conn.old).committed
+        → ((state S.Store conn.new).now ≡ (state S.Store conn.old).now) × ((state S.Store conn.new).committed ≡ (state S.Store conn.old).committed) }
+    ensures crash { Survives (state S.Store conn.old) (state S.Store conn.new) (λ _. ⊥) }
+{
+    let Ok(all) = read_all(conn) else {
+        return Err(ReserveFault::Store);
+    };
+    hold_lists(all.marks.as_slice(), all.taken.as_slice())?;
+    // SQLite gives no two rows of a table one rowid.
+    if !do_rise(all.ids.as_slice()) {
+        return Err(ReserveFault::Store);
+    }
+    Ok(())
+}
+
+/// The rows that hold the ranges of a key id and device.
+fn pick_ranges<S: Alter>(
+    tx: &mut Transaction<'_, S>,
+    key: &[u8],
+    device: u32,
+) -> Result<Vec<Row>, Error>
+    ensures same_reference { tx.new.conn.ghost_name ≡ tx.old.conn.ghost_name }
+    ensures open { HasCleanDisk (state S.Store tx.new.conn.now) → OnOk result (IsTrue (state S.Store tx.old.conn.now).is_open) }
+    ensures picked { HasCleanDisk (state S.Store tx.new.conn.now) → (lists : Lists) → Holds (state S.Store tx.old.conn.now).now lists
+        → IfOk result (λ rows. IsPermutation (map shown_range (filter (is_for key.now device) ((state S.Store tx.old.conn.now).now.trees 2))) rows.items) }
+    ensures kept { HasCleanDisk (state S.Store tx.new.conn.now) → IsTrue (state S.Store tx.old.conn.now).in_transaction → KeepsCommit (state S.Store tx.old.conn.now) (state S.Store tx.new.conn.now) }
+    ensures survives { Survives (state S.Store tx.old.conn.now) (state S.Store tx.new.conn.now) (λ _. ⊥) }
+{
+    tx.query_all(
+        "SELECT lo, size FROM taken WHERE key_id = ?1 AND device = ?2 ORDER BY lo",
+        params![key, device],
+    )
+}
+
+/// It reads in a transaction that it takes back, as `next_rows`.
+fn range_rows<S: Alter>(
+    conn: &mut Connection<S>,
+    key: &[u8],
+    device: u32,
+) -> Result<Vec<Row>, Error>
+    requires settled { conn.old.in_transaction ≡ false }
+    ensures settled { conn.new.in_transaction ≡ false }
+    ensures was_open { HasCleanDisk (state S.Store conn.new) → IsTrue (state S.Store conn.new).is_open → IsTrue (state S.Store conn.old).is_open }
+    ensures open { HasCleanDisk (state S.Store conn.new) → OnOk result (IsTrue (state S.Store conn.old).is_open) }
+    ensures picked { HasCleanDisk (state S.Store conn.new) → (lists : Lists) → Holds (state S.Store conn.old).now lists
+        → IfOk result (λ rows. IsPermutation (map shown_range (filter (is_for key.now device) ((state S.Store conn.old).now.trees 2))) rows.items) }
+    ensures same { HasCleanDisk (state S.Store conn.new) → IsTrue (state S.Store conn.new).is_open → (state S.Store conn.old).now ≡ (state S.Store conn.old).committed
+        → ((state S.Store conn.new).now ≡ (state S.Store conn.old).now) × ((state S.Store conn.new).committed ≡ (state S.Store conn.old).committed) }
+    ensures crash { Survives (state S.Store conn.old) (state S.Store conn.new) (λ _. ⊥) }
+{
+    let mut tx = conn.transaction();
+    let rows = pick_ranges(&mut tx, key, device)?;
+    tx.rollback();
+    Ok(rows)
+}
+
+/// The ranges that the rows hold, which are adjacent from 0.
+fn spans_in(rows: &Vec<Row>) -> Result<Vec<(u32, u64)>, ReserveFault>
+    ensures ranges { IfOk result (λ spans. spans_of spans.items ≡ map span_shown rows.now.items) }
+    ensures adjacent { IfOk result (λ spans. Adjacent 0 (spans_of spans.items)) }
+    ensures named { IfErr result (λ e. (e ≡ ReserveFault.Store) ⊎ (e ≡ ReserveFault.BadStore)) }
+{
+    let mut spans = Vec::new(*rows.allocator());
+    let mut rest = rows.as_slice();
+    let mut end = 0;
+    while let Some((row, more)) = rest.split_first() {
+        let (Some(lo), Some(size)) = (number_at(row, 0), number_at(row, 1)) else {
+            return Err(ReserveFault::BadStore);
+        };
+        if lo != end || size == 0 || size > 0x1_0000_0000 - end {
+            return Err(ReserveFault::BadStore);
+        }
+        if spans.push((lo as u32, size)).is_err() {
+            return Err(ReserveFault::Store);
+        }
+        end += size;
+        rest = more;
+    }
+    Ok(spans)
+}
+
+/// The ranges of a key id and device, in order.
+pub(crate) fn ranges_of<S: Alter>(
+    conn: &mut Connection<S>,
+    key: &[u8],
+    device: u32,
+) -> Result<Vec<(u32, u64)>, ReserveFault>
+    requires settled { conn.old.in_transaction ≡ false }
+    ensures settled { conn.new.in_transaction ≡ false }
+    ensures was_open { HasCleanDisk (state S.Store conn.new) → IsTrue (state S.Store conn.new).is_open → IsTrue (state S.Store conn.old).is_open }
+    ensures lists { HasCleanDisk (state S.Store conn.new) → (lists : Lists) → Holds (state S.Store conn.old).now lists → IfOk result (λ spans. spans_of spans.items ≡ lists key.now device) }
+    ensures named { IfErr result (λ e. (e ≡ ReserveFault.Store) ⊎ (e ≡ ReserveFault.BadStore)) }
+    ensures same { HasCleanDisk (state S.Store conn.new) → IsTrue (state S.Store conn.new).is_open → (state S.Store conn.old).now ≡ (state S.Store conn.old).committed
+        → ((state S.Store conn.new).now ≡ (state S.Store conn.old).now) × ((state S.Store conn.new).committed ≡ (state S.Store conn.old).committed) }
+    ensures crash { Survives (state S.Store conn.old) (state S.Store conn.new) (λ _. ⊥) }
+{
+    match range_rows(conn, key, device) {
+        Ok(rows) => spans_in(&rows),
+        Err(_) => Err(ReserveFault::Store),
+    }
+}

@@ -1,0 +1,137 @@
+//! Reservations, one after the other.
+use crate::store::{ID, TABLES, database, has_taken, keeper, reserve};
+use reserve_core::{Keeper, ReserveFault};
+use std::test::*;
+
+#[test]
+fn ranges_are_adjacent_from_0(rt: HostRuntime) -> Result<(), Fail> {
+    let mut keeper = keeper(database(rt.alloc(), &[]).ok_or("database")?)?;
+    assert!(rt; has_taken(&mut keeper, &ID, 1, &[]));
+    assert_eq!(rt; reserve(&mut keeper, &ID, 1, 3), Ok((0, 3)));
+    assert_eq!(rt; reserve(&mut keeper, &ID, 1, 1), Ok((3, 1)));
+    assert_eq!(rt; reserve(&mut keeper, &ID, 1, 65_535), Ok((4, 65_535)));
+    assert!(rt; has_taken(&mut keeper, &ID, 1, &[(0, 3), (3, 1), (4, 65_535)]));
+    Ok(())
+}
+
+#[test]
+fn field_is_spent_at_its_end(rt: HostRuntime) -> Result<(), Fail> {
+    let rows =
+        "INSERT INTO mark VALUES (X'630dcd2966c4336691125448bbb25b4ff412a49c732db2c8abc1b8581bd710dd', 1, 4294967295); INSERT INTO taken VALUES (X'630dcd2966c4336691125448bbb25b4ff412a49c732db2c8abc1b8581bd710dd', 1, 0, 4294967295);";
+    let mut keeper = keeper(database(rt.alloc(), &[TABLES, rows]).ok_or("database")?)?;
+    assert_eq!(rt;
+        reserve(&mut keeper, &ID, 1, 0),
+        Err(ReserveFault::ZeroCount)
+    );
+    assert_eq!(rt;
+        reserve(&mut keeper, &ID, 1, 65_536),
+        Err(ReserveFault::TooMany)
+    );
+    assert_eq!(rt;
+        reserve(&mut keeper, &ID, 1, 2),
+        Err(ReserveFault::FieldSpent { left: 1 })
+    );
+    assert_eq!(rt; reserve(&mut keeper, &ID, 1, 1), Ok((4_294_967_295, 1)));
+    assert_eq!(rt;
+        reserve(&mut keeper, &ID, 1, 1),
+        Err(ReserveFault::FieldSpent { left: 0 })
+    );
+    Ok(())
+}
+
+#[test]
+fn a_refusal_changes_nothing(rt: HostRuntime) -> Result<(), Fail> {
+    let mut keeper = keeper(database(rt.alloc(), &[]).ok_or("database")?)?;
+    assert_eq!(rt; reserve(&mut keeper, &ID, 1, 2), Ok((0, 2)));
+    assert_eq!(rt;
+        reserve(&mut keeper, &ID, 1, 0),
+        Err(ReserveFault::ZeroCount)
+    );
+    assert_eq!(rt;
+        reserve(&mut keeper, &ID, 1, 65_536),
+        Err(ReserveFault::TooMany)
+    );
+    assert!(rt; has_taken(&mut keeper, &ID, 1, &[(0, 2)]));
+    assert_eq!(rt; reserve(&mut keeper, &ID, 1, 1), Ok((2, 1)));
+    Ok(())
+}
+
+#[test]
+fn devices_and_key_ids_each_begin_at_0(rt: HostRuntime) -> Result<(), Fail> {
+    let other = [7; 32];
+    let mut keeper = keeper(database(rt.alloc(), &[]).ok_or("database")?)?;
+    assert_eq!(rt; reserve(&mut keeper, &ID, 1, 3), Ok((0, 3)));
+    assert_eq!(rt; reserve(&mut keeper, &ID, 2, 4), Ok((0, 4)));
+    assert_eq!(rt; reserve(&mut keeper, &other, 1, 5), Ok((0, 5)));
+    assert_eq!(rt; reserve(&mut keeper, &other, 16_777_215, 6), Ok((0, 6)));
+    assert_eq!(rt; reserve(&mut keeper, &ID, 1, 1), Ok((3, 1)));
+    assert!(rt; has_taken(&mut keeper, &ID, 1, &[(0, 3), (3, 1)]));
+    assert!(rt; has_taken(&mut keeper, &ID, 2, &[(0, 4)]));
+    assert!(rt; has_taken(&mut keeper, &other, 1, &[(0, 5)]));
+    assert!(rt; has_taken(&mut keeper, &other, 16_777_215, &[(0, 6)]));
+    assert!(rt; has_taken(&mut keeper, &other, 2, &[]));
+    Ok(())
+}
+
+#[test]
+fn second_run_continues_the_numbers(rt: HostRuntime) -> Result<(), Fail> {
+    let mut first = keeper(database(rt.alloc(), &[]).ok_or("database")?)?;
+    assert_eq!(rt; reserve(&mut first, &ID, 1, 3), Ok((0, 3)));
+    assert_eq!(rt; reserve(&mut first, &ID, 2, 1), Ok((0, 1)));
+    let mut second = keeper(first.release())?;
+    assert_eq!(rt; reserve(&mut second, &ID, 1, 1), Ok((3, 1)));
+    assert!(rt; has_taken(&mut second, &ID, 1, &[(0, 3), (3, 1)]));
+    Ok(())
+}
+
+#[test]
+fn a_long_range_goes_on(rt: HostRuntime) -> Result<(), Fail> {
+    let rows =
+        "INSERT INTO mark VALUES (X'630dcd2966c4336691125448bbb25b4ff412a49c732db2c8abc1b8581bd710dd', 1, 70000); INSERT INTO taken VALUES (X'630dcd2966c4336691125448bbb25b4ff412a49c732db2c8abc1b8581bd710dd', 1, 0, 70000);";
+    let mut keeper = keeper(database(rt.alloc(), &[TABLES, rows]).ok_or("database")?)?;
+    assert_eq!(rt; reserve(&mut keeper, &ID, 1, 2), Ok((70_000, 2)));
+    assert!(rt; has_taken(&mut keeper, &ID, 1, &[(0, 70_000), (70_000, 2)]));
+    Ok(())
+}
+
+#[test]
+fn a_refused_database_is_handed_back(rt: HostRuntime) -> Result<(), Fail> {
+    let rows =
+        "INSERT INTO taken VALUES (X'630dcd2966c4336691125448bbb25b4ff412a49c732db2c8abc1b8581bd710dd', 1, 0, 1);";
+    let conn = database(rt.alloc(), &[TABLES, rows]).ok_or("database")?;
+    let Err((fault, mut conn)) = Keeper::open(conn) else {
+        return Err("opened".into());
+    };
+    assert_eq!(rt; fault, ReserveFault::BadStore);
+    assert_eq!(rt;
+        conn.query_row("SELECT count(*) FROM taken", &[])?
+            .get::<i64>(0)?,
+        1
+    );
+    Ok(())
+}
+
+#[test]
+fn faults_have_texts(rt: HostRuntime) -> Result<(), Fail> {
+    let alloc = rt.alloc();
+    let spent = ReserveFault::FieldSpent { left: 7 };
+    assert_eq!(rt;
+        format!(in alloc; "{}", ReserveFault::ZeroCount)?.as_str(),
+        "no files"
+    );
+    assert_eq!(rt;
+        format!(in alloc; "{}", ReserveFault::TooMany)?.as_str(),
+        "too many files"
+    );
+    assert_eq!(rt; format!(in alloc; "{}", spent)?.as_str(), "7 numbers left");
+    assert_eq!(rt;
+        format!(in alloc; "{}", ReserveFault::Store)?.as_str(),
+        "store failed"
+    );
+    assert_eq!(rt;
+        format!(in alloc; "{}", ReserveFault::BadStore)?.as_str(),
+        "not a ledger"
+    );
+    assert_eq!(rt; spent.number(), 32);
+    Ok(())
+}

@@ -1,0 +1,38 @@
+#!/bin/bash
+# Reads a ledger file of ours with the stock sqlite3, and opens one of sqlite3's with ours. RT names the command that runs a crate (rt).
+set -eu
+cd "$(dirname "$0")/.."
+if ! command -v sqlite3 >/dev/null; then
+    echo "ledger_file_check: skipped, sqlite3 isn't there"
+    exit 0
+fi
+folder=$(mktemp -d)
+trap 'rm -rf "$folder"' EXIT
+ours() { (cd crates/ledger_file && "${RT:-rt}" run -- "$@") 2>"$folder/log" | grep -E '^(reserved|taken) ' || true; }
+wants() { # NAME WANTED GOT
+    [ "$2" = "$3" ] || { echo "ledger_file_check: $1: '$3', not '$2'"; cat "$folder/log"; exit 1; }
+}
+key_id=$(python3 -c 'print(bytes(range(32)).hex().upper())')
+
+# A file of ours.
+a=$folder/ours
+wants 'first range' 'reserved 0 3' "$(ours reserve "$a" 1 3)"
+wants 'second range' 'reserved 3 1' "$(ours reserve "$a" 1 1)"
+wants 'other device' 'reserved 0 65535' "$(ours reserve "$a" 2 65535)"
+wants integrity ok "$(sqlite3 "$a" 'PRAGMA integrity_check')"
+wants tables 'mark taken' "$(sqlite3 "$a" "SELECT name FROM sqlite_schema WHERE type = 'table' ORDER BY name" | tr '\n' ' ' | sed 's/ $//')"
+wants mark "$key_id|1|4 $key_id|2|65535" "$(sqlite3 "$a" 'SELECT hex(key_id), device, next FROM mark ORDER BY key_id, device' | tr '\n' ' ' | sed 's/ $//')"
+wants taken '1|0|3 1|3|1 2|0|65535' "$(sqlite3 "$a" 'SELECT device, lo, size FROM taken ORDER BY key_id, device, lo' | tr '\n' ' ' | sed 's/ $//')"
+
+# A file of sqlite3's, by the statements of docs/FORMATS.md.
+b=$folder/theirs
+sed -n '/^    CREATE TABLE mark/,/^    *CHECK (lo >= 0/p' docs/FORMATS.md | sed 's/4294967296))$/4294967296));/' | sqlite3 "$b"
+sqlite3 "$b" "INSERT INTO mark VALUES (X'$key_id', 7, 70002)" "INSERT INTO taken VALUES (X'$key_id', 7, 0, 70000)" "INSERT INTO taken VALUES (X'$key_id', 7, 70000, 2)"
+wants 'their ranges' 'taken 0 70000 taken 70000 2' "$(ours taken "$b" 7 | tr '\n' ' ' | sed 's/ $//')"
+wants 'next of theirs' 'reserved 70002 5' "$(ours reserve "$b" 7 5)"
+wants 'integrity of theirs' ok "$(sqlite3 "$b" 'PRAGMA integrity_check')"
+wants 'rows of theirs' '7|70007' "$(sqlite3 "$b" 'SELECT device, next FROM mark')"
+sqlite3 "$b" 'UPDATE mark SET next = 70008'
+wants 'a mark past the ranges' '' "$(ours taken "$b" 7)"
+grep -q 'not a ledger' "$folder/log" || { echo 'ledger_file_check: a bad store was not named'; cat "$folder/log"; exit 1; }
+echo 'ledger_file_check: our file read by sqlite3, and its file opened by ours'
