@@ -2,7 +2,7 @@
 //! `Mutex`.
 //!
 //! Without an argument each spends a short range once and prints its counts. With the argument `measure` it prints the speed of the
-//! best round over the greatest range. A round's time has the start and the end of its threads in it.
+//! middle and of the best round over the greatest range. A round's time has the start and the end of its threads in it.
 #![tactic(auto)]
 
 use anyhow::Result;
@@ -19,7 +19,7 @@ use std::time::{Clock, Instant};
 const SHORT: u32 = 1_000;
 
 /// How many rounds are measured of each.
-const ROUNDS: u32 = 40;
+const ROUNDS: u32 = 101;
 
 /// The three counts of the ledger's word, as a lock's value.
 #[derive(Drop)]
@@ -127,10 +127,27 @@ fn show<R: Print>(rt: &R, name: &str, threads: u32, tally: Tally) -> io::Result<
     )
 }
 
-// Thousands of operations a second: an issue and a settlement for each number, and a refusal for each thread.
+// Millions of operations a second: an issue and a settlement for each number, and a refusal for each thread.
 fn speed(nanos: u64, threads: u32) -> u64 {
     let operations = 2 * u64::from(Range::MAX_SIZE) + u64::from(threads);
-    operations.saturating_mul(1_000_000) / nanos.max(1)
+    operations.saturating_mul(1_000) / nanos.max(1)
+}
+
+// Speeds in millions of operations a second.
+#[derive(Clone, Copy)]
+struct Speeds {
+    middle: u64,
+    best: u64,
+}
+
+fn speeds_of(mut nanos: Vec<u64>, threads: u32) -> Speeds {
+    nanos.sort_unstable();
+    let middle = nanos.get(nanos.len() / 2).copied().unwrap_or(u64::MAX);
+    let best = nanos.first().copied().unwrap_or(u64::MAX);
+    Speeds {
+        middle: speed(middle, threads),
+        best: speed(best, threads),
+    }
 }
 
 fn measure<R: Clock + Print + Threads + Wait + Sync>(
@@ -138,18 +155,16 @@ fn measure<R: Clock + Print + Threads + Wait + Sync>(
     alloc: Global,
     threads: u32,
 ) -> Result<()> {
-    let mut ledger = u64::MAX;
-    let mut lock = u64::MAX;
+    let mut ledger = Vec::new(alloc);
+    let mut lock = Vec::new(alloc);
     for _round in 0..ROUNDS {
-        ledger = ledger.min(ledger_round(rt, alloc, Range::MAX_SIZE, threads)?.nanos);
-        lock = lock.min(lock_round(rt, alloc, Range::MAX_SIZE, threads)?.nanos);
+        ledger.push(ledger_round(rt, alloc, Range::MAX_SIZE, threads)?.nanos)?;
+        lock.push(lock_round(rt, alloc, Range::MAX_SIZE, threads)?.nanos)?;
     }
-    let (ledger, lock) = (speed(ledger, threads), speed(lock, threads));
-    let hundredths = ledger.saturating_mul(100) / lock.max(1);
-    let (whole, part) = (hundredths / 100, hundredths % 100);
-    let (ledger, lock) = (ledger / 1_000, lock / 1_000);
+    let (ledger, lock) = (speeds_of(ledger, threads), speeds_of(lock, threads));
     println!(rt;
-        "{threads} threads: ledger {ledger}, lock {lock} million operations a second, ratio {whole}.{part:02}"
+        "{threads} threads, million operations a second, middle and best round: ledger {} and {}, lock {} and {}",
+        ledger.middle, ledger.best, lock.middle, lock.best
     )?;
     Ok(())
 }

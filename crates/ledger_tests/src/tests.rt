@@ -286,31 +286,58 @@ fn meetings_change_no_history(rt: HostRuntime) -> Result<(), Fail> {
     Ok(())
 }
 
-// What a seat, a grant and a spent number tell; and the laws, which are called like any function.
 #[test]
-fn seats_and_grants_tell_what_they_are(rt: HostRuntime) -> Result<(), Fail> {
-    let mut run = Run::open(rt.alloc(), range_of(7, 2)?, 2)?;
+fn seats_tell_their_number_and_end(rt: HostRuntime) -> Result<(), Fail> {
+    let mut run = Run::open(rt.alloc(), range_of(7, 1)?, 2)?;
     assert_eq!(rt; (run.seat(0).number(), run.seat(1).number()), (0, 1));
-    let seven = run.issue(0)?;
-    assert_eq!(rt; (seven.number(), seven.device().number()), (7, 1));
-    let eight = run.issue(1)?;
+    drop(run.issue(0)?);
     assert!(rt; !run.seat(0).closed());
     assert!(rt; run.issue(0).is_err());
-    assert!(rt; run.seat(0).closed());
-    assert!(rt; !run.seat(1).closed());
+    assert_eq!(rt; (run.seat(0).closed(), run.seat(1).closed()), (true, false));
+    Ok(())
+}
+
+#[test]
+fn grants_and_spent_numbers_tell_what_they_are(rt: HostRuntime) -> Result<(), Fail> {
+    let mut run = Run::open(rt.alloc(), range_of(7, 2)?, 1)?;
+    let seven = run.issue(0)?;
+    assert_eq!(rt; (seven.number(), seven.device().number()), (7, 1));
     let sealed = seven.used();
-    let void = eight.waste();
     assert_eq!(rt; (sealed.number(), sealed.device().number()), (7, 1));
-    assert!(rt; sealed.way() == Way::Sealed && void.way() == Way::Void);
-    assert!(rt; run.seat(0).holds(&sealed) && !run.seat(1).holds(&sealed));
-    assert!(rt; run.seat(1).holds(&void) && !run.seat(0).holds(&void));
+    assert_eq!(rt;
+        (sealed.way(), sealed.spoil().way()),
+        (Way::Sealed, Way::Void)
+    );
+    assert_eq!(rt; run.issue(0)?.waste().way(), Way::Void);
+    Ok(())
+}
+
+// The stranger has the number of a grant of this seat, but another device.
+#[test]
+fn seats_hold_their_own_open_numbers(rt: HostRuntime) -> Result<(), Fail> {
+    let mut run = Run::open(rt.alloc(), range_of(7, 2)?, 2)?;
+    let seven = run.issue(0)?.used();
+    assert_eq!(rt;
+        (run.seat(0).holds(&seven), run.seat(1).holds(&seven)),
+        (true, false)
+    );
     let device = Device::new(2).ok_or("device")?;
     let mut other = Run::open(rt.alloc(), Range::new(device, 7, 2)?, 1)?;
     let stranger = other.issue(0)?.used();
-    assert_eq!(rt; stranger.number(), 7);
-    assert!(rt; !run.seat(0).holds(&stranger));
+    assert_eq!(rt;
+        (stranger.number(), run.seat(0).holds(&stranger)),
+        (7, false)
+    );
     drop(refused(&mut run, 0, stranger)?);
-    assert!(rt; run.settle(0, sealed).is_ok());
+    assert!(rt; run.settle(0, seven).is_ok());
+    Ok(())
+}
+
+// The laws are called like any function.
+#[test]
+fn laws_are_called(rt: HostRuntime) -> Result<(), Fail> {
+    let mut run = Run::open(rt.alloc(), range_of(7, 2)?, 1)?;
+    drop(run.issue(0)?);
     laws::grants_seen(run.seat(0));
     laws::seats_agree();
     laws::counts_stay_small();
@@ -318,10 +345,7 @@ fn seats_and_grants_tell_what_they_are(rt: HostRuntime) -> Result<(), Fail> {
         return Err("memory was refused".into());
     };
     laws::grants_of_journal(&journal);
-    assert_eq!(rt;
-        journal.text(rt.alloc())?.as_str(),
-        "range 1 7 2 2\n0 issue 7\n1 issue 8\n0 issue none\n0 sealed 7\n"
-    );
+    assert_eq!(rt; journal.entries().len(), 1);
     Ok(())
 }
 
