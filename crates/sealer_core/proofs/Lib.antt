@@ -1,3 +1,4 @@
 pub mod EngineLemmas
 pub mod KeyFiles
+pub mod Lives
 pub mod Telling

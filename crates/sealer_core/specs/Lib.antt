@@ -4,4 +4,5 @@ pub mod KeyFile
 pub mod Lines
 pub mod Memory
 pub mod Status
+pub mod Life
 pub mod Work

@@ -6,6 +6,7 @@ pub mod commands;
 pub mod engine;
 pub mod folder;
 pub mod key_file;
+pub mod laws;
 pub mod line;
 pub mod memory;
 pub mod run;

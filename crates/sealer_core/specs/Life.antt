@@ -1,0 +1,83 @@
+-- The life of a ledger file, as one key and one device see it: the runs that reserved ranges in it, one after another.
+use Rattle.std.specs.Prelude.{⊤, ◌≡◌, ℕ, ◌+◌, ◌≤◌, List, [], ◌∷◌, ◌++◌, Option, Some, None, slice_get}
+use Rattle.std.specs.List.{AllByRecursion}
+use Rattle.journal_core.specs.declared.entry.Event.TheVariants.{Granted}
+use Rattle.journal_core.specs.declared.entry.Entry.{Entry}
+use Rattle.journal_core.specs.Range.{Numbers, range_of, prefix_of}
+use Rattle.journal_core.specs.History.{Terms, Legal, entry}
+use Rattle.reserve_core.specs.Reservations.{Span, Adjacent, next_of}
+use Rattle.container_core.specs.Chunks.{chunks}
+use Rattle.container_core.specs.Container.{header_of}
+use Rattle.container_core.specs.Stream.{nonce_of, prefix_in, is_nil}
+
+-- one run
+pub data Run : Type 0 where
+  -- its reservation was refused, and appended nothing
+  Refused : Run
+  -- a crash or a failing disk cut its reservation off: it appended nothing, or this range. The run had no ledger
+  CutOff : Option Span → Run
+  -- its reservation was acknowledged: it appended this range, and a ledger with so many seats over it did this
+  Acknowledged : Span → ℕ → List Entry → Run
+
+-- what a run appended
+abbrev pub appended : Run → List Span
+appended Refused = []
+appended (CutOff None) = []
+appended (CutOff (Some r)) = r ∷ []
+appended (Acknowledged r seats history) = r ∷ []
+
+-- the ranges that the runs appended, in order
+abbrev pub reserved : List Run → List Span
+reserved [] = []
+reserved (run ∷ rest) = appended run ++ reserved rest
+
+-- what a run's ledger did
+abbrev pub history_of : Run → List Entry
+history_of Refused = []
+history_of (CutOff r) = []
+history_of (Acknowledged r seats history) = history
+
+-- a run's history is legal over its range; it may stop anywhere
+abbrev pub IsRun : ℕ → Run → Type 0
+IsRun device Refused = ⊤
+IsRun device (CutOff r) = ⊤
+IsRun device (Acknowledged r seats history) = Legal (record { range = range_of device r.lo r.size; seats = seats }) history
+
+-- a life: the ranges of all runs are adjacent, the first begins at 0 and the last ends at 2 ^ 32 at most
+pub record IsLife (device : ℕ) (runs : List Run) : Type 0 where
+  pub three_bytes : device ≤ 16777215
+  pub adjacent : Adjacent 0 (reserved runs)
+  pub end : next_of (reserved runs) ≤ 4294967296
+  pub legal : AllByRecursion (IsRun device) runs
+
+-- the lives of one key: a life for each device
+abbrev pub Lives : Type 0
+Lives = ℕ → List Run
+
+-- a grant of a key: the number that was granted by an entry of a run of a device
+pub record Grant : Type 0 where
+  pub device : ℕ
+  pub run : ℕ
+  pub entry : ℕ
+  pub number : ℕ
+
+-- the lives have this grant
+pub record HasGrant (lives : Lives) (grant : Grant) : Type 0 where
+  pub run : Run
+  pub seat : ℕ
+  pub life : IsLife grant.device (lives grant.device)
+  pub at_run : slice_get (lives grant.device) grant.run ≡ Some run
+  pub at_entry : slice_get (history_of run) grant.entry ≡ Some (entry seat (Granted grant.number))
+
+-- the prefix of a grant
+abbrev pub prefix_by : Grant → List ℕ
+prefix_by grant = prefix_of grant.device grant.number
+
+-- the nonces under which STREAM seals a list of chunks, the first of which has this number
+unfoldable pub stream_nonces : List ℕ → ℕ → List (List ℕ) → List (List ℕ)
+stream_nonces header number [] = []
+stream_nonces header number (chunk ∷ rest) = nonce_of (prefix_in header) number (is_nil rest) ∷ stream_nonces header (number + 1) rest
+
+-- the nonces of the container of a plaintext under a grant
+unfoldable pub container_nonces : List ℕ → Grant → List ℕ → List (List ℕ)
+container_nonces key grant plain = stream_nonces (header_of key (prefix_by grant)) 0 (chunks plain)
