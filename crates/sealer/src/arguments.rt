@@ -47,7 +47,7 @@ fn file_command<'a>(alloc: Global, name: &'a str, about: &'a str) -> Result<Comm
         .value_name("N")
         .value_parser(value_parser!(u32).range(1..=16))
         .default_value("1")
-        .help("Workers, 1 to 16; this version works with one, whatever is asked");
+        .help("Workers that check a container side by side, 1 to 16");
     let max_bytes = Arg::new(alloc, "max-bytes")
         .long("max-bytes")
         .value_name("N")

@@ -1,5 +1,5 @@
 -- A file is a key file by its first 67 bytes: a longer one has an end of three bytes or more, which no key file has.
-use Rattle.std.proofs.Common.{◌≡◌, ℕ, ◌+◌, ◌-◌, ◌<◌, ◌≤◌, min, List, ◌++◌, length, take, drop, Option, None, Some, Ok, IfSome, [], ◌⊎◌, inl, inr, ⊎_elim, ap, subst, sym, ◌∙◌, arith, append-nil, length-append, length-drop}
+use Rattle.std.proofs.Common.{◌≡◌, ℕ, ◌+◌, ◌<◌, ◌≤◌, List, ◌++◌, length, take, drop, Option, None, Some, IfSome, [], ◌⊎◌, inl, inr, ⊎_elim, ap, subst, sym, ◌∙◌, arith, append-nil, length-append, length-drop}
 use Rattle.std.proofs.lemmas.List.{length-take}
 use Rattle.std.proofs.lemmas.Bool.{cases_lt}
 use Rattle.hex.proofs.HexLemmas.{decode_sized-ok}

@@ -1,5 +1,5 @@
 -- The laws of lives: adjacent ranges are apart, so grants have different prefixes, so sealed chunks have different nonces.
-use Rattle.std.proofs.Common.{◌≡◌, ◌≢◌, ◌⊎◌, ℕ, zero, suc, ◌+◌, ◌-◌, ◌/◌, ◌%◌, ◌^◌, ◌<◌, ◌≤◌, Bool, List, [], ◌∷◌, ◌++◌, length, Some, None, refl, sym, ap, ◌∙◌, subst, inl, inr, ⊎_elim, arith, append-nil}
+use Rattle.std.proofs.Common.{◌≡◌, ◌≢◌, ℕ, zero, suc, ◌+◌, ◌/◌, ◌%◌, ◌^◌, ◌<◌, ◌≤◌, Bool, List, [], ◌∷◌, length, Some, None, refl, sym, ap, ◌∙◌, subst, arith, append-nil}
 use mathlib.Core.Logic.{dite}
 use native.Mathlib.Decide.{dec_le}
 use Rattle.std.specs.Prelude.{slice_get}
@@ -17,7 +17,7 @@ use Rattle.container_core.proofs.PartsLemmas.{length-chunks}
 use Rattle.container_core.proofs.HeaderLemmas.{prefix_in-header_of}
 use Rattle.container_core.proofs.LawLemmas.{nonce_of-injective}
 use Rattle.reserve_core.specs.Reservations.{Span, Adjacent, end_from}
-use Rattle.sealer_core.specs.Life.{Run, Refused, CutOff, Acknowledged, appended, reserved, history_of, IsRun, IsLife, Lives, Grant, HasGrant, prefix_by, stream_nonces, container_nonces}
+use Rattle.sealer_core.specs.Life.{Run, Refused, CutOff, Acknowledged, reserved, history_of, IsRun, IsLife, Lives, Grant, HasGrant, prefix_by, stream_nonces, container_nonces}
 
 -- ranges of a list
 

@@ -3,8 +3,8 @@ use Rattle.std.specs.Prelude.{⊤, ◌≡◌, ℕ, ◌+◌, ◌≤◌, List, [],
 use Rattle.std.specs.List.{AllByRecursion}
 use Rattle.journal_core.specs.declared.entry.Event.TheVariants.{Granted}
 use Rattle.journal_core.specs.declared.entry.Entry.{Entry}
-use Rattle.journal_core.specs.Range.{Numbers, range_of, prefix_of}
-use Rattle.journal_core.specs.History.{Terms, Legal, entry}
+use Rattle.journal_core.specs.Range.{range_of, prefix_of}
+use Rattle.journal_core.specs.History.{Legal, entry}
 use Rattle.reserve_core.specs.Reservations.{Span, Adjacent, next_of}
 use Rattle.container_core.specs.Chunks.{chunks}
 use Rattle.container_core.specs.Container.{header_of}

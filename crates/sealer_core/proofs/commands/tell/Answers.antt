@@ -1,4 +1,4 @@
-use Rattle.std.proofs.Common.{rules, refl}
+use Rattle.std.proofs.Common.{rules}
 use Rattle.sealer_core.proofs.Telling.{untold, broken, told_more}
 use Rattle.sealer_core.proofs.commands.tell.Goals as goal
 
