@@ -1,5 +1,5 @@
 //! Runs of the plain ledger: values by hand, from the rules in docs/FORMATS.md.
-use ledger_core::{
+use journal_core::{
     AuditFault, BadRange, Book, BookFault, Device, FromMemory, FromRead, Range, Schedule, Tally,
     ToMemory, ToWrite, Verdict, Way, audit, prefix,
 };
