@@ -1,5 +1,6 @@
 #!/bin/bash
-# Reads a ledger file of ours with the stock sqlite3, and opens one of sqlite3's with ours. RT names the command that runs a crate (rt).
+# Reads a ledger file of ours with the stock sqlite3, and opens one of sqlite3's with ours. LEDGER_FILE names the built program, which
+# `rt run` builds in crates/ledger_file where it isn't there.
 set -eu
 cd "$(dirname "$0")/.."
 if ! command -v sqlite3 >/dev/null; then
@@ -8,7 +9,9 @@ if ! command -v sqlite3 >/dev/null; then
 fi
 folder=$(mktemp -d)
 trap 'rm -rf "$folder"' EXIT
-ours() { (cd crates/ledger_file && "${RT:-rt}" run -- "$@") 2>"$folder/log" | grep -E '^(reserved|taken) ' || true; }
+program=${LEDGER_FILE:-$PWD/crates/ledger_file/out/ledger_file}
+[ -x "$program" ] || (cd crates/ledger_file && rt run) >"$folder/log" 2>&1 || { cat "$folder/log"; exit 1; }
+ours() { "$program" "$@" 2>"$folder/log" || true; }
 wants() { # NAME WANTED GOT
     [ "$2" = "$3" ] || { echo "ledger_file_check: $1: '$3', not '$2'"; cat "$folder/log"; exit 1; }
 }

@@ -85,23 +85,33 @@ fn show(rt: &HostRuntime) -> Result<()> {
     print_taken(rt, &mut keeper, device)
 }
 
+// Reserves in a file.
+fn reserve_in(rt: &HostRuntime, path: &str, device: &str, count: &str) -> Result<()> {
+    let device = device_of(device)?;
+    let Ok(count) = count.parse::<u32>() else {
+        bail!("{count} is no number")
+    };
+    let mut keeper = keeper(open_file(rt, path, Unknown)?)?;
+    reserve(rt, &mut keeper, device, count)
+}
+
+// Prints the ranges of a file.
+fn print_in(rt: &HostRuntime, path: &str, device: &str) -> Result<()> {
+    let device = device_of(device)?;
+    let mut keeper = keeper(open_file(rt, path, Unknown)?)?;
+    print_taken(rt, &mut keeper, device)
+}
+
 fn main(rt: HostRuntime) -> Result<()> {
     let words: Vec<String> = env::args(&rt)?.collect(rt.alloc())?;
     if words.len() < 2 {
         return show(&rt);
     }
     if words.len() == 5 && words[1].as_str() == "reserve" {
-        let device = device_of(words[3].as_str())?;
-        let Ok(count) = words[4].as_str().parse::<u32>() else {
-            bail!("the count is no number")
-        };
-        let mut keeper = keeper(open_file(&rt, words[2].as_str(), Unknown)?)?;
-        return reserve(&rt, &mut keeper, device, count);
+        return reserve_in(&rt, words[2].as_str(), words[3].as_str(), words[4].as_str());
     }
     if words.len() == 4 && words[1].as_str() == "taken" {
-        let device = device_of(words[3].as_str())?;
-        let mut keeper = keeper(open_file(&rt, words[2].as_str(), Unknown)?)?;
-        return print_taken(&rt, &mut keeper, device);
+        return print_in(&rt, words[2].as_str(), words[3].as_str());
     }
     if words.len() == 3 && words[1].as_str() == "measure" {
         return speed::measure(&rt, words[2].as_str());
