@@ -112,10 +112,6 @@ Rest-stowed w s t ps p fits filled either was n at = elim (was n at) [
   | inr done ↦ inr (filled-stowed s t p n fits either done)
 ]
 
--- a place with bytes is one that is not empty
-pub not_empty : (ps : List (Option PieceView)) (n : ℕ) → value_in (get_or ps n None) ≢ None → get_or ps n None ≢ None
-not_empty ps n some e = some (ap value_in e)
-
 -- the answer of one thread to a sealing is STREAM of the chunks
 answer-stream : (key header : List ℕ) (i : ℕ) (parts : List (List ℕ))
     → answer (numbered (λ n last c. Some (sealed_chunk key header n last c)) i parts) ≡ Ok (stream key header i parts)

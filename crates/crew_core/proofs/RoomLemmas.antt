@@ -132,10 +132,6 @@ begins_in front size count n bytes at least =
 pub inside_of : (size count n seen : ℕ) (body : List ℕ) → 0 < count → length (parts size (count - 1) body) ≡ seen → n < seen → n < count
 inside_of size count n seen body some same at = let l = count_of_parts size count body some in omega arith
 
-pub room_holds : (front size count piece values bytes whole : ℕ) → size ≡ piece → count ≡ values → (values - 1) * piece ≤ bytes → bytes ≤ values * piece
-    → whole ≡ front + bytes → (front + (count - 1) * size ≤ whole) × (whole ≤ front + count * size)
-room_holds front size count piece values bytes whole e f least most long = rw (e, f, long) (omega arith, omega arith)
-
 -- what has the length of a part fits into its place
 pub part_fits : (front size count : ℕ) (whole : List ℕ) (n long : ℕ) → 0 < count → n < count → front + (count - 1) * size ≤ length whole
     → length whole ≤ front + count * size → long ≡ length (get_or (parts size (count - 1) (drop front whole)) n [])
