@@ -6,7 +6,6 @@ use container_core::{Key, seal};
 use ledger_core::{Schedule, ToMemory};
 use sealer_core::{MemoryFolder, OpenOptions, Outs, Pace, open_all, verify_all};
 use std::alloc::Global;
-use std::rt::AllocGlobal;
 use std::test::Fail;
 use std::thread::Threads;
 
@@ -320,13 +319,7 @@ fn an_output_is_a_file_like_any_other(rt: HostRuntime) -> Result<(), Fail> {
     folder.put("a.stm.stm", outer.as_slice())?;
     let mut out = outs(rt.alloc(), Schedule::Never)?;
     assert_eq!(rt;
-        open_within(
-            rt.alloc(),
-            &mut folder,
-            &["a.stm.stm", "a.stm"],
-            &mut out,
-            48
-        ),
+        open_within(&rt, &mut folder, &["a.stm.stm", "a.stm"], &mut out, 48),
         0
     );
     assert_eq!(rt;
