@@ -75,11 +75,8 @@ impl Journal {
     pub fn text(&self, alloc: Global) -> Result<String, AllocError>
         ensures { IfOk result (λ text. string_bytes text ≡ journal_text self.now.terms self.now.history) }
     {
-        let (device, lo, size) = (
-            self.range.device().number(),
-            self.range.lo(),
-            self.range.size(),
-        );
+        let range = self.range;
+        let (device, lo, size) = (range.device().number(), range.lo(), range.size());
         let seats = self.seats;
         let mut text = format!(in alloc; "range {device} {lo} {size} {seats}\n")?;
         for entry in &self.entries {
