@@ -123,3 +123,35 @@ module _ (old new : State) (sql : List ℕ) (params : Row) where
 pub shown_same : (old new : State) (sql : List ℕ) (params : Row) (rows : List Row) → IsPlain (understood old.now.schema sql) → Shown sql params old new rows → IsUnchanged old new
 unfolding Shown
 shown_same old new sql params rows plain h = let none = (subst IsPlain h.1.is plain).0 in (subst (ShowsRows old new sql h.0 _ rows) none h.2).3
+
+-- where it is still open it was, and where no write waited for a commit all is as it was
+abbrev pub Untouched : State → State → Type 0
+Untouched old new = IsTrue new.is_open → IsTrue old.is_open × (old.now ≡ old.committed → (new.now ≡ old.now) × (new.committed ≡ old.committed))
+
+module _ (old new : State) (sql : List ℕ) (params : Row) where
+  unchanged_untouched : IsUnchanged old new → Untouched old new
+  unchanged_untouched same up = (same.0.was_open, λ _. (same.0.now_is, same.0.committed_is))
+
+  fails_untouched : (U : Type 0) (e : Error) → Fails old new U e → Untouched old new
+  fails_untouched U e f up = (f.3.was_open up, λ settled. ((f.3.undone up).0 ∙ sym settled, (f.3.undone up).1))
+
+  not_run_untouched : (e : Error) → IsNotRun old new sql params e → Untouched old new
+  unfolding IsNotRun
+  not_run_untouched e (inl h) = unchanged_untouched h.1
+  not_run_untouched e (inr f) = fails_untouched _ e f
+
+  fails_to_show_untouched : (c : Compiled) (full : Row) (e : Error) (o : Option Returning) → FailsToShow old new sql c full e o → Untouched old new
+  fails_to_show_untouched c full e None h = unchanged_untouched h.3
+  fails_to_show_untouched c full e (Some what) (inl h) = unchanged_untouched h.1
+  fails_to_show_untouched c full e (Some what) (inr f) = fails_untouched _ e f
+
+  query_fails_untouched : (e : Error) → FailsToQuery sql params old new e → Untouched old new
+  unfolding FailsToQuery
+  query_fails_untouched e (inl h) = not_run_untouched e h
+  query_fails_untouched e (inr h) = fails_to_show_untouched h.0 _ e h.0.returning h.2
+
+  -- a query that is no write leaves all as it was
+  pub query_untouched : {A : Type 0} → IsPlain (understood old.now.schema sql) → (items : A → List Row) (r : Result A Error) → IfOk r (λ a. Shown sql params old new (items a))
+      → IfErr r (FailsToQuery sql params old new) → Untouched old new
+  query_untouched plain items (Ok a) ok err = unchanged_untouched (shown_same old new sql params (items a) plain ok)
+  query_untouched plain items (Err e) ok err = query_fails_untouched e err

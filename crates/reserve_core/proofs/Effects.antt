@@ -81,6 +81,7 @@ module _ (c d : List Term) where
           fresh = subst (λ n. are_fresh (db 2) n ≡ true) news step.fresh;
         };
         marks = ap (λ (x : Database). x.trees 0) now ∙ ap (λ (t : Trees). t 0) trees ∙ step.tables.0 mark_is_other;
+        sound = w.sound;
       }
 
   pub enters : (old new : State) (key : List ℕ) (device next : ℕ) (count : ℕ) → old.now.schema ≡ ledger_schema c d

@@ -1,5 +1,6 @@
 mod Asks
 mod Effects
+mod Lasting
 mod Makes
 mod Moves
 mod Opens

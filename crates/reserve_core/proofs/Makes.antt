@@ -8,7 +8,7 @@ use Rattle.sqlite.specs.Change.{created, next_tree, KeepsRows}
 use Rattle.sqlite.specs.Does.{Tally, lacks_sequence}
 use Rattle.sqlite.specs.declared.error.Error.{Error}
 use Rattle.sqlite.specs.Listing.{understood}
-use Rattle.sqlite.specs.Effect.{Database}
+use Rattle.sqlite.specs.Effect.{Database, IsDatabase}
 use Rattle.sqlite.specs.State.{State, Writes, Executes, ExecutesInside}
 use Rattle.sqlite_tied.specs.Compute.{everything}
 use Rattle.sqlite.proofs.Callers.{IsPlain, command_of, statement_of, runs_as}
@@ -34,6 +34,7 @@ unfolding understood everything
 taken_plain = (refl, refl)
 
 pub record Makes (old new : State) (before : Schema) (table : Table) (after : Schema) : Type 0 where
+  pub sound : IsDatabase new.now
   pub schema : new.now.schema ≡ after
   pub empty : new.now.trees (next_tree before) ≡ []
   pub others : KeepsRows before.tables old.now.trees new.now.trees
@@ -52,6 +53,7 @@ makes text before table after command whole plain defined gives uncounted old ne
     let none : lacks_sequence first.0.schema ≡ false = ap lacks_sequence schema ∙ uncounted in
     let now : new.now ≡ first.0 = ap (λ (p : Tally × Database). p.1) (same_value all.2) ∙ same_value (rw none at first.2) in
     record {
+      sound = w.sound;
       schema = ap (λ (d : Database). d.schema) now ∙ schema;
       empty = ap (λ (d : Database). d.trees (next_tree before)) now ∙ subst (λ s. first.0.trees (next_tree s) ≡ []) has made.empty;
       others = subst (λ (d : Database). KeepsRows before.tables old.now.trees d.trees) (sym now) (subst (λ (s : Schema). KeepsRows s.tables old.now.trees first.0.trees) has made.others);
@@ -67,5 +69,5 @@ pub makes_taken_inside : (old new : State) (r : Result ℕ Error) → old.now.sc
     → OnOk r (IsEmptyLedger new.now)
 makes_taken_inside old new (Ok count) has none h =
     let it = makes taken_text mark_schema (taken_table taken_checks 0) (ledger_schema mark_checks taken_checks) makes_taken.0 makes_taken.1 taken_plain taken_is creates_taken refl old new count has h.0 in
-    record { tables = (mark_checks, taken_checks, it.schema); marks = it.others.0 ∙ none; taken = it.empty }
+    record { sound = it.sound; tables = (mark_checks, taken_checks, it.schema); marks = it.others.0 ∙ none; taken = it.empty }
 makes_taken_inside old new (Err e) has none h = tt

@@ -6,6 +6,7 @@ use Rattle.sqlite.specs.declared.types.Value.TheVariants.{Null, Int, Blob}
 use Rattle.sqlite.specs.Order.{Row}
 use Rattle.sqlite.specs.Program.{overlay}
 use Rattle.sqlite.specs.Listing.{understood}
+use Rattle.sqlite.specs.Schema.{Schema}
 use Rattle.sqlite.specs.State.{State, Shown, Shows}
 use Rattle.sqlite.specs.Term.{Term, col}
 use Rattle.sqlite.proofs.Callers.{IsPlain, reads_as, one_permutation}
@@ -84,8 +85,8 @@ module _ (old new : State) (rows : List Row) (has : IsLedger old.now.schema) whe
   pub takings_in : IsTrue old.in_transaction → Shown takings_text [] old new rows → Shows old new old.now old.committed true
   takings_in = in_this takings_text (subst (λ s. IsPlain (understood s takings_text)) (sym has.2) (takings_plain has.0 has.1))
 
-  pub ids_in : IsTrue old.in_transaction → Shown ids_text [] old new rows → Shows old new old.now old.committed true
-  ids_in = in_this ids_text (subst (λ s. IsPlain (understood s ids_text)) (sym has.2) (ids_plain has.0 has.1))
+pub plain_ids : (s : Schema) → IsLedger s → IsPlain (understood s ids_text)
+plain_ids s has = subst (λ x. IsPlain (understood x ids_text)) (sym has.2) (ids_plain has.0 has.1)
 
 -- ---- the mark of a key id and device
 

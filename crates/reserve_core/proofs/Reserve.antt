@@ -245,6 +245,7 @@ reserves db after key device lo count lists owner some bound at hold up it =
     } in
     record {
       holds = record {
+        sound = it.took.sound;
         tables = (hold.tables.0, hold.tables.1, it.took.schema ∙ moved.2 ∙ hold.tables.2);
         rows = record {
           of_marks = subst (AllByRecursion IsMarkRow) (sym marks_are) moved.0.lawful;

@@ -369,7 +369,7 @@ no_items [] h = refl
 no_items (x ∷ xs) h = absurd (omega (arith, h))
 
 -- adjacent ranges, in any order, are one list
-adjacent_same : (xs ys : List Span) → Adjacent 0 xs → Adjacent 0 ys → IsPermutation xs ys → xs ≡ ys
+pub adjacent_same : (xs ys : List Span) → Adjacent 0 xs → Adjacent 0 ys → IsPermutation xs ys → xs ≡ ys
 adjacent_same xs ys p q perm =
     let back = IsPermutation-sym _ _ perm in
     rising_same xs ys (adjacent_rises 0 xs p) (adjacent_rises 0 ys q)

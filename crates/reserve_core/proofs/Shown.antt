@@ -1,6 +1,6 @@
 -- Rows that were read hold the lists that the tables hold.
 use Rattle.std.proofs.Common.{◌≡◌, ◌≢◌, ℕ, ℤ, List, [], ◌∷◌, map, filter, Bool, true, false, cond, refl, sym, ap, subst, ◌∙◌, IsPermutation}
-use Rattle.std.specs.List.{AllByRecursion, IsDistinct}
+use Rattle.std.specs.List.{AllByRecursion, IsDistinct, list_all}
 use Rattle.std.specs.Ordering.{is_eq}
 use Rattle.std.specs.declared.cmp.Ordering.{Ordering}
 use Rattle.std.specs.declared.cmp.Ordering.TheVariants.{Less, Equal, Greater}
@@ -16,9 +16,9 @@ use Rattle.sqlite.specs.Effect.{Database}
 use Rattle.sqlite_value.specs.Order.{value_cmp}
 use Rattle.sqlite_value.proofs.OrderLemmas.{value_cmp_total}
 use Rattle.sqlite_rules.specs.Lists.{Has}
-use Rattle.sqlite_rules.proofs.ListLemmas.{all_has, all_from, has_contained, contains_had}
+use Rattle.sqlite_rules.proofs.ListLemmas.{all_has, all_from, has_contained, contains_had, has_filtered, test_from}
 use Rattle.sqlite_keyed.proofs.ListLemmas.{IsPermutation-filter}
-use Rattle.reserve_core.specs.Reads.{is_for, shown_id, shown_mark, shown_taken}
+use Rattle.reserve_core.specs.Reads.{is_for, is_span, shown_id, shown_mark, shown_range, shown_taken}
 use Rattle.reserve_core.specs.Reservations.{range_in, next_of, IsMarkRow, IsTakenRow, IsNext, IsList, HoldLists, Lists, Holds, no_lists}
 use Rattle.reserve_core.specs.Runs.{Chain, IsBelow}
 use Rattle.reserve_core.specs.Tables.{IsLedger}
@@ -121,6 +121,22 @@ module _ (marks taken m t : List Row) (p : IsPermutation (map shown_mark marks) 
   pub lists_there : HoldLists marks taken lists → HoldLists m t lists
   lists_there hold = permuted_lists m t _ _ lists (IsPermutation-sym _ _ p) (IsPermutation-sym _ _ q) (lists_shown marks taken lists hold)
 
+-- ---- the rows of one key id and device
+
+span_of : (r : Row) → IsTakenRow r → is_span (shown_range r) ≡ true
+span_of r it = rw (it.is_lo, it.is_size) refl
+
+pub are_spans : (marks taken rows : List Row) (lists : Lists) (key : List ℕ) (device : ℕ) → HoldLists marks taken lists → IsPermutation (map shown_range (filter (is_for key device) taken)) rows
+    → list_all is_span rows ≡ true
+are_spans marks taken rows lists key device hold read =
+    let own = all_from IsTakenRow (filter (is_for key device) taken) (λ r there. all_has IsTakenRow taken r hold.of_taken (has_filtered (is_for key device) taken r there).0) in
+    let shown = all_shows_as (filter (is_for key device) taken) own in
+    test_from is_span rows (λ r there. all_has (λ x. is_span x ≡ true) _ r shown (permuted_has rows _ r (IsPermutation-sym _ _ read) there))
+  where
+    all_shows_as : (rows : List Row) → AllByRecursion IsTakenRow rows → AllByRecursion (λ x. is_span x ≡ true) (map shown_range rows)
+    all_shows_as [] h = tt
+    all_shows_as (r ∷ rows) h = (span_of r h.0, all_shows_as rows h.1)
+
 -- ---- rowids
 
 abbrev ties : Row → Row → Bool
@@ -167,6 +183,7 @@ rowids_read marks ids h p chain = rowids_of marks h (IsDistinct-IsPermutation ti
 pub empty_holds : (db : Database) → IsEmptyLedger db → Holds db no_lists × HaveRowids (db.trees 0)
 empty_holds db it = (
   record {
+    sound = it.sound;
     tables = it.tables;
     rows = subst (λ t. HoldLists (db.trees 0) t no_lists) (sym it.taken) (subst (λ m. HoldLists m [] no_lists) (sym it.marks) (record {
       of_marks = tt;

@@ -1,14 +1,16 @@
 -- The faults' numbers, and when a database is no ledger file.
-use Rattle.std.specs.Prelude.{◌≡◌, ◌⊎◌, true, ℕ}
+use Rattle.std.specs.Prelude.{◌≡◌, ◌≢◌, ◌⊎◌, false, ℕ}
 use Rattle.sqlite.specs.Effect.{Database}
 use Rattle.reserve_core.specs.declared.fault.ReserveFault.{ReserveFault}
 use Rattle.reserve_core.specs.declared.fault.ReserveFault.TheVariants.{ZeroCount, TooMany, FieldSpent, Store, BadStore}
-use Rattle.reserve_core.specs.Tables.{is_unreadable, IsLedger}
-use Rattle.reserve_core.specs.Reservations.{Lists, Holds}
+use Rattle.reserve_core.specs.Tables.{are_readable, no_schema, IsLedger}
+use Rattle.reserve_core.specs.Reservations.{Lists, HoldLists}
 
--- a table cannot be read, or the rows of the tables hold no lists
+-- something is there, and one of the two tables cannot be read by its column names; or the rows of the tables hold no lists
 abbrev pub IsBad : Database → Type 0
-IsBad db = (is_unreadable db.schema ≡ true) ⊎ (IsLedger db.schema × ((lists : Lists) → Holds db lists → ⊥))
+IsBad db =
+    ((db.schema ≢ no_schema) × (are_readable db.schema ≡ false))
+    ⊎ (IsLedger db.schema × ((lists : Lists) → HoldLists (db.trees 0) (db.trees 2) lists → ⊥))
 
 abbrev pub fault_number : ReserveFault → ℕ
 fault_number ZeroCount = 30

@@ -1,4 +1,5 @@
 pub mod Faults
+pub mod Lasting
 pub mod Reads
 pub mod Reservations
 pub mod Runs

@@ -77,5 +77,9 @@ is_owner row = is_key (column row 1) && is_within 16777215 (column row 2)
 abbrev pub is_mark_row : Row → Bool
 is_mark_row row = is_rowid (column row 0) && (is_owner row && is_within 4294967296 (column row 3))
 
+-- two whole numbers from 0
+abbrev pub is_span : Row → Bool
+is_span row = is_some (as_number (column row 0)) && is_some (as_number (column row 1))
+
 abbrev pub is_taken_row : Row → Bool
 is_taken_row row = is_owner row && (is_some (as_number (column row 3)) && is_some (as_number (column row 4)))

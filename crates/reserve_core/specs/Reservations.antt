@@ -5,7 +5,7 @@ use Rattle.sqlite.specs.declared.types.Value.{Value}
 use Rattle.sqlite.specs.declared.types.Value.TheVariants.{Int, Blob}
 use Rattle.sqlite.specs.Order.{Row, column}
 use Rattle.sqlite.specs.Tree.{IsAscending}
-use Rattle.sqlite.specs.Effect.{Database}
+use Rattle.sqlite.specs.Effect.{Database, IsDatabase}
 use Rattle.reserve_core.specs.Tables.{IsLedger, no_schema}
 use Rattle.reserve_core.specs.Reads.{is_for}
 
@@ -108,8 +108,9 @@ pub record HoldLists (marks taken : List Row) (lists : Lists) : Type 0 where
   pub of_taken : AllByRecursion IsTakenRow taken
   pub each : (key : List ℕ) (device : ℕ) → IsList marks taken key device (lists key device)
 
--- the database has both tables, and they hold these lists
+-- the database obeys its schema and has both tables, and they hold these lists
 pub record Holds (db : Database) (lists : Lists) : Type 0 where
+  pub sound : IsDatabase db
   pub tables : IsLedger db.schema
   pub rows : HoldLists (db.trees 0) (db.trees 2) lists
 

@@ -1,5 +1,5 @@
 -- The two tables of a ledger file.
-use Rattle.std.specs.Prelude.{◌≡◌, Bool, true, false, not, ◌&&◌, ◌||◌, [], ◌∷◌, Option, None, Some, is_some, slice_get, option_and_then, codes, List, ℕ, pos}
+use Rattle.std.specs.Prelude.{◌≡◌, Bool, true, false, ◌&&◌, [], ◌∷◌, Option, None, Some, is_some, slice_get, option_and_then, codes, List, ℕ, pos}
 use Rattle.std.specs.List.{list_all}
 use Rattle.sqlite.specs.declared.types.Value.TheVariants.{Null, Int}
 use Rattle.sqlite.specs.Collation.TheVariants.{Binary}
@@ -113,8 +113,6 @@ mark_names = codes "key_id" ∷ codes "device" ∷ codes "next" ∷ []
 abbrev pub taken_names : List (List ℕ)
 taken_names = codes "key_id" ∷ codes "device" ∷ codes "lo" ∷ codes "size" ∷ []
 
--- one of the two tables is there, and one of the two cannot be read by its column names
-abbrev pub is_unreadable : Schema → Bool
-is_unreadable schema =
-    (is_some (table_at schema (codes "mark")) || is_some (table_at schema (codes "taken")))
-    && not (is_readable (table_at schema (codes "mark")) mark_names && is_readable (table_at schema (codes "taken")) taken_names)
+-- both tables can be read by their column names
+abbrev pub are_readable : Schema → Bool
+are_readable schema = is_readable (table_at schema (codes "mark")) mark_names && is_readable (table_at schema (codes "taken")) taken_names

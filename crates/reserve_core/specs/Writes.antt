@@ -3,7 +3,7 @@ use Rattle.std.specs.Prelude.{Option, Some, None, ◌≡◌, ◌≢◌, true, �
 use Rattle.sqlite.specs.Order.{Row}
 use Rattle.sqlite.specs.Edit.{next_rowid, are_fresh, id_in}
 use Rattle.sqlite.specs.Tree.{put_row, without_rowid, rowid, IsAscending}
-use Rattle.sqlite.specs.Effect.{Database}
+use Rattle.sqlite.specs.Effect.{Database, IsDatabase}
 use Rattle.sqlite.specs.State.{State}
 use Rattle.reserve_core.specs.Tables.{no_schema, IsLedger}
 use Rattle.reserve_core.specs.Reads.{is_for}
@@ -14,19 +14,20 @@ pub record Puts (rows after : List Row) (row : Row) : Type 0 where
   pub put : after ≡ put_row row rows
   pub fresh : are_fresh rows (row ∷ []) ≡ true
 
--- `taken` has this range more, and nothing else differs
+-- `taken` has this range more, no other row of the two tables differs, and the database obeys its schema
 pub record Took (db after : Database) (key : List ℕ) (device lo size : ℕ) : Type 0 where
   pub schema : after.schema ≡ db.schema
   pub row : Puts (db.trees 2) (after.trees 2) (taken_row (next_rowid (db.trees 2)) key device lo size)
   pub marks : after.trees 0 ≡ db.trees 0
+  pub sound : IsDatabase after
 
--- `mark` has this row more, and nothing else differs
+-- `mark` has this row more, and no other row of the two tables differs
 pub record Entered (db after : Database) (key : List ℕ) (device next : ℕ) : Type 0 where
   pub schema : after.schema ≡ db.schema
   pub row : Puts (db.trees 0) (after.trees 0) (mark_row (next_rowid (db.trees 0)) key device next)
   pub taken : after.trees 2 ≡ db.trees 2
 
--- the one row of the key id and device has another `next`, and nothing else differs
+-- the one row of the key id and device has another `next`, and no other row of the two tables differs
 pub record Moved (db after : Database) (key : List ℕ) (device next : ℕ) (id : ℤ) : Type 0 where
   pub schema : after.schema ≡ db.schema
   pub row : Puts (without_rowid id (db.trees 0)) (after.trees 0) (mark_row id key device next)
@@ -62,6 +63,7 @@ pub record IsReady (s : State) : Type 0 where
 
 -- both tables are there, and have no row
 pub record IsEmptyLedger (db : Database) : Type 0 where
+  pub sound : IsDatabase db
   pub tables : IsLedger db.schema
   pub marks : db.trees 0 ≡ []
   pub taken : db.trees 2 ≡ []

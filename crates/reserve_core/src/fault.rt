@@ -13,13 +13,13 @@ pub enum ReserveFault {
     /// More than 65,535 numbers were asked for.
     #[error("too many files")]
     TooMany,
-    /// The key and device have fewer than so many numbers left of their 2^32.
+    /// Fewer numbers are left of the 2^32 of the key and device than were asked for; so many are left.
     #[error("{left} numbers left")]
     FieldSpent { left: u64 },
-    /// The database refused a statement, or memory was refused.
+    /// The database refused a statement, memory was refused, or `open` met tables other than the keeper makes or a transaction.
     #[error("store failed")]
     Store,
-    /// The database is no ledger file: a table cannot be read, or the rows are no lists of adjacent ranges.
+    /// The database is no ledger file: one of the two tables cannot be read, or the rows are no lists of adjacent ranges.
     #[error("not a ledger")]
     BadStore,
 }

@@ -3,6 +3,7 @@ ghost use Rattle.std.specs.Prelude.{◌≡◌, ◌≢◌, ◌↔◌, ◌+◌, �
 ghost use Rattle.sqlite.specs.Held.{state};
 ghost use Rattle.sqlite.specs.State.{HasCleanDisk, Survives};
 ghost use Rattle.reserve_core.specs.Faults.{IsBad};
+ghost use Rattle.reserve_core.specs.Lasting.{Last};
 ghost use Rattle.reserve_core.specs.Reservations.{Lists, Holds, Opened, next_of, no_lists, reserved, spans_of};
 
 use crate::fault::ReserveFault;
@@ -14,6 +15,9 @@ use sqlite::{Alter, Connection};
 use std::marker::Model;
 
 /// The ranges that were ever reserved, in a database that nobody else writes.
+///
+/// It stands over a connection. At the end of a run `release` it and close the connection: until then what was committed to a file
+/// stands in the log beside the file (FILE-wal), and the two are one ledger, of which the file alone is not.
 pub struct Keeper<S: Alter> {
     conn: Connection<S>,
 }
@@ -40,14 +44,15 @@ impl<S: Alter> Model for Keeper<S> {
 }
 
 impl<S: Alter> Keeper<S> {
-    /// Makes both tables in a database that has none, and checks them else: their schema, and that their rows are lists of adjacent
-    /// ranges, in one pass. Nobody else may write the database from now on.
+    /// Makes both tables in an empty database, and checks them else: their schema, and that their rows are lists of adjacent ranges,
+    /// in one pass over all rows, which it holds in memory for that time. Nobody else may write the database from now on.
     ///
-    /// `BadStore` comes where one table is there and one of the two cannot be read by its column names, or where the rows hold no
-    /// lists; `Store` where the database refuses a statement, memory is refused, the tables are other than the keeper makes them, or
-    /// the connection is in a transaction. A refusal changes nothing and hands the connection back.
+    /// `BadStore` comes where something is in the database and one of the two tables cannot be read by its column names, or where the
+    /// rows hold no lists; `Store` where the database refuses a statement, memory is refused, the tables are other than the keeper
+    /// makes them or not alone, or the connection is in a transaction. A refusal changes nothing and hands the connection back.
     pub fn open(connection: Connection<S>) -> Result<Keeper<S>, (ReserveFault, Connection<S>)>
-        ensures opened { IfOk result (λ k. HasCleanDisk (state S.Store k) → IsTrue (state S.Store k).is_open → Opened (state S.Store connection).now (state S.Store k).now) }
+        ensures opened { IfOk result (λ k. HasCleanDisk (state S.Store k) → Opened (state S.Store connection).now (state S.Store k).now) }
+        ensures live { IfOk result (λ k. HasCleanDisk (state S.Store k) → IsTrue (state S.Store connection).is_open × IsTrue (state S.Store k).is_open) }
         ensures never { IfOk result (λ k. HasCleanDisk (state S.Store k) → IsBad (state S.Store connection).now → ⊥) }
         ensures bad { IfErr result (λ e. HasCleanDisk (state S.Store e.1) → e.0 ≡ ReserveFault.BadStore → IsBad (state S.Store connection).now) }
         ensures named { IfErr result (λ e. (e.0 ≡ ReserveFault.Store) ⊎ (e.0 ≡ ReserveFault.BadStore)) }
@@ -55,6 +60,10 @@ impl<S: Alter> Keeper<S> {
             → ((state S.Store e.1).now ≡ (state S.Store connection).now) × ((state S.Store e.1).committed ≡ (state S.Store connection).committed)) }
         ensures crash { MatchResult result (λ k. Survives (state S.Store connection) (state S.Store k) (λ trees. (db : _) × Holds db no_lists × (trees ≡ db.trees)))
             (λ e. Survives (state S.Store connection) (state S.Store e.1) (λ trees. (db : _) × Holds db no_lists × (trees ≡ db.trees))) }
+        ensures lasts { IfOk result (λ k. HasCleanDisk (state S.Store k) → (trees : _) → (state S.Store k).may_leave trees → trees ≡ (state S.Store k).now.trees) }
+        ensures kept { MatchResult result
+            (λ k. HasCleanDisk (state S.Store k) → (before : Lists) → Last (state S.Store connection) before → Last (state S.Store k) before)
+            (λ e. HasCleanDisk (state S.Store e.1) → (before : Lists) → Last (state S.Store connection) before → Last (state S.Store e.1) before) }
     {
         let mut conn = connection;
         match open_tables(&mut conn) {
@@ -85,11 +94,14 @@ impl<S: Alter> Keeper<S> {
         ensures appends { HasCleanDisk (state S.Store self.new) → (lists : Lists) → Holds (state S.Store self.old).now lists
             → IfOk result (λ r. (r.device ≡ device) × (r.lo ≡ next_of (lists key_id.now device)) × (r.size ≡ count) × (r.lo + count ≤ 2 ^ 32)
             × Holds (state S.Store self.new).now (reserved lists key_id.now device count)) }
+        ensures live { HasCleanDisk (state S.Store self.new) → OnOk result (IsTrue (state S.Store self.old).is_open × IsTrue (state S.Store self.new).is_open) }
+        ensures was_open { HasCleanDisk (state S.Store self.new) → IsTrue (state S.Store self.new).is_open → IsTrue (state S.Store self.old).is_open }
         ensures same { HasCleanDisk (state S.Store self.new) → IsTrue (state S.Store self.new).is_open
             → OnErr result (((state S.Store self.new).now ≡ (state S.Store self.old).now) × ((state S.Store self.new).committed ≡ (state S.Store self.old).committed)) }
         ensures crash { Survives (state S.Store self.old) (state S.Store self.new) (λ trees. (lists : Lists) → Holds (state S.Store self.old).now lists
             → (db : _) × Holds db (reserved lists key_id.now device count) × (trees ≡ db.trees)) }
         ensures lasts { HasCleanDisk (state S.Store self.new) → OnOk result ((trees : _) → (state S.Store self.new).may_leave trees → trees ≡ (state S.Store self.new).now.trees) }
+        ensures kept { HasCleanDisk (state S.Store self.new) → (before : Lists) → Last (state S.Store self.old) before → Last (state S.Store self.new) before }
     {
         if count == 0 {
             return Err(ReserveFault::ZeroCount);
@@ -113,7 +125,8 @@ impl<S: Alter> Keeper<S> {
         }
     }
 
-    /// The ranges of the key and device, as (`lo`, `size`), in order of `lo`. A refusal is `Store` or `BadStore`. Nothing changes.
+    /// The ranges of the key and device, as (`lo`, `size`), in order of `lo`. A refusal is `Store`; `BadStore` comes only where
+    /// somebody else wrote the database or its disk returned other bytes. Nothing changes.
     pub fn taken(
         &mut self,
         key_id: &[u8; 32],
@@ -122,9 +135,13 @@ impl<S: Alter> Keeper<S> {
         ensures lists { HasCleanDisk (state S.Store self.new) → (lists : Lists) → Holds (state S.Store self.old).now lists
             → IfOk result (λ ranges. spans_of ranges.items ≡ lists key_id.now device) }
         ensures named { IfErr result (λ e. (e ≡ ReserveFault.Store) ⊎ (e ≡ ReserveFault.BadStore)) }
+        ensures sound { HasCleanDisk (state S.Store self.new) → result ≢ Err ReserveFault.BadStore }
+        ensures live { HasCleanDisk (state S.Store self.new) → OnOk result (IsTrue (state S.Store self.old).is_open) }
+        ensures was_open { HasCleanDisk (state S.Store self.new) → IsTrue (state S.Store self.new).is_open → IsTrue (state S.Store self.old).is_open }
         ensures same { HasCleanDisk (state S.Store self.new) → IsTrue (state S.Store self.new).is_open
             → ((state S.Store self.new).now ≡ (state S.Store self.old).now) × ((state S.Store self.new).committed ≡ (state S.Store self.old).committed) }
         ensures crash { Survives (state S.Store self.old) (state S.Store self.new) (λ _. ⊥) }
+        ensures kept { HasCleanDisk (state S.Store self.new) → (before : Lists) → Last (state S.Store self.old) before → Last (state S.Store self.new) before }
     {
         ranges_of(&mut self.conn, key_id.as_slice(), device.number())
     }

@@ -3,24 +3,27 @@ ghost use Rattle.std.specs.Prelude.{◌≡◌, ◌⊎◌, IsTrue, IfErr, OnOk, O
 ghost use Rattle.sqlite.specs.State.{HasCleanDisk, Survives};
 ghost use Rattle.sqlite.specs.Held.{state};
 ghost use Rattle.reserve_core.specs.Faults.{IsBad};
-ghost use Rattle.reserve_core.specs.Reservations.{Holds, Opened, no_lists};
+ghost use Rattle.reserve_core.specs.Lasting.{Last};
+ghost use Rattle.reserve_core.specs.Reservations.{Holds, Lists, Opened, no_lists};
 ghost use Rattle.reserve_core.specs.Writes.{IsReady};
 
 use crate::fault::ReserveFault;
 use crate::reads::check_rows;
-use crate::schema::{is_bad, is_blank, is_ledger};
+use crate::schema::{are_readable, is_blank, is_ledger};
 use crate::tables::make_tables;
 use sqlite::{Alter, Connection};
 
 pub(crate) fn open_tables<S: Alter>(conn: &mut Connection<S>) -> Result<(), ReserveFault>
     ensures settled { OnOk result (conn.new.in_transaction ≡ false) }
     ensures ready { HasCleanDisk (state S.Store conn.new) → IsTrue (state S.Store conn.new).is_open → OnOk result (IsReady (state S.Store conn.new)) }
-    ensures opened { HasCleanDisk (state S.Store conn.new) → IsTrue (state S.Store conn.new).is_open → OnOk result (Opened (state S.Store conn.old).now (state S.Store conn.new).now) }
+    ensures live { HasCleanDisk (state S.Store conn.new) → OnOk result (IsTrue (state S.Store conn.old).is_open × IsTrue (state S.Store conn.new).is_open) }
+    ensures opened { HasCleanDisk (state S.Store conn.new) → OnOk result (Opened (state S.Store conn.old).now (state S.Store conn.new).now) }
     ensures never { HasCleanDisk (state S.Store conn.new) → OnOk result (IsBad (state S.Store conn.old).now → ⊥) }
     ensures bad { HasCleanDisk (state S.Store conn.new) → result ≡ Err ReserveFault.BadStore → IsBad (state S.Store conn.old).now }
     ensures named { IfErr result (λ e. (e ≡ ReserveFault.Store) ⊎ (e ≡ ReserveFault.BadStore)) }
     ensures same { HasCleanDisk (state S.Store conn.new) → IsTrue (state S.Store conn.new).is_open
         → OnErr result (((state S.Store conn.new).now ≡ (state S.Store conn.old).now) × ((state S.Store conn.new).committed ≡ (state S.Store conn.old).committed)) }
+    ensures kept { HasCleanDisk (state S.Store conn.new) → (before : Lists) → Last (state S.Store conn.old) before → Last (state S.Store conn.new) before }
     ensures crash { Survives (state S.Store conn.old) (state S.Store conn.new) (λ trees. (db : _) × Holds db no_lists × (trees ≡ db.trees)) }
 {
     if !conn.is_autocommit() {
@@ -33,10 +36,10 @@ pub(crate) fn open_tables<S: Alter>(conn: &mut Connection<S>) -> Result<(), Rese
         };
     }
     if !is_ledger(conn.schema()) {
-        if is_bad(conn.schema()) {
-            return Err(ReserveFault::BadStore);
+        if are_readable(conn.schema()) {
+            return Err(ReserveFault::Store);
         }
-        return Err(ReserveFault::Store);
+        return Err(ReserveFault::BadStore);
     }
     check_rows(conn)
 }

@@ -1,16 +1,18 @@
 //! What the tables hold, read.
+ghost use Rattle.std.specs.List.{AllByRecursion, list_all};
 ghost use Rattle.std.specs.Prelude.{◌≡◌, Err, ◌⊎◌, ◌≤◌, ◌<◌, ◌^◌, IsTrue, OnOk, IfOk, IfErr, true, false, [], ◌∷◌, pos, Ok, Some, None, map, filter, IsPermutation};
 ghost use Rattle.sqlite.specs.declared.types.Value.TheVariants.{Int};
 ghost use Rattle.sqlite.specs.Order.{column};
-ghost use Rattle.sqlite.specs.State.{HasCleanDisk, Survives, KeepsCommit, Shows};
+ghost use Rattle.sqlite.specs.State.{HasCleanDisk, IsLive, Survives, KeepsCommit, Shows};
 ghost use Rattle.sqlite.specs.Held.{state};
 ghost use Rattle.reserve_core.specs.Tables.{IsLedger};
-ghost use Rattle.reserve_core.specs.Reads.{is_for, shown_id, shown_mark, shown_next, shown_range, shown_taken};
-ghost use Rattle.reserve_core.specs.Reservations.{Adjacent, Lists, Holds, span_shown, spans_of};
+ghost use Rattle.reserve_core.specs.Reads.{is_for, is_span, shown_id, shown_mark, shown_next, shown_range, shown_taken};
+ghost use Rattle.reserve_core.specs.Reservations.{Adjacent, IsMarkRow, Lists, Holds, HoldLists, span_shown, spans_of};
 ghost use Rattle.reserve_core.specs.Writes.{HaveRowids, IsMarkOf, IsReady};
 
 use crate::fault::ReserveFault;
 use crate::rows::{do_rise, hold_lists, number_at};
+use crate::schema::is_ledger;
 use sqlite::{Alter, Connection, Error, Row, Transaction, params};
 
 /// The rows that hold the mark of a key id and device.
@@ -122,26 +124,11 @@ fn pick_takings<S: Alter>(tx: &mut Transaction<'_, S>) -> Result<Vec<Row>, Error
     )
 }
 
-/// The rowids of `mark` in their order.
-fn pick_ids<S: Alter>(tx: &mut Transaction<'_, S>) -> Result<Vec<Row>, Error>
-    ensures same_reference { tx.new.conn.ghost_name ≡ tx.old.conn.ghost_name }
-    ensures open { HasCleanDisk (state S.Store tx.new.conn.now) → OnOk result (IsTrue (state S.Store tx.old.conn.now).is_open) }
-    ensures shown { HasCleanDisk (state S.Store tx.new.conn.now) → IsTrue (state S.Store tx.old.conn.now).in_transaction → IsLedger (state S.Store tx.old.conn.now).now.schema
-        → OnOk result (Shows (state S.Store tx.old.conn.now) (state S.Store tx.new.conn.now) (state S.Store tx.old.conn.now).now (state S.Store tx.old.conn.now).committed true) }
-    ensures read { HasCleanDisk (state S.Store tx.new.conn.now) → IsLedger (state S.Store tx.old.conn.now).now.schema → IfOk result (λ rows. IsPermutation (map shown_id ((state S.Store tx.old.conn.now).now.trees 0)) rows.items) }
-    ensures inside { HasCleanDisk (state S.Store tx.new.conn.now) → IsTrue (state S.Store tx.old.conn.now).in_transaction → OnOk result (IsTrue (state S.Store tx.new.conn.now).in_transaction) }
-    ensures kept { HasCleanDisk (state S.Store tx.new.conn.now) → IsTrue (state S.Store tx.old.conn.now).in_transaction → KeepsCommit (state S.Store tx.old.conn.now) (state S.Store tx.new.conn.now) }
-    ensures survives { Survives (state S.Store tx.old.conn.now) (state S.Store tx.new.conn.now) (λ _. ⊥) }
-{
-    tx.query_all("SELECT rowid FROM mark ORDER BY rowid", &[])
-}
-
-/// The rows of both tables, in the order of their keys, and the rowids of `mark` in their order.
+/// The rows of both tables, in the order of their keys.
 #[derive(Drop)]
 struct Everything {
     marks: Vec<Row>,
     taken: Vec<Row>,
-    ids: Vec<Row>,
 }
 
 /// It reads in a transaction that it takes back, as `next_rows`.
@@ -152,8 +139,7 @@ fn read_all<S: Alter>(conn: &mut Connection<S>) -> Result<Everything, Error>
     ensures open { HasCleanDisk (state S.Store conn.new) → OnOk result (IsTrue (state S.Store conn.old).is_open) }
     ensures read { HasCleanDisk (state S.Store conn.new) → IsLedger (state S.Store conn.old).now.schema → IfOk result (λ all.
         IsPermutation (map shown_mark ((state S.Store conn.old).now.trees 0)) all.marks.items
-        × IsPermutation (map shown_taken ((state S.Store conn.old).now.trees 2)) all.taken.items
-        × IsPermutation (map shown_id ((state S.Store conn.old).now.trees 0)) all.ids.items) }
+        × IsPermutation (map shown_taken ((state S.Store conn.old).now.trees 2)) all.taken.items) }
     ensures same { HasCleanDisk (state S.Store conn.new) → IsTrue (state S.Store conn.new).is_open → (state S.Store conn.old).now ≡ (state S.Store conn.old).committed
         → ((state S.Store conn.new).now ≡ (state S.Store conn.old).now) × ((state S.Store conn.new).committed ≡ (state S.Store conn.old).committed) }
     ensures crash { Survives (state S.Store conn.old) (state S.Store conn.new) (λ _. ⊥) }
@@ -161,23 +147,66 @@ fn read_all<S: Alter>(conn: &mut Connection<S>) -> Result<Everything, Error>
     let mut tx = conn.transaction();
     let marks = pick_marks(&mut tx)?;
     let taken = pick_takings(&mut tx)?;
-    let ids = pick_ids(&mut tx)?;
     tx.rollback();
-    Ok(Everything { marks, taken, ids })
+    Ok(Everything { marks, taken })
+}
+
+/// The rowids of `mark` in their order, of a ledger file.
+fn read_ids<S: Alter>(conn: &mut Connection<S>) -> Result<Vec<Row>, Error>
+    requires { IsLedger (state S.Store conn.old).now.schema }
+    ensures settled { conn.old.in_transaction ≡ false → conn.new.in_transaction ≡ false }
+    ensures was_open { HasCleanDisk (state S.Store conn.new) → IsTrue (state S.Store conn.new).is_open → IsTrue (state S.Store conn.old).is_open }
+    ensures shown { HasCleanDisk (state S.Store conn.new)
+        → OnOk result (Shows (state S.Store conn.old) (state S.Store conn.new) (state S.Store conn.old).now (state S.Store conn.old).committed (state S.Store conn.old).in_transaction) }
+    ensures read { HasCleanDisk (state S.Store conn.new) → IfOk result (λ rows. IsPermutation (map shown_id ((state S.Store conn.old).now.trees 0)) rows.items) }
+    ensures same { HasCleanDisk (state S.Store conn.new) → IsTrue (state S.Store conn.new).is_open → (state S.Store conn.old).now ≡ (state S.Store conn.old).committed
+        → ((state S.Store conn.new).now ≡ (state S.Store conn.old).now) × ((state S.Store conn.new).committed ≡ (state S.Store conn.old).committed) }
+    ensures crash { Survives (state S.Store conn.old) (state S.Store conn.new) (λ _. ⊥) }
+{
+    conn.query_all("SELECT rowid FROM mark ORDER BY rowid", &[])
+}
+
+/// Whether no two rows of `mark` have one rowid. It reads outside a transaction: what it answers comes from a database that is open
+/// and stays so.
+fn check_rowids<S: Alter>(conn: &mut Connection<S>) -> Result<(), ReserveFault>
+    ensures settled { conn.old.in_transaction ≡ false → conn.new.in_transaction ≡ false }
+    ensures was_open { HasCleanDisk (state S.Store conn.new) → IsTrue (state S.Store conn.new).is_open → IsTrue (state S.Store conn.old).is_open }
+    ensures ok { HasCleanDisk (state S.Store conn.new)
+        → OnOk result (Shows (state S.Store conn.old) (state S.Store conn.new) (state S.Store conn.old).now (state S.Store conn.old).committed (state S.Store conn.old).in_transaction
+        × (AllByRecursion IsMarkRow ((state S.Store conn.old).now.trees 0) → HaveRowids ((state S.Store conn.old).now.trees 0))) }
+    ensures named { IfErr result (λ e. e ≡ ReserveFault.Store) }
+    ensures same { HasCleanDisk (state S.Store conn.new) → IsTrue (state S.Store conn.new).is_open → (state S.Store conn.old).now ≡ (state S.Store conn.old).committed
+        → ((state S.Store conn.new).now ≡ (state S.Store conn.old).now) × ((state S.Store conn.new).committed ≡ (state S.Store conn.old).committed) }
+    ensures crash { Survives (state S.Store conn.old) (state S.Store conn.new) (λ _. ⊥) }
+{
+    // Where the end of the reads before this one shut the database, nothing is known of its tables.
+    if !is_ledger(conn.schema()) {
+        return Err(ReserveFault::Store);
+    }
+    let Ok(ids) = read_ids(conn) else {
+        return Err(ReserveFault::Store);
+    };
+    // SQLite gives no two rows of a table one rowid.
+    if !do_rise(ids.as_slice()) {
+        return Err(ReserveFault::Store);
+    }
+    Ok(())
 }
 
 /// Whether the rows of the tables hold lists. Where they do not it is `BadStore`.
 pub(crate) fn check_rows<S: Alter>(conn: &mut Connection<S>) -> Result<(), ReserveFault>
     requires settled { conn.old.in_transaction ≡ false }
+    requires live { IsLive (state S.Store conn.old) }
+    requires still { IsTrue (state S.Store conn.old).is_open → (state S.Store conn.old).now ≡ (state S.Store conn.old).committed }
     ensures settled { conn.new.in_transaction ≡ false }
     ensures was_open { HasCleanDisk (state S.Store conn.new) → IsTrue (state S.Store conn.new).is_open → IsTrue (state S.Store conn.old).is_open }
-    ensures open { HasCleanDisk (state S.Store conn.new) → OnOk result (IsTrue (state S.Store conn.old).is_open) }
+    ensures open { HasCleanDisk (state S.Store conn.new) → OnOk result (IsTrue (state S.Store conn.old).is_open × IsTrue (state S.Store conn.new).is_open) }
     ensures ok { HasCleanDisk (state S.Store conn.new) → IsLedger (state S.Store conn.old).now.schema
         → OnOk result ((lists : Lists) × Holds (state S.Store conn.old).now lists × HaveRowids ((state S.Store conn.old).now.trees 0)) }
     ensures bad { HasCleanDisk (state S.Store conn.new) → IsLedger (state S.Store conn.old).now.schema → result ≡ Err ReserveFault.BadStore
-        → (lists : Lists) → Holds (state S.Store conn.old).now lists → ⊥ }
+        → (lists : Lists) → HoldLists ((state S.Store conn.old).now.trees 0) ((state S.Store conn.old).now.trees 2) lists → ⊥ }
     ensures named { IfErr result (λ e. (e ≡ ReserveFault.Store) ⊎ (e ≡ ReserveFault.BadStore)) }
-    ensures same { HasCleanDisk (state S.Store conn.new) → IsTrue (state S.Store conn.new).is_open → (state S.Store conn.old).now ≡ (state S.Store conn.old).committed
+    ensures same { HasCleanDisk (state S.Store conn.new) → IsTrue (state S.Store conn.new).is_open
         → ((state S.Store conn.new).now ≡ (state S.Store conn.old).now) × ((state S.Store conn.new).committed ≡ (state S.Store conn.old).committed) }
     ensures crash { Survives (state S.Store conn.old) (state S.Store conn.new) (λ _. ⊥) }
 {
@@ -185,11 +214,7 @@ pub(crate) fn check_rows<S: Alter>(conn: &mut Connection<S>) -> Result<(), Reser
         return Err(ReserveFault::Store);
     };
     hold_lists(all.marks.as_slice(), all.taken.as_slice())?;
-    // SQLite gives no two rows of a table one rowid.
-    if !do_rise(all.ids.as_slice()) {
-        return Err(ReserveFault::Store);
-    }
-    Ok(())
+    check_rowids(conn)
 }
 
 /// The rows that hold the ranges of a key id and device.
@@ -238,6 +263,7 @@ fn spans_in(rows: &Vec<Row>) -> Result<Vec<(u32, u64)>, ReserveFault>
     ensures ranges { IfOk result (λ spans. spans_of spans.items ≡ map span_shown rows.now.items) }
     ensures adjacent { IfOk result (λ spans. Adjacent 0 (spans_of spans.items)) }
     ensures named { IfErr result (λ e. (e ≡ ReserveFault.Store) ⊎ (e ≡ ReserveFault.BadStore)) }
+    ensures sound { list_all is_span rows.now.items ≡ true → IfErr result (λ e. e ≡ ReserveFault.Store) }
 {
     let mut spans = Vec::new(*rows.allocator());
     let mut rest = rows.as_slice();
@@ -246,8 +272,9 @@ fn spans_in(rows: &Vec<Row>) -> Result<Vec<(u32, u64)>, ReserveFault>
         let (Some(lo), Some(size)) = (number_at(row, 0), number_at(row, 1)) else {
             return Err(ReserveFault::BadStore);
         };
+        // The keeper's rows are lists. A database that answers in another order than it was asked for has failed.
         if lo != end || size == 0 || size > 0x1_0000_0000 - end {
-            return Err(ReserveFault::BadStore);
+            return Err(ReserveFault::Store);
         }
         if spans.push((lo as u32, size)).is_err() {
             return Err(ReserveFault::Store);
@@ -265,10 +292,13 @@ pub(crate) fn ranges_of<S: Alter>(
     device: u32,
 ) -> Result<Vec<(u32, u64)>, ReserveFault>
     requires settled { conn.old.in_transaction ≡ false }
+    requires ready { HasCleanDisk (state S.Store conn.old) → IsTrue (state S.Store conn.old).is_open → IsReady (state S.Store conn.old) }
     ensures settled { conn.new.in_transaction ≡ false }
     ensures was_open { HasCleanDisk (state S.Store conn.new) → IsTrue (state S.Store conn.new).is_open → IsTrue (state S.Store conn.old).is_open }
     ensures lists { HasCleanDisk (state S.Store conn.new) → (lists : Lists) → Holds (state S.Store conn.old).now lists → IfOk result (λ spans. spans_of spans.items ≡ lists key.now device) }
+    ensures open { HasCleanDisk (state S.Store conn.new) → OnOk result (IsTrue (state S.Store conn.old).is_open) }
     ensures named { IfErr result (λ e. (e ≡ ReserveFault.Store) ⊎ (e ≡ ReserveFault.BadStore)) }
+    ensures sound { HasCleanDisk (state S.Store conn.new) → IfErr result (λ e. e ≡ ReserveFault.Store) }
     ensures same { HasCleanDisk (state S.Store conn.new) → IsTrue (state S.Store conn.new).is_open → (state S.Store conn.old).now ≡ (state S.Store conn.old).committed
         → ((state S.Store conn.new).now ≡ (state S.Store conn.old).now) × ((state S.Store conn.new).committed ≡ (state S.Store conn.old).committed) }
     ensures crash { Survives (state S.Store conn.old) (state S.Store conn.new) (λ _. ⊥) }

@@ -2,7 +2,7 @@
 ghost use Rattle.std.specs.Prelude.{◌≡◌, IsTrue, [], ◌∷◌, None, false};
 ghost use Rattle.std.specs.Option.{option_copied};
 ghost use Rattle.sqlite_value.specs.Keys.{plain};
-ghost use Rattle.reserve_core.specs.Tables.{IsLedger, has_columns, index_for, is_unreadable, keyed_table, mark_index, mark_names, mark_table, no_schema, required, table_at, taken_index, taken_names, taken_table};
+ghost use Rattle.reserve_core.specs.Tables.{IsLedger, are_readable, has_columns, index_for, keyed_table, mark_index, mark_names, mark_table, no_schema, required, table_at, taken_index, taken_names, taken_table};
 
 use sqlite_items::Items;
 use sqlite_schema::schema::{Column, Index, Kind, Schema, Table};
@@ -111,7 +111,8 @@ fn is_index(index: &Index, name: &[u8], tree: u32, table: u32, places: &[usize])
 
 /// Whether there is no table, index or view.
 pub(crate) fn is_blank(schema: &Schema) -> bool
-    ensures { IsTrue result → schema.now ≡ no_schema }
+    ensures blank { IsTrue result → schema.now ≡ no_schema }
+    ensures other { schema.now ≡ no_schema → IsTrue result }
 {
     schema.tables.len() == 0 && schema.indexes.len() == 0 && schema.views.len() == 0
 }
@@ -170,13 +171,12 @@ fn has_taken_columns(table: &Table) -> bool
         && table.column_named(b"size").is_some()
 }
 
-/// Whether one of the two tables is there, and one of the two cannot be read by its column names.
-pub(crate) fn is_bad(schema: &Schema) -> bool
-    ensures { result ≡ is_unreadable schema.now }
+/// Whether both tables can be read by their column names.
+pub(crate) fn are_readable(schema: &Schema) -> bool
+    ensures { result ≡ are_readable schema.now }
 {
     match (table_at(schema, b"mark"), table_at(schema, b"taken")) {
-        (None, None) => false,
-        (Some(mark), Some(taken)) => !(has_mark_columns(mark) && has_taken_columns(taken)),
-        _ => true,
+        (Some(mark), Some(taken)) => has_mark_columns(mark) && has_taken_columns(taken),
+        _ => false,
     }
 }

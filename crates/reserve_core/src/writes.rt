@@ -7,6 +7,7 @@ ghost use Rattle.sqlite.specs.Edit.{id_in};
 ghost use Rattle.sqlite.specs.Held.{state};
 ghost use Rattle.sqlite.specs.Tree.{rowid};
 ghost use Rattle.reserve_core.specs.Tables.{IsLedger};
+ghost use Rattle.reserve_core.specs.Lasting.{Last};
 ghost use Rattle.reserve_core.specs.Reads.{is_for};
 ghost use Rattle.reserve_core.specs.Reservations.{Holds, IsMarkRow, IsOwner, Lists, next_of, reserved};
 ghost use Rattle.reserve_core.specs.Writes.{Appends, Entered, IsMarkOf, IsReady, Marked, Moved, Took};
@@ -177,6 +178,7 @@ pub(crate) fn append_range<S: Alter>(
         → OnErr result (((state S.Store conn.new).now ≡ (state S.Store conn.old).now) × ((state S.Store conn.new).committed ≡ (state S.Store conn.old).committed)) }
     ensures crash { Survives (state S.Store conn.old) (state S.Store conn.new)
         (λ trees. IsTrue (state S.Store conn.old).is_open × ((lists : Lists) → Holds (state S.Store conn.old).now lists → (db : _) × Holds db (reserved lists key.now device size) × (trees ≡ db.trees))) }
+    ensures kept { HasCleanDisk (state S.Store conn.new) → (before : Lists) → Last (state S.Store conn.old) before → Last (state S.Store conn.new) before }
 {
     append(conn, key, device, mark, size)
 }

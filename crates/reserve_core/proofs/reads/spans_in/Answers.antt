@@ -1,4 +1,7 @@
-use Rattle.std.proofs.Common.{◌≡◌, Some, refl, sym, ◌∙◌, arith, rules}
+use Rattle.std.proofs.Common.{◌≡◌, ◌∷◌, Some, true, refl, sym, subst, ◌∙◌, arith, rules}
+use Rattle.std.specs.List.{list_all}
+use Rattle.std.proofs.lemmas.Bool.{and_parts}
+use Rattle.reserve_core.specs.Reads.{is_span}
 use Rattle.reserve_core.proofs.Runs.{span_more}
 use Rattle.reserve_core.proofs.reads.spans_in.Goals as goal
 
@@ -6,4 +9,5 @@ pub loop-row-preserved : goal.loop-row-preserved
 loop-row-preserved c =
     let inv = c.loop-row.invariant in
     let it = span_more c.loop-row.spans.items c.push.new.self.items c.loop-row.rest.now c.in-Some.more.now c.in-Some.row.now c.loop-row.end c.in-Some-Some.lo c.in-Some-Some.size _ (search rules) (search rules) (search rules) (search rules) (omega arith) (omega arith) inv.1 inv.2 inv.3 in
-    (omega arith, it.0, it.1, it.2)
+    let rest : c.loop-row.rest.now ≡ c.in-Some.row.now ∷ c.in-Some.more.now = search rules in
+    (omega arith, it.0, it.1, it.2, λ all. (and_parts _ _ (subst (λ l. list_all is_span l ≡ true) rest (inv.4 all))).1)

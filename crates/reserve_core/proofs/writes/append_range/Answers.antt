@@ -3,6 +3,7 @@ use Rattle.sqlite.specs.State.{HasCleanDisk}
 use Rattle.sqlite.specs.Held.{state}
 use Rattle.sqlite.proofs.StateLemmas.{survives_weaker}
 use Rattle.reserve_core.proofs.Ready.{ready_after, appended, appends_lists}
+use Rattle.reserve_core.proofs.Lasting.{last_then, reserved_keeps}
 use Rattle.reserve_core.proofs.writes.append_range.Goals as goal
 
 pub returns-clause-ready : goal.returns-clause-ready
@@ -30,3 +31,14 @@ returns-clause-crash g c =
         it.3,
       ),
     )) c.append.ensures.crash
+
+pub returns-clause-kept : goal.returns-clause-kept
+returns-clause-kept g c clean before last =
+    let at_old : HasCleanDisk (state g.S.Store c.args.conn.now) = omega (arith, c.append.ensures.crash.clean) in
+    last_then (state g.S.Store c.args.conn.now) (state g.S.Store c.append.new.conn) _ before c.append.ensures.crash clean (λ trees it.
+    reserved_keeps (state g.S.Store c.args.conn.now) before c.args.key.now c.args.device c.args.size (c.requires.ready at_old it.0) (g.met.S.Store.stays c.args.conn.now.store it.0) last trees (λ lists hold. (
+      it.1,
+      (appended (state g.S.Store c.args.conn.now) it.1 lists c.args.key.now c.args.device c.args.size c.args.mark (c.requires.ready at_old it.0)
+          c.requires.owner c.requires.some c.requires.fits (c.requires.read at_old it.0) hold it.2).holds,
+      it.3,
+    ))) last

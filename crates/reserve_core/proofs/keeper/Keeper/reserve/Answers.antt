@@ -4,6 +4,7 @@ use Rattle.sqlite.specs.Held.{state}
 use Rattle.sqlite.specs.Effect.{Database}
 use Rattle.sqlite.proofs.StateLemmas.{survives_then}
 use Rattle.reserve_core.specs.Reservations.{Holds}
+use Rattle.reserve_core.proofs.Lasting.{last_still}
 use Rattle.reserve_core.proofs.keeper.Keeper.reserve.Goals as goal
 
 pub returns-clause-crash : goal.returns-clause-crash
@@ -12,3 +13,9 @@ returns-clause-crash g c =
     (survives_then (state g.S.Store c.self.inside.conn) (state g.S.Store c.mark_of.new.conn) (state g.S.Store c.append_range.new.conn) (λ _. ⊥) _ _ (λ _ db none. absurd none) (λ clean trees it lists hold.
     let at_mid : HasCleanDisk (state g.S.Store c.mark_of.new.conn) = omega (arith, c.append_range.ensures.crash.clean) in
     rw (c.as_slice-2.ensures, c.number-number.ensures.value) at (it.1 lists (subst (λ (d : Database). Holds d lists) (sym (c.mark_of.ensures.same at_mid it.0).0) hold))) c.mark_of.ensures.crash c.append_range.ensures.crash)
+
+pub returns-clause-kept : goal.returns-clause-kept
+returns-clause-kept g c =
+    rw (← c.self.view_is) (λ clean before last.
+    let at_mid : HasCleanDisk (state g.S.Store c.mark_of.new.conn) = omega (arith, c.append_range.ensures.crash.clean) in
+    c.append_range.ensures.kept clean before (last_still (state g.S.Store c.self.inside.conn) (state g.S.Store c.mark_of.new.conn) before c.mark_of.ensures.crash at_mid last))
