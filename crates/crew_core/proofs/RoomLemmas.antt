@@ -26,6 +26,19 @@ part_by_number front size count whole n some at room =
     get_or-parts size (count - 1) (drop front whole) n [] (omega arith) fits
     ∙ ap (take size) (drop-drop (n * size) front whole)
 
+pub room_for : (front size count total long sizes values : ℕ) → long ≡ front + total → size ≡ sizes → count ≡ values → total ≤ values * sizes
+    → long ≤ front + count * size
+room_for front size count total long sizes values e f g most = rw (f, g) (omega arith)
+
+-- how long a part is
+pub length_of_part : (front size count bytes : ℕ) (whole : List ℕ) (n : ℕ) → 0 < count → n < count → length whole ≡ front + bytes
+    → length whole ≤ front + count * size
+    → length (get_or (parts size (count - 1) (drop front whole)) n []) ≡ min size (bytes - n * size)
+length_of_part front size count bytes whole n some at long room =
+    let cut = length-take size (drop (front + n * size) whole) in
+    let left : length (drop (front + n * size) whole) ≡ bytes - n * size = let l = length-drop (front + n * size) whole in omega arith in
+    ap (λ p. length p) (part_by_number front size count whole n some at room) ∙ cut ∙ ap (min size) left
+
 nil_of : (xs : List ℕ) → length xs ≡ 0 → xs ≡ []
 nil_of [] e = refl
 nil_of (x ∷ xs) e = absurd (omega arith)

@@ -1,8 +1,9 @@
 -- The values of a work by their numbers.
-use Rattle.std.proofs.Common.{◌≡◌, ℕ, ◌+◌, ◌-◌, ◌*◌, ◌<◌, ◌≤◌, Bool, eqb, List, [], ◌∷◌, length, get_or, take, drop, refl, ap, sym, ◌∙◌, arith, suc, zero, None, zero-add, add-zero, add-one}
+use Rattle.std.proofs.Common.{◌≡◌, ℕ, ◌+◌, ◌-◌, ◌*◌, ◌<◌, ◌≤◌, Bool, eqb, List, [], ◌∷◌, length, get_or, take, drop, min, refl, ap, sym, ◌∙◌, arith, suc, zero, None, Some, unwrap_or, zero-add, add-zero, add-one}
 use Rattle.std.proofs.lemmas.List.{length-take, length-drop}
 use Rattle.std.proofs.lemmas.Bool.Decides.{nat_tests}
-use Rattle.container_core.specs.Stream.{is_nil}
+use Rattle.container_core.specs.Stream.{is_nil, sealed_chunk}
+use Rattle.container_core.proofs.StreamLemmas.{length-sealed_chunk, sealed_chunk-opened_chunk}
 use Rattle.container_core.proofs.PartsLemmas.{length-chunks, length-sealed_chunks, get_or-chunks, get_or-sealed_chunks}
 use Rattle.crew_core.specs.declared.work.Kind.{Kind}
 use Rattle.crew_core.specs.declared.work.Kind.TheVariants.{Sealing, Opening}
@@ -92,6 +93,36 @@ pieces_bounds Opening count body (n, short, long, is) = (omega arith, omega arit
 pub body_small : (kind : Kind) (count : ℕ) (body : List ℕ) → IsCut kind count body → length body ≤ 1099780063232
 body_small Sealing count body (short, is) = omega arith
 body_small Opening count body (n, short, long, is) = omega arith
+
+unwrapped : (xs ys : List ℕ) → Some xs ≡ Some ys → xs ≡ ys
+unwrapped xs ys e = ap (λ o. unwrap_or o []) e
+
+-- how many bytes what comes of a part has
+length-value_at : (kind : Kind) (key header : List ℕ) (n : ℕ) (last : Bool) (part bytes : List ℕ) → value_at kind key header n last part ≡ Some bytes
+    → length bytes ≡ pieces_sum kind 1 (length part)
+length-value_at Sealing key header n last part bytes e =
+    ap (λ b. length b) (sym (unwrapped (sealed_chunk key header n last part) bytes e)) ∙ length-sealed_chunk key header n last part
+length-value_at Opening key header n last part bytes e =
+    let same = ap (λ s. length s) (sealed_chunk-opened_chunk key header n last part bytes e) in
+    let long = length-sealed_chunk key header n last bytes in
+    omega arith
+
+sizes_agree : (kind : Kind) (count : ℕ) (body : List ℕ) (n l : ℕ) → IsCut kind count body → n < count
+    → l ≡ min (part_size kind) (length body - n * part_size kind)
+    → pieces_sum kind 1 l ≡ min (piece_size kind) (pieces_sum kind count (length body) - n * piece_size kind)
+sizes_agree Sealing count body n l (short, is) at e = omega arith
+sizes_agree Opening count body n l (m, short, long, is) at e = omega arith
+
+-- how many bytes the piece of this number has
+pub length-value : (kind : Kind) (key header : List ℕ) (count : ℕ) (body : List ℕ) (n : ℕ) (bytes : List ℕ) → IsCut kind count body → n < count
+    → get_or (values_of kind key header body) n None ≡ Some bytes
+    → length bytes ≡ min (piece_size kind) (pieces_sum kind count (length body) - n * piece_size kind)
+length-value kind key header count body n bytes cut at e =
+    let part = part_of kind n body in
+    let one = length-value_at kind key header n (eqb (n + 1) count) part bytes (sym (get_or-values_of kind key header count body n cut at) ∙ e) in
+    let long : length part ≡ min (part_size kind) (length body - n * part_size kind) =
+    length-take (part_size kind) (drop (n * part_size kind) body) ∙ ap (min (part_size kind)) (length-drop (n * part_size kind) body) in
+    one ∙ sizes_agree kind count body n (length part) cut at long
 
 -- as many values as parts, and each is of its part
 pub length-values : (kind : Kind) (key header body : List ℕ) → length (values_of kind key header body) ≡ length (parts_of kind body)

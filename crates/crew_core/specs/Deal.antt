@@ -9,7 +9,7 @@ pub record IsDeal (work : WorkView) (worker workers : ℕ) (pieces : List PieceV
   pub within : (j : ℕ) → j < length pieces → worker + j * workers < length work.values
   pub all : length work.values ≤ worker + length pieces * workers
 
--- the shelf is one of this work, and has the pieces of worker 0
+-- the shelf is one of this work, and has the pieces of worker 0 at least
 pub record HasFirst (work : WorkView) (workers : ℕ) (shelf : ShelfView) : Type 0 where
   pub of : IsOf work shelf
   pub filled : (n : ℕ) → n < length work.values → n % workers ≡ 0 → slice_index_or shelf.places n None ≢ None
@@ -18,7 +18,7 @@ pub record HasFirst (work : WorkView) (workers : ℕ) (shelf : ShelfView) : Type
 abbrev pub IsMade : WorkView → PieceView → Type 0
 IsMade work p = (p ≡ piece_of work p.number) × (p.number < length work.values)
 
--- the pieces of the workers below this one, other than worker 0, in any order
+-- pieces of the work in any order: at least those of the workers below this one, other than worker 0
 pub record HasOthers (work : WorkView) (upto workers : ℕ) (pieces : List PieceView) : Type 0 where
   pub made : All (IsMade work) pieces
   pub covers : (n : ℕ) → n < length work.values → 0 < n % workers → n % workers < upto → Contains pieces (piece_of work n)

@@ -39,7 +39,7 @@ fn deal<G: Gate>(
     ensures { IfOk result (λ v. IsDeal work.now worker workers v.items) }
 {
     let end = u64::from(work.count());
-    let mut pieces = Vec::new(alloc);
+    let mut pieces = Vec::with_capacity(alloc, (end / u64::from(workers)) as usize + 1)?;
     let mut number = u64::from(worker);
     while number < end {
         gate.pass(worker, number as u32);
@@ -84,7 +84,9 @@ fn crew<R: Threads + Sync, G: Gate + Sync>(
     ensures { IfOk result (λ done. HasFirst work.now workers done.0 × HasOthers work.now upto workers done.1.items) }
 {
     if upto == 1 {
-        return Ok((first_deal(alloc, work, workers, gate)?, Vec::new(alloc)));
+        // Room for the pieces of all others, before any is made here.
+        let others = Vec::with_capacity(alloc, work.count() as usize)?;
+        return Ok((first_deal(alloc, work, workers, gate)?, others));
     }
     let last = upto - 1;
     let other = move || -> Result<Vec<Piece>, AllocError>
@@ -114,6 +116,8 @@ pub(crate) fn work_whole<R: Threads + Sync, G: Gate + Sync>(
     ensures whole { IfOk result (λ v. whole_of work.now ≡ Ok v.items) }
     ensures fault { IfErr result (λ fault. (fault ≡ OpenFault.OutOfMemory) ⊎ ((chunk : ℕ) × (fault ≡ OpenFault.Forged chunk) × (whole_of work.now ≡ Err chunk))) }
 {
+    // A worker more than there are pieces would have none.
+    let workers = workers.min(work.count());
     let Ok((mut shelf, mut pieces)) = crew(rt, alloc, work, workers, workers, gate) else {
         return Err(OpenFault::OutOfMemory);
     };

@@ -6,7 +6,7 @@
 //! pieces w, w + k, w + 2k and so on. The caller's thread is worker 0. The workers share nothing that changes but the gate.
 #![tactic(auto)]
 
-pub mod crew;
+mod crew;
 pub mod fault;
 pub mod gate;
 pub mod laws;

@@ -1,5 +1,5 @@
 //! The whole that the pieces of a work are joined to: one buffer, reserved once, with a part for each piece.
-ghost use Rattle.std.specs.Prelude.{◌≡◌, ℕ, ◌+◌, ◌*◌, ◌<◌, ◌≤◌, ◌++◌, List, [], length, take, drop, slice_index_or, slice_set, IfOk, OnOk};
+ghost use Rattle.std.specs.Prelude.{◌≡◌, ℕ, ◌+◌, ◌*◌, ◌^◌, ◌<◌, ◌≤◌, ◌++◌, List, [], length, take, drop, replicate, slice_index_or, slice_set, None, Some, IfOk, OnOk};
 ghost use Rattle.crew_core.specs.Answer.{front_of};
 ghost use Rattle.crew_core.specs.Parts.{piece_size};
 ghost use Rattle.crew_core.specs.Rooms.{all_of};
@@ -31,20 +31,12 @@ impl Model for Room {
     ghost invariant = { λ r. (0 < r.count) × (r.front + (r.count - 1) * r.size ≤ length r.whole.items) × (length r.whole.items ≤ r.front + r.count * r.size) };
 }
 
-// Zeros to be written over.
-static ZEROS: [u8; CHUNK] = [0; CHUNK];
-
-// Appends so many bytes of no account.
-fn append_any(bytes: &mut Vec<u8>, count: usize) -> Result<(), AllocError>
-    ensures { OnOk result ((more : List ℕ) × (length more ≡ count) × (bytes.new.items ≡ bytes.old.items ++ more)) }
+// Appends so many zeros, to be written over.
+fn append_zeros(bytes: &mut Vec<u8>, count: usize) -> Result<(), AllocError>
+    requires { length bytes.old.items + count < 2 ^ 63 }
+    ensures { OnOk result (bytes.new.items ≡ bytes.old.items ++ replicate count 0) }
 {
-    let mut left = count;
-    while left > 0 {
-        let some = left.min(CHUNK);
-        bytes.extend_from_slice(&ZEROS[..some])?;
-        left -= some;
-    }
-    Ok(())
+    bytes.resize(bytes.len() + count, 0)
 }
 
 // Bytes of every piece but the last.
@@ -60,7 +52,8 @@ fn size_of_piece(kind: Kind) -> usize
 // What stands before the pieces, with room for so many bytes in all.
 fn front_bytes(alloc: Global, work: &Work, bytes: usize) -> Result<Vec<u8>, AllocError>
     requires { bytes ≤ 1099780063232 }
-    ensures { IfOk result (λ v. v.items ≡ front_of work.now.kind work.now.header) }
+    ensures front { IfOk result (λ v. v.items ≡ front_of work.now.kind work.now.header) }
+    ensures short { IfOk result (λ v. length v.items ≤ 24) }
 {
     let mut front = Vec::with_capacity(alloc, HEADER + bytes)?;
     match work.kind() {
@@ -111,11 +104,13 @@ impl Room {
     pub(crate) fn new(alloc: Global, work: &Work) -> Result<Room, AllocError>
         ensures front { IfOk result (λ room. room.front ≡ front_of work.now.kind work.now.header) }
         ensures count { IfOk result (λ room. length room.parts ≡ length work.now.values) }
+        ensures sizes { IfOk result (λ room. (n : ℕ) (bytes : List ℕ) → n < length work.now.values → slice_index_or work.now.values n None ≡ Some bytes
+            → length bytes ≡ length (slice_index_or room.parts n [])) }
     {
         let bytes = work.bytes_of_pieces();
         let mut whole = front_bytes(alloc, work, bytes)?;
         let front = whole.as_slice().len();
-        append_any(&mut whole, bytes)?;
+        append_zeros(&mut whole, bytes)?;
         Ok(Room {
             front,
             size: size_of_piece(work.kind()),

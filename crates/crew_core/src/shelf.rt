@@ -123,7 +123,8 @@ fn first_without(places: &[Place]) -> Option<u32>
 
 // Whether the bytes of all pieces stand in the whole.
 fn are_here(places: &[Place]) -> bool
-    ensures { OnTrue result ((n : ℕ) → n < length places.now → slice_index_or places.now n Place.Empty ≡ Place.Here) }
+    ensures yes { OnTrue result ((n : ℕ) → n < length places.now → slice_index_or places.now n Place.Empty ≡ Place.Here) }
+    ensures no { OnFalse result ((n : ℕ) × (n < length places.now) × (slice_index_or places.now n Place.Empty ≢ Place.Here)) }
 {
     for n in 0..places.len() {
         match &places[n] {
@@ -162,6 +163,7 @@ fn keep(room: &mut Room, number: usize, value: Option<Vec<u8>>) -> Place
     requires { number < length room.old.parts }
     ensures front { room.new.front ≡ room.old.front }
     ensures kept { Keeps room.old.parts room.new.parts number (option_map (λ v. v.items) value) result }
+    ensures here { IfSome value (λ v. length v.items ≡ length (slice_index_or room.old.parts number []) → result ≡ Place.Here) }
 {
     let Some(bytes) = value else {
         return Place::Forged;
@@ -175,7 +177,7 @@ fn keep(room: &mut Room, number: usize, value: Option<Vec<u8>>) -> Place
 }
 
 impl Shelf {
-    /// A shelf for the pieces of this work, with all places empty.
+    /// A shelf for the pieces of this work, with all places empty, and room for the whole. `AllocError` where memory was refused.
     pub fn new(alloc: Global, work: &Work) -> Result<Shelf, AllocError>
         ensures { IfOk result (λ s. s ≡ empty_shelf work.now) }
     {
@@ -234,11 +236,12 @@ impl Shelf {
         }
     }
 
-    /// Puts a piece on its place. `Stranger` where the piece is of another kind or prefix, or its number isn't below the count;
-    /// else `Double` where its place is taken. Then nothing changes, and the piece is handed back. Takes no memory.
+    /// Puts a piece on its place. `Stranger` is tested first: where the piece is of another kind or prefix, or its number isn't
+    /// below the count. Else `Double` where its place is taken. At both nothing changes, and the piece is handed back. Takes no
+    /// memory.
     pub fn put(&mut self, piece: Piece) -> Result<(), (PutFault, Piece)>
         // The place was empty and is filled, and no other changed.
-        ensures taken { OnOk result (Fits self.old piece × (place_of self.old piece ≡ None) × (self.new ≡ with_piece self.old piece)) }
+        ensures filled { OnOk result (Fits self.old piece × (place_of self.old piece ≡ None) × (self.new ≡ with_piece self.old piece)) }
         ensures back { IfErr result (λ e. e.1 ≡ piece) }
         ensures same { OnErr result (self.new ≡ self.old) }
         ensures refused { IfErr result (λ e. Refuses self.old piece e.0) }
@@ -264,8 +267,9 @@ impl Shelf {
         ensures back { IfErr result (λ e. e.1 ≡ self) }
         ensures fault { IfErr result (λ e. EndsBy self e.0) }
 
-        // Of pieces that a work of this shelf made, the whole is that work's.
+        // Of pieces that a work of this shelf made, the whole is that work's, and so is the chunk that doesn't check.
         ensures made { IfOk result (λ v. (work : WorkView) → IsOf work self → whole_of work ≡ Ok v.items) }
+        ensures unmade { IfErr result (λ e. (work : WorkView) (chunk : ℕ) → IsOf work self → e.0 ≡ ShelfFault.Forged chunk → whole_of work ≡ Err chunk) }
     {
         if let Some(fault) = self.fault() {
             return Err((fault, self));

@@ -1,5 +1,6 @@
 //! A whole container sealed or opened by several workers.
-ghost use Rattle.std.specs.Prelude.{◌≡◌, ◌<◌, ◌≤◌, ◌⊎◌, length, Ok, Err, IfOk, IfErr, OnOk, OnErr};
+ghost use Rattle.std.specs.Prelude.{◌≡◌, ◌≢◌, ◌<◌, ◌≤◌, ◌⊎◌, length, Ok, Err, IfOk, IfErr, OnOk, OnErr};
+ghost use Rattle.std.specs.Bool.{OnTrue, OnFalse};
 ghost use Rattle.container_core.specs.Container.{container};
 ghost use Rattle.container_core.specs.Opening.{opening};
 ghost use Rattle.crew_core.specs.Spending.{spent_as};
@@ -13,6 +14,17 @@ use container_core::{Key, OpenFault};
 use ledger_core::{Grant, Spent};
 use std::alloc::{AllocError, Global};
 use std::thread::Threads;
+
+// Whether memory was refused.
+fn is_refusal(fault: OpenFault) -> bool
+    ensures yes { OnTrue result (fault ≡ OpenFault.OutOfMemory) }
+    ensures no { OnFalse result (fault ≢ OpenFault.OutOfMemory) }
+{
+    match fault {
+        OpenFault::OutOfMemory => true,
+        _ => false,
+    }
+}
 
 /// Seals a plaintext of at most 2^40 bytes under the prefix of a grant, by 1 to 16 workers, of which the caller's thread is
 /// the first. The answer is the container, whatever the number of workers and the gate; or that memory was refused, to the
@@ -35,7 +47,13 @@ pub fn seal_whole<R: Threads + Sync, G: Gate + Sync>(
     let work = Work::sealing(key, grant.prefix(), plain);
     match work_whole(rt, alloc, &work, workers, gate) {
         Ok(bytes) => (Ok(bytes), grant.used()),
-        Err(_) => (Err(AllocError), grant.waste()),
+        Err(fault) => {
+            // A sealing has no chunk that doesn't check.
+            if !is_refusal(fault) {
+                unreachable!()
+            }
+            (Err(AllocError), grant.waste())
+        }
     }
 }
 

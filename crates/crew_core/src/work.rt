@@ -1,5 +1,5 @@
 //! One sealing or opening, cut into pieces that can be made one by one, in any order.
-ghost use Rattle.std.specs.Prelude.{◌≡◌, ℕ, ◌+◌, ◌-◌, ◌*◌, ◌<◌, ◌≤◌, length, take, drop, None, Some, IfOk, IfErr, OnOk, option_map};
+ghost use Rattle.std.specs.Prelude.{◌≡◌, ℕ, ◌+◌, ◌-◌, ◌*◌, ◌<◌, ◌≤◌, List, length, take, drop, min, slice_index_or, None, Some, IfOk, IfErr, OnOk, option_map};
 ghost use Rattle.container_core.specs.Chunks.{chunk_count};
 ghost use Rattle.container_core.specs.Opening.{early_fault};
 ghost use Rattle.container_core.specs.Stream.{sealed_chunk, opened_chunk};
@@ -8,14 +8,12 @@ ghost use Rattle.crew_core.specs.Values.{value_at, sealing_of, opening_of};
 ghost use Rattle.crew_core.specs.Parts.{part_size, least_part, piece_size, pieces_sum};
 
 use crate::piece::Piece;
-use container_core::cutting::MAX_BODY;
 use container_core::{
-    CHUNK, HEADER, Header, Key, OpenFault, SEALED, TAG, cut, open_chunk, read_header, seal_chunk,
+    CHUNK, HEADER, Header, Key, MAX_PLAIN, OpenFault, SEALED, TAG, container_bytes, cut,
+    open_chunk, read_header, seal_chunk,
 };
 use std::alloc::{AllocError, Global};
 use std::marker::Model;
-
-const MAX_CONTAINER: u64 = HEADER as u64 + MAX_BODY;
 
 /// What is done to each chunk.
 #[derive(Clone, Copy, PartialEq, Eq, Debug)]
@@ -173,7 +171,7 @@ impl<'a> Work<'a> {
         ensures faultless { OnOk result (early_fault key.now 1099511627776 container.now ≡ None) }
         ensures fault { IfErr result (λ fault. early_fault key.now 1099511627776 container.now ≡ Some fault) }
     {
-        if container.len() as u64 > MAX_CONTAINER {
+        if container.len() as u64 > container_bytes(MAX_PLAIN) {
             return Err(OpenFault::TooLong);
         }
         let header = match read_header(key, container) {
@@ -202,7 +200,8 @@ impl<'a> Work<'a> {
         self.count
     }
 
-    /// The piece of this number.
+    /// The piece of this number, counted from 0: its chunk sealed, or opened, or that it doesn't check. The same number gives the
+    /// same piece. `AllocError` where memory was refused.
     pub fn piece(&self, alloc: Global, number: u32) -> Result<Piece, AllocError>
         requires { number < length self.now.values }
         ensures { IfOk result (λ p. p ≡ piece_of self.now number) }
@@ -223,6 +222,10 @@ impl<'a> Work<'a> {
         ensures least { (length self.now.values - 1) * piece_size self.now.kind ≤ result }
         ensures most { result ≤ length self.now.values * piece_size self.now.kind }
         ensures few { result ≤ 1099780063232 }
+
+        // Every piece that checks has the length of a part, where as many bytes are cut behind each `piece_size` of them.
+        ensures each { (n : ℕ) (bytes : List ℕ) → n < length self.now.values → slice_index_or self.now.values n None ≡ Some bytes
+            → length bytes ≡ min (piece_size self.now.kind) (result - n * piece_size self.now.kind) }
     {
         sum_of_pieces(self.kind, self.count, self.body.len())
     }

@@ -18,7 +18,7 @@ loop-number-preserved g c =
     let made : p ≡ piece_of w (worker + length xs * workers) = piece ∙ ap (piece_of w) was.next in
     let here : worker + length xs * workers < length w.values = omega arith in
     record {
-      next = rw (items, c.from.ensures, length_push xs p) (ap (λ m. m + workers) was.next ∙ next_number worker workers (length xs));
+      next = rw (items, c.from-in-loop-number.ensures, length_push xs p) (ap (λ m. m + workers) was.next ∙ next_number worker workers (length xs));
       each = rw items (each_more w worker workers xs p made was.each);
       within = rw (items, length_push xs p) (below_more (λ j. worker + j * workers < length w.values) (length xs) was.within here);
     }

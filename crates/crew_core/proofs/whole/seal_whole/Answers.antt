@@ -1,4 +1,5 @@
-use Rattle.std.proofs.Common.{ap, ◌∙◌}
+use Rattle.std.proofs.Common.{◌≡◌, Ok, inl, inr, ap, ◌∙◌}
+use Rattle.container_core.specs.Container.{container}
 use Rattle.crew_core.specs.Answer.{whole_of}
 use Rattle.crew_core.proofs.AnswerLemmas.{whole_of_sealing}
 use Rattle.crew_core.proofs.whole.seal_whole.Goals as goal
@@ -9,3 +10,12 @@ returns-in-Ok-clause-container g c =
     let end = c.in-Ok.ensures.whole in
     let named = c.prefix.ensures in
     cc (ok, end, named)
+
+pub unreachable-requires : goal.unreachable-requires
+unreachable-requires g c =
+    let ok : whole_of c.sealing-work.result ≡ Ok (container c.args.key.now c.prefix.result c.args.plain.now) =
+    ap whole_of c.sealing-work.ensures ∙ whole_of_sealing c.args.key.now c.prefix.result c.args.plain.now in
+    elim c.in-Err.ensures.fault [
+      | inl memory ↦ c.if-not-is_refusal.ensures.no memory
+      | inr (chunk, is, e) ↦ cc (ok, e)
+    ]

@@ -23,8 +23,8 @@ index_mut-requires c =
     let whole = s.places.ok.0 in
     omega arith
 
-pub returns-clause-taken : goal.returns-clause-taken
-returns-clause-taken c =
+pub returns-clause-filled : goal.returns-clause-filled
+returns-clause-filled c =
     let s = c.self.inside in
     let fits = rw (← c.piece.view_is, ← c.self.view_is) at c.if-not-fits.ensures.yes in
     let empty = rw (← c.self.view_is) at c.if-is_taken.ensures.no in

@@ -3,8 +3,8 @@ use Rattle.container_core.specs.Chunks.{container_length}
 use Rattle.crew_core.proofs.EarlyLemmas.{early-too_long, early-header_fault, early-none, early-refused}
 use Rattle.crew_core.proofs.work.Work.opening.Goals as goal
 
-pub returns-then-container-gt-MAX_CONTAINER-clause-fault : goal.returns-then-container-gt-MAX_CONTAINER-clause-fault
-returns-then-container-gt-MAX_CONTAINER-clause-fault c =
+pub returns-then-container-container_bytes-clause-fault : goal.returns-then-container-container_bytes-clause-fault
+returns-then-container-container_bytes-clause-fault c =
     let long : container_length 1099511627776 < length c.args.container.now = omega arith in
     early-too_long c.args.key.now 1099511627776 c.args.container.now long
 
