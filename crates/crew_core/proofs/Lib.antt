@@ -4,3 +4,7 @@ pub mod DealLemmas
 pub mod EarlyLemmas
 pub mod RoomLemmas
 pub mod ShelfLemmas
+pub mod StepLemmas
+pub mod LaneLemmas
+pub mod BatchLemmas
+pub mod Callers

@@ -6,3 +6,5 @@ pub mod Spending
 pub mod Parts
 pub mod Rooms
 pub mod Deal
+pub mod Batch
+pub mod Lanes

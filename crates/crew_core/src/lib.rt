@@ -6,18 +6,23 @@
 //! pieces w, w + k, w + 2k and so on. The caller's thread is worker 0. The workers share nothing that changes but the gate.
 #![tactic(auto)]
 
+pub mod batch;
 mod crew;
 pub mod fault;
 pub mod gate;
+mod lanes;
 pub mod laws;
+pub mod outcome;
 pub mod piece;
 mod room;
 pub mod shelf;
 pub mod whole;
 pub mod work;
 
+pub use crate::batch::seal_batch;
 pub use crate::fault::{PutFault, ShelfFault};
 pub use crate::gate::{Free, Gate};
+pub use crate::outcome::Outcome;
 pub use crate::piece::Piece;
 pub use crate::shelf::Shelf;
 pub use crate::whole::{open_whole, seal_whole};

@@ -1,0 +1,50 @@
+//! A batch: many texts sealed under one key, each under a number of its own, by several lanes with a seat each.
+ghost use Rattle.std.specs.Prelude.{◌≡◌, ℕ, ◌<◌, ◌≤◌, length, map, slice_get, Some, All, IfOk, OnErr};
+ghost use Rattle.crew_core.specs.Batch.{AreOutcomes, AreAmong, AreIssued, GoOn};
+ghost use Rattle.ledger_core.specs.Shared.{SeatView};
+
+use crate::gate::Gate;
+use crate::lanes::{Batch, all_places, weave, work_lanes};
+use crate::outcome::Outcome;
+use container_core::Key;
+use ledger_core::{Ledger, Seat};
+use std::alloc::{AllocError, Global};
+use std::thread::Threads;
+
+/// Seals at most 65,535 jobs, each of at most 2^40 bytes, by 1 to 16 lanes. Lane i uses the seat at place i, and of k lanes it
+/// works off the jobs i, i + k, i + 2k and so on: for each it passes the gate with the job's number, issues a number, and seals
+/// the job on its own thread. The caller's thread is lane 0, and works off each lane that can't be started.
+///
+/// The answer has one outcome for each job, in the order of the jobs. Nothing is settled: that is the caller's. Where memory for
+/// the places of all outcomes is refused, nothing was issued.
+pub fn seal_batch<R: Threads + Sync, G: Gate + Sync>(
+    rt: &R,
+    alloc: Global,
+    key: &Key,
+    ledger: &Ledger,
+    seats: &mut [Seat],
+    jobs: &[Vec<u8>],
+    lanes: u32,
+    gate: &G,
+) -> Result<Vec<Outcome>, AllocError>
+    requires lanes { (0 < lanes) × (lanes ≤ 16) }
+    requires seats { lanes ≤ length seats.old }
+    requires ours { (i : ℕ) (seat : SeatView) → slice_get seats.old i ≡ Some seat → seat.ledger ≡ ledger.now.ledger }
+    requires few { length jobs.now ≤ 65535 }
+    requires short { All (λ job. length job.items ≤ 1099511627776) jobs.now }
+    ensures outcomes { IfOk result (λ out. AreOutcomes key.now (map (λ job. job.items) jobs.now) out.items) }
+    ensures issued { IfOk result (λ out. AreIssued seats.old seats.new out.items) }
+    ensures at_seats { IfOk result (λ out. AreAmong lanes seats.new out.items) }
+    ensures seen { GoOn seats.old seats.new }
+    ensures past_lanes { (i : ℕ) → lanes ≤ i → slice_get seats.new i ≡ slice_get seats.old i }
+    ensures refused { OnErr result (seats.new ≡ seats.old) }
+{
+    let batch = Batch::new(key, ledger, jobs, lanes);
+    let mut outcomes = Vec::with_capacity(alloc, jobs.len())?;
+    let mut all = all_places(alloc, jobs.len() / lanes as usize + 1, lanes)?;
+    let places = all.as_mut_slice();
+    let (used, _) = seats.split_at_mut(lanes as usize);
+    work_lanes(rt, alloc, &batch, lanes, gate, used, places);
+    weave(&mut outcomes, places, jobs.len());
+    Ok(outcomes)
+}
