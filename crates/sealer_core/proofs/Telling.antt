@@ -10,6 +10,8 @@ use Rattle.journal_core.specs.Text.{ended_lines}
 use Rattle.journal_core.proofs.Texts.{ended_lines-append}
 use Rattle.sealer_core.specs.Lines.{FileLine, line_text, lines_text, is_failed, status_of_lines}
 use Rattle.sealer_core.specs.Folder.{Step, stepped}
+use Rattle.journal_core.specs.declared.entry.Entry.{Entry}
+use Rattle.sealer_core.specs.Sealing.{Accounts, AreSealed, IsOfSealing, sealing_steps}
 use Rattle.sealer_core.specs.Work.{AreTold, AreWorked, no_steps}
 use Rattle.sealer_core.specs.declared.line.FileOutcome.{FileOutcome}
 use Rattle.std.proofs.lemmas.Grind.{flat_map-append}
@@ -116,6 +118,19 @@ worked_more fits steps_for names names' line status status' old mid new failures
   told = told;
   stepwise = stepping ∙ ap (λ s. stepped s (steps_for line)) w.stepwise ∙ stepped-stepped steps (flat_map steps_for w.lines) (steps_for line)
       ∙ ap (stepped steps) (ap (λ l. flat_map steps_for w.lines ++ l) (sym (append-nil (steps_for line))) ∙ sym (flat_map-append steps_for w.lines (line ∷ [])));
+}
+
+-- the same of files that are sealed
+pub sealed_more : (names names' : List (List ℕ)) (line : FileLine) (operations operations' : List Entry) (status status' : ℕ)
+    (old mid new : Option (List ℕ)) (failures failures' failures'' : Option ℕ) (steps steps' steps'' : Option (List Step))
+    → (s : AreSealed names operations status old mid failures failures' steps steps') → IsOfSealing line.outcome
+    → steps'' ≡ stepped steps' (sealing_steps line) → AreTold status' (s.worked.lines ++ line ∷ []) old new failures failures''
+    → names ++ line.name ∷ [] ≡ names' → Accounts (s.worked.lines ++ line ∷ []) operations'
+    → AreSealed names' operations' status' old new failures failures'' steps steps''
+unfolding worked_more
+sealed_more names names' line operations operations' status status' old mid new failures failures' failures'' steps steps' steps'' s fit stepping told longer accounts = record {
+  worked = worked_more IsOfSealing sealing_steps names names' line status status' old mid new failures failures' failures'' steps steps' steps'' s.worked fit stepping told longer;
+  accounts = accounts;
 }
 
 -- one name more

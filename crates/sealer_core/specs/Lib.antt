@@ -1,8 +1,9 @@
 pub mod Engine
 pub mod Folder
 pub mod KeyFile
+pub mod Life
 pub mod Lines
 pub mod Memory
+pub mod Sealing
 pub mod Status
-pub mod Life
 pub mod Work

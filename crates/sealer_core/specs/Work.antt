@@ -4,7 +4,7 @@ use Rattle.container_core.specs.declared.fault.OpenFault.TheVariants.{Write}
 use Rattle.journal_core.specs.Streams.{Appends, AppendsFront, counted}
 use Rattle.sealer_core.specs.declared.commands.Task.{Task}
 use Rattle.sealer_core.specs.declared.commands.Task.TheVariants.{Open, Verify}
-use Rattle.sealer_core.specs.declared.line.FileFault.TheVariants.{CannotOpen, Unopened}
+use Rattle.sealer_core.specs.declared.line.FileFault.TheVariants.{CannotOpen, OutOfMemory, NoNumber, Unopened, Unsealed}
 use Rattle.sealer_core.specs.declared.line.FileOutcome.{FileOutcome}
 use Rattle.sealer_core.specs.declared.line.FileOutcome.TheVariants.{Opened, Good, Failed}
 use Rattle.sealer_core.specs.Folder.{Step, Created, Removing, stepped}
@@ -14,11 +14,14 @@ use Rattle.sealer_core.specs.Lines.{FileLine, lines_text, status_of_lines}
 abbrev pub output_of : List ℕ → List ℕ
 output_of name = take (length name - 4) name
 
--- an outcome that `open_all` can have, which is any but `good`
+-- an outcome that `open_all` can have: the file was opened, or failed otherwise than a file that is to be sealed
 abbrev pub IsOfOpening : FileOutcome → Type 0
 IsOfOpening (Opened bytes) = ⊤
-IsOfOpening (Good bytes) = ⊥
+IsOfOpening (Failed OutOfMemory) = ⊥
+IsOfOpening (Failed NoNumber) = ⊥
+IsOfOpening (Failed (Unsealed fault)) = ⊥
 IsOfOpening (Failed fault) = ⊤
+IsOfOpening _ = ⊥
 
 -- an outcome that `verify_all` can have: the file is good, or can't be opened, or its container has a fault
 abbrev pub IsOfVerifying : FileOutcome → Type 0

@@ -141,13 +141,24 @@ fn worse(status: u8, outcome: FileOutcome) -> u8
 {
     match outcome {
         FileOutcome::Failed(_) => SOME_FAILED,
-        FileOutcome::Opened(_) | FileOutcome::Good(_) => status,
+        FileOutcome::Sealed {
+            number: _,
+            bytes: _,
+        }
+        | FileOutcome::Opened(_)
+        | FileOutcome::Good(_) => status,
     }
 }
 
 // Writes a file's line, unless one before it wasn't written. The answer is the status so far. A line for which memory is
 // refused is one that isn't written.
-fn tell<W: Sink>(alloc: Global, lines: &mut W, status: u8, name: &str, outcome: FileOutcome) -> u8
+pub(crate) fn tell<W: Sink>(
+    alloc: Global,
+    lines: &mut W,
+    status: u8,
+    name: &str,
+    outcome: FileOutcome,
+) -> u8
     ensures { (told : List FileLine) (first : Option (List ℕ)) (count : Option ℕ)
         → AreTold status told first (W.taken lines.old) count (W.failures lines.old)
         → AreTold result (told ++ record { name = name.now; outcome = outcome } ∷ []) first (W.taken lines.new) count (W.failures lines.new) }

@@ -3,13 +3,17 @@
 
 pub mod auditor;
 pub mod commands;
+mod ending;
 pub mod engine;
 pub mod folder;
 pub mod key_file;
+mod lane;
 pub mod laws;
 pub mod line;
 pub mod memory;
 pub mod run;
+pub mod sealing;
+pub mod trouble;
 
 pub use crate::auditor::run_audit;
 pub use crate::commands::{MAX_BYTES, MAX_WORKERS, OpenOptions, Outs, open_all, verify_all};
@@ -19,6 +23,8 @@ pub use crate::key_file::{KeyFault, read_key};
 pub use crate::line::{FileFault, FileOutcome, Line};
 pub use crate::memory::{MemoryFolder, Pace, STEADY};
 pub use crate::run::{run_open, run_plain, run_seal, run_verify};
+pub use crate::sealing::{SealOptions, seal_all};
+pub use crate::trouble::RunFault;
 
 #[cfg(test)]
 mod tests;

@@ -2,7 +2,7 @@
 ghost use Rattle.std.specs.Prelude.{Some};
 ghost use Rattle.sealer_core.specs.Lines.{fault_text, line_text};
 
-use container_core::OpenFault;
+use container_core::{OpenFault, SealFault};
 use std::fmt;
 
 /// Why a file failed.
@@ -16,8 +16,14 @@ pub enum FileFault {
     OutputExists,
     /// The output can't be created.
     CannotCreate,
+    /// Memory was refused before an output was created.
+    OutOfMemory,
+    /// No file number was granted.
+    NoNumber,
     /// The container wasn't opened, or its plaintext wasn't written.
     Unopened(OpenFault),
+    /// The file wasn't sealed, or its container wasn't written.
+    Unsealed(SealFault),
 }
 
 /// What stands behind the name in a line of a file that failed.
@@ -30,7 +36,10 @@ impl fmt::Display for FileFault {
             FileFault::NoSuffix => write!(f, "name does not end in .stm"),
             FileFault::OutputExists => write!(f, "output exists"),
             FileFault::CannotCreate => write!(f, "cannot create"),
+            FileFault::OutOfMemory => write!(f, "out of memory"),
+            FileFault::NoNumber => write!(f, "no file number"),
             FileFault::Unopened(fault) => write!(f, "{fault}"),
+            FileFault::Unsealed(fault) => write!(f, "{fault}"),
         }
     }
 }
@@ -38,6 +47,8 @@ impl fmt::Display for FileFault {
 /// What became of a file.
 #[derive(Clone, Copy, PartialEq, Eq, Debug)]
 pub enum FileOutcome {
+    /// Its container was written: the file number, and how many plaintext bytes it has.
+    Sealed { number: u32, bytes: u64 },
     /// Its plaintext of so many bytes was written.
     Opened(u64),
     /// Its container checks, and has so many plaintext bytes.
@@ -61,6 +72,9 @@ impl fmt::Display for Line<'_> {
     fn fmt<W: fmt::Write>(&self, f: &mut fmt::Formatter<W>) -> fmt::Result {
         let name = self.name;
         match self.outcome {
+            FileOutcome::Sealed { number, bytes } => {
+                write!(f, "sealed {name} file {number} bytes {bytes}")
+            }
             FileOutcome::Opened(bytes) => write!(f, "opened {name} bytes {bytes}"),
             FileOutcome::Good(bytes) => write!(f, "good {name} bytes {bytes}"),
             FileOutcome::Failed(fault) => write!(f, "failed {name}: {fault}"),

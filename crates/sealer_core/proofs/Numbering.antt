@@ -1,0 +1,363 @@
+-- The lines and the ledger's operations: they agree file by file, and the ledger being legal no number stands in two lines.
+use Rattle.std.proofs.Common.{◌≡◌, ◌≢◌, ◌⊎◌, ℕ, zero, suc, ◌+◌, ◌<◌, ◌≤◌, Bool, cond, nat_eq, List, [], ◌∷◌, ◌++◌, length, count_by, refl, sym, ap, ◌∙◌, subst, inl, inr, ⊎_elim, arith, eq-eqb, ne_eqb, get_or, set, take, append-nil, Option}
+use mathlib.Core.Logic.{dite}
+use native.Mathlib.Decide.{ℕ_discrete}
+use Rattle.std.specs.Prelude.{Some, slice_get}
+use Rattle.std.proofs.Math.Seq.{take-append_seam}
+use Rattle.std.proofs.lemmas.List.Sums.{sum_by_push, sum_by-cons, sum_by-append}
+use Rattle.journal_core.specs.declared.entry.Event.{Event}
+use Rattle.journal_core.specs.declared.entry.Event.TheVariants.{Granted, Exhausted, Settled}
+use Rattle.journal_core.specs.declared.entry.Entry.{Entry}
+use Rattle.journal_core.specs.declared.entry.Way.TheVariants as ended
+use Rattle.journal_core.specs.History.{Terms, Legal, entry, is_granted, granted, grants, times_granted, calls_of}
+use Rattle.journal_core.proofs.Histories.{MayReply, reply_of, count_push, count_calls, induct, legal_front, legal_none}
+use Rattle.journal_core.proofs.Bounds.{within, sum_below, sum_below_more}
+use Rattle.ledger_core.specs.declared.fault.IssueFault.{IssueFault}
+use Rattle.ledger_core.specs.declared.fault.IssueFault.TheVariants.{SeatClosed, OutOfMemory as NotIssued, Exhausted as NoNumber}
+use Rattle.ledger_core.specs.Shared.{LedgerView, SeatView, SpentView, GrantView, Extends, Unissued, fresh_seat, fresh_seats}
+use Rattle.ledger_core.specs.Closing.{AreAllSeats, HaveMet, IsWhole}
+use Rattle.crew_core.specs.Spending.{spent_as}
+use Rattle.sealer_core.specs.declared.line.FileFault.{FileFault}
+use Rattle.sealer_core.specs.declared.line.FileOutcome.TheVariants.{Sealed, Failed}
+use Rattle.sealer_core.specs.Lines.{FileLine}
+use Rattle.sealer_core.specs.Folder.{Step}
+use Rattle.sealer_core.specs.Sealing.{Accounts, AreNumbered, AreSealed, HasSealed, line_of, operations_of, seals, tells_of, times_told, voids}
+
+told_push : (n : ℕ) (lines : List FileLine) (line : FileLine) → times_told n (lines ++ line ∷ []) ≡ times_told n lines + cond (tells_of n line.outcome) 1 0
+told_push n lines line = sum_by_push (λ (x : FileLine). cond (tells_of n x.outcome) 1 0) lines line
+
+pub accounts_none : Accounts [] []
+accounts_none = record { told = λ n. omega arith; granted = λ n. omega arith }
+
+-- ---- what one file adds
+
+module _ (lines : List FileLine) (before : List Entry) (seat : ℕ) (name : List ℕ) (a : Accounts lines before) where
+  -- nothing was granted
+  pub adds_failure : (fault : FileFault) → Accounts (lines ++ line_of name (Failed fault) ∷ []) before
+  adds_failure fault = record {
+    told = λ n. let t = told_push n lines (line_of name (Failed fault)) in let h = a.told n in omega arith;
+    granted = λ n. let t = told_push n lines (line_of name (Failed fault)) in let h = a.granted n in omega arith;
+  }
+
+  -- the range has met its end
+  pub adds_exhausted : (fault : FileFault) → Accounts (lines ++ line_of name (Failed fault) ∷ []) (before ++ entry seat Exhausted ∷ [])
+  adds_exhausted fault = record {
+    told = λ n.
+        let t = told_push n lines (line_of name (Failed fault)) in
+        let s = count_push (seals n) before (entry seat Exhausted) in
+        let h = a.told n in omega arith;
+    granted = λ n.
+        let t = told_push n lines (line_of name (Failed fault)) in
+        let v = count_push (voids n) before (entry seat Exhausted) in
+        let g = count_push (grants n) before (entry seat Exhausted) in
+        let h = a.granted n in omega arith;
+  }
+
+  -- a number was granted, and stays open
+  pub adds_open : (k : ℕ) (fault : FileFault) → Accounts (lines ++ line_of name (Failed fault) ∷ []) (before ++ entry seat (Granted k) ∷ [])
+  adds_open k fault = record {
+    told = λ n.
+        let t = told_push n lines (line_of name (Failed fault)) in
+        let s = count_push (seals n) before (entry seat (Granted k)) in
+        let h = a.told n in omega arith;
+    granted = λ n.
+        let t = told_push n lines (line_of name (Failed fault)) in
+        let v = count_push (voids n) before (entry seat (Granted k)) in
+        let g = count_push (grants n) before (entry seat (Granted k)) in
+        let h = a.granted n in omega arith;
+  }
+
+  pub adds_sealed_open : (k bytes : ℕ) → Accounts (lines ++ line_of name (Sealed k bytes) ∷ []) (before ++ entry seat (Granted k) ∷ [])
+  adds_sealed_open k bytes = record {
+    told = λ n.
+        let t = told_push n lines (line_of name (Sealed k bytes)) in
+        let s = count_push (seals n) before (entry seat (Granted k)) in
+        let h = a.told n in omega arith;
+    granted = λ n.
+        let t = told_push n lines (line_of name (Sealed k bytes)) in
+        let v = count_push (voids n) before (entry seat (Granted k)) in
+        let g = count_push (grants n) before (entry seat (Granted k)) in
+        let h = a.granted n in omega arith;
+  }
+
+  -- a number was granted and settled
+  pub adds_void : (k : ℕ) (fault : FileFault)
+      → Accounts (lines ++ line_of name (Failed fault) ∷ []) ((before ++ entry seat (Granted k) ∷ []) ++ entry seat (Settled k ended.Void) ∷ [])
+  adds_void k fault = record {
+    told = λ n.
+        let t = told_push n lines (line_of name (Failed fault)) in
+        let s = count_push (seals n) before (entry seat (Granted k)) in
+        let s' = count_push (seals n) (before ++ entry seat (Granted k) ∷ []) (entry seat (Settled k ended.Void)) in
+        let h = a.told n in omega arith;
+    granted = λ n.
+        let t = told_push n lines (line_of name (Failed fault)) in
+        let v = count_push (voids n) before (entry seat (Granted k)) in
+        let v' = count_push (voids n) (before ++ entry seat (Granted k) ∷ []) (entry seat (Settled k ended.Void)) in
+        let g = count_push (grants n) before (entry seat (Granted k)) in
+        let g' = count_push (grants n) (before ++ entry seat (Granted k) ∷ []) (entry seat (Settled k ended.Void)) in
+        let h = a.granted n in omega arith;
+  }
+
+  pub adds_sealed : (k bytes : ℕ)
+      → Accounts (lines ++ line_of name (Sealed k bytes) ∷ []) ((before ++ entry seat (Granted k) ∷ []) ++ entry seat (Settled k ended.Sealed) ∷ [])
+  adds_sealed k bytes = record {
+    told = λ n.
+        let t = told_push n lines (line_of name (Sealed k bytes)) in
+        let s = count_push (seals n) before (entry seat (Granted k)) in
+        let s' = count_push (seals n) (before ++ entry seat (Granted k) ∷ []) (entry seat (Settled k ended.Sealed)) in
+        let h = a.told n in omega arith;
+    granted = λ n.
+        let t = told_push n lines (line_of name (Sealed k bytes)) in
+        let v = count_push (voids n) before (entry seat (Granted k)) in
+        let v' = count_push (voids n) (before ++ entry seat (Granted k) ∷ []) (entry seat (Settled k ended.Sealed)) in
+        let g = count_push (grants n) before (entry seat (Granted k)) in
+        let g' = count_push (grants n) (before ++ entry seat (Granted k) ∷ []) (entry seat (Settled k ended.Sealed)) in
+        let h = a.granted n in omega arith;
+  }
+
+-- the same of a seat
+
+mine_of : (old new : SeatView) (event : Event) → Extends old event new → new.mine ≡ old.mine ++ entry old.number event ∷ []
+mine_of old new event (between, is) = ap (λ (v : SeatView). v.mine) is
+
+number_of : (old new : SeatView) (event : Event) → Extends old event new → new.number ≡ old.number
+number_of old new event (between, is) = ap (λ (v : SeatView). v.number) is
+
+-- an issue that gave no number
+pub not_granted : (fault : IssueFault) (old new : SeatView) → Unissued fault old new → (new ≡ old) ⊎ Extends old Exhausted new
+not_granted SeatClosed old new h = inl h.1
+not_granted NotIssued old new h = inl h.1
+not_granted NoNumber old new h = inr h.1
+
+pub after_failure : (lines : List FileLine) (old new : SeatView) (name : List ℕ) (fault : FileFault) → (new ≡ old) ⊎ Extends old Exhausted new
+    → Accounts lines old.mine → Accounts (lines ++ line_of name (Failed fault) ∷ []) new.mine
+after_failure lines old new name fault how a = ⊎_elim
+    (λ (same : new ≡ old). subst (λ (v : SeatView). Accounts (lines ++ line_of name (Failed fault) ∷ []) v.mine) (sym same) (adds_failure lines old.mine 0 name a fault))
+    (λ (more : Extends old Exhausted new). subst (Accounts (lines ++ line_of name (Failed fault) ∷ [])) (sym (mine_of old new Exhausted more)) (adds_exhausted lines old.mine old.number name a fault))
+    how
+
+-- the operations of a seat that was granted a number and then settled it
+both_of : (old mid new : SeatView) (k : ℕ) (event : Event) → Extends old (Granted k) mid → Extends mid event new
+    → new.mine ≡ (old.mine ++ entry old.number (Granted k) ∷ []) ++ entry old.number event ∷ []
+both_of old mid new k event one two =
+    mine_of mid new event two ∙ ap (λ (l : List Entry). l ++ entry mid.number event ∷ []) (mine_of old mid (Granted k) one)
+    ∙ ap (λ (t : ℕ). (old.mine ++ entry old.number (Granted k) ∷ []) ++ entry t event ∷ []) (number_of old mid (Granted k) one)
+
+pub after_sealing : (lines : List FileLine) (old mid new : SeatView) (name : List ℕ) (k bytes : ℕ) → Extends old (Granted k) mid
+    → Extends mid (Settled k ended.Sealed) new ⊎ (new ≡ mid)
+    → Accounts lines old.mine → Accounts (lines ++ line_of name (Sealed k bytes) ∷ []) new.mine
+after_sealing lines old mid new name k bytes one how a = ⊎_elim
+    (λ (two : Extends mid (Settled k ended.Sealed) new).
+    subst (Accounts (lines ++ line_of name (Sealed k bytes) ∷ [])) (sym (both_of old mid new k (Settled k ended.Sealed) one two)) (adds_sealed lines old.mine old.number name a k bytes))
+    (λ (same : new ≡ mid).
+    subst (Accounts (lines ++ line_of name (Sealed k bytes) ∷ [])) (sym (ap (λ (v : SeatView). v.mine) same ∙ mine_of old mid (Granted k) one)) (adds_sealed_open lines old.mine old.number name a k bytes))
+    how
+
+pub after_spoiling : (lines : List FileLine) (old mid new : SeatView) (name : List ℕ) (k : ℕ) (fault : FileFault) → Extends old (Granted k) mid
+    → Extends mid (Settled k ended.Void) new ⊎ (new ≡ mid)
+    → Accounts lines old.mine → Accounts (lines ++ line_of name (Failed fault) ∷ []) new.mine
+after_spoiling lines old mid new name k fault one how a = ⊎_elim
+    (λ (two : Extends mid (Settled k ended.Void) new).
+    subst (Accounts (lines ++ line_of name (Failed fault) ∷ [])) (sym (both_of old mid new k (Settled k ended.Void) one two)) (adds_void lines old.mine old.number name a k fault))
+    (λ (same : new ≡ mid).
+    subst (Accounts (lines ++ line_of name (Failed fault) ∷ [])) (sym (ap (λ (v : SeatView). v.mine) same ∙ mine_of old mid (Granted k) one)) (adds_open lines old.mine old.number name a k fault))
+    how
+
+-- the same, of what a sealing gave back
+pub after_run : (lines : List FileLine) (old mid new : SeatView) (name : List ℕ) (grant : GrantView) (spent : SpentView) (number bytes : ℕ)
+    → Extends old (Granted grant.number) mid → spent ≡ spent_as grant ended.Sealed → number ≡ grant.number
+    → Extends mid (Settled spent.number spent.way) new ⊎ (new ≡ mid)
+    → Accounts lines old.mine → Accounts (lines ++ line_of name (Sealed number bytes) ∷ []) new.mine
+after_run lines old mid new name grant spent number bytes one is same how a =
+    subst (λ (n : ℕ). Accounts (lines ++ line_of name (Sealed n bytes) ∷ []) new.mine) (sym same)
+    (after_sealing lines old mid new name grant.number bytes one
+    (subst (λ (s : SpentView). Extends mid (Settled s.number s.way) new ⊎ (new ≡ mid)) is how) a)
+
+pub after_fault : (lines : List FileLine) (old mid new : SeatView) (name : List ℕ) (grant : GrantView) (spent : SpentView) (fault : FileFault)
+    → Extends old (Granted grant.number) mid → spent ≡ spent_as grant ended.Void
+    → Extends mid (Settled spent.number spent.way) new ⊎ (new ≡ mid)
+    → Accounts lines old.mine → Accounts (lines ++ line_of name (Failed fault) ∷ []) new.mine
+after_fault lines old mid new name grant spent fault one is how a =
+    after_spoiling lines old mid new name grant.number fault one
+    (subst (λ (s : SpentView). Extends mid (Settled s.number s.way) new ⊎ (new ≡ mid)) is how) a
+
+-- ---- the whole history has what the seats have
+
+-- all seats of a ledger that have met have one whole history
+pub whole_of_met : (ledger : LedgerView) (old new : List SeatView) (history : List Entry) → AreAllSeats ledger old → HaveMet old new history
+    → (whole : List Entry) × IsWhole ledger.terms old whole
+whole_of_met ledger [] new history all met = ([], record { legal = legal_none ledger.terms; each = λ i v at. absurd (cc) })
+whole_of_met ledger (v ∷ vs) new history all met =
+    let its = met.after 0 v refl in
+    let terms : its.0.terms ≡ ledger.terms = ap (λ (z : SeatView). z.terms) its.2.1 ∙ (all.each 0 v refl).1 in (
+      history,
+      record {
+        legal = legal_front ledger.terms history its.4.0 (subst (Legal ledger.terms) its.4.1 (subst (λ (z : Terms). Legal z its.0.seen) terms its.3.legal));
+        each = met.before;
+      },
+    )
+
+sum_below_first : (n : ℕ) (f : ℕ → ℕ) → sum_below (suc n) f ≡ f 0 + sum_below n (λ i. f (suc i))
+sum_below_first zero f = refl
+sum_below_first (suc n) f = let h = sum_below_first n f in omega arith
+
+sum_below_zeros : (n : ℕ) → sum_below n (λ _. 0) ≡ 0
+sum_below_zeros zero = refl
+sum_below_zeros (suc n) = let h = sum_below_zeros n in omega arith
+
+seats_sum : (p : Entry → Bool) (seats : List SeatView) (f : ℕ → ℕ) → ((i : ℕ) (v : SeatView) → slice_get seats i ≡ Some v → count_by p v.mine ≡ f i)
+    → count_by p (operations_of seats) ≡ sum_below (length seats) f
+seats_sum p [] f each = refl
+seats_sum p (v ∷ seats) f each =
+    let here = each 0 v refl in
+    let rest = seats_sum p seats (λ i. f (suc i)) (λ i w at. each (suc i) w at) in
+    let joined = sum_by-append (λ (x : Entry). cond (p x) 1 0) v.mine (operations_of seats) in
+    let first = sum_below_first (length seats) f in
+    omega arith
+
+counted_by_seats : (p : Entry → Bool) (terms : Terms) (history : List Entry) → Legal terms history
+    → count_by p history ≡ sum_below terms.seats (λ t. count_by p (calls_of t history))
+counted_by_seats p terms history legal = induct terms (λ (h : List Entry). count_by p h ≡ sum_below terms.seats (λ t. count_by p (calls_of t h)))
+    (sym (sum_below_zeros terms.seats))
+    (λ h e may so.
+    let more = sum_below_more terms.seats e.seat (cond (p e) 1 0) (λ t. count_by p (calls_of t h)) (λ t. count_by p (calls_of t (h ++ e ∷ []))) may.seat (λ t. count_calls p t h e) in
+    let push = count_push p h e in omega arith)
+    history legal
+
+pub same_count : (p : Entry → Bool) (terms : Terms) (ledger : LedgerView) (seats : List SeatView) (history : List Entry)
+    → AreAllSeats ledger seats → terms ≡ ledger.terms → IsWhole terms seats history → count_by p history ≡ count_by p (operations_of seats)
+same_count p terms ledger seats history all is whole =
+    let ours = counted_by_seats p terms history whole.legal in
+    let theirs = seats_sum p seats (λ t. count_by p (calls_of t history))
+    (λ i v at. sym (ap (count_by p) (ap (λ (t : ℕ). calls_of t history) (sym (all.each i v at).2) ∙ (whole.each i v at).own))) in
+    let count : length seats ≡ terms.seats = all.count ∙ ap (λ (t : Terms). t.seats) (sym is) in
+    ours ∙ ap (λ (n : ℕ). sum_below n (λ t. count_by p (calls_of t history))) (sym count) ∙ sym theirs
+
+pub accounts_whole : (lines : List FileLine) (ledger : LedgerView) (seats : List SeatView) (history : List Entry)
+    → AreAllSeats ledger seats → IsWhole ledger.terms seats history → Accounts lines (operations_of seats) → Accounts lines history
+accounts_whole lines ledger seats history all whole a = record {
+  told = λ n. let s = same_count (seals n) ledger.terms ledger seats history all refl whole in let h = a.told n in omega arith;
+  granted = λ n.
+      let v = same_count (voids n) ledger.terms ledger seats history all refl whole in
+      let g = same_count (grants n) ledger.terms ledger seats history all refl whole in
+      let h = a.granted n in omega arith;
+}
+
+-- ---- a ledger with one seat
+
+pub one_seat : (ledger : LedgerView) (seats : List SeatView) (d : SeatView) → seats ≡ fresh_seats ledger.ledger ledger.terms 1
+    → get_or seats 0 d ≡ fresh_seat ledger.ledger ledger.terms 0
+one_seat ledger seats d is = ap (λ (l : List SeatView). get_or l 0 d) is
+
+pub operations_of_one : (ledger : LedgerView) (seats : List SeatView) (v : SeatView) → seats ≡ fresh_seats ledger.ledger ledger.terms 1
+    → operations_of (set seats 0 v) ≡ v.mine
+operations_of_one ledger seats v is = ap (λ (l : List SeatView). operations_of (set l 0 v)) is ∙ append-nil v.mine
+
+-- what a slice of a vector became is what the vector became
+pub written_back : (n : ℕ) (new rest : List SeatView) → n ≡ length new → take n (new ++ rest) ≡ new
+written_back n new rest is = ap (λ (m : ℕ). take m (new ++ rest)) is ∙ take-append_seam new rest
+
+-- ---- no number is in two lines
+
+abbrev GrantedOnce : Terms → List Entry → Type 0
+GrantedOnce terms history = (n : ℕ) → (times_granted n history ≤ 1) × (0 < times_granted n history → (terms.range.lo ≤ n) × (n < terms.range.lo + granted history))
+
+zero_of : (n : ℕ) → (0 < n → ⊥) → n ≡ 0
+zero_of zero none = refl
+zero_of (suc n) none = absurd (none (omega arith))
+
+grow_once : (terms : Terms) (history : List Entry) (t : ℕ) (event : Event) → MayReply terms history t event → GrantedOnce terms history
+    → GrantedOnce terms (history ++ entry t event ∷ [])
+grow_once terms history t (Granted m) may once n =
+    let all = count_push is_granted history (entry t (Granted m)) in
+    let these = count_push (grants n) history (entry t (Granted m)) in
+    let (few, low) = once n in
+    dite (ℕ_discrete n m)
+    (λ same.
+    let hit : cond {A = ℕ} (nat_eq n m) 1 0 ≡ 1 = ap (λ b. cond {A = ℕ} b 1 0) (eq-eqb n m same) in
+    let is : m ≡ terms.range.lo + granted history = may.0 in
+    let none : times_granted n history ≡ 0 = zero_of (times_granted n history) (λ some. let (from, below) = low some in omega arith) in
+    (omega arith, λ some. (omega arith, omega arith)))
+    (λ other.
+    let miss : cond {A = ℕ} (nat_eq n m) 1 0 ≡ 0 = ap (λ b. cond {A = ℕ} b 1 0) (ne_eqb n m other) in
+    (omega arith, λ some. let (from, below) = low (omega arith) in (omega arith, omega arith)))
+grow_once terms history t Exhausted may once n =
+    let all = count_push is_granted history (entry t Exhausted) in
+    let these = count_push (grants n) history (entry t Exhausted) in
+    let (few, low) = once n in
+    (omega arith, λ some. let (from, below) = low (omega arith) in (omega arith, omega arith))
+grow_once terms history t (Settled k way) may once n =
+    let all = count_push is_granted history (entry t (Settled k way)) in
+    let these = count_push (grants n) history (entry t (Settled k way)) in
+    let (few, low) = once n in
+    (omega arith, λ some. let (from, below) = low (omega arith) in (omega arith, omega arith))
+
+granted_once : (terms : Terms) (history : List Entry) → Legal terms history → GrantedOnce terms history
+granted_once terms = induct terms (GrantedOnce terms) (λ n. (omega arith, λ some. absurd (omega arith)))
+    (λ history e may so. grow_once terms history e.seat e.event (reply_of terms history e may) so)
+
+tells_cons : (n : ℕ) (line : FileLine) (lines : List FileLine) → times_told n (line ∷ lines) ≡ cond (tells_of n line.outcome) 1 0 + times_told n lines
+tells_cons n line lines = sum_by-cons (λ (x : FileLine). cond (tells_of n x.outcome) 1 0) line lines
+
+tells_itself : (line : FileLine) (n bytes : ℕ) (name : List ℕ) → line ≡ line_of name (Sealed n bytes) → cond {A = ℕ} (tells_of n line.outcome) 1 0 ≡ 1
+tells_itself line n bytes name is =
+    ap (λ (l : FileLine). cond {A = ℕ} (tells_of n l.outcome) 1 0) is ∙ ap (λ b. cond {A = ℕ} b 1 0) (eq-eqb n n refl)
+
+told_at : (lines : List FileLine) (i n bytes : ℕ) (name : List ℕ) → slice_get lines i ≡ Some (line_of name (Sealed n bytes)) → 1 ≤ times_told n lines
+told_at [] i n bytes name at = absurd (cc)
+told_at (line ∷ lines) zero n bytes name at =
+    let is : line ≡ line_of name (Sealed n bytes) = cc in
+    let one = tells_itself line n bytes name is in
+    let all = tells_cons n line lines in omega arith
+told_at (line ∷ lines) (suc i) n bytes name at =
+    let more = told_at lines i n bytes name at in
+    let all = tells_cons n line lines in omega arith
+
+told_twice : (lines : List FileLine) (i j n bytes more : ℕ) (name another : List ℕ) → i < j → slice_get lines i ≡ Some (line_of name (Sealed n bytes))
+    → slice_get lines j ≡ Some (line_of another (Sealed n more)) → 2 ≤ times_told n lines
+told_twice [] i j n bytes more name another less at also = absurd (cc)
+told_twice (line ∷ lines) i zero n bytes more name another less at also = absurd (omega arith)
+told_twice (line ∷ lines) zero (suc j) n bytes more name another less at also =
+    let is : line ≡ line_of name (Sealed n bytes) = cc in
+    let one = tells_itself line n bytes name is in
+    let other = told_at lines j n more another also in
+    let all = tells_cons n line lines in omega arith
+told_twice (line ∷ lines) (suc i) (suc j) n bytes more name another less at also =
+    let two = told_twice lines i j n bytes more name another (omega arith) at also in
+    let all = tells_cons n line lines in omega arith
+
+pub are_numbered : (terms : Terms) (history : List Entry) (lines : List FileLine) → Legal terms history → Accounts lines history → AreNumbered terms.range lines
+are_numbered terms history lines legal a = record {
+  inside = λ i number bytes name at.
+      let told = told_at lines i number bytes name at in
+      let has = a.granted number in
+      let (few, low) = granted_once terms history legal number in
+      let bound = (within terms history legal).0 in
+      let (from, below) = low (omega arith) in
+      (from, omega arith);
+  once = λ i j one other bytes more name another apart at also same.
+      let two = twice i j one bytes more name another apart at (also ∙ ap (λ (n : ℕ). Some (line_of another (Sealed n more))) (sym same)) in
+      let has = a.granted one in
+      let (few, low) = granted_once terms history legal one in
+      omega arith;
+}
+  where
+    twice : (i j n bytes more : ℕ) (name another : List ℕ) → i ≢ j → slice_get lines i ≡ Some (line_of name (Sealed n bytes))
+        → slice_get lines j ≡ Some (line_of another (Sealed n more)) → 2 ≤ times_told n lines
+    twice i j n bytes more name another apart at also = dite (native.Mathlib.Decide.dec_le i j)
+        (λ le. told_twice lines i j n bytes more name another (omega arith) at also)
+        (λ gt. told_twice lines j i n more bytes another name (omega arith) also at)
+
+-- ---- a run
+
+pub has_sealed : (names : List (List ℕ)) (ledger : LedgerView) (seats : List SeatView) (history : List Entry) (status : ℕ) (old new : Option (List ℕ))
+    (failures failures' : Option ℕ) (steps steps' : Option (List Step)) → AreAllSeats ledger seats → IsWhole ledger.terms seats history
+    → AreSealed names (operations_of seats) status old new failures failures' steps steps'
+    → HasSealed names ledger.terms history status old new failures failures' steps steps'
+has_sealed names ledger seats history status old new failures failures' steps steps' all whole s =
+    let accounts = accounts_whole s.worked.lines ledger seats history all whole s.accounts in record {
+      worked = s.worked;
+      numbered = are_numbered ledger.terms history s.worked.lines whole.legal accounts;
+      legal = whole.legal;
+      accounts = accounts;
+    }

@@ -1,0 +1,15 @@
+use Rattle.std.proofs.Common.{◌≡◌, List, [], refl, subst, rules}
+use Rattle.std.proofs.KnownBytes.{Appends-nil}
+use Rattle.ledger_core.specs.Closing.{IsWhole}
+use Rattle.ledger_core.specs.Shared.{LedgerView, SeatView}
+use Rattle.sealer_core.proofs.ending.write_journal.Goals as goal
+
+pub returns-in-Err : goal.returns-in-Err
+returns-in-Err g c =
+    let ledger : c.in-Err.ledger ≡ c.args.ledger = search rules in
+    let seats : c.in-Err.seats.items ≡ c.args.seats.items = search rules in (
+      c.meet.ensures.0,
+      subst (λ (l : LedgerView). IsWhole l.terms c.args.seats.items c.meet.ensures.0) ledger
+          (subst (λ (s : List SeatView). IsWhole c.in-Err.ledger.terms s c.meet.ensures.0) seats c.meet.ensures.1),
+      ([], (_, refl), Appends-nil _),
+    )

@@ -1,0 +1,16 @@
+use Rattle.std.proofs.Common.{rules}
+use Rattle.sealer_core.proofs.Numbering.{after_failure, after_fault, after_run}
+use Rattle.sealer_core.proofs.lane.seal_next.Goals as goal
+
+pub returns-in-Err-clause-accounts : goal.returns-in-Err-clause-accounts
+returns-in-Err-clause-accounts g c = λ name lines a. after_failure lines _ _ name _ c.in-Err.ensures.refused.1 a
+
+pub returns-in-Ok-sealed-clause-accounts : goal.returns-in-Ok-sealed-clause-accounts
+returns-in-Ok-sealed-clause-accounts g c = λ name lines a.
+    after_run lines c.args.seat.now _ _ name c.in-Ok.grant c.run_seal-sealed.result.1 _ _ c.in-Ok.ensures.granted.0 (search rules) (search rules)
+    c.settle_of_file.ensures.settled a
+
+pub returns-in-Err-sealed-clause-accounts : goal.returns-in-Err-sealed-clause-accounts
+returns-in-Err-sealed-clause-accounts g c = λ name lines a.
+    after_fault lines c.args.seat.now _ _ name c.in-Ok.grant c.run_seal-sealed.result.1 _ c.in-Ok.ensures.granted.0 (search rules)
+    c.settle_of_file.ensures.settled a

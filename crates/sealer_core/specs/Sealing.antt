@@ -1,0 +1,137 @@
+-- What `seal_all` does with a list of files, and how its lines stand to the operations of the ledger.
+use Rattle.std.specs.Prelude.{⊤, ◌≡◌, ◌≢◌, ℕ, ◌+◌, ◌<◌, ◌≤◌, Bool, true, false, nat_eq, List, [], ◌∷◌, ◌++◌, count_by, slice_get, codes, Option, Some, None, flat_map}
+use Rattle.journal_core.specs.declared.entry.Entry.{Entry}
+use Rattle.journal_core.specs.declared.entry.Event.TheVariants.{Granted, Exhausted, Settled}
+use Rattle.journal_core.specs.declared.entry.Way.TheVariants as ended
+use Rattle.journal_core.specs.History.{Terms, Legal, times_granted}
+use Rattle.journal_core.specs.Range.{Numbers}
+use Rattle.journal_core.specs.Streams.{Appends, AppendsFront}
+use Rattle.ledger_core.specs.Shared.{SeatView}
+use Rattle.reserve_core.specs.Reservations.{Lists, Holds, next_of, reserved}
+use Rattle.sqlite.specs.State.{State, HasCleanDisk}
+use Rattle.sqlite_trees.specs.Tree.{Trees}
+use Rattle.sealer_core.specs.declared.line.FileFault.TheVariants.{CannotOpen, OutputExists, CannotCreate, OutOfMemory, NoNumber, Unsealed}
+use Rattle.sealer_core.specs.declared.line.FileOutcome.{FileOutcome}
+use Rattle.sealer_core.specs.declared.line.FileOutcome.TheVariants.{Sealed, Opened, Good, Failed}
+use Rattle.sealer_core.specs.Folder.{Step, Created, Removing}
+use Rattle.sealer_core.specs.Lines.{FileLine}
+use Rattle.sealer_core.specs.Work.{AreWorked}
+
+-- ---- one file
+
+-- the name of a sealed file's output
+abbrev pub sealed_name : List ℕ → List ℕ
+sealed_name name = name ++ codes ".stm"
+
+-- an outcome that `seal_all` can have
+abbrev pub IsOfSealing : FileOutcome → Type 0
+IsOfSealing (Sealed number bytes) = ⊤
+IsOfSealing (Failed CannotOpen) = ⊤
+IsOfSealing (Failed OutputExists) = ⊤
+IsOfSealing (Failed CannotCreate) = ⊤
+IsOfSealing (Failed OutOfMemory) = ⊤
+IsOfSealing (Failed NoNumber) = ⊤
+IsOfSealing (Failed (Unsealed fault)) = ⊤
+IsOfSealing _ = ⊥
+
+-- one that it can have once the output was created
+abbrev pub IsOfNumber : FileOutcome → Type 0
+IsOfNumber (Sealed number bytes) = ⊤
+IsOfNumber (Failed NoNumber) = ⊤
+IsOfNumber (Failed (Unsealed fault)) = ⊤
+IsOfNumber _ = ⊥
+
+-- the steps on outputs that sealing a file makes: its output is created where the input was opened, and where the file then fails
+-- its removal is tried
+abbrev pub steps_on : List ℕ → FileOutcome → List Step
+steps_on output (Sealed number bytes) = Created output ∷ []
+steps_on output (Failed NoNumber) = Created output ∷ Removing output ∷ []
+steps_on output (Failed (Unsealed fault)) = Created output ∷ Removing output ∷ []
+steps_on output _ = []
+
+abbrev pub sealing_steps : FileLine → List Step
+sealing_steps line = steps_on (sealed_name line.name) line.outcome
+
+-- a fact of a file that was sealed
+abbrev pub IfSealed : FileOutcome → (ℕ → ℕ → Type 0) → Type 0
+IfSealed (Sealed number bytes) P = P number bytes
+IfSealed (Opened bytes) P = ⊤
+IfSealed (Good bytes) P = ⊤
+IfSealed (Failed fault) P = ⊤
+
+-- ---- numbers
+
+abbrev pub line_of : List ℕ → FileOutcome → FileLine
+line_of name outcome = record { name = name; outcome = outcome }
+
+-- the outcome says that the file was sealed under this number
+abbrev pub tells_of : ℕ → FileOutcome → Bool
+tells_of number (Sealed n bytes) = nat_eq number n
+tells_of number (Opened bytes) = false
+tells_of number (Good bytes) = false
+tells_of number (Failed fault) = false
+
+-- how often the lines say so
+abbrev pub times_told : ℕ → List FileLine → ℕ
+times_told number lines = count_by (λ line. tells_of number line.outcome) lines
+
+-- the entry settles this number as sealed, or as void
+abbrev pub seals : ℕ → Entry → Bool
+seals number e = elim e.event [ Granted n ↦ false | Exhausted ↦ false | Settled n way ↦ elim way [ ended.Sealed ↦ nat_eq number n | ended.Void ↦ false ] ]
+
+abbrev pub voids : ℕ → Entry → Bool
+voids number e = elim e.event [ Granted n ↦ false | Exhausted ↦ false | Settled n way ↦ elim way [ ended.Sealed ↦ false | ended.Void ↦ nat_eq number n ] ]
+
+abbrev pub times_sealed : ℕ → List Entry → ℕ
+times_sealed number history = count_by (seals number) history
+
+abbrev pub times_voided : ℕ → List Entry → ℕ
+times_voided number history = count_by (voids number) history
+
+-- the operations of some seats, each seat's in order
+abbrev pub operations_of : List SeatView → List Entry
+operations_of seats = flat_map (λ seat. seat.mine) seats
+
+-- The lines and the operations of a ledger agree: a number that was settled as sealed stands in a line that says `sealed`, and each
+-- such line, and each number that was settled as void, has a grant of its own.
+pub record Accounts (lines : List FileLine) (operations : List Entry) : Type 0 where
+  pub told : (number : ℕ) → times_sealed number operations ≤ times_told number lines
+  pub granted : (number : ℕ) → times_told number lines + times_voided number operations ≤ times_granted number operations
+
+-- the numbers in the lines that say `sealed` lie in the range, and no two of them are the same
+pub record AreNumbered (range : Numbers) (lines : List FileLine) : Type 0 where
+  pub inside : (i number bytes : ℕ) (name : List ℕ) → slice_get lines i ≡ Some (line_of name (Sealed number bytes))
+      → (range.lo ≤ number) × (number < range.lo + range.size)
+  pub once : (i j one other bytes more : ℕ) (name another : List ℕ) → i ≢ j → slice_get lines i ≡ Some (line_of name (Sealed one bytes))
+      → slice_get lines j ≡ Some (line_of another (Sealed other more)) → one ≢ other
+
+-- ---- a run
+
+-- A range of so many numbers was reserved: where the database holds lists, it stands at the end of that of the key id and device, and
+-- every crash leaves it there.
+pub record IsReserved (key_id : List ℕ) (device count : ℕ) (old new : State) (range : Numbers) : Type 0 where
+  pub appended : HasCleanDisk new → (lists : Lists) → Holds old.now lists
+      → (range.device ≡ device) × (range.lo ≡ next_of (lists key_id device)) × (range.size ≡ count) × Holds new.now (reserved lists key_id device count)
+  pub lasts : HasCleanDisk new → (trees : Trees) → new.may_leave trees → trees ≡ new.now.trees
+
+-- Every file was worked, in order, and these operations of a ledger go with the lines.
+pub record AreSealed (names : List (List ℕ)) (operations : List Entry) (status : ℕ) (old new : Option (List ℕ)) (failures failures' : Option ℕ)
+    (steps steps' : Option (List Step)) : Type 0 where
+  pub worked : AreWorked IsOfSealing sealing_steps names status old new failures failures' steps steps'
+  pub accounts : Accounts worked.lines operations
+
+-- So it was, over one legal history, and no number stands in two lines.
+pub record HasSealed (names : List (List ℕ)) (terms : Terms) (history : List Entry) (status : ℕ) (old new : Option (List ℕ))
+    (failures failures' : Option ℕ) (steps steps' : Option (List Step)) : Type 0 where
+  pub worked : AreWorked IsOfSealing sealing_steps names status old new failures failures' steps steps'
+  pub numbered : AreNumbered terms.range worked.lines
+  pub legal : Legal terms history
+  pub accounts : Accounts worked.lines history
+
+-- what a journal got, where one was asked for: this text, or a beginning of it
+abbrev pub IsWritten : {J : Type 0} → (J → Option (List ℕ)) → List ℕ → Bool → Option J → Option J → Type 0
+IsWritten taken text whole None None = whole ≡ true
+IsWritten taken text true (Some old) (Some new) = Appends (taken old) (taken new) text
+IsWritten taken text false (Some old) (Some new) = AppendsFront (taken old) (taken new) text
+IsWritten taken text whole None (Some new) = ⊥
+IsWritten taken text whole (Some old) None = ⊥

@@ -1,0 +1,176 @@
+//! Files sealed one after another by one seat of a ledger, each by as many workers as are asked for.
+ghost use Rattle.std.specs.Prelude.{◌≡◌, ◌⊎◌, ℕ, ◌<◌, ◌≤◌, List, [], ◌∷◌, ◌++◌, length, map, IfOk, IfErr, IfSome, Err, Ok};
+ghost use Rattle.container_core.specs.Container.{container};
+ghost use Rattle.journal_core.specs.declared.entry.Event.TheVariants.{Granted, Exhausted, Settled};
+ghost use Rattle.journal_core.specs.Range.{prefix_of};
+ghost use Rattle.journal_core.specs.Streams.{Appends};
+ghost use Rattle.ledger_core.specs.Shared.{Extends, IsSameSeat};
+ghost use Rattle.sealer_core.specs.Folder.{stepped};
+ghost use Rattle.sealer_core.specs.Lines.{FileLine};
+ghost use Rattle.sealer_core.specs.declared.line.FileOutcome.TheVariants.{Failed};
+ghost use Rattle.sealer_core.specs.Sealing.{Accounts, AreSealed, IfSealed, IsOfNumber, IsOfSealing, line_of, sealing_steps};
+
+use crate::commands::tell;
+use crate::folder::{Folder, FolderFault};
+use crate::line::{FileFault, FileOutcome};
+use crate::run::run_seal;
+use crate::sealing::SealOptions;
+use container_core::{Key, SealFault};
+use crew_core::Free;
+use ledger_core::{Grant, IssueFault, Ledger, Seat, Sink, Source, Spent};
+use std::alloc::Global;
+use std::thread::Threads;
+
+// Why a file has no number.
+fn fault_of(fault: IssueFault) -> FileFault
+    ensures { IsOfNumber (Failed result) }
+{
+    match fault {
+        IssueFault::Exhausted | IssueFault::SeatClosed => FileFault::NoNumber,
+        IssueFault::OutOfMemory => FileFault::Unsealed(SealFault::OutOfMemory),
+    }
+}
+
+// Grants the next number to a file.
+fn issue_to_file(ledger: &Ledger, seat: &mut Seat) -> Result<Grant, FileFault>
+    requires ours { seat.old.ledger ≡ ledger.now.ledger }
+    ensures granted { IfOk result (λ grant. Extends seat.old (Granted grant.number) seat.new × (grant.device ≡ seat.old.terms.range.device)) }
+    ensures refused { IfErr result (λ fault. IsOfNumber (Failed fault) × ((seat.new ≡ seat.old) ⊎ Extends seat.old Exhausted seat.new)) }
+    ensures same { IsSameSeat seat.old seat.new }
+{
+    match ledger.issue(seat) {
+        Ok(grant) => Ok(grant),
+        Err(fault) => Err(fault_of(fault)),
+    }
+}
+
+// Settles a file's number. Where memory for that is refused the number stays open.
+fn settle_of_file(ledger: &Ledger, seat: &mut Seat, spent: Spent)
+    requires ours { seat.old.ledger ≡ ledger.now.ledger }
+    ensures settled { Extends seat.old (Settled spent.number spent.way) seat.new ⊎ (seat.new ≡ seat.old) }
+    ensures same { IsSameSeat seat.old seat.new }
+{
+    let _ = ledger.settle(seat, spent);
+}
+
+// Seals what a reader gives under the next number of the ledger, and settles that number.
+fn seal_next<T: Threads + Sync, R: Source, W: Sink>(
+    rt: &T,
+    alloc: Global,
+    key: &Key,
+    ledger: &Ledger,
+    seat: &mut Seat,
+    reader: &mut R,
+    writer: &mut W,
+    max_bytes: u64,
+    workers: u32,
+) -> FileOutcome
+    requires ours { seat.old.ledger ≡ ledger.now.ledger }
+    requires max_bytes { max_bytes ≤ 1099511627776 }
+    requires workers { (0 < workers) × (workers ≤ 16) }
+    ensures outcome { IsOfNumber result }
+    ensures sealed { IfSealed result (λ number bytes. IfSome (R.left reader.old) (λ input. (bytes ≡ length input)
+        × Appends (W.taken writer.old) (W.taken writer.new) (container key.now (prefix_of seat.old.terms.range.device number) input))) }
+    ensures same { IsSameSeat seat.old seat.new }
+    ensures accounts { (name : List ℕ) (lines : List FileLine) → Accounts lines seat.old.mine → Accounts (lines ++ line_of name result ∷ []) seat.new.mine }
+{
+    let grant = match issue_to_file(ledger, seat) {
+        Ok(grant) => grant,
+        Err(fault) => return FileOutcome::Failed(fault),
+    };
+    let number = grant.number();
+    let (sealed, spent) = run_seal(
+        rt, alloc, key, grant, reader, writer, max_bytes, workers, &Free,
+    );
+    settle_of_file(ledger, seat, spent);
+    match sealed {
+        Ok(bytes) => FileOutcome::Sealed { number, bytes },
+        Err(fault) => FileOutcome::Failed(FileFault::Unsealed(fault)),
+    }
+}
+
+// Seals one file: its input is opened, its output created, and its number issued, in this order. An output whose file failed is
+// removed.
+fn seal_file<T: Threads + Sync, F: Folder>(
+    rt: &T,
+    alloc: Global,
+    key: &Key,
+    ledger: &Ledger,
+    seat: &mut Seat,
+    folder: &mut F,
+    name: &str,
+    max_bytes: u64,
+    workers: u32,
+) -> FileOutcome
+    requires ours { seat.old.ledger ≡ ledger.now.ledger }
+    requires max_bytes { max_bytes ≤ 1099511627776 }
+    requires workers { (0 < workers) × (workers ≤ 16) }
+    ensures outcome { IsOfSealing result }
+    ensures steps { F.steps folder.new ≡ stepped (F.steps folder.old) (sealing_steps (line_of name.now result)) }
+    ensures same { IsSameSeat seat.old seat.new }
+    ensures accounts { (lines : List FileLine) → Accounts lines seat.old.mine → Accounts (lines ++ line_of name.now result ∷ []) seat.new.mine }
+{
+    let Ok(output) = format!(in alloc; "{name}.stm") else {
+        return FileOutcome::Failed(FileFault::OutOfMemory);
+    };
+    let Ok(mut reader) = folder.open(name) else {
+        return FileOutcome::Failed(FileFault::CannotOpen);
+    };
+    let mut writer = match folder.create(output.as_str()) {
+        Ok(writer) => writer,
+        Err(FolderFault::Exists) => return FileOutcome::Failed(FileFault::OutputExists),
+        Err(FolderFault::Failed) => return FileOutcome::Failed(FileFault::CannotCreate),
+    };
+    let outcome = seal_next(
+        rt,
+        alloc,
+        key,
+        ledger,
+        seat,
+        &mut reader,
+        &mut writer,
+        max_bytes,
+        workers,
+    );
+    if let FileOutcome::Failed(_) = outcome {
+        let _ = folder.remove(output.as_str());
+    }
+    outcome
+}
+
+/// Seals the files in turn, with a line for each. The answer is the status so far.
+pub(crate) fn seal_one_lane<T: Threads + Sync, F: Folder, W: Sink>(
+    rt: &T,
+    alloc: Global,
+    key: &Key,
+    ledger: &Ledger,
+    seat: &mut Seat,
+    folder: &mut F,
+    options: &SealOptions,
+    lines: &mut W,
+) -> u8
+    requires ours { seat.old.ledger ≡ ledger.now.ledger }
+    requires fresh { seat.old.mine ≡ [] }
+    requires max_bytes { options.now.max_bytes ≤ 1099511627776 }
+    requires workers { (0 < options.now.workers) × (options.now.workers ≤ 16) }
+    ensures same { IsSameSeat seat.old seat.new }
+    ensures sealed { AreSealed (map (λ name. name.now) options.now.files.now) seat.new.mine result
+        (W.taken lines.old) (W.taken lines.new) (W.failures lines.old) (W.failures lines.new) (F.steps folder.old) (F.steps folder.new) }
+{
+    let mut status = 0;
+    for name in options.files {
+        let outcome = seal_file(
+            rt,
+            alloc,
+            key,
+            ledger,
+            seat,
+            folder,
+            name,
+            options.max_bytes,
+            options.workers,
+        );
+        status = tell(alloc, lines, status, name, outcome);
+    }
+    status
+}
