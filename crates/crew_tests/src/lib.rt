@@ -1,0 +1,21 @@
+//! The tests of `crew_core`, and what they share: grants, a plaintext, a gate that two workers must meet, and one that keeps who
+//! passed with what.
+#![tactic(auto)]
+
+#[cfg(test)]
+mod damaged;
+#[cfg(test)]
+mod gates;
+pub mod grants;
+pub mod meeting;
+pub mod plain;
+pub mod recorder;
+#[cfg(test)]
+mod sealed;
+#[cfg(test)]
+mod shelves;
+
+pub use crate::grants::grant_of;
+pub use crate::meeting::Meeting;
+pub use crate::plain::{COUNTING, flip, pattern, zeros};
+pub use crate::recorder::Recorder;
