@@ -178,10 +178,16 @@ fn another_table_beside_the_two(rt: HostRuntime) -> Result<(), Fail> {
         refusal(rt.alloc(), &[TABLES, "CREATE TABLE note (title TEXT)"]),
         33
     );
+    Ok(())
+}
+
+#[test]
+fn a_database_of_something_else(rt: HostRuntime) -> Result<(), Fail> {
     assert_eq!(rt;
         refusal(rt.alloc(), &["CREATE TABLE note (title TEXT)"]),
-        33
+        34
     );
+    assert_eq!(rt; refusal(rt.alloc(), &["CREATE VIEW one AS SELECT 1"]), 34);
     Ok(())
 }
 

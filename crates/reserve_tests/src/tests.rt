@@ -95,6 +95,20 @@ fn a_long_range_goes_on(rt: HostRuntime) -> Result<(), Fail> {
 }
 
 #[test]
+fn a_refused_second_write_leaves_the_mark(rt: HostRuntime) -> Result<(), Fail> {
+    let mark =
+        "CREATE TABLE mark (key_id BLOB NOT NULL, device INTEGER NOT NULL, next INTEGER NOT NULL, PRIMARY KEY (key_id, device))";
+    let taken =
+        "CREATE TABLE taken (key_id BLOB NOT NULL, device INTEGER NOT NULL, lo INTEGER NOT NULL, size INTEGER NOT NULL, PRIMARY KEY (key_id, device, lo), CHECK (size <= 2))";
+    let mut keeper = keeper(database(rt.alloc(), &[mark, taken]).ok_or("database")?)?;
+    assert_eq!(rt; reserve(&mut keeper, &ID, 1, 1), Ok((0, 1)));
+    assert_eq!(rt; reserve(&mut keeper, &ID, 1, 3), Err(ReserveFault::Store));
+    assert_eq!(rt; reserve(&mut keeper, &ID, 1, 1), Ok((1, 1)));
+    assert!(rt; has_taken(&mut keeper, &ID, 1, &[(0, 1), (1, 1)]));
+    Ok(())
+}
+
+#[test]
 fn a_refused_database_is_handed_back(rt: HostRuntime) -> Result<(), Fail> {
     let rows =
         "INSERT INTO taken VALUES (X'630dcd2966c4336691125448bbb25b4ff412a49c732db2c8abc1b8581bd710dd', 1, 0, 1);";
