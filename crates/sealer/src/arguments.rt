@@ -1,7 +1,8 @@
 //! The command line.
-ghost use Rattle.std.specs.Prelude.{◌<◌, ◌≤◌, ◌⊎◌, ◌≡◌, IfOk};
+ghost use Rattle.std.specs.Prelude.{◌<◌, ◌≤◌, ◌≡◌, IfOk, length};
 
 use clap::{Arg, ArgAction, ArgMatches, Command, Error, value_parser};
+use ledger_core::Device;
 use sealer_core::{MAX_BYTES, MAX_WORKERS};
 use std::alloc::Global;
 use thiserror::Error as ThisError;
@@ -12,11 +13,9 @@ pub const DEFAULT_MAX_BYTES: u64 = 1 << 30;
 /// The greatest number of lanes.
 const MAX_LANES: u32 = 16;
 
-/// The greatest device number.
-const MAX_DEVICE: u32 = 16_777_215;
-
-/// The program's command: `open`, `verify` and `audit`.
+/// The program's command: `seal`, `open`, `verify` and `audit`.
 pub fn command<'a>(alloc: Global) -> Result<Command<'a>, Error> {
+    let seal = seal_command(alloc)?;
     let open = file_command(
         alloc,
         "open",
@@ -29,6 +28,7 @@ pub fn command<'a>(alloc: Global) -> Result<Command<'a>, Error> {
     let sealer = Command::new(alloc, "sealer")
         .about("Seals, opens and verifies many files under one key, each under a number of its own")
         .subcommand_required(true)
+        .subcommand(seal)?
         .subcommand(open)?
         .subcommand(verify)?
         .subcommand(audit)?;
@@ -47,7 +47,7 @@ fn file_command<'a>(alloc: Global, name: &'a str, about: &'a str) -> Result<Comm
         .value_name("N")
         .value_parser(value_parser!(u32).range(1..=16))
         .default_value("1")
-        .help("Workers that check a container side by side, 1 to 16");
+        .help("Workers on one file, side by side, 1 to 16");
     let max_bytes = Arg::new(alloc, "max-bytes")
         .long("max-bytes")
         .value_name("N")
@@ -89,8 +89,7 @@ pub fn max_bytes(matches: &ArgMatches<'_>) -> u64
         .min(MAX_BYTES)
 }
 
-/// The command `seal`. The program does not offer it before it can seal.
-pub fn seal_command<'a>(alloc: Global) -> Result<Command<'a>, Error> {
+fn seal_command<'a>(alloc: Global) -> Result<Command<'a>, Error> {
     let ledger = Arg::new(alloc, "ledger")
         .long("ledger")
         .value_name("F")
@@ -107,7 +106,7 @@ pub fn seal_command<'a>(alloc: Global) -> Result<Command<'a>, Error> {
         .value_name("N")
         .value_parser(value_parser!(u32).range(1..=16))
         .default_value("1")
-        .help("How many files are sealed at once, 1 to 16");
+        .help("How many files are sealed at once, 1 to 16; above 1 is not offered yet");
     let journal = Arg::new(alloc, "journal")
         .long("journal")
         .value_name("F")
@@ -126,7 +125,7 @@ pub fn seal_command<'a>(alloc: Global) -> Result<Command<'a>, Error> {
 pub struct SealRequest<'m, 'a> {
     pub key: &'a str,
     pub ledger: &'a str,
-    pub device: u32,
+    pub device: Device,
     pub files: &'m [&'a str],
     pub workers: u32,
     pub lanes: u32,
@@ -141,32 +140,42 @@ pub enum SealUsage {
     Missing,
     #[error("lanes and workers cannot both be above 1")]
     LanesAndWorkers,
+    #[error("lanes above 1 are not offered yet")]
+    Lanes,
 }
 
 /// What `seal` is asked for, of words that its parser took.
 pub fn seal_request<'m, 'a>(matches: &'m ArgMatches<'a>) -> Result<SealRequest<'m, 'a>, SealUsage>
-    ensures device { IfOk result (λ request. request.device ≤ 16777215) }
+    ensures files { IfOk result (λ request. 0 < length request.files.now) }
     ensures workers { IfOk result (λ request. (0 < request.workers) × (request.workers ≤ 16)) }
-    ensures lanes { IfOk result (λ request. (0 < request.lanes) × (request.lanes ≤ 16)) }
-    ensures one { IfOk result (λ request. (request.workers ≡ 1) ⊎ (request.lanes ≡ 1)) }
+    ensures lanes { IfOk result (λ request. request.lanes ≡ 1) }
     ensures max_bytes { IfOk result (λ request. request.max_bytes ≤ 1099511627776) }
 {
     let (Some(key), Some(ledger)) = (matches.get_str("key"), matches.get_str("ledger")) else {
         return Err(SealUsage::Missing);
     };
-    let (Some(device), Some(files)) = (matches.get_one::<u32>("device"), matches.get_strs("FILE"))
+    let (Some(number), Some(files)) = (matches.get_one::<u32>("device"), matches.get_strs("FILE"))
     else {
         return Err(SealUsage::Missing);
     };
+    let Some(device) = Device::new(number) else {
+        return Err(SealUsage::Missing);
+    };
+    if files.is_empty() {
+        return Err(SealUsage::Missing);
+    }
     let workers = workers(matches);
     let lanes = lanes(matches);
     if workers > 1 && lanes > 1 {
         return Err(SealUsage::LanesAndWorkers);
     }
+    if lanes != 1 {
+        return Err(SealUsage::Lanes);
+    }
     Ok(SealRequest {
         key,
         ledger,
-        device: device.min(MAX_DEVICE),
+        device,
         files,
         workers,
         lanes,

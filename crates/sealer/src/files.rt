@@ -5,6 +5,7 @@ use std::fs;
 use std::fs::{File, OpenFile};
 use std::io::{BufReader, ErrorKind};
 use std::rt::Files;
+use thiserror::Error;
 
 /// Bytes of the buffer through which a file is read.
 const BUFFER: usize = 1 << 16;
@@ -12,6 +13,32 @@ const BUFFER: usize = 1 << 16;
 /// The files of the system, by their paths. A path that isn't absolute begins at the current directory.
 #[derive(Drop)]
 pub struct SystemFiles<'r, R: Files + AllocGlobal>(pub &'r R);
+
+/// Why the journal file isn't there. The texts are those that the program prints.
+#[derive(Clone, Copy, PartialEq, Eq, Debug, Error)]
+pub enum JournalFault {
+    /// There is a file of its name already.
+    #[error("output exists")]
+    Exists,
+    /// Any other cause.
+    #[error("cannot create")]
+    CannotCreate,
+}
+
+/// A new journal file, where one is asked for.
+pub fn new_journal<F: Folder>(
+    folder: &mut F,
+    path: Option<&str>,
+) -> Result<Option<F::Writer>, JournalFault> {
+    let Some(path) = path else {
+        return Ok(None);
+    };
+    match folder.create(path) {
+        Ok(writer) => Ok(Some(writer)),
+        Err(FolderFault::Exists) => Err(JournalFault::Exists),
+        Err(FolderFault::Failed) => Err(JournalFault::CannotCreate),
+    }
+}
 
 /// Opens a file to be read. A directory is none.
 pub fn open_file<R: Files + AllocGlobal>(

@@ -1,18 +1,23 @@
 //! The program `sealer`: the command line, and the commands of `sealer_core` over real files and the standard streams.
 //!
-//! Exit status: 0 all well; 1 some file failed, or the journal isn't legal; 2 a fault of usage, of the key file, or of the
-//! program's own reading and writing.
+//! Exit status: 0 all well; 1 some file failed, or the journal isn't legal; 2 a fault of usage, of the key file, the ledger or the
+//! journal file, or of the program's own reading and writing.
 #![tactic(auto)]
 
 mod arguments;
 mod files;
+mod ledger;
 
-use crate::arguments::{command, max_bytes, workers};
-use crate::files::{SystemFiles, open_file};
+use crate::arguments::{command, max_bytes, seal_request, workers};
+use crate::files::{SystemFiles, new_journal, open_file};
+use crate::ledger::keeper_of;
 use clap::{ArgMatches, Error};
 use container_core::Key;
 use ledger_core::{FromRead, ToWrite};
-use sealer_core::{KeyFault, OpenOptions, Outs, open_all, read_key, run_audit, verify_all};
+use sealer_core::{
+    KeyFault, OpenOptions, Outs, SealOptions, open_all, read_key, run_audit, seal_all, verify_all,
+};
+use sqlite::Wary;
 use std::alloc::Global;
 use std::io::{Read, Write};
 use std::process::ExitCode;
@@ -27,7 +32,7 @@ fn main(rt: HostRuntime) -> ExitCode {
         return ExitCode::from(FAULT);
     };
     let status = match parse(rt.alloc(), words.as_slice()) {
-        Ok(matches) => run(&rt, &matches, rt.stdin(), rt.stdout(), rt.stderr()),
+        Ok(matches) => run(&rt, &rt, &matches, rt.stdin(), rt.stdout(), rt.stderr()),
         Err(error) => told(&rt, &error),
     };
     ExitCode::from(status)
@@ -62,19 +67,84 @@ fn told<R: Print + Eprint>(rt: &R, error: &Error) -> u8 {
     if error.exit_code() == 0 { 0 } else { FAULT }
 }
 
-/// Runs the command that was asked for.
+/// Runs the command that was asked for. `host` is the runtime too: a ledger file is opened by it alone.
 fn run<
     R: Files + AllocGlobal + Eprint + Threads + Sync,
     I: Read + Drop,
     O: Write + Drop,
     E: Write + Drop,
->(rt: &R, matches: &ArgMatches<'_>, input: I, output: O, errors: E) -> u8 {
+>(rt: &R, host: &HostRuntime, matches: &ArgMatches<'_>, input: I, output: O, errors: E) -> u8 {
     match matches.subcommand() {
+        Some(("seal", asked)) => seal(rt, host, asked, output, errors),
         Some(("open", asked)) => over_files(rt, asked, output, errors, false),
         Some(("verify", asked)) => over_files(rt, asked, output, errors, true),
         Some(("audit", _)) => audit_input(rt, rt.alloc(), input, output),
         _ => FAULT,
     }
+}
+
+/// Seals the files, once the key file was read, the journal created and the ledger file opened, in this order.
+fn seal<R: Files + AllocGlobal + Eprint + Threads + Sync, O: Write + Drop, E: Write + Drop>(
+    rt: &R,
+    host: &HostRuntime,
+    matches: &ArgMatches<'_>,
+    output: O,
+    errors: E,
+) -> u8 {
+    let request = match seal_request(matches) {
+        Ok(request) => request,
+        Err(usage) => {
+            let _ = eprintln!(rt; "usage: {usage}");
+            return FAULT;
+        }
+    };
+    let key = match key_of(rt, request.key) {
+        Ok(key) => key,
+        Err(fault) => {
+            let _ = eprintln!(rt; "key: {fault}");
+            return FAULT;
+        }
+    };
+    let mut folder = SystemFiles(rt);
+    let journal = match new_journal(&mut folder, request.journal) {
+        Ok(journal) => journal,
+        Err(fault) => {
+            let _ = eprintln!(rt; "journal: {fault}");
+            return FAULT;
+        }
+    };
+    let mut keeper = match keeper_of(host, request.ledger, Wary) {
+        Ok(keeper) => keeper,
+        Err(fault) => {
+            let _ = eprintln!(rt; "ledger: {fault}");
+            return FAULT;
+        }
+    };
+    let options = SealOptions {
+        device: request.device,
+        files: request.files,
+        workers: request.workers,
+        lanes: request.lanes,
+        max_bytes: request.max_bytes,
+    };
+    let mut out = Outs {
+        lines: ToWrite(output),
+        faults: ToWrite(errors),
+        journal,
+    };
+    let status = seal_all(
+        rt,
+        rt.alloc(),
+        &key,
+        &mut keeper,
+        &mut folder,
+        &options,
+        &mut out,
+    );
+    // The range is reserved for good already. Closing copies the log beside the ledger file into it; where that fails the log stays,
+    // and the next run reads it.
+    let _ = keeper.release().close();
+    status
 }
 
 /// Opens or verifies the files, once the key file was read.
