@@ -26,6 +26,17 @@ wants integrity ok "$(sqlite3 "$a" 'PRAGMA integrity_check')"
 wants tables 'mark taken' "$(sqlite3 "$a" "SELECT name FROM sqlite_schema WHERE type = 'table' ORDER BY name" | tr '\n' ' ' | sed 's/ $//')"
 wants mark "$key_id|1|4 $key_id|2|65535" "$(sqlite3 "$a" 'SELECT hex(key_id), device, next FROM mark ORDER BY key_id, device' | tr '\n' ' ' | sed 's/ $//')"
 wants taken '1|0|3 1|3|1 2|0|65535' "$(sqlite3 "$a" 'SELECT device, lo, size FROM taken ORDER BY key_id, device, lo' | tr '\n' ' ' | sed 's/ $//')"
+# A file that was closed is whole without its log.
+cp "$a" "$folder/alone"
+wants 'the file alone' 'mark|2 taken|3' "$(sqlite3 "$folder/alone" "SELECT 'mark', count(*) FROM mark UNION SELECT 'taken', count(*) FROM taken" | tr '\n' ' ' | sed 's/ $//')"
+# The statements are those of docs/FORMATS.md, and the database refuses what breaks a rule.
+statements() { tr -s ' \n' ' ' | sed 's/( /(/g; s/ *; */;/g; s/^ //; s/ $//'; }
+wants statements "$(sed -n '/^    CREATE TABLE mark/,/^    *CHECK (lo >= 0/p' docs/FORMATS.md | sed 's/4294967296))$/4294967296));/' | statements)" \
+    "$(sqlite3 "$a" "SELECT sql || ';' FROM sqlite_schema WHERE type = 'table' ORDER BY name" | statements)"
+for row in "mark VALUES (X'$key_id', 3, 4294967297)" "mark VALUES (X'$key_id', 3, -1)" "mark VALUES (X'$key_id', 1, 9)" "mark VALUES (NULL, 3, 0)" \
+    "taken VALUES (X'$key_id', 3, 0, 0)" "taken VALUES (X'$key_id', 3, 4294967295, 2)" "taken VALUES (X'$key_id', 1, 0, 9)"; do
+    sqlite3 "$a" "INSERT INTO $row" 2>/dev/null && { echo "ledger_file_check: taken in: $row"; exit 1; }
+done
 
 # A file of sqlite3's, by the statements of docs/FORMATS.md.
 b=$folder/theirs

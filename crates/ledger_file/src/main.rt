@@ -10,7 +10,7 @@ mod speed;
 
 use anyhow::{Result, bail};
 use ledger_core::Device;
-use reserve_core::Keeper;
+use reserve_core::{Keeper, ReserveFault};
 use sqlite::{Alter, Connection, FileFrom, FileStore, Start, Unknown};
 use std::env;
 use std::io::Print;
@@ -43,7 +43,8 @@ fn open_file<S: Start>(rt: &HostRuntime, path: &str, start: S) -> Result<InFile<
 fn keeper<S: Alter + Drop>(conn: Connection<S>) -> Result<Keeper<S>> {
     match Keeper::open(conn) {
         Ok(keeper) => Ok(keeper),
-        Err((fault, _)) => bail!("ledger: {fault}"),
+        Err((ReserveFault::BadStore, _)) => bail!("ledger: not a ledger"),
+        Err(_) => bail!("ledger: cannot open"),
     }
 }
 
@@ -75,6 +76,14 @@ fn print_taken<R: Print, S: Alter>(rt: &R, keeper: &mut Keeper<S>, device: Devic
     }
 }
 
+// Closes the file. Closing copies what was committed out of the log beside it.
+fn close<S: Start>(keeper: Keeper<FileStore<FileFrom<S>>>) -> Result<()> {
+    if keeper.release().close().is_err() {
+        bail!("ledger: cannot close")
+    }
+    Ok(())
+}
+
 // Three ranges of a database in memory.
 fn show(rt: &HostRuntime) -> Result<()> {
     let mut keeper = keeper(Connection::open_in_memory(rt.alloc())?)?;
@@ -92,14 +101,18 @@ fn reserve_in(rt: &HostRuntime, path: &str, device: &str, count: &str) -> Result
         bail!("{count} is no number")
     };
     let mut keeper = keeper(open_file(rt, path, Unknown)?)?;
-    reserve(rt, &mut keeper, device, count)
+    let reserved = reserve(rt, &mut keeper, device, count);
+    close(keeper)?;
+    reserved
 }
 
 // Prints the ranges of a file.
 fn print_in(rt: &HostRuntime, path: &str, device: &str) -> Result<()> {
     let device = device_of(device)?;
     let mut keeper = keeper(open_file(rt, path, Unknown)?)?;
-    print_taken(rt, &mut keeper, device)
+    let printed = print_taken(rt, &mut keeper, device);
+    close(keeper)?;
+    printed
 }
 
 fn main(rt: HostRuntime) -> Result<()> {
