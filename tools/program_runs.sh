@@ -47,8 +47,8 @@ run audit --help < /dev/null
 wants audit-help 0 'begins Audits the journal on standard input' ''
 run < /dev/null
 wants nothing 2 '' "begins error: 'sealer' requires a subcommand"
-run seal < /dev/null
-wants unknown 2 '' "begins error: unrecognized subcommand 'seal'"
+run pack < /dev/null
+wants unknown 2 '' "begins error: unrecognized subcommand 'pack'"
 run audit more < /dev/null
 wants more 2 '' "begins error: unexpected argument 'more' found"
 run $'\xff' < /dev/null
@@ -182,6 +182,198 @@ for value in 1099511627777 -1; do
 done
 run open --key "$key" --max-bytes 1099511627776 files/numbers.stm
 wants greatest 0 'opened files/numbers.stm bytes 1492' ''
+
+# Sealing: a life of a ledger file.
+mkdir life
+seq 1 400 > life/numbers
+: > life/empty
+seq 1 60000 > life/more
+seals() { run seal --key "$key" --ledger life/ledger --device 1 "$@"; }
+seals --journal life/journal -- life/numbers life/none life/empty life/numbers
+wants seal 1 'sealed life/numbers file 0 bytes 1492
+failed life/none: cannot open
+sealed life/empty file 1 bytes 0
+failed life/numbers: output exists' ''
+is journal-text test "$(cat life/journal)" = 'range 1 0 4 1
+0 issue 0
+0 sealed 0
+0 issue 1
+0 sealed 1'
+run audit < life/journal
+wants journal-is-legal 0 'legal: 2 granted, 2 sealed, 0 void, 0 open, 0 refused' ''
+is no-output-of-what-is-not-there no test -e life/none.stm
+run verify --key "$key" life/numbers.stm life/empty.stm
+wants verify-sealed 0 'good life/numbers.stm bytes 1492
+good life/empty.stm bytes 0' ''
+mv life/numbers life/numbers.plain
+mv life/empty life/empty.plain
+run open --key "$key" life/numbers.stm life/empty.stm
+wants open-sealed 0 'opened life/numbers.stm bytes 1492
+opened life/empty.stm bytes 0' ''
+is the-plaintext-comes-back cmp -s life/numbers life/numbers.plain
+is the-empty-one-too cmp -s life/empty life/empty.plain
+
+# The next run goes on behind the range of the first, with any number of workers.
+seals --workers 4 life/more
+wants next-run 0 'sealed life/more file 4 bytes 348894' ''
+run verify --key "$key" --workers 3 life/more.stm
+wants verify-more 0 'good life/more.stm bytes 348894' ''
+if python3 -c 'import cryptography' 2>/dev/null; then
+    python3 "$here/tools/seal_container.py" "$key" 1 4 life/more theirs.stm
+    is another-program-seals-the-same cmp -s life/more.stm theirs.stm
+    python3 "$here/tools/seal_container.py" "$key" 1 0 life/numbers theirs.stm
+    is it-seals-the-first-the-same cmp -s life/numbers.stm theirs.stm
+fi
+seals life/none life/none life/none
+wants a-range-is-given-up 1 'failed life/none: cannot open
+failed life/none: cannot open
+failed life/none: cannot open' ''
+# After a run the ledger is one file, which stock sqlite3 reads.
+if command -v sqlite3 >/dev/null; then
+    cp life/ledger alone
+    is integrity test "$(sqlite3 alone 'PRAGMA integrity_check')" = ok
+    key_id=$(python3 -c 'import hashlib, sys; print(hashlib.sha256(bytes.fromhex(open(sys.argv[1]).read().strip())).hexdigest())' "$key")
+    is mark test "$(sqlite3 alone 'SELECT lower(hex(key_id)), device, next FROM mark')" = "$key_id|1|8"
+    is taken test "$(sqlite3 alone 'SELECT device, lo, size FROM taken ORDER BY lo' | tr '\n' ' ')" = '1|0|4 1|4|1 1|5|3 '
+    sqlite3 life/ledger 'SELECT count(*) FROM taken' > /dev/null
+fi
+cp life/numbers life/again
+seals life/again
+wants after-another-reader 0 'sealed life/again file 8 bytes 1492' ''
+run seal --key "$key" --ledger life/ledger --device 2 -- life/empty
+wants exists-for-another-device 1 'failed life/empty: output exists' ''
+rm life/empty.stm
+run seal --key "$key" --ledger life/ledger --device 2 -- life/empty
+wants another-device 0 'sealed life/empty file 1 bytes 0' ''
+
+# What fails: files.
+ln -s /proc/self/mem life/mem
+ln -s /dev/zero life/zero
+mkdir life/folder
+seals --max-bytes 1491 life/folder life/mem life/zero life/numbers.plain /proc/version
+wants faults 1 'failed life/folder: cannot open
+failed life/mem: read failed
+failed life/zero: too long
+failed life/numbers.plain: too long
+failed /proc/version: cannot create' ''
+is no-partial-output test "$(ls life/*.stm | tr '\n' ' ')" = 'life/again.stm life/empty.stm life/more.stm life/numbers.stm '
+if [ "$(id -u)" != 0 ]; then
+    mkdir life/locked
+    : > life/locked/a
+    chmod 555 life/locked
+    seals life/locked/a
+    wants read-only-folder 1 'failed life/locked/a: cannot create' ''
+    chmod 755 life/locked
+fi
+# A file of at most 64 KiB.
+seq 1 20000 > life/large
+(trap '' XFSZ; ulimit -f 64; exec "$sealer" seal --key "$key" --ledger life/ledger --device 3 life/large life/empty.plain) > out 2> err
+status=$?
+wants write-fails-at-sealing 1 'failed life/large: write failed
+sealed life/empty.plain file 1 bytes 0' ''
+is the-cut-container-is-removed no test -e life/large.stm
+
+# What fails: standard output. The files and the journal are worked.
+cp life/numbers life/untold
+"$sealer" seal --key "$key" --ledger life/ledger --device 4 --journal life/full.journal life/none life/untold > /dev/full 2> err; status=$?; : > out
+wants full-seal 2 '' ''
+run audit < life/full.journal
+wants full-journal 0 'legal: 1 granted, 1 sealed, 0 void, 0 open, 0 refused' ''
+run verify --key "$key" life/untold.stm
+wants full-sealed 0 'good life/untold.stm bytes 1492' ''
+rm life/untold.stm
+"$sealer" seal --key "$key" --ledger life/ledger --device 4 life/untold 2> err >&-; status=$?; : > out
+wants closed-seal 2 '' ''
+is closed-sealed test -s life/untold.stm
+
+# What fails: the journal. Before the reservation nothing else is done.
+marks() { if command -v sqlite3 >/dev/null; then sqlite3 life/ledger 'SELECT count(*), sum(next) FROM mark'; fi; }
+before=$(marks)
+cp life/numbers life/waits
+seals --journal life/journal life/waits
+wants journal-exists 2 '' 'journal: output exists'
+seals --journal life/no/journal life/waits
+wants journal-cannot-create 2 '' 'journal: cannot create'
+seals --journal /dev/full life/waits
+wants journal-full 2 '' 'journal: output exists'
+is nothing-was-reserved test "$(marks)" = "$before"
+is nothing-was-sealed no test -e life/waits.stm
+run audit < life/journal
+wants the-journal-is-kept 0 'legal: 2 granted, 2 sealed, 0 void, 0 open, 0 refused' ''
+# A journal of more than 128 KiB, where no file may have more.
+mkdir many
+for n in $(seq 1 6000); do : > "many/$n"; done
+(trap '' XFSZ; ulimit -f 128; cd many && exec "$sealer" seal --key "$key" --ledger ledger --device 1 --journal journal $(seq 1 6000)) 2> err | cat > out
+status=${PIPESTATUS[0]}
+wants journal-write-fails 2 'begins sealed 1 file 0 bytes 0' 'journal: write failed'
+is the-lines-stand test "$(wc -l < out)" = 6000
+
+# What fails: the ledger.
+run seal --key "$key" --ledger life/no/ledger --device 1 life/waits
+wants ledger-no-folder 2 '' 'ledger: cannot open'
+for name in life/folder '' :memory: file:life/uri; do
+    run seal --key "$key" --ledger "$name" --device 1 life/waits
+    wants "ledger '$name'" 2 '' 'ledger: cannot open'
+done
+cp life/more life/text
+run seal --key "$key" --ledger life/text --device 1 --journal life/empty.journal life/waits
+wants ledger-no-database 2 '' 'ledger: cannot open'
+is the-created-journal-stays-empty test -e life/empty.journal -a ! -s life/empty.journal
+(trap '' XFSZ; ulimit -f 8; exec "$sealer" seal --key "$key" --ledger life/ledger --device 5 life/waits) > out 2> err
+status=$?
+wants ledger-store-fails 2 '' 'ledger: store failed'
+is nothing-was-sealed-without-a-range no test -e life/waits.stm
+if command -v sqlite3 >/dev/null; then
+    sqlite3 life/other 'CREATE TABLE mark (a INTEGER)'
+    run seal --key "$key" --ledger life/other --device 1 life/waits
+    wants ledger-of-others 2 '' 'ledger: not a ledger'
+    cp life/ledger life/gap
+    sqlite3 life/gap 'UPDATE mark SET next = next + 1'
+    run seal --key "$key" --ledger life/gap --device 1 life/waits
+    wants ledger-with-a-gap 2 '' 'ledger: not a ledger'
+    cp life/ledger life/spent
+    sqlite3 life/spent "DELETE FROM taken; DELETE FROM mark; INSERT INTO mark VALUES (X'$key_id', 1, 4294967294); INSERT INTO taken VALUES (X'$key_id', 1, 0, 4294967294)"
+    run seal --key "$key" --ledger life/spent --device 1 life/waits life/waits life/waits
+    wants ledger-spent 2 '' 'ledger: 2 numbers left'
+    run seal --key "$key" --ledger life/spent --device 1 life/waits life/none
+    wants the-last-numbers 1 'sealed life/waits file 4294967294 bytes 1492
+failed life/none: cannot open' ''
+    rm life/waits.stm
+fi
+seals $(printf 'w %.0s' $(seq 1 65536))
+wants too-many 2 '' 'ledger: too many files'
+
+# Keys and usage of seal.
+run seal --key none --ledger life/new --device 1 life/waits
+wants seal-key-none 2 '' 'key: cannot open'
+run seal --key bad-key --ledger life/new --device 1 life/waits
+wants seal-key-bad 2 '' 'key: not a key file'
+is the-key-comes-first no test -e life/new
+seals --workers 2 --lanes 2 life/waits
+wants lanes-and-workers 2 '' 'usage: lanes and workers cannot both be above 1'
+seals --lanes 2 life/waits
+wants lanes 2 '' 'usage: lanes above 1 are not offered yet'
+run seal --help
+wants seal-help 0 'begins Seals each FILE to FILE.stm' ''
+run seal --key "$key" --device 1 life/waits
+wants no-ledger 2 '' 'begins error: the following required arguments were not provided:
+  --ledger <F>'
+run seal --key "$key" --ledger life/ledger life/waits
+wants no-device 2 '' 'begins error: the following required arguments were not provided:
+  --device <N>'
+for value in 16777216 -1; do
+    run seal --key "$key" --ledger life/ledger "--device=$value" life/waits
+    wants "device $value" 2 '' "begins error: invalid value '$value' for '--device <N>'"
+done
+for value in 0 17; do
+    seals "--lanes=$value" life/waits
+    wants "lanes $value" 2 '' "begins error: invalid value '$value' for '--lanes <N>'"
+done
+seals
+wants seal-no-file 2 '' 'begins error: the following required arguments were not provided:
+  <FILE>...'
+run seal --key "$key" --ledger life/ledger --device 16777215 -- life/waits
+wants greatest-device 0 'sealed life/waits file 0 bytes 1492' ''
 
 # Three chunks and more, sealed by Python's `cryptography`, where that is there.
 if python3 -c 'import cryptography' 2>/dev/null; then
