@@ -286,6 +286,42 @@ rm life/untold.stm
 wants closed-seal 2 '' ''
 is closed-sealed test -s life/untold.stm
 
+# A standard stream that is closed: what is meant for it goes into no other file.
+cp life/numbers life/closed
+"$sealer" seal --key "$key" --ledger life/ledger --device 5 --journal life/closed.journal life/none life/closed 2> err >&-; status=$?; : > out
+wants closed-with-journal 2 '' ''
+run audit < life/closed.journal
+wants closed-journal 0 'legal: 1 granted, 1 sealed, 0 void, 0 open, 0 refused' ''
+run verify --key "$key" life/closed.stm
+wants closed-container 0 'good life/closed.stm bytes 1492' ''
+"$sealer" seal --key "$key" --ledger life/no/ledger --device 5 --journal life/quiet.journal life/closed > out 2>&-; status=$?; : > err
+wants closed-error 2 '' ''
+is quiet-journal no test -s life/quiet.journal
+
+# A journal in the place of the ledger, or of its log, is refused by whatever path, and no number is lost or given twice.
+mkdir life/place
+ln -s place life/same
+cp life/numbers life/place/a
+cp life/numbers life/place/b
+placed() { run seal --key "$key" --ledger life/place/ledger --device 1 "$@"; }
+for name in ledger ledger-wal ledger-shm ledger-journal; do
+    placed --journal "life/place/$name" life/place/a
+    wants "journal-at-$name" 2 '' 'journal: cannot create'
+    is "nothing-at-$name" no test -e "life/place/$name"
+done
+for name in ledger ledger-wal; do
+    placed --journal "life/same/$name" life/place/a
+    wants "journal-at-$name-by-another-path" 2 '' 'journal: cannot create'
+    rm -f life/place/ledger*
+done
+placed life/place/a
+wants first-in-place 0 'sealed life/place/a file 0 bytes 1492' ''
+rm -f life/place/ledger-wal
+placed --journal life/same/ledger-wal life/place/b
+wants journal-at-the-log 2 '' 'journal: cannot create'
+placed life/place/b
+wants next-in-place 0 'sealed life/place/b file 1 bytes 1492' ''
+
 # What fails: the journal. Before the reservation nothing else is done.
 marks() { if command -v sqlite3 >/dev/null; then sqlite3 life/ledger 'SELECT count(*), sum(next) FROM mark'; fi; }
 before=$(marks)

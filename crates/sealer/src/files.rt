@@ -40,6 +40,28 @@ pub fn new_journal<F: Folder>(
     }
 }
 
+/// Whether a journal file is still as it was created. Where its path also named the ledger file or the log beside that, the ledger
+/// has written into it.
+pub fn is_untouched<F: OpenFile + Drop>(journal: &Option<ToWrite<F>>) -> bool {
+    let Some(writer) = journal else {
+        return true;
+    };
+    match writer.0.metadata() {
+        Ok(metadata) => metadata.len() == 0,
+        Err(_) => false,
+    }
+}
+
+/// What stands in for standard streams that are closed, so that no file that is opened later takes the number of one and gets what
+/// is meant for the stream. It is a folder, opened to be read: who reads or writes it fails, as on a closed stream.
+pub fn stand_ins<R: Files>(rt: &R) -> [Option<R::File>; 3] {
+    [
+        File::open(rt, "/").ok(),
+        File::open(rt, "/").ok(),
+        File::open(rt, "/").ok(),
+    ]
+}
+
 /// Opens a file to be read. A directory is none.
 pub fn open_file<R: Files + AllocGlobal>(
     rt: &R,

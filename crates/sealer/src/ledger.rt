@@ -35,3 +35,11 @@ pub fn keeper_of<S: Start>(
         }
     }
 }
+
+/// Whether a path is, word for word, that of the ledger file or of a file that its database keeps beside it.
+pub fn is_beside(path: &str, ledger: &str) -> bool {
+    match path.strip_prefix(ledger) {
+        Some(rest) => matches!(rest, "" | "-wal" | "-shm" | "-journal"),
+        None => false,
+    }
+}

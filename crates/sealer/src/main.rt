@@ -9,8 +9,8 @@ mod files;
 mod ledger;
 
 use crate::arguments::{command, max_bytes, seal_request, workers};
-use crate::files::{SystemFiles, new_journal, open_file};
-use crate::ledger::keeper_of;
+use crate::files::{JournalFault, SystemFiles, is_untouched, new_journal, open_file, stand_ins};
+use crate::ledger::{is_beside, keeper_of};
 use clap::{ArgMatches, Error};
 use container_core::Key;
 use ledger_core::{FromRead, ToWrite};
@@ -28,6 +28,7 @@ use std::thread::Threads;
 const FAULT: u8 = 2;
 
 fn main(rt: HostRuntime) -> ExitCode {
+    let _streams = stand_ins(&rt);
     let Some(words) = command_line(&rt) else {
         return ExitCode::from(FAULT);
     };
@@ -106,6 +107,12 @@ fn seal<R: Files + AllocGlobal + Eprint + Threads + Sync, O: Write + Drop, E: Wr
         }
     };
     let mut folder = SystemFiles(rt);
+    if let Some(path) = request.journal
+        && is_beside(path, request.ledger)
+    {
+        let _ = eprintln!(rt; "journal: {}", JournalFault::CannotCreate);
+        return FAULT;
+    }
     let journal = match new_journal(&mut folder, request.journal) {
         Ok(journal) => journal,
         Err(fault) => {
@@ -120,6 +127,12 @@ fn seal<R: Files + AllocGlobal + Eprint + Threads + Sync, O: Write + Drop, E: Wr
             return FAULT;
         }
     };
+    // By whatever path: a journal in the ledger's place would overwrite what is reserved there.
+    if !is_untouched(&journal) {
+        let _ = keeper.release().close();
+        let _ = eprintln!(rt; "journal: {}", JournalFault::CannotCreate);
+        return FAULT;
+    }
     let options = SealOptions {
         device: request.device,
         files: request.files,
