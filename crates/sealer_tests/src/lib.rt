@@ -5,3 +5,5 @@
 mod files;
 #[cfg(test)]
 mod keys;
+#[cfg(test)]
+mod sealing;
