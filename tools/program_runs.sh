@@ -387,8 +387,8 @@ wants seal-key-bad 2 '' 'key: not a key file'
 is the-key-comes-first no test -e life/new
 seals --workers 2 --lanes 2 life/waits
 wants lanes-and-workers 2 '' 'usage: lanes and workers cannot both be above 1'
-seals --lanes 2 life/waits
-wants lanes 2 '' 'usage: lanes above 1 are not offered yet'
+seals --workers 1 --lanes 17 life/waits
+wants more-lanes-than-16 2 '' "begins error: invalid value '17' for '--lanes <N>'"
 run seal --help
 wants seal-help 0 'begins Seals each FILE to FILE.stm' ''
 run seal --key "$key" --device 1 life/waits
@@ -410,6 +410,34 @@ wants seal-no-file 2 '' 'begins error: the following required arguments were not
   <FILE>...'
 run seal --key "$key" --ledger life/ledger --device 16777215 -- life/waits
 wants greatest-device 0 'sealed life/waits file 0 bytes 1492' ''
+
+# Several lanes: a line for each file in order, whichever lane gets which number; a file that fails spends none.
+mkdir life/lanes
+names=
+for i in 1 2 3 4 5 6 7 8 9; do
+    seq 1 "$((i * 1000))" > "life/lanes/$i"
+    names="$names life/lanes/$i"
+done
+run seal --key "$key" --ledger life/ledger --device 9 --lanes 4 --journal life/lanes/journal $names life/lanes/none
+status_of_lanes=$status
+is lanes-status test "$status_of_lanes" = 1
+is lanes-stderr test ! -s err
+is lanes-lines test "$(sed 's/ file [0-9]* / /' out)" = "$(for i in 1 2 3 4 5 6 7 8 9; do echo "sealed life/lanes/$i bytes $(wc -c < "life/lanes/$i")"; done; echo 'failed life/lanes/none: cannot open')"
+is lanes-numbers test "$(sed -n 's/^sealed .* file \([0-9]*\) bytes .*/\1/p' out | sort -n | tr '\n' ' ')" = '0 1 2 3 4 5 6 7 8 '
+is lanes-terms test "$(head -1 life/lanes/journal)" = 'range 9 0 10 4'
+run audit < life/lanes/journal
+wants lanes-journal 0 'legal: 9 granted, 9 sealed, 0 void, 0 open, 0 refused' ''
+for i in 1 2 3 4 5 6 7 8 9; do
+    mv "life/lanes/$i" "life/lanes/$i.plain"
+    run open --key "$key" "life/lanes/$i.stm"
+    is "lane-opens-$i" cmp -s "life/lanes/$i" "life/lanes/$i.plain"
+done
+run seal --key "$key" --ledger life/ledger --device 9 --lanes 16 --max-bytes 3893 life/lanes/1 life/lanes/2.plain life/lanes/1.plain
+is lanes-again-status test "$status" = 1
+is lanes-again test "$(cat out)" = 'failed life/lanes/1: output exists
+failed life/lanes/2.plain: too long
+sealed life/lanes/1.plain file 10 bytes 3893'
+is lanes-no-output no test -e life/lanes/2.plain.stm
 
 # Three chunks and more, sealed by Python's `cryptography`, where that is there.
 if python3 -c 'import cryptography' 2>/dev/null; then

@@ -7,7 +7,7 @@ use crate::meeting::Meeting;
 use crate::run::Run;
 use container_core::{Key, open, seal};
 use crew_core::{Free, Outcome};
-use ledger_core::{Device, IssueFault, Range, Tally, Way, prefix};
+use ledger_core::{Device, FromMemory, IssueFault, Range, Schedule, Spent, Tally, ToMemory, Way, audit, prefix};
 use std::alloc::Global;
 use std::test::*;
 
@@ -170,19 +170,24 @@ fn one_lane_meets_nobody(rt: HostRuntime) -> Result<(), Fail> {
     Ok(())
 }
 
-// Job 0 is held at the gate until the other lane comes with its second job, so the other lane's first job gets the first number:
-// a number issued before the gate would be the first.
+// Job 0 is held at the gate until the other lane comes with its fourth job, which by then has three numbers: one that was issued
+// before the gate would be among the first.
 #[test]
 fn the_gate_comes_before_the_issue(rt: HostRuntime) -> Result<(), Fail> {
     let alloc = rt.alloc();
     let key = Key::new(COUNTING);
-    let mut run = opened(alloc, 0, 4, 2)?;
-    let jobs = jobs_of(alloc, 4)?;
-    let gate = Held::new(0, 3, TURNS);
+    let mut run = opened(alloc, 0, 8, 2)?;
+    let jobs = jobs_of(alloc, 8)?;
+    let gate = Held::new(0, 7, TURNS);
     let outcomes = run.seal(&rt, alloc, &key, jobs.as_slice(), 2, &gate)?;
     assert!(rt; !gate.gave_up());
-    assert_eq!(rt; gate.counts(), 0x1111);
-    assert_eq!(rt; outcomes.as_slice().get(1).and_then(number_of), Some(0));
+    assert_eq!(rt; gate.counts(), 0x1111_1111);
+    let outcomes = outcomes.as_slice();
+    for n in 0..3 {
+        assert_eq!(rt; outcomes.get(2 * n + 1).and_then(number_of), Some(n as u32));
+    }
+    let held = outcomes.first().and_then(number_of).ok_or("no number")?;
+    assert!(rt; held >= 3);
     Ok(())
 }
 
@@ -236,6 +241,55 @@ fn no_jobs(rt: HostRuntime) -> Result<(), Fail> {
     let outcomes = run.seal(&rt, alloc, &key, jobs.as_slice(), 3, &Free)?;
     assert!(rt; outcomes.is_empty());
     assert_eq!(rt; run.tally(2), NOTHING);
+    Ok(())
+}
+
+// The number that was spent, if one was.
+fn spent_of(outcome: Outcome) -> Option<Spent> {
+    match outcome {
+        Outcome::Sealed {
+            seat: _,
+            bytes,
+            spent,
+        } => {
+            drop(bytes);
+            Some(spent)
+        }
+        Outcome::Spoiled { seat: _, spent } => Some(spent),
+        Outcome::Unissued { seat: _, fault: _ } => None,
+    }
+}
+
+// A batch over sixteen seats, settled and closed: the journal has each number granted and settled once.
+#[test]
+fn sixteen_lanes_and_their_journal(rt: HostRuntime) -> Result<(), Fail> {
+    let alloc = rt.alloc();
+    let key = Key::new(COUNTING);
+    let mut run = opened(alloc, 3, 40, 16)?;
+    let jobs = jobs_of(alloc, 40)?;
+    let outcomes = run.seal(&rt, alloc, &key, jobs.as_slice(), 16, &Free)?;
+    for (n, outcome) in outcomes.into_iter().enumerate() {
+        let job = jobs.as_slice().get(n).ok_or("an outcome too many")?;
+        let sealed = is_sealed(alloc, &key, job.as_slice(), &outcome)?;
+        assert!(rt; sealed, "job {n}");
+        assert_eq!(rt; seat_of(&outcome) as usize, n % 16);
+        let spent = spent_of(outcome).ok_or("no number")?;
+        assert!(rt; run.settled(n % 16, spent));
+    }
+    let Ok(journal) = run.close() else {
+        return Err("memory was refused".into());
+    };
+    assert_eq!(rt; journal.entries().len(), 80);
+    let text = journal.text(alloc)?;
+    let mut reader = FromMemory::new(text.as_bytes(), 4_096, Schedule::Never);
+    let mut writer = ToMemory::new(alloc, 100, 100, Schedule::Never)?;
+    audit(alloc, &mut reader, &mut writer)
+        .ok()
+        .ok_or("no verdict")?;
+    assert_eq!(rt;
+        writer.bytes(),
+        b"legal: 40 granted, 40 sealed, 0 void, 0 open, 0 refused\n".as_slice()
+    );
     Ok(())
 }
 

@@ -106,7 +106,7 @@ fn seal_command<'a>(alloc: Global) -> Result<Command<'a>, Error> {
         .value_name("N")
         .value_parser(value_parser!(u32).range(1..=16))
         .default_value("1")
-        .help("How many files are sealed at once, 1 to 16; above 1 is not offered yet");
+        .help("How many files are sealed at once, 1 to 16");
     let journal = Arg::new(alloc, "journal")
         .long("journal")
         .value_name("F")
@@ -140,15 +140,14 @@ pub enum SealUsage {
     Missing,
     #[error("lanes and workers cannot both be above 1")]
     LanesAndWorkers,
-    #[error("lanes above 1 are not offered yet")]
-    Lanes,
 }
 
 /// What `seal` is asked for, of words that its parser took.
 pub fn seal_request<'m, 'a>(matches: &'m ArgMatches<'a>) -> Result<SealRequest<'m, 'a>, SealUsage>
     ensures files { IfOk result (λ request. 0 < length request.files.now) }
     ensures workers { IfOk result (λ request. (0 < request.workers) × (request.workers ≤ 16)) }
-    ensures lanes { IfOk result (λ request. request.lanes ≡ 1) }
+    ensures lanes { IfOk result (λ request. (0 < request.lanes) × (request.lanes ≤ 16)) }
+    ensures either { IfOk result (λ request. (request.workers ≡ 1) ⊎ (request.lanes ≡ 1)) }
     ensures max_bytes { IfOk result (λ request. request.max_bytes ≤ 1099511627776) }
 {
     let (Some(key), Some(ledger)) = (matches.get_str("key"), matches.get_str("ledger")) else {
@@ -168,9 +167,6 @@ pub fn seal_request<'m, 'a>(matches: &'m ArgMatches<'a>) -> Result<SealRequest<'
     let lanes = lanes(matches);
     if workers > 1 && lanes > 1 {
         return Err(SealUsage::LanesAndWorkers);
-    }
-    if lanes != 1 {
-        return Err(SealUsage::Lanes);
     }
     Ok(SealRequest {
         key,

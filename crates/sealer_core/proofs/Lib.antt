@@ -1,4 +1,5 @@
 pub mod EngineLemmas
+pub mod Groups
 pub mod KeyFiles
 pub mod Lives
 pub mod Numbering

@@ -14,7 +14,8 @@ use Rattle.journal_core.proofs.Histories.{MayReply, reply_of, count_push, count_
 use Rattle.journal_core.proofs.Bounds.{within, sum_below, sum_below_more}
 use Rattle.ledger_core.specs.declared.fault.IssueFault.{IssueFault}
 use Rattle.ledger_core.specs.declared.fault.IssueFault.TheVariants.{SeatClosed, OutOfMemory as NotIssued, Exhausted as NoNumber}
-use Rattle.ledger_core.specs.Shared.{LedgerView, SeatView, SpentView, GrantView, Extends, Unissued, fresh_seat, fresh_seats}
+use Rattle.std.proofs.lemmas.Grind.{flat_map-append}
+use Rattle.ledger_core.specs.Shared.{LedgerId, LedgerView, SeatView, SpentView, GrantView, Extends, Unissued, fresh_seat, fresh_seats}
 use Rattle.ledger_core.specs.Closing.{AreAllSeats, HaveMet, IsWhole}
 use Rattle.crew_core.specs.Spending.{spent_as}
 use Rattle.sealer_core.specs.declared.line.FileFault.{FileFault}
@@ -23,7 +24,7 @@ use Rattle.sealer_core.specs.Lines.{FileLine}
 use Rattle.sealer_core.specs.Folder.{Step}
 use Rattle.sealer_core.specs.Sealing.{Accounts, AreNumbered, AreSealed, HasSealed, line_of, operations_of, seals, tells_of, times_told, voids}
 
-told_push : (n : ℕ) (lines : List FileLine) (line : FileLine) → times_told n (lines ++ line ∷ []) ≡ times_told n lines + cond (tells_of n line.outcome) 1 0
+pub told_push : (n : ℕ) (lines : List FileLine) (line : FileLine) → times_told n (lines ++ line ∷ []) ≡ times_told n lines + cond (tells_of n line.outcome) 1 0
 told_push n lines line = sum_by_push (λ (x : FileLine). cond (tells_of n x.outcome) 1 0) lines line
 
 pub accounts_none : Accounts [] []
@@ -197,11 +198,11 @@ whole_of_met ledger (v ∷ vs) new history all met =
       },
     )
 
-sum_below_first : (n : ℕ) (f : ℕ → ℕ) → sum_below (suc n) f ≡ f 0 + sum_below n (λ i. f (suc i))
+pub sum_below_first : (n : ℕ) (f : ℕ → ℕ) → sum_below (suc n) f ≡ f 0 + sum_below n (λ i. f (suc i))
 sum_below_first zero f = refl
 sum_below_first (suc n) f = let h = sum_below_first n f in omega arith
 
-sum_below_zeros : (n : ℕ) → sum_below n (λ _. 0) ≡ 0
+pub sum_below_zeros : (n : ℕ) → sum_below n (λ _. 0) ≡ 0
 sum_below_zeros zero = refl
 sum_below_zeros (suc n) = let h = sum_below_zeros n in omega arith
 
@@ -352,7 +353,7 @@ are_numbered terms history lines legal a = record {
 
 pub has_sealed : (names : List (List ℕ)) (ledger : LedgerView) (seats : List SeatView) (history : List Entry) (status : ℕ) (old new : Option (List ℕ))
     (failures failures' : Option ℕ) (steps steps' : Option (List Step)) → AreAllSeats ledger seats → IsWhole ledger.terms seats history
-    → AreSealed names (operations_of seats) status old new failures failures' steps steps'
+    → AreSealed ledger.terms.seats names (operations_of seats) status old new failures failures' steps steps'
     → HasSealed names ledger.terms history status old new failures failures' steps steps'
 has_sealed names ledger seats history status old new failures failures' steps steps' all whole s =
     let accounts = accounts_whole s.worked.lines ledger seats history all whole s.accounts in record {
@@ -361,3 +362,13 @@ has_sealed names ledger seats history status old new failures failures' steps st
       legal = whole.legal;
       accounts = accounts;
     }
+
+-- ---- new seats
+
+operations-append : (a b : List SeatView) → operations_of (a ++ b) ≡ operations_of a ++ operations_of b
+operations-append a b = flat_map-append (λ (v : SeatView). v.mine) a b
+
+pub fresh_operations : (id : LedgerId) (terms : Terms) (n : ℕ) → operations_of (fresh_seats id terms n) ≡ []
+fresh_operations id terms zero = refl
+fresh_operations id terms (suc n) =
+    operations-append (fresh_seats id terms n) (fresh_seat id terms n ∷ []) ∙ append-nil (operations_of (fresh_seats id terms n)) ∙ fresh_operations id terms n

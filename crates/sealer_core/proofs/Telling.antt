@@ -1,5 +1,5 @@
 -- One line more: what was told of the files so far, and what is told with the next one.
-use Rattle.std.proofs.Common.{◌≡◌, ◌≢◌, ℕ, ◌≤◌, Bool, true, false, ◌||◌, if◌then◌else◌, inl, inr, ⊎_elim, refl, sym, ap, subst, ◌∙◌, List, [], ◌∷◌, ◌++◌, map, append-nil, append_assoc, Option, None, Some, flat_map, Bor, take, length, get_or, ◌+◌, ◌<◌, add-one, arith, lit≤}
+use Rattle.std.proofs.Common.{◌≡◌, ◌≢◌, ℕ, ◌≤◌, Bool, true, false, ◌||◌, if◌then◌else◌, inl, inr, ⊎_elim, refl, sym, ap, subst, ◌∙◌, List, [], ◌∷◌, ◌++◌, map, append-nil, append_assoc, Option, None, Some, flat_map, All, Bor, take, length, get_or, ◌+◌, ◌<◌, add-one, arith, lit≤}
 use Rattle.std.proofs.Math.Seq.{take-suc}
 use Rattle.std.proofs.KnownBytes.{Appends-nil, Appends-trans}
 use Rattle.std.proofs.lemmas.List.{map-append}
@@ -11,11 +11,11 @@ use Rattle.journal_core.proofs.Texts.{ended_lines-append}
 use Rattle.sealer_core.specs.Lines.{FileLine, line_text, lines_text, is_failed, status_of_lines}
 use Rattle.sealer_core.specs.Folder.{Step, stepped}
 use Rattle.journal_core.specs.declared.entry.Entry.{Entry}
-use Rattle.sealer_core.specs.Sealing.{Accounts, AreSealed, IsOfSealing, sealing_steps}
+use Rattle.sealer_core.specs.Sealing.{Accounts, AreSealed, IsOfSealing, creations_of, removals_of, group_steps}
 use Rattle.sealer_core.specs.Work.{AreTold, AreWorked, no_steps}
 use Rattle.sealer_core.specs.declared.line.FileOutcome.{FileOutcome}
 use Rattle.std.proofs.lemmas.Grind.{flat_map-append}
-use Rattle.std.proofs.lemmas.List.Elements.{All-push}
+use Rattle.std.proofs.lemmas.List.Elements.{All-push, All-append, All-cons, All-nil}
 
 -- the bytes of one line
 abbrev pub line_bytes : FileLine → List ℕ
@@ -120,16 +120,61 @@ worked_more fits steps_for names names' line status status' old mid new failures
       ∙ ap (stepped steps) (ap (λ l. flat_map steps_for w.lines ++ l) (sym (append-nil (steps_for line))) ∙ sym (flat_map-append steps_for w.lines (line ∷ [])));
 }
 
--- the same of files that are sealed
-pub sealed_more : (names names' : List (List ℕ)) (line : FileLine) (operations operations' : List Entry) (status status' : ℕ)
+-- a group of files more was sealed
+pub sealed_more : (lanes : ℕ) (names more names' : List (List ℕ)) (group : List FileLine) (operations operations' : List Entry) (status status' : ℕ)
     (old mid new : Option (List ℕ)) (failures failures' failures'' : Option ℕ) (steps steps' steps'' : Option (List Step))
-    → (s : AreSealed names operations status old mid failures failures' steps steps') → IsOfSealing line.outcome
-    → steps'' ≡ stepped steps' (sealing_steps line) → AreTold status' (s.worked.lines ++ line ∷ []) old new failures failures''
+    → (s : AreSealed lanes names operations status old mid failures failures' steps steps') → length group ≤ lanes
+    → map (λ (line : FileLine). line.name) group ≡ more → All (λ (line : FileLine). IsOfSealing line.outcome) group
+    → steps'' ≡ stepped steps' (group_steps group) → AreTold status' (s.worked.lines ++ group) old new failures failures''
+    → names ++ more ≡ names' → Accounts (s.worked.lines ++ group) operations'
+    → AreSealed lanes names' operations' status' old new failures failures'' steps steps''
+sealed_more lanes names more names' group operations operations' status status' old mid new failures failures' failures'' steps steps' steps'' s few called fit stepping told longer accounts = record {
+  worked = record {
+    groups = s.worked.groups ++ group ∷ [];
+    few = All-push (λ (g : List FileLine). length g ≤ lanes) s.worked.groups group s.worked.few few;
+    lines = s.worked.lines ++ group;
+    joined = ap (λ l. l ++ group) s.worked.joined ∙ ap (λ l. flat_map (λ (g : List FileLine). g) s.worked.groups ++ l) (sym (append-nil group))
+        ∙ sym (flat_map-append (λ (g : List FileLine). g) s.worked.groups (group ∷ []));
+    named = map-append (λ (l : FileLine). l.name) s.worked.lines group ∙ ap (λ l. l ++ map (λ (l : FileLine). l.name) group) s.worked.named ∙ ap (λ l. names ++ l) called ∙ longer;
+    fitting = All-append (λ (l : FileLine). IsOfSealing l.outcome) s.worked.lines group s.worked.fitting fit;
+    told = told;
+    stepwise = stepping ∙ ap (λ s. stepped s (group_steps group)) s.worked.stepwise ∙ stepped-stepped steps (flat_map group_steps s.worked.groups) (group_steps group)
+        ∙ ap (stepped steps) (ap (λ l. flat_map group_steps s.worked.groups ++ l) (sym (append-nil (group_steps group))) ∙ sym (flat_map-append group_steps s.worked.groups (group ∷ [])));
+  };
+  accounts = accounts;
+}
+
+-- the steps of a group of one
+alone : (line : FileLine) → creations_of line ++ removals_of line ≡ group_steps (line ∷ [])
+alone line = ap (λ l. l ++ removals_of line) (sym (append-nil (creations_of line)))
+    ∙ ap (λ l. (creations_of line ++ []) ++ l) (sym (append-nil (removals_of line)))
+
+-- one file more was sealed by one lane
+pub sealed_one : (names names' : List (List ℕ)) (line : FileLine) (operations operations' : List Entry) (status status' : ℕ)
+    (old mid new : Option (List ℕ)) (failures failures' failures'' : Option ℕ) (steps steps' steps'' : Option (List Step))
+    → (s : AreSealed 1 names operations status old mid failures failures' steps steps') → IsOfSealing line.outcome
+    → steps'' ≡ stepped steps' (creations_of line ++ removals_of line) → AreTold status' (s.worked.lines ++ line ∷ []) old new failures failures''
     → names ++ line.name ∷ [] ≡ names' → Accounts (s.worked.lines ++ line ∷ []) operations'
-    → AreSealed names' operations' status' old new failures failures'' steps steps''
-unfolding worked_more
-sealed_more names names' line operations operations' status status' old mid new failures failures' failures'' steps steps' steps'' s fit stepping told longer accounts = record {
-  worked = worked_more IsOfSealing sealing_steps names names' line status status' old mid new failures failures' failures'' steps steps' steps'' s.worked fit stepping told longer;
+    → AreSealed 1 names' operations' status' old new failures failures'' steps steps''
+sealed_one names names' line operations operations' status status' old mid new failures failures' failures'' steps steps' steps'' s fit stepping told longer accounts =
+    sealed_more 1 names (line.name ∷ []) names' (line ∷ []) operations operations' status status' old mid new failures failures' failures'' steps steps' steps'' s (lit≤ tt) refl
+    (All-cons (λ (l : FileLine). IsOfSealing l.outcome) line [] fit (All-nil (λ (l : FileLine). IsOfSealing l.outcome)))
+    (stepping ∙ ap (stepped steps') (alone line)) told longer accounts
+
+-- before the first file
+pub nothing_sealed : (lanes : ℕ) (operations : List Entry) (taken : Option (List ℕ)) (failures : Option ℕ) (steps : Option (List Step)) → Accounts [] operations
+    → AreSealed lanes [] operations 0 taken taken failures failures steps steps
+nothing_sealed lanes operations taken failures steps accounts = record {
+  worked = record {
+    groups = [];
+    few = λ k d below. absurd (omega (arith, below));
+    lines = [];
+    joined = refl;
+    named = refl;
+    fitting = λ k d below. absurd (omega (arith, below));
+    told = nothing_told taken failures;
+    stepwise = stepped-nil steps;
+  };
   accounts = accounts;
 }
 

@@ -1,5 +1,6 @@
 pub mod Engine
 pub mod Folder
+pub mod Group
 pub mod KeyFile
 pub mod Life
 pub mod Lines

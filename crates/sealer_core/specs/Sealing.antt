@@ -1,5 +1,5 @@
 -- What `seal_all` does with a list of files, and how its lines stand to the operations of the ledger.
-use Rattle.std.specs.Prelude.{⊤, ◌≡◌, ◌≢◌, ℕ, ◌+◌, ◌<◌, ◌≤◌, Bool, true, false, nat_eq, List, [], ◌∷◌, ◌++◌, count_by, slice_get, codes, Option, Some, None, flat_map}
+use Rattle.std.specs.Prelude.{⊤, ◌≡◌, ◌≢◌, ℕ, ◌+◌, ◌<◌, ◌≤◌, Bool, true, false, nat_eq, List, [], ◌∷◌, ◌++◌, count_by, slice_get, length, map, All, codes, Option, Some, None, flat_map}
 use Rattle.journal_core.specs.declared.entry.Entry.{Entry}
 use Rattle.journal_core.specs.declared.entry.Event.TheVariants.{Granted, Exhausted, Settled}
 use Rattle.journal_core.specs.declared.entry.Way.TheVariants as ended
@@ -13,9 +13,9 @@ use Rattle.sqlite_trees.specs.Tree.{Trees}
 use Rattle.sealer_core.specs.declared.line.FileFault.TheVariants.{CannotOpen, OutputExists, CannotCreate, OutOfMemory, NoNumber, Unsealed}
 use Rattle.sealer_core.specs.declared.line.FileOutcome.{FileOutcome}
 use Rattle.sealer_core.specs.declared.line.FileOutcome.TheVariants.{Sealed, Opened, Good, Failed}
-use Rattle.sealer_core.specs.Folder.{Step, Created, Removing}
+use Rattle.sealer_core.specs.Folder.{Step, Created, Removing, stepped}
 use Rattle.sealer_core.specs.Lines.{FileLine}
-use Rattle.sealer_core.specs.Work.{AreWorked}
+use Rattle.sealer_core.specs.Work.{AreTold}
 
 -- ---- one file
 
@@ -43,14 +43,26 @@ IsOfNumber _ = ⊥
 
 -- the steps on outputs that sealing a file makes: its output is created where the input was opened, and where the file then fails
 -- its removal is tried
-abbrev pub steps_on : List ℕ → FileOutcome → List Step
-steps_on output (Sealed number bytes) = Created output ∷ []
-steps_on output (Failed NoNumber) = Created output ∷ Removing output ∷ []
-steps_on output (Failed (Unsealed fault)) = Created output ∷ Removing output ∷ []
-steps_on output _ = []
+abbrev pub created_as : List ℕ → FileOutcome → List Step
+created_as output (Sealed number bytes) = Created output ∷ []
+created_as output (Failed NoNumber) = Created output ∷ []
+created_as output (Failed (Unsealed fault)) = Created output ∷ []
+created_as output _ = []
 
-abbrev pub sealing_steps : FileLine → List Step
-sealing_steps line = steps_on (sealed_name line.name) line.outcome
+abbrev pub removed_as : List ℕ → FileOutcome → List Step
+removed_as output (Failed NoNumber) = Removing output ∷ []
+removed_as output (Failed (Unsealed fault)) = Removing output ∷ []
+removed_as output _ = []
+
+abbrev pub creations_of : FileLine → List Step
+creations_of line = created_as (sealed_name line.name) line.outcome
+
+abbrev pub removals_of : FileLine → List Step
+removals_of line = removed_as (sealed_name line.name) line.outcome
+
+-- the steps of files that are sealed side by side: all outputs are created, in order, before the first of them is removed
+abbrev pub group_steps : List FileLine → List Step
+group_steps group = flat_map creations_of group ++ flat_map removals_of group
 
 -- a fact of a file that was sealed
 abbrev pub IfSealed : FileOutcome → (ℕ → ℕ → Type 0) → Type 0
@@ -114,16 +126,28 @@ pub record IsReserved (key_id : List ℕ) (device count : ℕ) (old new : State)
       → (range.device ≡ device) × (range.lo ≡ next_of (lists key_id device)) × (range.size ≡ count) × Holds new.now (reserved lists key_id device count)
   pub lasts : HasCleanDisk new → (trees : Trees) → new.may_leave trees → trees ≡ new.now.trees
 
--- Every file was worked, in order, and these operations of a ledger go with the lines.
-pub record AreSealed (names : List (List ℕ)) (operations : List Entry) (status : ℕ) (old new : Option (List ℕ)) (failures failures' : Option ℕ)
+-- Every file was worked, in order and in groups of at most so many; and their lines were told.
+pub record AreGrouped (lanes : ℕ) (names : List (List ℕ)) (status : ℕ) (old new : Option (List ℕ)) (failures failures' : Option ℕ)
     (steps steps' : Option (List Step)) : Type 0 where
-  pub worked : AreWorked IsOfSealing sealing_steps names status old new failures failures' steps steps'
+  pub groups : List (List FileLine)
+  pub few : All (λ group. length group ≤ lanes) groups
+  pub lines : List FileLine
+  pub joined : lines ≡ flat_map (λ group. group) groups
+  pub named : map (λ line. line.name) lines ≡ names
+  pub fitting : All (λ line. IsOfSealing line.outcome) lines
+  pub told : AreTold status lines old new failures failures'
+  pub stepwise : steps' ≡ stepped steps (flat_map group_steps groups)
+
+-- So they were, and these operations of a ledger go with the lines.
+pub record AreSealed (lanes : ℕ) (names : List (List ℕ)) (operations : List Entry) (status : ℕ) (old new : Option (List ℕ))
+    (failures failures' : Option ℕ) (steps steps' : Option (List Step)) : Type 0 where
+  pub worked : AreGrouped lanes names status old new failures failures' steps steps'
   pub accounts : Accounts worked.lines operations
 
--- So it was, over one legal history, and no number stands in two lines.
+-- So they were, in groups of as many as the ledger has seats, over one legal history, and no number stands in two lines.
 pub record HasSealed (names : List (List ℕ)) (terms : Terms) (history : List Entry) (status : ℕ) (old new : Option (List ℕ))
     (failures failures' : Option ℕ) (steps steps' : Option (List Step)) : Type 0 where
-  pub worked : AreWorked IsOfSealing sealing_steps names status old new failures failures' steps steps'
+  pub worked : AreGrouped terms.seats names status old new failures failures' steps steps'
   pub numbered : AreNumbered terms.range worked.lines
   pub legal : Legal terms history
   pub accounts : Accounts worked.lines history

@@ -8,7 +8,7 @@ ghost use Rattle.ledger_core.specs.Shared.{Extends, IsSameSeat};
 ghost use Rattle.sealer_core.specs.Folder.{stepped};
 ghost use Rattle.sealer_core.specs.Lines.{FileLine};
 ghost use Rattle.sealer_core.specs.declared.line.FileOutcome.TheVariants.{Failed};
-ghost use Rattle.sealer_core.specs.Sealing.{Accounts, AreSealed, IfSealed, IsOfNumber, IsOfSealing, line_of, sealing_steps};
+ghost use Rattle.sealer_core.specs.Sealing.{Accounts, AreSealed, IfSealed, IsOfNumber, IsOfSealing, line_of, creations_of, removals_of};
 
 use crate::commands::tell;
 use crate::folder::{Folder, FolderFault};
@@ -21,8 +21,8 @@ use ledger_core::{Grant, IssueFault, Ledger, Seat, Sink, Source, Spent};
 use std::alloc::Global;
 use std::thread::Threads;
 
-// Why a file has no number.
-fn fault_of(fault: IssueFault) -> FileFault
+/// Why a file has no number.
+pub(crate) fn fault_of(fault: IssueFault) -> FileFault
     ensures { IsOfNumber (Failed result) }
 {
     match fault {
@@ -44,8 +44,8 @@ fn issue_to_file(ledger: &Ledger, seat: &mut Seat) -> Result<Grant, FileFault>
     }
 }
 
-// Settles a file's number. Where memory for that is refused the number stays open.
-fn settle_of_file(ledger: &Ledger, seat: &mut Seat, spent: Spent)
+/// Settles a file's number. Where memory for that is refused the number stays open.
+pub(crate) fn settle_of_file(ledger: &Ledger, seat: &mut Seat, spent: Spent)
     requires ours { seat.old.ledger ≡ ledger.now.ledger }
     ensures settled { Extends seat.old (Settled spent.number spent.way) seat.new ⊎ (seat.new ≡ seat.old) }
     ensures same { IsSameSeat seat.old seat.new }
@@ -106,7 +106,7 @@ fn seal_file<T: Threads + Sync, F: Folder>(
     requires max_bytes { max_bytes ≤ 1099511627776 }
     requires workers { (0 < workers) × (workers ≤ 16) }
     ensures outcome { IsOfSealing result }
-    ensures steps { F.steps folder.new ≡ stepped (F.steps folder.old) (sealing_steps (line_of name.now result)) }
+    ensures steps { F.steps folder.new ≡ stepped (F.steps folder.old) (creations_of (line_of name.now result) ++ removals_of (line_of name.now result)) }
     ensures same { IsSameSeat seat.old seat.new }
     ensures accounts { (lines : List FileLine) → Accounts lines seat.old.mine → Accounts (lines ++ line_of name.now result ∷ []) seat.new.mine }
 {
@@ -154,7 +154,7 @@ pub(crate) fn seal_one_lane<T: Threads + Sync, F: Folder, W: Sink>(
     requires max_bytes { options.now.max_bytes ≤ 1099511627776 }
     requires workers { (0 < options.now.workers) × (options.now.workers ≤ 16) }
     ensures same { IsSameSeat seat.old seat.new }
-    ensures sealed { AreSealed (map (λ name. name.now) options.now.files.now) seat.new.mine result
+    ensures sealed { AreSealed 1 (map (λ name. name.now) options.now.files.now) seat.new.mine result
         (W.taken lines.old) (W.taken lines.new) (W.failures lines.old) (W.failures lines.new) (F.steps folder.old) (F.steps folder.new) }
 {
     let mut status = 0;

@@ -6,6 +6,7 @@ pub mod commands;
 mod ending;
 pub mod engine;
 pub mod folder;
+mod group;
 pub mod key_file;
 mod lane;
 pub mod laws;

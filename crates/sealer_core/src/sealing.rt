@@ -1,7 +1,7 @@
 //! The command that seals: one range of file numbers is reserved, and each file is sealed under one of them.
 //!
-//! A range is reserved for good before any file is touched, so a number that a run didn't use is given up. Files are sealed by one
-//! lane, in turn.
+//! A range is reserved for good before any file is touched, so a number that a run didn't use is given up. Files are sealed in turn by
+//! one lane, or in groups by several.
 ghost use Rattle.std.specs.Prelude.{◌≡◌, ◌≢◌, ◌⊎◌, ℕ, Bool, ◌<◌, ◌≤◌, List, length, map, IsTrue, IfOk, OnErr, is_ok, if◌then◌else◌};
 ghost use Rattle.sha2.specs.Sha256.{sha256};
 ghost use Rattle.sqlite.specs.Held.{state};
@@ -18,6 +18,7 @@ ghost use Rattle.sealer_core.specs.Sealing.{AreSealed, HasSealed, IsReserved, Is
 use crate::commands::Outs;
 use crate::ending::end_ledger;
 use crate::folder::Folder;
+use crate::group::seal_groups;
 use crate::lane::seal_one_lane;
 use crate::trouble::{RunFault, complain};
 use container_core::Key;
@@ -37,9 +38,9 @@ pub struct SealOptions<'a> {
     pub device: Device,
     /// The names of the files: at least one.
     pub files: &'a [&'a str],
-    /// The number of workers: 1 to 16.
+    /// The number of workers that seal a file: 1 to 16. With more than one lane each file is sealed by its lane alone.
     pub workers: u32,
-    /// How many files are sealed at once: 1.
+    /// How many files are sealed at once: 1 to 16. With more than one, so many inputs and containers are in memory at a time.
     pub lanes: u32,
     /// The greatest number of plaintext bytes of a file: at most 2^40.
     pub max_bytes: u64,
@@ -105,15 +106,20 @@ fn seal_files<T: Threads + Sync, F: Folder, W: Sink>(
     lines: &mut W,
 ) -> u8
     requires all { AreAllSeats ledger.now seats.old }
-    requires fresh { seats.old ≡ fresh_seats ledger.now.ledger ledger.now.terms 1 }
+    requires lanes { (0 < options.now.lanes) × (options.now.lanes ≤ 16) × (ledger.now.terms.seats ≡ options.now.lanes) }
+    requires fresh { seats.old ≡ fresh_seats ledger.now.ledger ledger.now.terms options.now.lanes }
     requires max_bytes { options.now.max_bytes ≤ 1099511627776 }
     requires workers { (0 < options.now.workers) × (options.now.workers ≤ 16) }
     ensures all { AreAllSeats ledger.now seats.new }
-    ensures sealed { AreSealed (map (λ name. name.now) options.now.files.now) (operations_of seats.new) result
+    ensures sealed { AreSealed ledger.now.terms.seats (map (λ name. name.now) options.now.files.now) (operations_of seats.new) result
         (W.taken lines.old) (W.taken lines.new) (W.failures lines.old) (W.failures lines.new) (F.steps folder.old) (F.steps folder.new) }
 {
-    let seat = &mut seats[0];
-    seal_one_lane(rt, alloc, key, ledger, seat, folder, options, lines)
+    if options.lanes == 1 {
+        let seat = &mut seats[0];
+        seal_one_lane(rt, alloc, key, ledger, seat, folder, options, lines)
+    } else {
+        seal_groups(rt, alloc, key, ledger, seats, folder, options, lines)
+    }
 }
 
 // Seals the files over a new ledger, and ends that. The answer is the status of the lines, and how the ledger ended.
@@ -129,7 +135,8 @@ fn work_ledger<T: Threads + Sync, F: Folder, W: Sink, J: Sink>(
     journal: &mut Option<J>,
 ) -> (u8, Result<(), RunFault>)
     requires all { AreAllSeats ledger seats.items }
-    requires fresh { seats.items ≡ fresh_seats ledger.ledger ledger.terms 1 }
+    requires lanes { (0 < options.now.lanes) × (options.now.lanes ≤ 16) × (ledger.terms.seats ≡ options.now.lanes) }
+    requires fresh { seats.items ≡ fresh_seats ledger.ledger ledger.terms options.now.lanes }
     requires max_bytes { options.now.max_bytes ≤ 1099511627776 }
     requires workers { (0 < options.now.workers) × (options.now.workers ≤ 16) }
     ensures { (history : List Entry)
@@ -175,7 +182,7 @@ pub fn seal_all<
 ) -> u8
     requires files { 0 < length options.now.files.now }
     requires workers { (0 < options.now.workers) × (options.now.workers ≤ 16) }
-    requires lanes { options.now.lanes ≡ 1 }
+    requires lanes { (0 < options.now.lanes) × (options.now.lanes ≤ 16) }
     requires max_bytes { options.now.max_bytes ≤ 1099511627776 }
     ensures status { result ≤ 2 }
     // No file was touched; or the files were sealed over a range that was reserved, with one legal history, which the journal tells.

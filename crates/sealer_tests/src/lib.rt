@@ -6,4 +6,6 @@ mod files;
 #[cfg(test)]
 mod keys;
 #[cfg(test)]
+mod lanes;
+#[cfg(test)]
 mod sealing;

@@ -12,9 +12,9 @@ use std::alloc::Global;
 use std::test::Fail;
 use std::thread::Threads;
 
-type MemoryOuts = Outs<ToMemory, ToMemory, ToMemory>;
+pub(crate) type MemoryOuts = Outs<ToMemory, ToMemory, ToMemory>;
 
-type MemoryKeeper = Keeper<MemStore>;
+pub(crate) type MemoryKeeper = Keeper<MemStore>;
 
 // The tables of a ledger file, and rows that leave one number of device 1 under the key 00 01 .. 1f, whose SHA-256 is named.
 const NEARLY_SPENT: &str = "CREATE TABLE mark (key_id BLOB NOT NULL, device INTEGER NOT NULL,
@@ -36,11 +36,11 @@ fn keeper_after(alloc: Global, sql: &str) -> Result<MemoryKeeper, Fail> {
     }
 }
 
-fn new_keeper(alloc: Global) -> Result<MemoryKeeper, Fail> {
+pub(crate) fn new_keeper(alloc: Global) -> Result<MemoryKeeper, Fail> {
     keeper_after(alloc, "")
 }
 
-fn outs(alloc: Global, lines: Schedule, journal: Schedule) -> Result<MemoryOuts, Fail> {
+pub(crate) fn outs(alloc: Global, lines: Schedule, journal: Schedule) -> Result<MemoryOuts, Fail> {
     Ok(Outs {
         lines: ToMemory::new(alloc, 4096, 4096, lines)?,
         faults: ToMemory::new(alloc, 64, 64, Schedule::Never)?,
@@ -48,7 +48,7 @@ fn outs(alloc: Global, lines: Schedule, journal: Schedule) -> Result<MemoryOuts,
     })
 }
 
-fn steady_outs(alloc: Global) -> Result<MemoryOuts, Fail> {
+pub(crate) fn steady_outs(alloc: Global) -> Result<MemoryOuts, Fail> {
     outs(alloc, Schedule::Never, Schedule::Never)
 }
 
@@ -86,7 +86,7 @@ fn seal_within<R: AllocGlobal + Threads + Sync>(
     )
 }
 
-fn journal_is(out: &MemoryOuts, text: &[u8]) -> bool {
+pub(crate) fn journal_is(out: &MemoryOuts, text: &[u8]) -> bool {
     match &out.journal {
         Some(journal) => journal.bytes() == text,
         None => text.is_empty(),

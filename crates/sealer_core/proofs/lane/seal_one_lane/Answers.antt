@@ -1,19 +1,16 @@
-use Rattle.std.proofs.Common.{ℕ, refl, sym, subst, [], arith, ◌∙◌, List, map, Bor}
+use Rattle.std.proofs.Common.{ℕ, refl, sym, subst, [], ◌∙◌, List, map, Bor}
 use Rattle.std.proofs.lemmas.List.{take_all}
 use Rattle.journal_core.specs.declared.entry.Entry.{Entry}
 use Rattle.sealer_core.specs.Sealing.{Accounts, AreSealed}
 use Rattle.sealer_core.proofs.Numbering.{accounts_none}
-use Rattle.sealer_core.proofs.Telling.{nothing_told, stepped-nil, sealed_more, names-step}
+use Rattle.sealer_core.proofs.Telling.{nothing_sealed, sealed_one, names-step}
 use Rattle.sealer_core.proofs.lane.seal_one_lane.Goals as goal
 
 pub loop-name-init : goal.loop-name-init
 loop-name-init g c = record {
   ours = c.requires.ours;
   same = record { ledger = refl; terms = refl; number = refl };
-  sealed = record {
-    worked = record { lines = []; named = refl; fitting = λ k d below. absurd (omega (arith, below)); told = nothing_told _ _; stepwise = stepped-nil _ };
-    accounts = subst (λ (l : List Entry). Accounts [] l) (sym c.requires.fresh) accounts_none;
-  };
+  sealed = nothing_sealed 1 _ _ _ _ (subst (λ (l : List Entry). Accounts [] l) (sym c.requires.fresh) accounts_none);
 }
 
 pub loop-name-preserved : goal.loop-name-preserved
@@ -22,13 +19,13 @@ loop-name-preserved g c =
     let s = c.seal_file-outcome.ensures in record {
       ours = s.same.ledger ∙ i.ours;
       same = record { ledger = s.same.ledger ∙ i.same.ledger; terms = s.same.terms ∙ i.same.terms; number = s.same.number ∙ i.same.number };
-      sealed = sealed_more _ _ _ _ _ _ _ _ _ _ _ _ _ _ _ _ i.sealed s.outcome s.steps (c.tell-status.ensures _ _ _ i.sealed.worked.told)
+      sealed = sealed_one _ _ _ _ _ _ _ _ _ _ _ _ _ _ _ _ i.sealed s.outcome s.steps (c.tell-status.ensures _ _ _ i.sealed.worked.told)
           (names-step _ _ _ c.loop-name-test.true) (s.accounts _ i.sealed.accounts);
     }
 
 pub returns-clause-sealed : goal.returns-clause-sealed
 returns-clause-sealed g c =
-    subst (λ (f : List (Bor (List ℕ))). AreSealed (map (λ (name : Bor (List ℕ)). name.now) f) c.loop-name.seat.mine c.loop-name.status
+    subst (λ (f : List (Bor (List ℕ))). AreSealed 1 (map (λ (name : Bor (List ℕ)). name.now) f) c.loop-name.seat.mine c.loop-name.status
     (g.W.Sink.taken c.args.lines.now) (g.W.Sink.taken c.loop-name.lines) (g.W.Sink.failures c.args.lines.now) (g.W.Sink.failures c.loop-name.lines)
     (g.F.Folder.steps c.args.folder.now) (g.F.Folder.steps c.loop-name.folder))
     (take_all c.loop-name.name-index c.args.options.now.files.now c.loop-name-test.false) c.loop-name.invariant.sealed

@@ -8,7 +8,7 @@ abbrev pub invariant-loop-name : goal.invariant-loop-name
 invariant-loop-name g l = record {
   ours : l.seat.ledger ≡ l.ledger.ledger;
   same : IsSameSeat l.initial.seat l.seat;
-  sealed : AreSealed (map (λ name. name.now) (take l.name-index l.options.files.now)) l.seat.mine l.status
+  sealed : AreSealed 1 (map (λ name. name.now) (take l.name-index l.options.files.now)) l.seat.mine l.status
       (g.W.Sink.taken l.initial.lines) (g.W.Sink.taken l.lines) (g.W.Sink.failures l.initial.lines) (g.W.Sink.failures l.lines)
       (g.F.Folder.steps l.initial.folder) (g.F.Folder.steps l.folder);
 }

@@ -1,0 +1,449 @@
+-- Files sealed in a group: its numbers are granted by the batch, and settled one by one.
+use Rattle.std.proofs.Common.{◌≡◌, ◌⊎◌, ℕ, zero, suc, ◌+◌, ◌<◌, ◌≤◌, Bool, true, false, cond, nat_eq, List, [], ◌∷◌, ◌++◌, length, count_by, refl, sym, ap, ◌∙◌, subst, inl, inr, ⊎_elim, arith, get_or, set, All, Option, map, append-nil, append_assoc, Bor, take, drop}
+use Rattle.std.specs.Prelude.{Some, slice_get, flat_map}
+use Rattle.std.proofs.lemmas.Option.{slice_get-get_or}
+use Rattle.std.proofs.lemmas.List.{set-get_or, map-append, length-map}
+use Rattle.std.proofs.lemmas.List.Elements.{All-nil, All-cons, All-push}
+use Rattle.std.proofs.lemmas.Grind.{flat_map-append}
+use Rattle.std.proofs.Math.Seq.{take-add}
+use Rattle.std.proofs.lemmas.List.Sums.{sum_by-cons, sum_by-append}
+use Rattle.journal_core.specs.declared.entry.Event.{Event}
+use Rattle.journal_core.specs.declared.entry.Event.TheVariants.{Granted, Exhausted, Settled}
+use Rattle.journal_core.specs.declared.entry.Entry.{Entry}
+use Rattle.journal_core.specs.declared.entry.Way.{Way}
+use Rattle.journal_core.specs.declared.entry.Way.TheVariants as ended
+use Rattle.journal_core.specs.History.{entry, grants, times_granted}
+use Rattle.journal_core.proofs.Histories.{count_push}
+use Rattle.journal_core.proofs.Bounds.{sum_below, sum_below_more}
+use Rattle.ledger_core.specs.declared.fault.IssueFault.TheVariants.{SeatClosed, OutOfMemory as NoMemory, Exhausted as NoNumber}
+use Rattle.ledger_core.specs.Shared.{SeatView, SpentView, Extends}
+use Rattle.crew_core.specs.declared.outcome.Outcome.{Outcome}
+use Rattle.crew_core.specs.declared.outcome.Outcome.TheVariants as job
+use Rattle.crew_core.specs.Batch.{seat_of, of_seat, issues, AreOutcomes, AreAmong, AreIssued, IsOutcome}
+use Rattle.sealer_core.specs.declared.line.FileFault.{FileFault}
+use Rattle.sealer_core.specs.declared.line.FileOutcome.{FileOutcome}
+use Rattle.sealer_core.specs.declared.line.FileOutcome.TheVariants.{Sealed, Opened, Good, Failed}
+use Rattle.sealer_core.specs.Lines.{FileLine}
+use Rattle.sealer_core.specs.Folder.{Step, stepped}
+use Rattle.sealer_core.specs.Work.{AreTold}
+use Rattle.sealer_core.specs.Group.{holds, HasEnded, IsHeld, AreHeld, IsCounted, IsEnding, AreEnded, AreEnding, IsGroup, refused_lines, name_of, IsPrepared, made_for}
+use Rattle.sealer_core.specs.declared.group.Prepared.{Prepared}
+use Rattle.sealer_core.specs.declared.line.FileFault.TheVariants.{OutOfMemory}
+use Rattle.sealer_core.specs.Sealing.{Accounts, AreSealed, IsOfSealing, creations_of, removals_of, line_of, operations_of, created_as, removed_as, sealed_name, seals, voids, tells_of, times_sealed, times_voided}
+use Rattle.sealer_core.proofs.Numbering.{adds_failure, told_push, sum_below_zeros, sum_below_first}
+use Rattle.sealer_core.proofs.Telling.{stepped-nil, stepped-stepped, sealed_more}
+
+-- ---- one seat's operation among those of all
+
+counted_by : (p : Entry → Bool) (seats : List SeatView) (i : ℕ) (d w : SeatView) (event : Event) → i < length seats → Extends (get_or seats i d) event w
+    → count_by p (operations_of (set seats i w)) ≡ count_by p (operations_of seats) + cond (p (entry (get_or seats i d).number event)) 1 0
+counted_by p [] i d w event below more = absurd (omega arith)
+counted_by p (v ∷ seats) zero d w event below (between, is) =
+    let mine : w.mine ≡ v.mine ++ entry v.number event ∷ [] = ap (λ (x : SeatView). x.mine) is in
+    let push = count_push p v.mine (entry v.number event) in
+    let grown : count_by p w.mine ≡ count_by p (v.mine ++ entry v.number event ∷ []) = ap (count_by p) mine in
+    let now = sum_by-append (λ (x : Entry). cond (p x) 1 0) w.mine (operations_of seats) in
+    let was = sum_by-append (λ (x : Entry). cond (p x) 1 0) v.mine (operations_of seats) in
+    omega arith
+counted_by p (v ∷ seats) (suc i) d w event below more =
+    let rest = counted_by p seats i d w event (omega arith) more in
+    let now = sum_by-append (λ (x : Entry). cond (p x) 1 0) v.mine (operations_of (set seats i w)) in
+    let was = sum_by-append (λ (x : Entry). cond (p x) 1 0) v.mine (operations_of seats) in
+    omega arith
+
+pub counted_at : (seats : List SeatView) (i : ℕ) (d w : SeatView) (event : Event) → i < length seats
+    → Extends (get_or seats i d) event w ⊎ (w ≡ get_or seats i d) → IsCounted (operations_of seats) (operations_of (set seats i w)) event
+counted_at seats i d w event below how = ⊎_elim
+    (λ (more : Extends (get_or seats i d) event w). inr ((get_or seats i d).number, λ p. counted_by p seats i d w event below more))
+    (λ (same : w ≡ get_or seats i d). inl (λ p. ap (λ (l : List SeatView). count_by p (operations_of l)) (ap (set seats i) same ∙ set-get_or seats i d)))
+    how
+
+-- ---- numbers that are settled one by one
+
+held_cons : (n : ℕ) (o : Outcome) (os : List Outcome) → count_by (holds n) (o ∷ os) ≡ cond (holds n o) 1 0 + count_by (holds n) os
+held_cons n o os = sum_by-cons (λ (x : Outcome). cond (holds n x) 1 0) o os
+
+pub held_failed : (lines : List FileLine) (os : List Outcome) (operations : List Entry) (name : List ℕ) (fault : FileFault) → AreHeld lines os operations
+    → AreHeld (lines ++ line_of name (Failed fault) ∷ []) os operations
+held_failed lines os operations name fault a = record {
+  told = λ n. let t = told_push n lines (line_of name (Failed fault)) in let h = a.told n in omega arith;
+  granted = λ n. let t = told_push n lines (line_of name (Failed fault)) in let h = a.granted n in omega arith;
+}
+
+pub held_fewer : (lines : List FileLine) (o : Outcome) (os : List Outcome) (operations : List Entry) → AreHeld lines (o ∷ os) operations → AreHeld lines os operations
+held_fewer lines o os operations a = record {
+  told = a.told;
+  granted = λ n. let c = held_cons n o os in let h = a.granted n in omega arith;
+}
+
+-- how often a number was settled and granted behind a settlement
+record Settling (k n : ℕ) (old new : List Entry) (sealed voided : ℕ) : Type 0 where
+  pub seal : (times_sealed n old ≤ times_sealed n new) × (times_sealed n new ≤ times_sealed n old + sealed)
+  pub void : times_voided n new ≤ times_voided n old + voided
+  pub grant : times_granted n new ≡ times_granted n old
+
+void_counts : (k n : ℕ) (old new : List Entry) → IsCounted old new (Settled k ended.Void) → Settling k n old new 0 (cond (nat_eq n k) 1 0)
+void_counts k n old new how = ⊎_elim
+    (λ (none : (p : Entry → Bool) → count_by p new ≡ count_by p old).
+    let s = none (seals n) in let v = none (voids n) in let g = none (grants n) in
+    record { seal = (omega arith, omega arith); void = omega arith; grant = g })
+    (λ (one : (seat : ℕ) × ((p : Entry → Bool) → count_by p new ≡ count_by p old + cond (p (entry seat (Settled k ended.Void))) 1 0)).
+    let s = one.1 (seals n) in let v = one.1 (voids n) in let g = one.1 (grants n) in
+    record { seal = (omega arith, omega arith); void = omega arith; grant = omega arith })
+    how
+
+seal_counts : (k n : ℕ) (old new : List Entry) → IsCounted old new (Settled k ended.Sealed) → Settling k n old new (cond (nat_eq n k) 1 0) 0
+seal_counts k n old new how = ⊎_elim
+    (λ (none : (p : Entry → Bool) → count_by p new ≡ count_by p old).
+    let s = none (seals n) in let v = none (voids n) in let g = none (grants n) in
+    record { seal = (omega arith, omega arith); void = omega arith; grant = g })
+    (λ (one : (seat : ℕ) × ((p : Entry → Bool) → count_by p new ≡ count_by p old + cond (p (entry seat (Settled k ended.Sealed))) 1 0)).
+    let s = one.1 (seals n) in let v = one.1 (voids n) in let g = one.1 (grants n) in
+    record { seal = (omega arith, omega arith); void = omega arith; grant = omega arith })
+    how
+
+module _ (lines : List FileLine) (o : Outcome) (os : List Outcome) (k : ℕ) (old new : List Entry) (name : List ℕ) (its : (n : ℕ) → holds n o ≡ nat_eq n k) (a : AreHeld lines (o ∷ os) old) where
+  held_void : (outcome : FileOutcome) → ((n : ℕ) → tells_of n outcome ≡ false) → IsCounted old new (Settled k ended.Void)
+      → AreHeld (lines ++ line_of name outcome ∷ []) os new
+  held_void outcome none how = record {
+    told = λ n.
+        let t = told_push n lines (line_of name outcome) in
+        let no : cond {A = ℕ} (tells_of n outcome) 1 0 ≡ 0 = ap (λ b. cond {A = ℕ} b 1 0) (none n) in
+        let s = void_counts k n old new how in let seal = s.seal.1 in
+        let h = a.told n in omega arith;
+    granted = λ n.
+        let t = told_push n lines (line_of name outcome) in
+        let no : cond {A = ℕ} (tells_of n outcome) 1 0 ≡ 0 = ap (λ b. cond {A = ℕ} b 1 0) (none n) in
+        let s = void_counts k n old new how in let void = s.void in let grant = s.grant in
+        let c = held_cons n o os in
+        let i : cond {A = ℕ} (holds n o) 1 0 ≡ cond {A = ℕ} (nat_eq n k) 1 0 = ap (λ b. cond {A = ℕ} b 1 0) (its n) in
+        let h = a.granted n in omega arith;
+  }
+
+  held_sealed : (bytes : ℕ) → IsCounted old new (Settled k ended.Sealed) → AreHeld (lines ++ line_of name (Sealed k bytes) ∷ []) os new
+  held_sealed bytes how = record {
+    told = λ n.
+        let t = told_push n lines (line_of name (Sealed k bytes)) in
+        let s = seal_counts k n old new how in let seal = s.seal.1 in
+        let h = a.told n in omega arith;
+    granted = λ n.
+        let t = told_push n lines (line_of name (Sealed k bytes)) in
+        let s = seal_counts k n old new how in let void = s.void in let grant = s.grant in
+        let c = held_cons n o os in
+        let i : cond {A = ℕ} (holds n o) 1 0 ≡ cond {A = ℕ} (nat_eq n k) 1 0 = ap (λ b. cond {A = ℕ} b 1 0) (its n) in
+        let h = a.granted n in omega arith;
+  }
+
+  -- the number of an outcome ends as its file's line tells
+  pub held_ended : (outcome : FileOutcome) → IsEnding k old new outcome → AreHeld (lines ++ line_of name outcome ∷ []) os new
+  held_ended (Sealed m bytes) (is, how) = subst (λ (x : ℕ). AreHeld (lines ++ line_of name (Sealed x bytes) ∷ []) os new) (sym is) (held_sealed bytes how)
+  held_ended (Opened bytes) how = held_void (Opened bytes) (λ n. refl) how
+  held_ended (Good bytes) how = held_void (Good bytes) (λ n. refl) how
+  held_ended (Failed fault) how = held_void (Failed fault) (λ n. refl) how
+
+-- the same, of an outcome without a container
+pub held_spoiled : (lines : List FileLine) (others : List Outcome) (old new : List Entry) (name : List ℕ) (fault : FileFault) (seats seat : ℕ) (spent : SpentView) (outcome : Outcome)
+    → outcome ≡ job.Spoiled seat spent → IsHeld seats outcome → IsCounted old new (Settled spent.number spent.way) → AreHeld lines (outcome ∷ others) old
+    → AreHeld (lines ++ line_of name (Failed fault) ∷ []) others new
+held_spoiled lines others old new name fault seats seat spent outcome is held counted a =
+    let way : spent.way ≡ ended.Void = (subst (IsHeld seats) is held).1 in
+    held_ended lines (job.Spoiled seat spent) others spent.number old new name (λ n. refl)
+    (subst (λ (o : Outcome). AreHeld lines (o ∷ others) old) is a) (Failed fault) (subst (λ (w : Way). IsCounted old new (Settled spent.number w)) way counted)
+
+-- ---- numbers that a batch granted
+
+issues_seals : (n t : ℕ) (os : List Outcome) → count_by (seals n) (issues t os) ≡ 0
+issues_seals n t [] = refl
+issues_seals n t (job.Sealed seat bytes spent ∷ os) =
+    let r = issues_seals n t os in let c = sum_by-cons (λ (e : Entry). cond (seals n e) 1 0) (entry t (Granted spent.number)) (issues t os) in omega arith
+issues_seals n t (job.Spoiled seat spent ∷ os) =
+    let r = issues_seals n t os in let c = sum_by-cons (λ (e : Entry). cond (seals n e) 1 0) (entry t (Granted spent.number)) (issues t os) in omega arith
+issues_seals n t (job.Unissued seat NoNumber ∷ os) =
+    let r = issues_seals n t os in let c = sum_by-cons (λ (e : Entry). cond (seals n e) 1 0) (entry t Exhausted) (issues t os) in omega arith
+issues_seals n t (job.Unissued seat SeatClosed ∷ os) = issues_seals n t os
+issues_seals n t (job.Unissued seat NoMemory ∷ os) = issues_seals n t os
+
+issues_voids : (n t : ℕ) (os : List Outcome) → count_by (voids n) (issues t os) ≡ 0
+issues_voids n t [] = refl
+issues_voids n t (job.Sealed seat bytes spent ∷ os) =
+    let r = issues_voids n t os in let c = sum_by-cons (λ (e : Entry). cond (voids n e) 1 0) (entry t (Granted spent.number)) (issues t os) in omega arith
+issues_voids n t (job.Spoiled seat spent ∷ os) =
+    let r = issues_voids n t os in let c = sum_by-cons (λ (e : Entry). cond (voids n e) 1 0) (entry t (Granted spent.number)) (issues t os) in omega arith
+issues_voids n t (job.Unissued seat NoNumber ∷ os) =
+    let r = issues_voids n t os in let c = sum_by-cons (λ (e : Entry). cond (voids n e) 1 0) (entry t Exhausted) (issues t os) in omega arith
+issues_voids n t (job.Unissued seat SeatClosed ∷ os) = issues_voids n t os
+issues_voids n t (job.Unissued seat NoMemory ∷ os) = issues_voids n t os
+
+issues_grants : (n t : ℕ) (os : List Outcome) → count_by (grants n) (issues t os) ≡ count_by (holds n) os
+issues_grants n t [] = refl
+issues_grants n t (job.Sealed seat bytes spent ∷ os) =
+    let r = issues_grants n t os in let h = held_cons n (job.Sealed seat bytes spent) os in
+    let c = sum_by-cons (λ (e : Entry). cond (grants n e) 1 0) (entry t (Granted spent.number)) (issues t os) in omega arith
+issues_grants n t (job.Spoiled seat spent ∷ os) =
+    let r = issues_grants n t os in let h = held_cons n (job.Spoiled seat spent) os in
+    let c = sum_by-cons (λ (e : Entry). cond (grants n e) 1 0) (entry t (Granted spent.number)) (issues t os) in omega arith
+issues_grants n t (job.Unissued seat NoNumber ∷ os) =
+    let r = issues_grants n t os in let h = held_cons n (job.Unissued seat NoNumber) os in
+    let c = sum_by-cons (λ (e : Entry). cond (grants n e) 1 0) (entry t Exhausted) (issues t os) in omega arith
+issues_grants n t (job.Unissued seat SeatClosed ∷ os) =
+    let r = issues_grants n t os in let h = held_cons n (job.Unissued seat SeatClosed) os in omega arith
+issues_grants n t (job.Unissued seat NoMemory ∷ os) =
+    let r = issues_grants n t os in let h = held_cons n (job.Unissued seat NoMemory) os in omega arith
+
+-- the operations of all seats, where those of each grew by the issues of some outcomes
+grown : (q : Entry → Bool) (c : List Outcome → ℕ) → ((t : ℕ) (os : List Outcome) → count_by q (issues t os) ≡ c os) → (of : ℕ → List Outcome) (old new : List SeatView)
+    → length new ≡ length old
+    → ((i : ℕ) (v w : SeatView) → slice_get old i ≡ Some v → slice_get new i ≡ Some w → w.mine ≡ v.mine ++ issues v.number (of i))
+    → count_by q (operations_of new) ≡ count_by q (operations_of old) + sum_below (length old) (λ i. c (of i))
+grown q c is of [] [] long each = refl
+grown q c is of [] (w ∷ new) long each = absurd (omega arith)
+grown q c is of (v ∷ old) [] long each = absurd (omega arith)
+grown q c is of (v ∷ old) (w ∷ new) long each =
+    let rest = grown q c is (λ i. of (suc i)) old new (omega arith) (λ i x y at also. each (suc i) x y at also) in
+    let here = is v.number (of 0) in
+    let mine : count_by q w.mine ≡ count_by q (v.mine ++ issues v.number (of 0)) = ap (count_by q) (each 0 v w refl refl) in
+    let both = sum_by-append (λ (x : Entry). cond (q x) 1 0) v.mine (issues v.number (of 0)) in
+    let now = sum_by-append (λ (x : Entry). cond (q x) 1 0) w.mine (operations_of new) in
+    let was = sum_by-append (λ (x : Entry). cond (q x) 1 0) v.mine (operations_of old) in
+    let first = sum_below_first (length old) (λ i. c (of i)) in
+    omega arith
+
+-- the outcomes of all seats are all outcomes
+shared : (h : Outcome → Bool) (n : ℕ) (os : List Outcome) → ((j : ℕ) (o : Outcome) → slice_get os j ≡ Some o → seat_of o < n)
+    → sum_below n (λ i. count_by h (of_seat i os)) ≡ count_by h os
+shared h n [] below = sum_below_zeros n
+shared h n (o ∷ os) below =
+    let rest = shared h n os (λ j x at. below (suc j) x at) in
+    let more = sum_below_more n (seat_of o) (cond (h o) 1 0) (λ i. count_by h (of_seat i os)) (λ i. count_by h (of_seat i (o ∷ os))) (below 0 o refl) (λ t. step t (nat_eq (seat_of o) t)) in
+    let all = sum_by-cons (λ (x : Outcome). cond (h x) 1 0) o os in
+    omega arith
+  where
+    step : (t : ℕ) (b : Bool) → count_by h (cond b (o ∷ of_seat t os) (of_seat t os)) ≡ count_by h (of_seat t os) + cond b (cond (h o) 1 0) 0
+    step t true = let c = sum_by-cons (λ (x : Outcome). cond (h x) 1 0) o (of_seat t os) in omega arith
+    step t false = omega arith
+
+-- behind a batch its numbers are held
+pub after_batch : (old new : List SeatView) (os : List Outcome) (lines : List FileLine) → length new ≡ length old
+    → ((j : ℕ) (o : Outcome) → slice_get os j ≡ Some o → seat_of o < length old) → AreIssued old new os
+    → Accounts lines (operations_of old) → AreHeld lines os (operations_of new)
+after_batch old new os lines long among issued a = record {
+  told = λ n.
+      let s = grown (seals n) (λ _. 0) (λ t l. issues_seals n t l) (λ i. of_seat i os) old new long issued in
+      let z = sum_below_zeros (length old) in
+      let h = a.told n in omega arith;
+  granted = λ n.
+      let v = grown (voids n) (λ _. 0) (λ t l. issues_voids n t l) (λ i. of_seat i os) old new long issued in
+      let z = sum_below_zeros (length old) in
+      let g = grown (grants n) (count_by (holds n)) (λ t l. issues_grants n t l) (λ i. of_seat i os) old new long issued in
+      let all = shared (holds n) (length old) os among in
+      let h = a.granted n in omega arith;
+}
+
+-- the same, of an equal list
+pub held_as : (lines : List FileLine) (os os' : List Outcome) (operations : List Entry) → os ≡ os' → AreHeld lines os operations → AreHeld lines os' operations
+held_as lines os os' operations is a = subst (λ (l : List Outcome). AreHeld lines l operations) is a
+
+-- each outcome names one of the seats
+pub among_seats : (lanes seats : ℕ) (new : List SeatView) (os : List Outcome) → lanes ≤ seats → AreAmong lanes new os
+    → (j : ℕ) (o : Outcome) → slice_get os j ≡ Some o → seat_of o < seats
+among_seats lanes seats new os few among j o at = let below = (among j o at).0 in omega arith
+
+-- where there was no batch nothing is held
+pub nothing_held : (lines : List FileLine) (operations : List Entry) → Accounts lines operations → AreHeld lines [] operations
+nothing_held lines operations a = record { told = a.told; granted = λ n. let h = a.granted n in omega arith }
+
+-- what is still held stays open
+pub let_go : (lines : List FileLine) (os : List Outcome) (operations : List Entry) → AreHeld lines os operations → Accounts lines operations
+let_go lines os operations a = record { told = a.told; granted = λ n. let h = a.granted n in omega arith }
+
+has_ended : (key j : List ℕ) (o : Outcome) → IsOutcome key j o → HasEnded o
+has_ended key j (job.Sealed seat bytes spent) is = is.1
+has_ended key j (job.Spoiled seat spent) is = is
+has_ended key j (job.Unissued seat fault) is = tt
+
+pub outcomes_held : (key : List ℕ) (jobs : List (List ℕ)) (lanes seats : ℕ) (new : List SeatView) (os : List Outcome) → lanes ≤ seats → AreOutcomes key jobs os
+    → AreAmong lanes new os → All (IsHeld seats) os
+outcomes_held key jobs lanes seats new os few outcomes among = λ k d below.
+    let at = slice_get-get_or os k d below in
+    let less = (among k (get_or os k d) at).0 in
+    let count = outcomes.count in
+    let inside : k < length jobs = omega arith in
+    (omega arith, has_ended key (get_or jobs k []) (get_or os k d) (outcomes.each k (get_or jobs k []) (get_or os k d) (slice_get-get_or jobs k [] inside) at))
+
+-- ---- files of a group that have their lines
+
+-- none has one yet
+pub nothing_ended : (outcomes : List Outcome) (operations : List Entry) (status : ℕ) (taken : Option (List ℕ)) (failures : Option ℕ) (steps : Option (List Step))
+    → AreEnded [] [] outcomes outcomes operations operations status status taken taken failures failures steps steps
+nothing_ended outcomes operations status taken failures steps = record {
+  lines = [];
+  named = refl;
+  fitting = All-nil (λ (l : FileLine). IsOfSealing l.outcome);
+  created = refl;
+  removed = stepped-nil steps;
+  told = λ before first count t. subst (λ (l : List FileLine). AreTold status l first taken count failures) (sym (append-nil before)) t;
+  accounts = λ before a. subst (λ (l : List FileLine). AreHeld l outcomes operations) (sym (append-nil before)) a;
+}
+
+-- one more has its line
+pub ended_more : (names : List (List ℕ)) (made made' : List Step) (line : FileLine) (outcomes outcomes' outcomes'' : List Outcome) (operations operations' operations'' : List Entry)
+    (status status' status'' : ℕ) (old mid new : Option (List ℕ)) (failures failures' failures'' : Option ℕ) (steps steps' steps'' : Option (List Step))
+    → AreEnded names made outcomes outcomes' operations operations' status status' old mid failures failures' steps steps'
+    → IsOfSealing line.outcome → creations_of line ≡ made' → steps'' ≡ stepped steps' (removals_of line)
+    → ((told : List FileLine) (first : Option (List ℕ)) (count : Option ℕ) → AreTold status' told first mid count failures' → AreTold status'' (told ++ line ∷ []) first new count failures'')
+    → ((lines : List FileLine) → AreHeld lines outcomes' operations' → AreHeld (lines ++ line ∷ []) outcomes'' operations'')
+    → AreEnded (names ++ line.name ∷ []) (made ++ made') outcomes outcomes'' operations operations'' status status'' old new failures failures'' steps steps''
+ended_more names made made' line outcomes outcomes' outcomes'' operations operations' operations'' status status' status'' old mid new failures failures' failures'' steps steps' steps'' e fit made_is removed told accounts = record {
+  lines = e.lines ++ line ∷ [];
+  named = map-append (λ (l : FileLine). l.name) e.lines (line ∷ []) ∙ ap (λ l. l ++ line.name ∷ []) e.named;
+  fitting = All-push (λ (l : FileLine). IsOfSealing l.outcome) e.lines line e.fitting fit;
+  created = flat_map-append creations_of e.lines (line ∷ []) ∙ ap (λ l. flat_map creations_of e.lines ++ l) (append-nil (creations_of line) ∙ made_is) ∙ ap (λ l. l ++ made') e.created;
+  removed = removed ∙ ap (λ s. stepped s (removals_of line)) e.removed ∙ stepped-stepped steps (flat_map removals_of e.lines) (removals_of line)
+      ∙ ap (stepped steps) (ap (λ l. flat_map removals_of e.lines ++ l) (sym (append-nil (removals_of line))) ∙ sym (flat_map-append removals_of e.lines (line ∷ [])));
+  told = λ before first count t. subst (λ (l : List FileLine). AreTold status'' l first new count failures'') (append_assoc before e.lines (line ∷ []))
+      (told (before ++ e.lines) first count (e.told before first count t));
+  accounts = λ before a. subst (λ (l : List FileLine). AreHeld l outcomes'' operations'') (append_assoc before e.lines (line ∷ []))
+      (accounts (before ++ e.lines) (e.accounts before a));
+}
+
+-- the group was worked
+pub group_of : (names names' : List (List ℕ)) (made : List Step) (outcomes outcomes' : List Outcome) (operations operations' operations'' : List Entry)
+    (status status' : ℕ) (old new : Option (List ℕ)) (failures failures' : Option ℕ) (steps steps' steps'' : Option (List Step))
+    → AreEnded names made outcomes outcomes' operations' operations'' status status' old new failures failures' steps' steps''
+    → names ≡ names' → steps' ≡ stepped steps made → ((lines : List FileLine) → Accounts lines operations → AreHeld lines outcomes operations')
+    → IsGroup names' operations operations'' status status' old new failures failures' steps steps''
+group_of names names' made outcomes outcomes' operations operations' operations'' status status' old new failures failures' steps steps' steps'' e same stepping held = record {
+  lines = e.lines;
+  named = e.named ∙ same;
+  fitting = e.fitting;
+  stepwise = e.removed ∙ ap (λ s. stepped s (flat_map removals_of e.lines)) (stepping ∙ ap (stepped steps) (sym e.created)) ∙ stepped-stepped steps (flat_map creations_of e.lines) (flat_map removals_of e.lines);
+  told = e.told;
+  accounts = λ before a. let_go (before ++ e.lines) outcomes' operations'' (e.accounts before (held before a));
+}
+
+-- ---- files of a group before the sealing
+
+module _ {W : Type 0} (items items' : List (Prepared W)) (file : Prepared W) (is : items' ≡ items ++ file ∷ []) where
+  pub prepared_names : (before after : List (List ℕ)) (name : List ℕ) → map name_of items ≡ before → name_of file ≡ name → before ++ name ∷ [] ≡ after
+      → map name_of items' ≡ after
+  prepared_names before after name so its longer =
+      ap (map name_of) is ∙ map-append name_of items (file ∷ []) ∙ ap (λ l. l ++ name_of file ∷ []) so ∙ ap (λ n. before ++ n ∷ []) its ∙ longer
+
+  pub prepared_steps : (steps steps' steps'' : Option (List Step)) → steps' ≡ stepped steps (flat_map made_for items) → steps'' ≡ stepped steps' (made_for file)
+      → steps'' ≡ stepped steps (flat_map made_for items')
+  prepared_steps steps steps' steps'' so stepping =
+      stepping ∙ ap (λ s. stepped s (made_for file)) so ∙ stepped-stepped steps (flat_map made_for items) (made_for file)
+      ∙ ap (stepped steps) (ap (λ l. flat_map made_for items ++ l) (sym (append-nil (made_for file))) ∙ sym (flat_map-append made_for items (file ∷ [])) ∙ sym (ap (flat_map made_for) is))
+
+  pub prepared_all : All IsPrepared items → IsPrepared file → All IsPrepared items'
+  prepared_all so its = subst (All IsPrepared) (sym is) (All-push IsPrepared items file so its)
+
+pub ending_none : {W : Type 0} (files : List (Prepared W)) (outcomes : List Outcome) (operations : List Entry) (status : ℕ) (taken : Option (List ℕ)) (failures : Option ℕ)
+    (steps : Option (List Step)) → AreEnding files files outcomes outcomes operations operations status status taken taken failures failures steps steps
+ending_none files outcomes operations status taken failures steps = record {
+  names = [];
+  made = [];
+  named = refl;
+  created = refl;
+  ended = nothing_ended outcomes operations status taken failures steps;
+}
+
+pub ending_more : {W : Type 0} (files items left : List (Prepared W)) (file : Prepared W) (name : List ℕ) (outcome : FileOutcome) (outcomes outcomes' outcomes'' : List Outcome)
+    (operations operations' operations'' : List Entry) (status status' status'' : ℕ) (old mid new : Option (List ℕ)) (failures failures' failures'' : Option ℕ)
+    (steps steps' steps'' : Option (List Step)) → items ≡ file ∷ left → name ≡ name_of file
+    → AreEnding files items outcomes outcomes' operations operations' status status' old mid failures failures' steps steps'
+    → IsOfSealing outcome → created_as (sealed_name (name_of file)) outcome ≡ made_for file → steps'' ≡ stepped steps' (removed_as (sealed_name (name_of file)) outcome)
+    → ((told : List FileLine) (first : Option (List ℕ)) (count : Option ℕ) → AreTold status' told first mid count failures'
+    → AreTold status'' (told ++ line_of name outcome ∷ []) first new count failures'')
+    → ((lines : List FileLine) → AreHeld lines outcomes' operations' → AreHeld (lines ++ line_of (name_of file) outcome ∷ []) outcomes'' operations'')
+    → AreEnding files left outcomes outcomes'' operations operations'' status status'' old new failures failures'' steps steps''
+ending_more files items left file name outcome outcomes outcomes' outcomes'' operations operations' operations'' status status' status'' old mid new failures failures' failures'' steps steps' steps'' is its e fit created removed told accounts = record {
+  names = e.names ++ name_of file ∷ [];
+  made = e.made ++ made_for file;
+  named = append_assoc e.names (name_of file ∷ []) (map name_of left) ∙ ap (λ l. e.names ++ map name_of l) (sym is) ∙ e.named;
+  created = append_assoc e.made (made_for file) (flat_map made_for left) ∙ ap (λ l. e.made ++ flat_map made_for l) (sym is) ∙ e.created;
+  ended = ended_more e.names e.made (made_for file) (line_of (name_of file) outcome) outcomes outcomes' outcomes'' operations operations' operations'' status status' status'' old mid new
+      failures failures' failures'' steps steps' steps'' e.ended fit created removed
+      (λ before first count t. subst (λ (n : List ℕ). AreTold status'' (before ++ line_of n outcome ∷ []) first new count failures'') its (told before first count t)) accounts;
+}
+
+pub ending_all : {W : Type 0} (files left : List (Prepared W)) (outcomes outcomes' : List Outcome) (operations operations' : List Entry) (status status' : ℕ)
+    (old new : Option (List ℕ)) (failures failures' : Option ℕ) (steps steps' : Option (List Step)) → left ≡ []
+    → AreEnding files left outcomes outcomes' operations operations' status status' old new failures failures' steps steps'
+    → AreEnded (map name_of files) (flat_map made_for files) outcomes outcomes' operations operations' status status' old new failures failures' steps steps'
+ending_all files left outcomes outcomes' operations operations' status status' old new failures failures' steps steps' none e =
+    subst (λ (n : List (List ℕ)). AreEnded n (flat_map made_for files) outcomes outcomes' operations operations' status status' old new failures failures' steps steps')
+    (sym (append-nil e.names) ∙ ap (λ l. e.names ++ map name_of l) (sym none) ∙ e.named)
+    (subst (λ (m : List Step). AreEnded e.names m outcomes outcomes' operations operations' status status' old new failures failures' steps steps')
+    (sym (append-nil e.made) ∙ ap (λ l. e.made ++ flat_map made_for l) (sym none) ∙ e.created) e.ended)
+
+-- ---- a group for which memory was refused
+
+refused_named : (names : List (List ℕ)) → map (λ (l : FileLine). l.name) (refused_lines names) ≡ names
+refused_named [] = refl
+refused_named (name ∷ names) = ap (λ l. name ∷ l) (refused_named names)
+
+refused_fitting : (names : List (List ℕ)) → All (λ (l : FileLine). IsOfSealing l.outcome) (refused_lines names)
+refused_fitting [] = All-nil (λ (l : FileLine). IsOfSealing l.outcome)
+refused_fitting (name ∷ names) = All-cons (λ (l : FileLine). IsOfSealing l.outcome) (line_of name (Failed OutOfMemory)) (refused_lines names) tt (refused_fitting names)
+
+none_created : (names : List (List ℕ)) → flat_map creations_of (refused_lines names) ≡ []
+none_created [] = refl
+none_created (name ∷ names) = none_created names
+
+none_removed : (names : List (List ℕ)) → flat_map removals_of (refused_lines names) ≡ []
+none_removed [] = refl
+none_removed (name ∷ names) = none_removed names
+
+refused_accounts : (names : List (List ℕ)) (before : List FileLine) (operations : List Entry) → Accounts before operations → Accounts (before ++ refused_lines names) operations
+refused_accounts [] before operations a = subst (λ (l : List FileLine). Accounts l operations) (sym (append-nil before)) a
+refused_accounts (name ∷ names) before operations a =
+    subst (λ (l : List FileLine). Accounts l operations) (append_assoc before (line_of name (Failed OutOfMemory) ∷ []) (refused_lines names))
+    (refused_accounts names (before ++ line_of name (Failed OutOfMemory) ∷ []) operations (adds_failure before operations 0 name a OutOfMemory))
+
+pub refused_more : (names names' : List (List ℕ)) (name : List ℕ) (before : List FileLine) → names ++ name ∷ [] ≡ names'
+    → (before ++ refused_lines names) ++ line_of name (Failed OutOfMemory) ∷ [] ≡ before ++ refused_lines names'
+refused_more names names' name before longer =
+    append_assoc before (refused_lines names) (line_of name (Failed OutOfMemory) ∷ [])
+    ∙ ap (λ l. before ++ l) (sym (map-append (λ (n : List ℕ). line_of n (Failed OutOfMemory)) names (name ∷ [])) ∙ ap refused_lines longer)
+
+pub refused_group : (names : List (List ℕ)) (operations : List Entry) (status status' : ℕ) (old new : Option (List ℕ)) (failures failures' : Option ℕ) (steps steps' : Option (List Step))
+    → steps' ≡ steps
+    → ((before : List FileLine) (first : Option (List ℕ)) (count : Option ℕ) → AreTold status before first old count failures
+    → AreTold status' (before ++ refused_lines names) first new count failures')
+    → IsGroup names operations operations status status' old new failures failures' steps steps'
+refused_group names operations status status' old new failures failures' steps steps' same told = record {
+  lines = refused_lines names;
+  named = refused_named names;
+  fitting = refused_fitting names;
+  stepwise = same ∙ stepped-nil steps ∙ ap (stepped steps) (sym (ap (λ l. l ++ flat_map removals_of (refused_lines names)) (none_created names) ∙ none_removed names));
+  told = told;
+  accounts = λ before a. refused_accounts names before operations a;
+}
+
+-- ---- groups
+
+-- one group more was sealed
+pub groups_more : (lanes : ℕ) (names more names' : List (List ℕ)) (operations operations' : List Entry) (status status' : ℕ)
+    (old mid new : Option (List ℕ)) (failures failures' failures'' : Option ℕ) (steps steps' steps'' : Option (List Step))
+    → AreSealed lanes names operations status old mid failures failures' steps steps'
+    → IsGroup more operations operations' status status' mid new failures' failures'' steps' steps'' → length more ≤ lanes → names ++ more ≡ names'
+    → AreSealed lanes names' operations' status' old new failures failures'' steps steps''
+groups_more lanes names more names' operations operations' status status' old mid new failures failures' failures'' steps steps' steps'' s g few longer =
+    let long : length more ≡ length g.lines = ap length (sym g.named) ∙ length-map g.lines (λ (l : FileLine). l.name) in
+    sealed_more lanes names more names' g.lines operations operations' status status' old mid new failures failures' failures'' steps steps' steps'' s (omega arith)
+    g.named g.fitting g.stepwise (g.told s.worked.lines old failures s.worked.told) longer (g.accounts s.worked.lines s.accounts)
+
+pub rest_all : {X : Type 0} (P : X → Type 0) (xs ys : List X) (x : X) → xs ≡ x ∷ ys → All P xs → All P ys
+rest_all P xs ys x is all = λ k d below. subst (All P) is all (suc k) d (omega arith)
+
+pub held_at : (n m : ℕ) (os : List Outcome) → n ≡ m → All (IsHeld n) os → All (IsHeld m) os
+held_at n m os is held = subst (λ (k : ℕ). All (IsHeld k) os) is held
+
+-- the names of so many files, and of the group behind them
+pub group_names : (files group : List (Bor (List ℕ))) (done more : ℕ) → group ≡ take more (drop done files) → length group ≡ more
+    → map (λ (f : Bor (List ℕ)). f.now) (take done files) ++ map (λ (f : Bor (List ℕ)). f.now) group ≡ map (λ (f : Bor (List ℕ)). f.now) (take (done + length group) files)
+group_names files group done more is long =
+    sym (ap (λ (n : ℕ). map (λ (f : Bor (List ℕ)). f.now) (take (done + n) files)) long ∙ ap (map (λ (f : Bor (List ℕ)). f.now)) (take-add done more files)
+    ∙ map-append (λ (f : Bor (List ℕ)). f.now) (take done files) (take more (drop done files))
+    ∙ ap (λ l. map (λ (f : Bor (List ℕ)). f.now) (take done files) ++ map (λ (f : Bor (List ℕ)). f.now) l) (sym is))

@@ -1,0 +1,18 @@
+use Rattle.std.proofs.Common.{refl, ◌∙◌}
+use Rattle.sealer_core.specs.Group.{IsPrepared}
+use Rattle.sealer_core.proofs.Groups.{ending_none, ending_more, rest_all, held_at}
+use Rattle.sealer_core.proofs.group.end_group.Goals as goal
+
+pub loop-file-init : goal.loop-file-init
+loop-file-init g c = record { all = c.requires.all; count = refl; prepared = c.requires.prepared; held = c.requires.held; ending = ending_none _ _ _ _ _ _ _ }
+
+pub loop-file-preserved : goal.loop-file-preserved
+loop-file-preserved g c =
+    let i = c.loop-file.invariant in
+    let e = c.end_file-outcome.ensures in record {
+      all = e.all;
+      count = e.count ∙ i.count;
+      prepared = rest_all IsPrepared _ _ c.in-Some.file c.in-Some.ensures.items i.prepared;
+      held = held_at _ _ _ i.count e.held;
+      ending = ending_more _ _ _ c.in-Some.file _ _ _ _ _ _ _ _ _ _ _ _ _ _ _ _ _ _ _ _ c.in-Some.ensures.items c.name-name.ensures i.ending e.outcome e.created e.removed c.tell-status.ensures e.accounts;
+    }

@@ -1,0 +1,20 @@
+-- The files so far have their lines.
+use Rattle.std.proofs.Common.{◌≡◌, length, All}
+use Rattle.ledger_core.specs.Closing.{AreAllSeats}
+use Rattle.sealer_core.specs.Group.{IsPrepared, IsHeld, AreEnding}
+use Rattle.sealer_core.specs.Sealing.{operations_of}
+use Rattle.sealer_core.proofs.group.end_group.Given as goal
+
+abbrev pub invariant-loop-file : goal.invariant-loop-file
+invariant-loop-file g l = record {
+  all : AreAllSeats l.ledger l.seats;
+  count : length l.seats ≡ length l.initial.seats;
+  prepared : All IsPrepared l.files.items;
+  held : All (IsHeld (length l.initial.seats)) l.outcomes.items;
+  ending : AreEnding l.initial.files.items l.files.items l.initial.outcomes.items l.outcomes.items (operations_of l.initial.seats) (operations_of l.seats) l.start l.status
+      (g.L.Sink.taken l.initial.lines) (g.L.Sink.taken l.lines) (g.L.Sink.failures l.initial.lines) (g.L.Sink.failures l.lines)
+      (g.F.Folder.steps l.initial.folder) (g.F.Folder.steps l.folder);
+}
+
+abbrev pub decreases-loop-file : goal.decreases-loop-file
+decreases-loop-file g l = length l.files.items

@@ -1,0 +1,24 @@
+use Rattle.std.proofs.Common.{arith}
+use Rattle.sealer_core.proofs.Groups.{prepared_names, prepared_steps, prepared_all}
+use Rattle.sealer_core.proofs.Telling.{names-step}
+use Rattle.sealer_core.proofs.group.prepare_group.Goals as goal
+
+pub loop-name-preserved : goal.loop-name-preserved
+loop-name-preserved g c =
+    let i = c.loop-name.invariant in
+    let p = c.prepare_file.ensures in
+    let b = c.push_back_reserved.ensures in
+    let len = b.len in
+    let capacity = b.capacity in
+    let count = i.count in
+    let room = i.room in
+    let few = i.few in
+    let more = p.count in record {
+      count = omega arith;
+      room = omega arith;
+      names = prepared_names _ _ _ b.items _ _ _ i.names p.name (names-step _ _ _ c.loop-name-test.true);
+      prepared = prepared_all _ _ _ b.items i.prepared p.prepared;
+      steps = prepared_steps _ _ _ b.items _ _ _ i.steps p.steps;
+      short = p.short;
+      few = omega arith;
+    }

@@ -1,0 +1,17 @@
+-- The files so far were prepared.
+use Rattle.std.proofs.Common.{◌≡◌, ◌≤◌, length, map, take, flat_map, All, vec_len}
+use Rattle.std.specs.VecDeque.{deque_len, deque_capacity}
+use Rattle.sealer_core.specs.Folder.{stepped}
+use Rattle.sealer_core.specs.Group.{name_of, IsPrepared, made_for}
+use Rattle.sealer_core.proofs.group.prepare_group.Given as goal
+
+abbrev pub invariant-loop-name : goal.invariant-loop-name
+invariant-loop-name g l = record {
+  count : deque_len l.files ≡ l.name-index;
+  room : length l.names ≤ deque_capacity l.files;
+  names : map name_of l.files.items ≡ map (λ name. name.now) (take l.name-index l.names);
+  prepared : All IsPrepared l.files.items;
+  steps : g.F.Folder.steps l.folder ≡ stepped (g.F.Folder.steps l.initial.folder) (flat_map made_for l.files.items);
+  short : All (λ job. length job.items ≤ 1099511627776) l.jobs.items;
+  few : vec_len l.jobs ≤ l.name-index;
+}

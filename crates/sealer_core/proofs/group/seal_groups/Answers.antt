@@ -1,0 +1,42 @@
+use Rattle.std.proofs.Common.{ℕ, List, [], refl, sym, ap, ◌∙◌, subst, map, Bor, take, length, arith}
+use Rattle.std.proofs.lemmas.List.{take_all, length-map}
+use Rattle.journal_core.specs.declared.entry.Entry.{Entry}
+use Rattle.sealer_core.specs.Sealing.{Accounts, AreSealed, operations_of}
+use Rattle.sealer_core.proofs.Groups.{groups_more, group_names}
+use Rattle.sealer_core.proofs.Numbering.{accounts_none}
+use Rattle.sealer_core.proofs.Telling.{nothing_sealed}
+use Rattle.sealer_core.proofs.group.seal_groups.Goals as goal
+
+pub loop-done-init : goal.loop-done-init
+loop-done-init g c = record {
+  all = c.requires.all;
+  count = refl;
+  within = omega arith;
+  sealed = nothing_sealed _ _ _ _ _ (subst (λ (l : List Entry). Accounts [] l) (sym c.requires.fresh) accounts_none);
+}
+
+pub loop-done-preserved : goal.loop-done-preserved
+loop-done-preserved g c =
+    let i = c.loop-done.invariant in
+    let s = c.seal_group-status.ensures in
+    let files : List (Bor (List ℕ)) = c.args.options.now.files.now in
+    let group : List (Bor (List ℕ)) = c.split_at-in-loop-done.result.0.now in
+    let rest = c.split_at.ensures.back_len in
+    let short = c.split_at-in-loop-done.ensures.front_len in
+    let least = c.min.ensures in
+    let count = i.count in
+    let within = i.within in
+    let more = length-map group (λ (name : Bor (List ℕ)). name.now) in record {
+      all = s.all;
+      count = s.count ∙ i.count;
+      within = omega arith;
+      sealed = groups_more (length c.args.seats.now) _ (map (λ (name : Bor (List ℕ)). name.now) group) _ _ _ _ _ _ _ _ _ _ _ _ _ _ i.sealed s.group (omega arith)
+          (group_names files group c.loop-done.done _ (c.split_at-in-loop-done.ensures.front ∙ ap (take c.min.result) c.split_at.ensures.back) short);
+    }
+
+pub returns-clause-sealed : goal.returns-clause-sealed
+returns-clause-sealed g c =
+    subst (λ (f : List (Bor (List ℕ))). AreSealed (length c.args.seats.now) (map (λ (name : Bor (List ℕ)). name.now) f) (operations_of c.loop-done.seats) c.loop-done.status
+    (g.L.Sink.taken c.args.lines.now) (g.L.Sink.taken c.loop-done.lines) (g.L.Sink.failures c.args.lines.now) (g.L.Sink.failures c.loop-done.lines)
+    (g.F.Folder.steps c.args.folder.now) (g.F.Folder.steps c.loop-done.folder))
+    (take_all c.loop-done.done c.args.options.now.files.now c.loop-done-test.false) c.loop-done.invariant.sealed

@@ -1,0 +1,117 @@
+-- Inside: files that are sealed in a group, by several lanes: before the sealing, and between it and their lines.
+use Rattle.std.specs.Prelude.{⊤, ◌≡◌, ◌⊎◌, ℕ, ◌+◌, ◌<◌, ◌≤◌, Bool, false, nat_eq, if◌then◌else◌, List, [], ◌∷◌, ◌++◌, map, All, count_by, flat_map, Option, string_bytes}
+use Rattle.journal_core.specs.declared.entry.Entry.{Entry}
+use Rattle.journal_core.specs.declared.entry.Event.{Event}
+use Rattle.journal_core.specs.declared.entry.Event.TheVariants.{Settled}
+use Rattle.journal_core.specs.declared.entry.Way.TheVariants as ended
+use Rattle.journal_core.specs.History.{entry, times_granted}
+use Rattle.crew_core.specs.declared.outcome.Outcome.{Outcome}
+use Rattle.crew_core.specs.declared.outcome.Outcome.TheVariants as job
+use Rattle.crew_core.specs.Batch.{seat_of}
+use Rattle.sealer_core.specs.declared.group.Prepared.{Prepared}
+use Rattle.sealer_core.specs.declared.group.Prepared.TheVariants.{Refused, Unread, Read}
+use Rattle.sealer_core.specs.declared.line.FileOutcome.{FileOutcome}
+use Rattle.sealer_core.specs.declared.line.FileOutcome.TheVariants.{Sealed, Failed}
+use Rattle.sealer_core.specs.declared.line.FileFault.{FileFault}
+use Rattle.sealer_core.specs.declared.line.FileFault.TheVariants.{CannotOpen, OutputExists, CannotCreate, OutOfMemory}
+use Rattle.sealer_core.specs.Folder.{Step, Created, stepped}
+use Rattle.sealer_core.specs.Lines.{FileLine}
+use Rattle.sealer_core.specs.Sealing.{IsOfSealing, Accounts, creations_of, removals_of, group_steps, line_of, sealed_name, times_sealed, times_voided, times_told}
+use Rattle.sealer_core.specs.Work.{AreTold}
+
+-- ---- a file before the sealing
+
+-- a fault that comes before an output is created
+abbrev pub IsUnmade : FileFault → Type 0
+IsUnmade CannotOpen = ⊤
+IsUnmade OutputExists = ⊤
+IsUnmade CannotCreate = ⊤
+IsUnmade OutOfMemory = ⊤
+IsUnmade _ = ⊥
+
+abbrev pub name_of : {W : Type 0} → Prepared W → List ℕ
+name_of (Refused name fault) = name.now
+name_of (Unread name output fault) = name.now
+name_of (Read name output writer bytes) = name.now
+
+-- its output has the name that is the file's
+abbrev pub IsPrepared : {W : Type 0} → Prepared W → Type 0
+IsPrepared (Refused name fault) = IsUnmade fault
+IsPrepared (Unread name output fault) = string_bytes output ≡ sealed_name name.now
+IsPrepared (Read name output writer bytes) = string_bytes output ≡ sealed_name name.now
+
+-- the steps on outputs that have been made for it
+abbrev pub made_for : {W : Type 0} → Prepared W → List Step
+made_for (Refused name fault) = []
+made_for (Unread name output fault) = Created (sealed_name name.now) ∷ []
+made_for (Read name output writer bytes) = Created (sealed_name name.now) ∷ []
+
+-- ---- between the sealing and the lines
+
+-- the outcome has spent this number
+abbrev pub holds : ℕ → Outcome → Bool
+holds number (job.Sealed seat bytes spent) = nat_eq number spent.number
+holds number (job.Spoiled seat spent) = nat_eq number spent.number
+holds number (job.Unissued seat fault) = false
+
+-- it names one of so many seats, and how its number ended
+abbrev pub HasEnded : Outcome → Type 0
+HasEnded (job.Sealed seat bytes spent) = spent.way ≡ ended.Sealed
+HasEnded (job.Spoiled seat spent) = spent.way ≡ ended.Void
+HasEnded (job.Unissued seat fault) = ⊤
+
+abbrev pub IsHeld : ℕ → Outcome → Type 0
+IsHeld seats o = (seat_of o < seats) × HasEnded o
+
+-- Lines and operations of a ledger agree, where the numbers of these outcomes are granted and not settled yet.
+pub record AreHeld (lines : List FileLine) (outcomes : List Outcome) (operations : List Entry) : Type 0 where
+  pub told : (number : ℕ) → times_sealed number operations ≤ times_told number lines
+  pub granted : (number : ℕ) → (times_told number lines + times_voided number operations) + count_by (holds number) outcomes ≤ times_granted number operations
+
+-- the operations are those and this event of some seat, in whatever order; or none came
+abbrev pub IsCounted : List Entry → List Entry → Event → Type 0
+IsCounted old new event = ((p : Entry → Bool) → count_by p new ≡ count_by p old)
+    ⊎ ((seat : ℕ) × ((p : Entry → Bool) → count_by p new ≡ count_by p old + (if p (entry seat event) then 1 else 0)))
+
+-- a number that was granted is settled as its line tells, or stays open
+abbrev pub IsEnding : ℕ → List Entry → List Entry → FileOutcome → Type 0
+IsEnding number old new (Sealed n bytes) = (n ≡ number) × IsCounted old new (Settled number ended.Sealed)
+IsEnding number old new _ = IsCounted old new (Settled number ended.Void)
+
+-- ---- the lines of a group
+
+-- the lines of files for which memory was refused before anything was done with them
+abbrev pub refused_lines : List (List ℕ) → List FileLine
+refused_lines names = map (λ name. line_of name (Failed OutOfMemory)) names
+
+-- Files of a group have their lines: those, in order; and so stand status, operations and steps behind them, where they stood so before.
+pub record AreEnded (names : List (List ℕ)) (made : List Step) (outcomes outcomes' : List Outcome) (operations operations' : List Entry) (status status' : ℕ)
+    (old new : Option (List ℕ)) (failures failures' : Option ℕ) (steps steps' : Option (List Step)) : Type 0 where
+  pub lines : List FileLine
+  pub named : map (λ line. line.name) lines ≡ names
+  pub fitting : All (λ line. IsOfSealing line.outcome) lines
+  pub created : flat_map creations_of lines ≡ made
+  pub removed : steps' ≡ stepped steps (flat_map removals_of lines)
+  pub told : (before : List FileLine) (first : Option (List ℕ)) (count : Option ℕ) → AreTold status before first old count failures
+      → AreTold status' (before ++ lines) first new count failures'
+  pub accounts : (before : List FileLine) → AreHeld before outcomes operations → AreHeld (before ++ lines) outcomes' operations'
+
+-- So far it stands with these files, of which the latter have no line yet.
+pub record AreEnding {W : Type 0} (files left : List (Prepared W)) (outcomes outcomes' : List Outcome) (operations operations' : List Entry) (status status' : ℕ)
+    (old new : Option (List ℕ)) (failures failures' : Option ℕ) (steps steps' : Option (List Step)) : Type 0 where
+  pub names : List (List ℕ)
+  pub made : List Step
+  pub named : names ++ map name_of left ≡ map name_of files
+  pub created : made ++ flat_map made_for left ≡ flat_map made_for files
+  pub ended : AreEnded names made outcomes outcomes' operations operations' status status' old new failures failures' steps steps'
+
+-- A group was worked: its files have their lines, and so stand status, operations and steps behind them.
+pub record IsGroup (names : List (List ℕ)) (operations operations' : List Entry) (status status' : ℕ)
+    (old new : Option (List ℕ)) (failures failures' : Option ℕ) (steps steps' : Option (List Step)) : Type 0 where
+  pub lines : List FileLine
+  pub named : map (λ line. line.name) lines ≡ names
+  pub fitting : All (λ line. IsOfSealing line.outcome) lines
+  pub stepwise : steps' ≡ stepped steps (group_steps lines)
+  pub told : (before : List FileLine) (first : Option (List ℕ)) (count : Option ℕ) → AreTold status before first old count failures
+      → AreTold status' (before ++ lines) first new count failures'
+  pub accounts : (before : List FileLine) → Accounts before operations → Accounts (before ++ lines) operations'

@@ -1,0 +1,451 @@
+//! Files sealed in groups, by several lanes of a ledger. Of a group each file in turn has its input opened, its output created
+//! and its input read; those that were read are sealed side by side; then each container in turn is written, and its number
+//! settled.
+ghost use Rattle.std.specs.Prelude.{◌≡◌, ℕ, Option, ◌+◌, ◌<◌, ◌≤◌, List, [], ◌∷◌, ◌++◌, length, map, All, flat_map, option_to_list, vec_len, IfOk, OnOk, OnErr};
+ghost use Rattle.journal_core.specs.declared.entry.Event.TheVariants.{Settled};
+ghost use Rattle.journal_core.specs.declared.entry.Way.TheVariants.{Sealed};
+ghost use Rattle.journal_core.specs.Streams.{Appends};
+ghost use Rattle.ledger_core.specs.Closing.{AreAllSeats};
+ghost use Rattle.sealer_core.specs.Folder.{stepped};
+ghost use Rattle.sealer_core.specs.Group.{name_of, IsPrepared, made_for, IsHeld, IsCounted, IsEnding, AreHeld, AreEnded, IsGroup, refused_lines};
+ghost use Rattle.sealer_core.specs.Lines.{FileLine};
+ghost use Rattle.sealer_core.specs.Work.{AreTold};
+ghost use Rattle.crew_core.specs.declared.outcome.Outcome.{Outcome};
+ghost use Rattle.sealer_core.specs.Sealing.{Accounts, AreSealed, IfSealed, IsOfNumber, IsOfSealing, line_of, operations_of, created_as, removed_as, sealed_name};
+
+use crate::commands::tell;
+use crate::folder::{Folder, FolderFault};
+use crate::lane::{fault_of, settle_of_file};
+use crate::line::{FileFault, FileOutcome};
+use crate::sealing::SealOptions;
+use container_core::{Key, SealFault};
+use crew_core::{Free, Outcome, seal_batch};
+use ledger_core::{Failed, Ledger, ReadFault, Seat, Sink, Source, Spent, read_to_limit, write_all};
+use std::alloc::{AllocError, Global};
+use std::collections::VecDeque;
+use std::thread::Threads;
+
+// A file of a group before the sealing.
+#[derive(Drop)]
+enum Prepared<'a, W: Drop> {
+    // No output was created.
+    Refused {
+        name: &'a str,
+        fault: FileFault,
+    },
+    // Its output was created, and its plaintext wasn't read.
+    Unread {
+        name: &'a str,
+        output: String,
+        fault: SealFault,
+    },
+    // Its output was created, and its plaintext of so many bytes is among the jobs.
+    Read {
+        name: &'a str,
+        output: String,
+        writer: W,
+        bytes: u64,
+    },
+}
+
+impl<'a, W: Drop> Prepared<'a, W> {
+    // The file's name.
+    fn name(&self) -> &'a str
+        ensures { result.now ≡ name_of self.now }
+    {
+        match self {
+            Prepared::Refused { name, .. } => name,
+            Prepared::Unread { name, .. } => name,
+            Prepared::Read { name, .. } => name,
+        }
+    }
+}
+
+// Opens a file's input, creates its output, and reads the input: its plaintext becomes the last of the jobs.
+fn prepare_file<'a, F: Folder>(
+    alloc: Global,
+    folder: &mut F,
+    name: &'a str,
+    max_bytes: u64,
+    jobs: &mut Vec<Vec<u8>>,
+) -> Prepared<'a, F::Writer>
+    requires max_bytes { max_bytes ≤ 1099511627776 }
+    requires short { All (λ job. length job.items ≤ 1099511627776) jobs.old.items }
+    ensures short { All (λ job. length job.items ≤ 1099511627776) jobs.new.items }
+    ensures count { vec_len jobs.new ≤ vec_len jobs.old + 1 }
+    ensures name { name_of result ≡ name.now }
+    ensures prepared { IsPrepared result }
+    ensures steps { F.steps folder.new ≡ stepped (F.steps folder.old) (made_for result) }
+{
+    let Ok(output) = format!(in alloc; "{name}.stm") else {
+        return Prepared::Refused {
+            name,
+            fault: FileFault::OutOfMemory,
+        };
+    };
+    let Ok(mut reader) = folder.open(name) else {
+        return Prepared::Refused {
+            name,
+            fault: FileFault::CannotOpen,
+        };
+    };
+    let writer = match folder.create(output.as_str()) {
+        Ok(writer) => writer,
+        Err(FolderFault::Exists) => {
+            return Prepared::Refused {
+                name,
+                fault: FileFault::OutputExists,
+            };
+        }
+        Err(FolderFault::Failed) => {
+            return Prepared::Refused {
+                name,
+                fault: FileFault::CannotCreate,
+            };
+        }
+    };
+    match read_job(alloc, &mut reader, max_bytes, jobs) {
+        Ok(bytes) => Prepared::Read {
+            name,
+            output,
+            writer,
+            bytes,
+        },
+        Err(fault) => Prepared::Unread {
+            name,
+            output,
+            fault,
+        },
+    }
+}
+
+// Reads an input whole, as the last of the jobs. The answer is how many bytes it has.
+fn read_job<R: Source>(
+    alloc: Global,
+    reader: &mut R,
+    max_bytes: u64,
+    jobs: &mut Vec<Vec<u8>>,
+) -> Result<u64, SealFault>
+    requires max_bytes { max_bytes ≤ 1099511627776 }
+    requires short { All (λ job. length job.items ≤ 1099511627776) jobs.old.items }
+    ensures short { All (λ job. length job.items ≤ 1099511627776) jobs.new.items }
+    ensures count { vec_len jobs.new ≤ vec_len jobs.old + 1 }
+{
+    let plain = match read_to_limit(alloc, reader, max_bytes) {
+        Ok(plain) => plain,
+        Err(ReadFault::TooLong) => return Err(SealFault::TooLong),
+        Err(ReadFault::OutOfMemory) => return Err(SealFault::OutOfMemory),
+        Err(ReadFault::Read) => return Err(SealFault::Read),
+    };
+    let bytes = plain.len() as u64;
+    match jobs.push(plain) {
+        Ok(()) => Ok(bytes),
+        Err(_) => Err(SealFault::OutOfMemory),
+    }
+}
+
+// Settles a number at the seat of this place. Where memory for that is refused the number stays open.
+fn settle_at(ledger: &Ledger, seats: &mut [Seat], place: u32, spent: Spent)
+    requires all { AreAllSeats ledger.now seats.old }
+    requires place { place < length seats.old }
+    ensures all { AreAllSeats ledger.now seats.new }
+    ensures count { length seats.new ≡ length seats.old }
+    ensures settled { IsCounted (operations_of seats.old) (operations_of seats.new) (Settled spent.number spent.way) }
+{
+    let seat = &mut seats[place as usize];
+    settle_of_file(ledger, seat, spent);
+}
+
+// Ends a file that was read, by the outcome of its job: where it was sealed its container is written, and its number is settled.
+fn end_job<W: Sink>(
+    ledger: &Ledger,
+    seats: &mut [Seat],
+    outcome: Outcome,
+    writer: &mut W,
+    bytes: u64,
+) -> FileOutcome
+    requires all { AreAllSeats ledger.now seats.old }
+    requires held { IsHeld (length seats.old) outcome }
+    ensures all { AreAllSeats ledger.now seats.new }
+    ensures count { length seats.new ≡ length seats.old }
+    ensures outcome { IsOfNumber result }
+    ensures accounts { (name : List ℕ) (lines : List FileLine) (others : List Outcome) → AreHeld lines (outcome ∷ others) (operations_of seats.old)
+        → AreHeld (lines ++ line_of name result ∷ []) others (operations_of seats.new) }
+{
+    match outcome {
+        Outcome::Unissued { fault, .. } => FileOutcome::Failed(fault_of(fault)),
+        Outcome::Spoiled { seat, spent } => {
+            settle_at(ledger, seats, seat, spent);
+            FileOutcome::Failed(FileFault::Unsealed(SealFault::OutOfMemory))
+        }
+        Outcome::Sealed {
+            seat,
+            bytes: container,
+            spent,
+        } => write_container(ledger, seats, seat, container.as_slice(), spent, writer, bytes),
+    }
+}
+
+// The same with the next of the outcomes. Where there is none, memory for them was refused.
+fn end_next<W: Sink>(
+    ledger: &Ledger,
+    seats: &mut [Seat],
+    outcomes: &mut VecDeque<Outcome>,
+    writer: &mut W,
+    bytes: u64,
+) -> FileOutcome
+    requires all { AreAllSeats ledger.now seats.old }
+    requires held { All (IsHeld (length seats.old)) outcomes.old.items }
+    ensures all { AreAllSeats ledger.now seats.new }
+    ensures count { length seats.new ≡ length seats.old }
+    ensures held { All (IsHeld (length seats.old)) outcomes.new.items }
+    ensures outcome { IsOfNumber result }
+    ensures accounts { (name : List ℕ) (lines : List FileLine) → AreHeld lines outcomes.old.items (operations_of seats.old)
+        → AreHeld (lines ++ line_of name result ∷ []) outcomes.new.items (operations_of seats.new) }
+{
+    match outcomes.pop_front() {
+        Some(outcome) => end_job(ledger, seats, outcome, writer, bytes),
+        None => FileOutcome::Failed(FileFault::Unsealed(SealFault::OutOfMemory)),
+    }
+}
+
+// Writes a container, and settles its number.
+fn write_container<W: Sink>(
+    ledger: &Ledger,
+    seats: &mut [Seat],
+    place: u32,
+    container: &[u8],
+    spent: Spent,
+    writer: &mut W,
+    bytes: u64,
+) -> FileOutcome
+    requires all { AreAllSeats ledger.now seats.old }
+    requires place { place < length seats.old }
+    requires sealed { spent.way ≡ Sealed }
+    ensures all { AreAllSeats ledger.now seats.new }
+    ensures count { length seats.new ≡ length seats.old }
+    ensures outcome { IsOfNumber result }
+    ensures written { IfSealed result (λ number n. (number ≡ spent.number) × (n ≡ bytes) × Appends (W.taken writer.old) (W.taken writer.new) container.now) }
+    ensures accounts { IsEnding spent.number (operations_of seats.old) (operations_of seats.new) result }
+{
+    let number = spent.number();
+    match write_all(writer, container) {
+        Ok(()) => {
+            settle_at(ledger, seats, place, spent);
+            FileOutcome::Sealed { number, bytes }
+        }
+        Err(Failed) => {
+            settle_at(ledger, seats, place, spent.spoil());
+            FileOutcome::Failed(FileFault::Unsealed(SealFault::Write))
+        }
+    }
+}
+
+// Ends one file of a group: where it was sealed its container is written. An output whose file failed is removed.
+fn end_file<F: Folder>(
+    ledger: &Ledger,
+    seats: &mut [Seat],
+    folder: &mut F,
+    file: Prepared<F::Writer>,
+    outcomes: &mut VecDeque<Outcome>,
+) -> FileOutcome
+    requires all { AreAllSeats ledger.now seats.old }
+    requires prepared { IsPrepared file }
+    requires held { All (IsHeld (length seats.old)) outcomes.old.items }
+    ensures all { AreAllSeats ledger.now seats.new }
+    ensures count { length seats.new ≡ length seats.old }
+    ensures held { All (IsHeld (length seats.old)) outcomes.new.items }
+    ensures outcome { IsOfSealing result }
+    ensures created { created_as (sealed_name (name_of file.entry)) result ≡ made_for file.entry }
+    ensures removed { F.steps folder.new ≡ stepped (F.steps folder.old) (removed_as (sealed_name (name_of file.entry)) result) }
+    ensures accounts { (lines : List FileLine) → AreHeld lines outcomes.old.items (operations_of seats.old)
+        → AreHeld (lines ++ line_of (name_of file.entry) result ∷ []) outcomes.new.items (operations_of seats.new) }
+{
+    match file {
+        Prepared::Refused { fault, .. } => FileOutcome::Failed(fault),
+        Prepared::Unread { output, fault, .. } => {
+            let _ = folder.remove(output.as_str());
+            FileOutcome::Failed(FileFault::Unsealed(fault))
+        }
+        Prepared::Read {
+            output,
+            mut writer,
+            bytes,
+            ..
+        } => {
+            let outcome = end_next(ledger, seats, outcomes, &mut writer, bytes);
+            if let FileOutcome::Failed(_) = outcome {
+                let _ = folder.remove(output.as_str());
+            }
+            outcome
+        }
+    }
+}
+
+// Ends the files of a group in turn, with a line for each. The answer is the status so far.
+fn end_group<F: Folder, L: Sink>(
+    alloc: Global,
+    ledger: &Ledger,
+    seats: &mut [Seat],
+    folder: &mut F,
+    lines: &mut L,
+    start: u8,
+    mut files: VecDeque<Prepared<F::Writer>>,
+    mut outcomes: VecDeque<Outcome>,
+) -> u8
+    requires all { AreAllSeats ledger.now seats.old }
+    requires prepared { All IsPrepared files.items }
+    requires held { All (IsHeld (length seats.old)) outcomes.items }
+    ensures all { AreAllSeats ledger.now seats.new }
+    ensures count { length seats.new ≡ length seats.old }
+    ensures ended { (left : List Outcome) × AreEnded (map name_of files.entry.items) (flat_map made_for files.entry.items) outcomes.items left
+        (operations_of seats.old) (operations_of seats.new) start result
+        (L.taken lines.old) (L.taken lines.new) (L.failures lines.old) (L.failures lines.new) (F.steps folder.old) (F.steps folder.new) }
+{
+    let mut status = start;
+    while let Some(file) = files.pop_front() {
+        let name = file.name();
+        let outcome = end_file(ledger, seats, folder, file, &mut outcomes);
+        status = tell(alloc, lines, status, name, outcome);
+    }
+    status
+}
+
+// Prepares the files of a group in turn.
+fn prepare_group<'a, F: Folder>(
+    alloc: Global,
+    folder: &mut F,
+    names: &[&'a str],
+    max_bytes: u64,
+) -> Result<(VecDeque<Prepared<'a, F::Writer>>, Vec<Vec<u8>>), AllocError>
+    requires max_bytes { max_bytes ≤ 1099511627776 }
+    ensures names { IfOk result (λ group. map name_of group.0.items ≡ map (λ name. name.now) names.now) }
+    ensures prepared { IfOk result (λ group. All IsPrepared group.0.items) }
+    ensures steps { IfOk result (λ group. F.steps folder.new ≡ stepped (F.steps folder.old) (flat_map made_for group.0.items)) }
+    ensures short { IfOk result (λ group. All (λ job. length job.items ≤ 1099511627776) group.1.items) }
+    ensures few { IfOk result (λ group. vec_len group.1 ≤ length names.now) }
+    ensures refused { OnErr result (folder.new ≡ folder.old) }
+{
+    let mut files = VecDeque::with_capacity(alloc, names.len())?;
+    let mut jobs = Vec::with_capacity(alloc, names.len())?;
+    for name in names {
+        files.push_back_reserved(prepare_file(alloc, folder, name, max_bytes, &mut jobs));
+    }
+    Ok((files, jobs))
+}
+
+// Seals the jobs of a group side by side, each by a seat of its own. Where memory for the outcomes is refused there is none.
+fn seal_jobs<T: Threads + Sync>(
+    rt: &T,
+    alloc: Global,
+    key: &Key,
+    ledger: &Ledger,
+    seats: &mut [Seat],
+    jobs: &[Vec<u8>],
+) -> VecDeque<Outcome>
+    requires all { AreAllSeats ledger.now seats.old }
+    requires few { length jobs.now ≤ length seats.old }
+    requires lanes { length seats.old ≤ 16 }
+    requires short { All (λ job. length job.items ≤ 1099511627776) jobs.now }
+    ensures all { AreAllSeats ledger.now seats.new }
+    ensures count { length seats.new ≡ length seats.old }
+    ensures held { All (IsHeld (length seats.old)) result.items }
+    ensures accounts { (lines : List FileLine) → Accounts lines (operations_of seats.old) → AreHeld lines result.items (operations_of seats.new) }
+{
+    let lanes = jobs.len() as u32;
+    if lanes == 0 {
+        return VecDeque::new(alloc);
+    }
+    match seal_batch(rt, alloc, key, ledger, seats, jobs, lanes, &Free) {
+        Ok(outcomes) => VecDeque::from(outcomes),
+        Err(_) => VecDeque::new(alloc),
+    }
+}
+
+// Tells of each file that memory was refused before anything was done with it.
+fn refuse_group<L: Sink>(alloc: Global, names: &[&str], lines: &mut L, start: u8) -> u8
+    ensures { (before : List FileLine) (first : Option (List ℕ)) (count : Option ℕ) → AreTold start before first (L.taken lines.old) count (L.failures lines.old)
+        → AreTold result (before ++ refused_lines (map (λ name. name.now) names.now)) first (L.taken lines.new) count (L.failures lines.new) }
+{
+    let mut status = start;
+    for name in names {
+        status = tell(
+            alloc,
+            lines,
+            status,
+            name,
+            FileOutcome::Failed(FileFault::OutOfMemory),
+        );
+    }
+    status
+}
+
+// Seals the files of a group, of which there are at most as many as seats. The answer is the status so far.
+fn seal_group<T: Threads + Sync, F: Folder, L: Sink>(
+    rt: &T,
+    alloc: Global,
+    key: &Key,
+    ledger: &Ledger,
+    seats: &mut [Seat],
+    folder: &mut F,
+    names: &[&str],
+    max_bytes: u64,
+    lines: &mut L,
+    status: u8,
+) -> u8
+    requires all { AreAllSeats ledger.now seats.old }
+    requires lanes { length seats.old ≤ 16 }
+    requires few { length names.now ≤ length seats.old }
+    requires max_bytes { max_bytes ≤ 1099511627776 }
+    ensures all { AreAllSeats ledger.now seats.new }
+    ensures count { length seats.new ≡ length seats.old }
+    ensures group { IsGroup (map (λ name. name.now) names.now) (operations_of seats.old) (operations_of seats.new) status result
+        (L.taken lines.old) (L.taken lines.new) (L.failures lines.old) (L.failures lines.new) (F.steps folder.old) (F.steps folder.new) }
+{
+    let Ok((files, jobs)) = prepare_group(alloc, folder, names, max_bytes) else {
+        return refuse_group(alloc, names, lines, status);
+    };
+    let outcomes = seal_jobs(rt, alloc, key, ledger, seats, jobs.as_slice());
+    end_group(alloc, ledger, seats, folder, lines, status, files, outcomes)
+}
+
+/// Seals the files in groups of as many as there are seats, with a line for each. The answer is the status so far.
+pub(crate) fn seal_groups<T: Threads + Sync, F: Folder, L: Sink>(
+    rt: &T,
+    alloc: Global,
+    key: &Key,
+    ledger: &Ledger,
+    seats: &mut [Seat],
+    folder: &mut F,
+    options: &SealOptions,
+    lines: &mut L,
+) -> u8
+    requires all { AreAllSeats ledger.now seats.old }
+    requires lanes { (0 < length seats.old) × (length seats.old ≤ 16) }
+    requires fresh { operations_of seats.old ≡ [] }
+    requires max_bytes { options.now.max_bytes ≤ 1099511627776 }
+    ensures all { AreAllSeats ledger.now seats.new }
+    ensures sealed { AreSealed (length seats.old) (map (λ name. name.now) options.now.files.now) (operations_of seats.new) result
+        (L.taken lines.old) (L.taken lines.new) (L.failures lines.old) (L.failures lines.new) (F.steps folder.old) (F.steps folder.new) }
+{
+    let mut status = 0;
+    let mut done = 0;
+    while done < options.files.len() {
+        let (_, rest) = options.files.split_at(done);
+        let (group, _) = rest.split_at(rest.len().min(seats.len()));
+        status = seal_group(
+            rt,
+            alloc,
+            key,
+            ledger,
+            seats,
+            folder,
+            group,
+            options.max_bytes,
+            lines,
+            status,
+        );
+        done += group.len();
+    }
+    status
+}
