@@ -439,6 +439,40 @@ failed life/lanes/2.plain: too long
 sealed life/lanes/1.plain file 10 bytes 3893'
 is lanes-no-output no test -e life/lanes/2.plain.stm
 
+# Two runs on one ledger at once: the second is refused. The first waits for its input, a pipe, with its range reserved; it is then
+# killed, and the next run goes on behind that range.
+mkfifo life/pipe
+exec 8<> life/pipe
+"$sealer" seal --key "$key" --ledger life/busy --device 1 life/pipe > first 2> first.err &
+first=$!
+for _ in $(seq 200); do [ -e life/pipe.stm ] && break; sleep 0.05; done
+cp life/numbers life/second
+run seal --key "$key" --ledger life/busy --device 1 life/second
+wants busy 2 '' 'ledger: cannot open'
+is busy-touches-nothing no test -e life/second.stm
+kill -9 "$first"
+wait "$first" 2>/dev/null
+exec 8>&-
+is killed-said-nothing test ! -s first
+run seal --key "$key" --ledger life/busy --device 1 life/second
+wants behind-the-killed 0 'sealed life/second file 1 bytes 1492' ''
+run verify --key "$key" life/pipe.stm life/second.stm
+wants killed-output 1 'failed life/pipe.stm: header cut short
+good life/second.stm bytes 1492' ''
+
+# Two runs at once for one output: one of them makes it.
+for i in 1 2 3 4 5 6 7 8 9 10; do
+    cp life/numbers "life/race$i"
+    "$sealer" seal --key "$key" --ledger life/race.a --device 1 "life/race$i" > race.a 2>&1 & one=$!
+    "$sealer" seal --key "$key" --ledger life/race.b --device 2 "life/race$i" > race.b 2>&1
+    wait "$one"
+    is "race-$i" test "$(cat race.a race.b | sed 's/ file .*//' | sort | tr '\n' ';')" = "failed life/race$i: output exists;sealed life/race$i;"
+    run verify --key "$key" "life/race$i.stm"
+    wants "race-$i-good" 0 "good life/race$i.stm bytes 1492" ''
+done
+run seal --key "$key" --ledger /dev/null --device 1 life/numbers
+wants device-as-ledger 2 '' 'ledger: cannot open'
+
 # Three chunks and more, sealed by Python's `cryptography`, where that is there.
 if python3 -c 'import cryptography' 2>/dev/null; then
     fresh

@@ -136,6 +136,7 @@ pub struct SealRequest<'m, 'a> {
 /// Why the words of `seal`, which its parser took, are still a fault of usage.
 #[derive(Clone, Copy, PartialEq, Eq, Debug, ThisError)]
 pub enum SealUsage {
+    /// Never: the parser takes no words without these arguments.
     #[error("an argument is missing")]
     Missing,
     #[error("lanes and workers cannot both be above 1")]

@@ -14,7 +14,7 @@ pub mod line;
 pub mod memory;
 pub mod run;
 pub mod sealing;
-pub mod trouble;
+mod trouble;
 
 pub use crate::auditor::run_audit;
 pub use crate::commands::{MAX_BYTES, MAX_WORKERS, OpenOptions, Outs, open_all, verify_all};
@@ -25,7 +25,6 @@ pub use crate::line::{FileFault, FileOutcome, Line};
 pub use crate::memory::{MemoryFolder, Pace, STEADY};
 pub use crate::run::{run_open, run_plain, run_seal, run_verify};
 pub use crate::sealing::{SealOptions, seal_all};
-pub use crate::trouble::RunFault;
 
 #[cfg(test)]
 mod tests;

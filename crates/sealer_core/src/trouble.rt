@@ -6,7 +6,7 @@ use thiserror::Error;
 
 /// Why a run that seals ended with status 2. The texts are those that the program prints.
 #[derive(Clone, Copy, PartialEq, Eq, Debug, Error)]
-pub enum RunFault {
+pub(crate) enum RunFault {
     /// No range was reserved. No file was touched.
     #[error("ledger: {0}")]
     Unreserved(ReserveFault),

@@ -1,6 +1,6 @@
 //! `seal_all` by one lane, over folders and ledger files in memory. Containers are those of Python's `cryptography`, under the key
 //! 00 01 .. 1f and device 1; lines and journals are written by hand.
-ghost use Rattle.std.specs.Prelude.{◌<◌, ◌≤◌, length};
+ghost use Rattle.std.specs.Prelude.{◌≡◌, ◌<◌, ◌≤◌, length, IfOk};
 
 use crate::files::{COUNTING, EMPTY, SECRET, has_bytes};
 use container_core::{Key, open};
@@ -93,6 +93,16 @@ pub(crate) fn journal_is(out: &MemoryOuts, text: &[u8]) -> bool {
     }
 }
 
+fn sevens(alloc: Global, count: usize) -> Result<Vec<u8>, Fail> {
+    Ok(vec![in alloc; 7u8; count]?)
+}
+
+fn same_names(alloc: Global, count: usize) -> Result<Vec<&'static str>, Fail>
+    ensures { IfOk result (λ names. length names.items ≡ count) }
+{
+    Ok(vec![in alloc; "a"; count]?)
+}
+
 #[test]
 fn a_second_run_goes_on_behind_the_numbers_of_the_first(rt: HostRuntime) -> Result<(), Fail> {
     let mut keeper = new_keeper(rt.alloc())?;
@@ -112,7 +122,7 @@ fn a_second_run_goes_on_behind_the_numbers_of_the_first(rt: HostRuntime) -> Resu
     assert!(rt; out.faults.bytes().is_empty());
     assert!(rt; has_bytes(&folder, "a.stm", &EMPTY) && !folder.has("m.stm"));
 
-    let plain = vec![in rt.alloc(); 7u8; 65_537]?;
+    let plain = sevens(rt.alloc(), 65_537)?;
     folder.put("b", plain.as_slice())?;
     let mut out = steady_outs(rt.alloc())?;
     assert_eq!(rt;
@@ -363,7 +373,7 @@ fn more_files_than_a_range_has_numbers_are_refused(rt: HostRuntime) -> Result<()
     let mut keeper = new_keeper(rt.alloc())?;
     let mut folder = MemoryFolder::new(rt.alloc());
     folder.put("a", b"")?;
-    let files = vec![in rt.alloc(); "a"; 65_536]?;
+    let files = same_names(rt.alloc(), 65_536)?;
     let mut out = steady_outs(rt.alloc())?;
     assert_eq!(rt;
         seal_within(
