@@ -148,7 +148,6 @@ pub fn seal_request<'m, 'a>(matches: &'m ArgMatches<'a>) -> Result<SealRequest<'
     ensures files { IfOk result (λ request. 0 < length request.files.now) }
     ensures workers { IfOk result (λ request. (0 < request.workers) × (request.workers ≤ 16)) }
     ensures lanes { IfOk result (λ request. (0 < request.lanes) × (request.lanes ≤ 16)) }
-    ensures either { IfOk result (λ request. (request.workers ≡ 1) ⊎ (request.lanes ≡ 1)) }
     ensures max_bytes { IfOk result (λ request. request.max_bytes ≤ 1099511627776) }
 {
     let (Some(key), Some(ledger)) = (matches.get_str("key"), matches.get_str("ledger")) else {
