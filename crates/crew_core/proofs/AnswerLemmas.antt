@@ -1,5 +1,5 @@
 -- What a shelf answers, and what a work does.
-use Rattle.std.proofs.Common.{◌≡◌, ◌≢◌, ℕ, ◌+◌, ◌<◌, List, [], ◌∷◌, ◌++◌, length, get_or, take, drop, map, refl, ap, arith, Option, Some, None, Result, Ok, Err, suc, zero, sym, ◌∙◌, unwrap_or, replicate, length-set, subst, Contains, ◌⊎◌, inl, inr, add-zero}
+use Rattle.std.proofs.Common.{◌≡◌, ◌≢◌, ℕ, ◌+◌, ◌<◌, List, [], ◌∷◌, ◌++◌, length, get_or, take, drop, map, refl, ap, arith, Option, Some, None, Result, Ok, Err, suc, zero, sym, ◌∙◌, unwrap_or, replicate, length-set, subst, ◌⊎◌, inl, inr, add-zero}
 use Rattle.std.specs.List.{flat_map}
 use Rattle.std.proofs.lemmas.Bool.{cases_eq}
 use Rattle.std.proofs.lemmas.List.Elements.{Contains-push_cases}
@@ -14,7 +14,7 @@ use Rattle.crew_core.specs.Pieces.{PieceView, WorkView, ShelfView, piece_of, emp
 use Rattle.crew_core.specs.Values.{numbered, values_of, sealing_of, opening_of}
 use Rattle.crew_core.specs.Answer.{named, answer, after_piece, after_front, value_in, IsFull, IsOf, shelf_whole, whole_of}
 use Rattle.crew_core.specs.Rooms.{bytes_in}
-use Rattle.crew_core.specs.Deal.{IsMade}
+use Rattle.crew_core.specs.Deal.{IsMade, IsStill}
 
 -- the first value, and the answer of the rest
 answer_first : (v : Option (List ℕ)) (vs : List (Option (List ℕ))) → v ≢ None → answer (v ∷ vs) ≡ after_piece (unwrap_or v []) (answer vs)
@@ -99,12 +99,10 @@ pub filled-stowed : (s t : ShelfView) (p : PieceView) (n : ℕ) → Fits s p →
 filled-stowed s t p n fits (inl same) done = rw same done
 filled-stowed s t p n fits (inr put) done = rw put (filled-with_piece s p n fits.number done)
 
--- each place is filled or still to come
-abbrev pub Rest : WorkView → List PieceView → ShelfView → Type 0
-Rest w ps s = (n : ℕ) → n < length w.values → Contains ps (piece_of w n) ⊎ (get_or s.places n None ≢ None)
-
-pub Rest-stowed : (w : WorkView) (s t : ShelfView) (ps : List PieceView) (p : PieceView) → Fits s p → place_of t p ≢ None → (t ≡ s) ⊎ (t ≡ with_piece s p) → Rest w (ps ++ p ∷ []) s → Rest w ps t
-Rest-stowed w s t ps p fits filled either was n at = elim (was n at) [
+-- a place that is filled or still to come stays so when a piece is stowed
+pub still-stowed : (w : WorkView) (s t : ShelfView) (ps : List PieceView) (p : PieceView) (n : ℕ) → Fits s p → place_of t p ≢ None → (t ≡ s) ⊎ (t ≡ with_piece s p)
+    → IsStill w (ps ++ p ∷ []) s n → IsStill w ps t n
+still-stowed w s t ps p n fits filled either was = elim was [
   | inl some ↦ elim (Contains-push_cases ps p (piece_of w n) some) [
     | inl still ↦ inl still
     | inr this ↦ inr (let same : p.number ≡ n = ap (λ q. q.number) this in rw same at filled)

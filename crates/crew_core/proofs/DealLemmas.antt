@@ -7,7 +7,7 @@ use Rattle.std.proofs.lemmas.Bool.{cases_lt, cases_eq}
 use Rattle.crew_core.specs.Pieces.{PieceView, WorkView, ShelfView, piece_of, place_of, with_piece}
 use Rattle.crew_core.specs.Answer.{IsOf}
 use Rattle.crew_core.proofs.AnswerLemmas.{filled-stowed, Fits-made}
-use Rattle.crew_core.specs.Deal.{IsDeal, IsMade, HasOthers}
+use Rattle.crew_core.specs.Deal.{IsBegun, IsDeal, IsMade, HasOthers}
 
 pub next_number : (worker workers n : ℕ) → worker + n * workers + workers ≡ worker + (n + 1) * workers
 next_number worker workers n = grind arith
@@ -19,37 +19,51 @@ each_more w worker workers xs p is each j d at = elim (cases_lt j (length xs)) [
   | inr high ↦ let here : length xs ≡ j = omega (arith, length_push xs p) in get_or_push xs p d j here ∙ is ∙ ap (λ m. piece_of w (worker + m * workers)) here
 ]
 
+one_more : (m workers : ℕ) → (m + 1) * workers ≡ m * workers + workers
+one_more m workers = grind arith
+
 -- the numbers of a worker are those with its remainder
 number_at : (worker workers n : ℕ) → n % workers ≡ worker → worker + (n / workers) * workers ≡ n
 number_at worker workers n is =
     ap (λ m. m + n / workers * workers) (sym is) ∙ ap (λ m. n % workers + m) (mul_comm (n / workers) workers) ∙ mod-add-div n workers
 
-deal_covers : (w : WorkView) (worker workers : ℕ) (ps : List PieceView) → IsDeal w worker workers ps → (n : ℕ) → n < length w.values → n % workers ≡ worker → Contains ps (piece_of w n)
-deal_covers w worker workers ps deal n at is =
+-- the first pieces of a deal are all below the number of the next one
+begun_at : (worker workers long n : ℕ) → n < worker + long * workers → n % workers ≡ worker → n / workers < long
+begun_at worker workers long n low is =
     let place = number_at worker workers n is in
-    let inside : n / workers < length ps = elim (cases_lt (n / workers) (length ps)) [
-      | inl low ↦ low
-      | inr high ↦ let m = mul-le-mul_right workers high in let a = deal.all in absurd (omega arith)
-    ] in
-    (n / workers, inside, deal.each (n / workers) (piece_of w n) inside ∙ ap (piece_of w) place)
+    elim (cases_lt (n / workers) long) [
+      | inl less ↦ less
+      | inr more ↦ let m = mul-le-mul_right workers more in absurd (omega arith)
+    ]
 
-deal_made : (w : WorkView) (worker workers : ℕ) (ps : List PieceView) → IsDeal w worker workers ps → All (IsMade w) ps
-deal_made w worker workers ps deal k d at = let e = deal.each k d at in rw e (refl, deal.within k at)
+pub begun_covers : (w : WorkView) (worker workers : ℕ) (ps : List PieceView) → IsBegun w worker workers ps → (n : ℕ) → n < worker + length ps * workers → n % workers ≡ worker
+    → Contains ps (piece_of w n)
+begun_covers w worker workers ps begun n low is =
+    let inside = begun_at worker workers (length ps) n low is in
+    (n / workers, inside, begun.each (n / workers) (piece_of w n) inside ∙ ap (piece_of w) (number_at worker workers n is))
 
-pub next_deal : (w : WorkView) (worker upto workers : ℕ) (ps qs : List PieceView) → upto ≡ worker + 1 → HasOthers w worker workers ps → IsDeal w worker workers qs → HasOthers w upto workers (ps ++ qs)
+pub begun_within : (w : WorkView) (worker workers : ℕ) (ps : List PieceView) → IsBegun w worker workers ps → (n : ℕ) → n < worker + length ps * workers → n % workers ≡ worker
+    → n < length w.values
+begun_within w worker workers ps begun n low is =
+    let at = begun.within (n / workers) (begun_at worker workers (length ps) n low is) in
+    let place = number_at worker workers n is in
+    omega arith
+
+begun_made : (w : WorkView) (worker workers : ℕ) (ps : List PieceView) → IsBegun w worker workers ps → All (IsMade w) ps
+begun_made w worker workers ps begun k d at = let e = begun.each k d at in rw e (refl, begun.within k at)
+
+pub next_deal : (w : WorkView) (worker upto workers : ℕ) (ps qs : List PieceView) → upto ≡ worker + 1 → HasOthers w worker workers ps
+    → IsDeal w worker workers (length w.values) qs → HasOthers w upto workers (ps ++ qs)
 next_deal w worker upto workers ps qs next has deal = record {
-  made = All-append (IsMade w) ps qs has.made (deal_made w worker workers qs deal);
+  made = All-append (IsMade w) ps qs has.made (begun_made w worker workers qs deal.begun);
   covers = λ n at some low. elim (cases_eq (n % workers) worker) [
-    | inl same ↦ Contains-append_right ps qs (piece_of w n) (deal_covers w worker workers qs deal n at same)
+    | inl same ↦ let a = deal.all in Contains-append_right ps qs (piece_of w n) (begun_covers w worker workers qs deal.begun n (omega arith) same)
     | inr other ↦ Contains-append_left ps qs (piece_of w n) (has.covers n at some (omega arith))
   ];
 }
 
 less_next : (m n : ℕ) → m < n → m + 1 ≤ n
 less_next m n less = omega arith
-
-one_more : (m workers : ℕ) → (m + 1) * workers ≡ m * workers + workers
-one_more m workers = grind arith
 
 over : (k l workers : ℕ) → k < l → k * workers + workers ≤ l * workers
 over k l workers less = let r = mul-le-mul_right workers (less_next k l less) in let e = one_more k workers in omega arith

@@ -1,4 +1,5 @@
-//! A whole container sealed or opened by several workers.
+//! A whole container sealed or opened by several workers. Beside more than one, one thread more runs for as long as it takes to make
+//! the shelf.
 ghost use Rattle.std.specs.Prelude.{◌≡◌, ◌≢◌, ◌<◌, ◌≤◌, ◌⊎◌, length, Ok, Err, IfOk, IfErr, OnOk, OnErr};
 ghost use Rattle.std.specs.Bool.{OnTrue, OnFalse};
 ghost use Rattle.container_core.specs.Container.{container};

@@ -19,6 +19,8 @@ loop-number-preserved g c =
     let here : worker + length xs * workers < length w.values = omega arith in
     record {
       next = rw (items, c.from-in-loop-number.ensures, length_push xs p) (ap (λ m. m + workers) was.next ∙ next_number worker workers (length xs));
-      each = rw items (each_more w worker workers xs p made was.each);
-      within = rw (items, length_push xs p) (below_more (λ j. worker + j * workers < length w.values) (length xs) was.within here);
+      begun = record {
+        each = rw items (each_more w worker workers xs p made was.begun.each);
+        within = rw (items, length_push xs p) (below_more (λ j. worker + j * workers < length w.values) (length xs) was.begun.within here);
+      };
     }

@@ -1,12 +1,11 @@
-use Rattle.std.proofs.Common.{◌≡◌, ℕ, ◌+◌, ◌-◌, ◌*◌, ◌<◌, get_or, length}
-use Rattle.crew_core.specs.Pieces.{PieceView, piece_of}
+use Rattle.std.proofs.Common.{◌≡◌, ◌+◌, ◌-◌, ◌*◌, length}
+use Rattle.crew_core.specs.Deal.{IsBegun}
 use Rattle.crew_core.proofs.crew.deal.Given as goal
 
 abbrev pub invariant-loop-number : goal.invariant-loop-number
 invariant-loop-number g l = record {
   next : l.number ≡ l.worker + length l.pieces.items * l.workers;
-  each : (j : ℕ) (d : PieceView) → j < length l.pieces.items → get_or l.pieces.items j d ≡ piece_of l.work (l.worker + j * l.workers);
-  within : (j : ℕ) → j < length l.pieces.items → l.worker + j * l.workers < length l.work.values;
+  begun : IsBegun l.work l.worker l.workers l.pieces.items;
 }
 
 abbrev pub decreases-loop-number : goal.decreases-loop-number

@@ -1,6 +1,6 @@
 use Rattle.std.proofs.Common.{◌≡◌, ◌≢◌, ℕ, ◌-◌, ◌*◌, ◌%◌, ◌<◌, get_or, None}
 use Rattle.crew_core.specs.Answer.{IsOf}
-use Rattle.crew_core.proofs.crew.first_deal.Given as goal
+use Rattle.crew_core.proofs.crew.rest_of_first.Given as goal
 
 abbrev pub invariant-loop-number : goal.invariant-loop-number
 invariant-loop-number g l = record {
