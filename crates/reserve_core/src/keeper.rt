@@ -9,6 +9,7 @@ ghost use Rattle.reserve_core.specs.Reservations.{Lists, Holds, Opened, next_of,
 use crate::fault::ReserveFault;
 use crate::opening::open_tables;
 use crate::reads::{mark_of, ranges_of};
+use crate::rows::FIELD;
 use crate::writes::append_range;
 use ledger_core::{Device, Range};
 use sqlite::{Alter, Connection};
@@ -45,11 +46,12 @@ impl<S: Alter> Model for Keeper<S> {
 
 impl<S: Alter> Keeper<S> {
     /// Makes both tables in an empty database, and checks them else: their schema, and that their rows are lists of adjacent ranges,
-    /// in one pass over all rows, which it holds in memory for that time. Nobody else may write the database from now on.
+    /// in one pass over all rows of both, which it holds in memory for that time. Nobody else may write the database from now on.
     ///
     /// `BadStore` comes where something is in the database and one of the two tables cannot be read by its column names, or where the
     /// rows hold no lists; `Store` where the database refuses a statement, memory is refused, the tables are other than the keeper
-    /// makes them or not alone, or the connection is in a transaction. A refusal changes nothing and hands the connection back.
+    /// makes them or not alone, or the connection is in a transaction. A refusal changes nothing and hands the connection back. Where a
+    /// fault of the disk shut it, the files are as after a crash: as they could be before, or both tables without a row.
     pub fn open(connection: Connection<S>) -> Result<Keeper<S>, (ReserveFault, Connection<S>)>
         ensures opened { IfOk result (λ k. HasCleanDisk (state S.Store k) → Opened (state S.Store connection).now (state S.Store k).now) }
         ensures live { IfOk result (λ k. HasCleanDisk (state S.Store k) → IsTrue (state S.Store connection).is_open × IsTrue (state S.Store k).is_open) }
@@ -79,7 +81,8 @@ impl<S: Alter> Keeper<S> {
     ///
     /// Once it answers `Ok` they are reserved for good, over crashes too. A crash during the call leaves the lists from before, or
     /// those with the new range. Every refusal changes nothing, and names the first that holds of: no number, over 65,535 numbers,
-    /// fewer left than asked for. `Store` comes where the database refuses a statement or memory is refused.
+    /// fewer left than asked for. `Store` comes where the database refuses a statement or memory is refused. Where a fault of the disk
+    /// shut the connection, the files are as after a crash.
     pub fn reserve(
         &mut self,
         key_id: &[u8; 32],
@@ -106,16 +109,17 @@ impl<S: Alter> Keeper<S> {
         if count == 0 {
             return Err(ReserveFault::ZeroCount);
         }
-        if count > 65_535 {
+        if count > Range::MAX_SIZE {
             return Err(ReserveFault::TooMany);
         }
         let number = device.number();
         let mark = mark_of(&mut self.conn, key_id.as_slice(), number)?;
         let next = mark.unwrap_or(0);
-        if next + u64::from(count) > 0x1_0000_0000 {
-            let left = 0x1_0000_0000 - next;
+        if next + u64::from(count) > FIELD {
+            let left = FIELD - next;
             return Err(ReserveFault::FieldSpent { left });
         }
+        // Never: a range of 1 to 65,535 numbers that ends by 2^32 is lawful.
         let Ok(range) = Range::new(device, next as u32, count) else {
             return Err(ReserveFault::Store);
         };

@@ -13,6 +13,7 @@ use crate::schema::{are_readable, is_blank, is_ledger};
 use crate::tables::make_tables;
 use sqlite::{Alter, Connection};
 
+/// Both tables made or checked. A refusal changes nothing.
 pub(crate) fn open_tables<S: Alter>(conn: &mut Connection<S>) -> Result<(), ReserveFault>
     ensures settled { OnOk result (conn.new.in_transaction ≡ false) }
     ensures ready { HasCleanDisk (state S.Store conn.new) → IsTrue (state S.Store conn.new).is_open → OnOk result (IsReady (state S.Store conn.new)) }

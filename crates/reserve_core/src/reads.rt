@@ -11,7 +11,7 @@ ghost use Rattle.reserve_core.specs.Reservations.{Adjacent, IsMarkRow, Lists, Ho
 ghost use Rattle.reserve_core.specs.Writes.{HaveRowids, IsMarkOf, IsReady};
 
 use crate::fault::ReserveFault;
-use crate::rows::{do_rise, hold_lists, number_at};
+use crate::rows::{FIELD, do_rise, hold_lists, number_at};
 use crate::schema::is_ledger;
 use sqlite::{Alter, Connection, Error, Row, Transaction, params};
 
@@ -58,7 +58,7 @@ fn mark_in(rows: &[Row]) -> Result<Option<u64>, ReserveFault>
     match rows {
         [] => Ok(None),
         [row] => match number_at(row, 0) {
-            Some(next) if next <= 0x1_0000_0000 => Ok(Some(next)),
+            Some(next) if next <= FIELD => Ok(Some(next)),
             _ => Err(ReserveFault::BadStore),
         },
         _ => Err(ReserveFault::BadStore),
@@ -273,7 +273,7 @@ fn spans_in(rows: &Vec<Row>) -> Result<Vec<(u32, u64)>, ReserveFault>
             return Err(ReserveFault::BadStore);
         };
         // The keeper's rows are lists. A database that answers in another order than it was asked for has failed.
-        if lo != end || size == 0 || size > 0x1_0000_0000 - end {
+        if lo != end || size == 0 || size > FIELD - end {
             return Err(ReserveFault::Store);
         }
         if spans.push((lo as u32, size)).is_err() {

@@ -9,10 +9,14 @@ ghost use Rattle.reserve_core.specs.Reservations.{Adjacent, HoldLists, IsNext, L
 ghost use Rattle.reserve_core.specs.Runs.{Chain, IsBefore, IsBelow, OwnRun, RisesFrom, Runs, owner_cmp};
 
 use crate::fault::ReserveFault;
+use ledger_core::Device;
 use sqlite::Row;
 use sqlite_value::order::compare;
 use sqlite_value::value::ValueRef;
 use std::cmp::Ordering;
+
+/// File numbers of a key and device: a number has 32 bits.
+pub(crate) const FIELD: u64 = 1 << 32;
 
 /// The whole number at a place, if one from 0 is there.
 pub(crate) fn number_at(row: &Row, at: usize) -> Option<u64>
@@ -25,6 +29,7 @@ pub(crate) fn number_at(row: &Row, at: usize) -> Option<u64>
     }
 }
 
+/// Whether a whole number from 0 to `most` is there.
 fn is_within(row: &Row, at: usize, most: u64) -> bool
     ensures { result ≡ is_within most (column row.now at) }
 {
@@ -34,6 +39,7 @@ fn is_within(row: &Row, at: usize, most: u64) -> bool
     }
 }
 
+/// Whether a blob of 32 bytes is there.
 fn is_key(row: &Row, at: usize) -> bool
     ensures { result ≡ is_key (column row.now at) }
 {
@@ -43,28 +49,32 @@ fn is_key(row: &Row, at: usize) -> bool
     }
 }
 
+/// Whether a whole number is there.
 fn is_rowid(row: &Row, at: usize) -> bool
     ensures { result ≡ is_rowid (column row.now at) }
 {
     matches!(row.get_ref(at), Ok(ValueRef::Int(_)))
 }
 
+/// Whether it has the form of a row of `mark`: rowid, key id, device, next.
 fn is_mark(row: &Row) -> bool
     ensures { result ≡ is_mark_row row.now }
 {
     is_rowid(row, 0)
-        && (is_key(row, 1) && is_within(row, 2, 16_777_215))
-        && is_within(row, 3, 0x1_0000_0000)
+        && (is_key(row, 1) && is_within(row, 2, u64::from(Device::MAX)))
+        && is_within(row, 3, FIELD)
 }
 
+/// Whether it has the form of a row of `taken`: rowid, key id, device, lo, size.
 fn is_taken(row: &Row) -> bool
     ensures { result ≡ is_taken_row row.now }
 {
-    (is_key(row, 1) && is_within(row, 2, 16_777_215))
+    (is_key(row, 1) && is_within(row, 2, u64::from(Device::MAX)))
         && number_at(row, 3).is_some()
         && number_at(row, 4).is_some()
 }
 
+/// Whether each row has the form of a row of `mark`.
 fn are_marks(rows: &[Row]) -> bool
     ensures { result ≡ list_all is_mark_row rows.now }
 {
@@ -78,6 +88,7 @@ fn are_marks(rows: &[Row]) -> bool
     true
 }
 
+/// Whether each row has the form of a row of `taken`.
 fn are_taken(rows: &[Row]) -> bool
     ensures { result ≡ list_all is_taken_row rows.now }
 {
@@ -91,6 +102,7 @@ fn are_taken(rows: &[Row]) -> bool
     true
 }
 
+/// The value at a place, NULL where there is none.
 fn value_at(row: &Row, at: usize) -> ValueRef<'_>
     ensures { owned result ≡ column row.now at }
 {
@@ -139,6 +151,7 @@ pub(crate) fn do_rise(rows: &[Row]) -> bool
     true
 }
 
+/// The key id, if a blob is in its place.
 fn key_of(row: &Row) -> Option<&[u8]>
     ensures { IfSome result (λ key. column row.now 1 ≡ Blob key.now) }
 {
@@ -148,6 +161,7 @@ fn key_of(row: &Row) -> Option<&[u8]>
     }
 }
 
+/// Whether this is the key id.
 fn has_key(row: &Row, key: &[u8]) -> bool
     ensures { result ≡ is_blob key.now (column row.now 1) }
 {
@@ -157,6 +171,7 @@ fn has_key(row: &Row, key: &[u8]) -> bool
     }
 }
 
+/// Whether this is the device.
 fn has_device(row: &Row, device: u64) -> bool
     ensures { result ≡ is_number device (column row.now 2) }
 {
@@ -181,7 +196,7 @@ fn end_after(row: &Row, end: u64) -> Option<u64>
 {
     let lo = number_at(row, 3)?;
     let size = number_at(row, 4)?;
-    if lo != end || size == 0 || size > 0x1_0000_0000 - end {
+    if lo != end || size == 0 || size > FIELD - end {
         return None;
     }
     Some(end + size)

@@ -14,6 +14,7 @@ ghost use Rattle.reserve_core.specs.Writes.{Appends, Entered, IsMarkOf, IsReady,
 
 use sqlite::{Alter, Connection, Error, Transaction, params};
 
+/// The number as SQL has it.
 fn signed(n: u64) -> i64
     requires { n ≤ 2 ^ 32 }
     ensures { result ≡ pos n }
@@ -21,6 +22,7 @@ fn signed(n: u64) -> i64
     n as i64
 }
 
+/// Where a range ends.
 fn end_of(lo: u64, size: u32) -> u64
     requires { lo ≤ 2 ^ 32 }
     ensures { result ≡ lo + size }
