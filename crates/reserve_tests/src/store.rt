@@ -1,7 +1,7 @@
 //! Databases for the tests.
 use ledger_core::Device;
 use reserve_core::{Keeper, ReserveFault};
-use sqlite::{Alter, Connection, MemStore};
+use sqlite::{Alter, Connection, MemStore, params};
 use std::alloc::Global;
 
 /// The identity of the key 00 01 .. 1f: its SHA-256.
@@ -28,6 +28,34 @@ pub fn database(alloc: Global, sql: &[&str]) -> Option<Connection<MemStore>> {
     Some(conn)
 }
 
+/// A row of `mark`: device and next. Of `taken`: device, lo and size. Both are of the key id `ID`.
+pub type Mark = (i64, i64);
+
+pub type Taken = (i64, i64, i64);
+
+/// Puts these rows in, in this order.
+pub fn put_rows(conn: &mut Connection<MemStore>, marks: &[Mark], taken: &[Taken]) -> Option<()> {
+    let id = ID.as_slice();
+    for (device, next) in marks {
+        let row = params![id, *device, *next];
+        conn.execute("INSERT INTO mark VALUES (?1, ?2, ?3)", row)
+            .ok()?;
+    }
+    for (device, lo, size) in taken {
+        let row = params![id, *device, *lo, *size];
+        conn.execute("INSERT INTO taken VALUES (?1, ?2, ?3, ?4)", row)
+            .ok()?;
+    }
+    Some(())
+}
+
+/// A database in memory with both tables and these rows.
+pub fn ledger(alloc: Global, marks: &[Mark], taken: &[Taken]) -> Option<Connection<MemStore>> {
+    let mut conn = database(alloc, &[TABLES])?;
+    put_rows(&mut conn, marks, taken)?;
+    Some(conn)
+}
+
 /// The keeper of a database, or why there is none.
 pub fn keeper<S: Alter + Drop>(conn: Connection<S>) -> Result<Keeper<S>, ReserveFault> {
     match Keeper::open(conn) {
@@ -36,15 +64,23 @@ pub fn keeper<S: Alter + Drop>(conn: Connection<S>) -> Result<Keeper<S>, Reserve
     }
 }
 
-/// Why a database after these statements does not open: 0 where it does, 1 where there is no such database.
-pub fn refusal(alloc: Global, sql: &[&str]) -> u32 {
-    let Some(conn) = database(alloc, sql) else {
-        return 1;
-    };
-    match keeper(conn) {
-        Ok(_) => 0,
-        Err(fault) => fault.number(),
-    }
+/// Whether a ledger of these rows opens, and else why not. `None` where there is no such database.
+pub fn opening_of(
+    alloc: Global,
+    marks: &[Mark],
+    taken: &[Taken],
+) -> Option<Result<(), ReserveFault>> {
+    Some(opening(ledger(alloc, marks, taken)?))
+}
+
+/// The same of a database after these statements.
+pub fn opening_after(alloc: Global, sql: &[&str]) -> Option<Result<(), ReserveFault>> {
+    Some(opening(database(alloc, sql)?))
+}
+
+fn opening(conn: Connection<MemStore>) -> Result<(), ReserveFault> {
+    keeper(conn)?;
+    Ok(())
 }
 
 /// The next range of a key id and device, or why there is none.

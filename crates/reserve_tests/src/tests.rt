@@ -1,5 +1,5 @@
 //! Reservations, one after the other.
-use crate::store::{ID, TABLES, database, has_taken, keeper, reserve};
+use crate::store::{ID, database, has_taken, keeper, ledger, reserve};
 use reserve_core::{Keeper, ReserveFault};
 use std::test::*;
 
@@ -16,9 +16,11 @@ fn ranges_are_adjacent_from_0(rt: HostRuntime) -> Result<(), Fail> {
 
 #[test]
 fn field_is_spent_at_its_end(rt: HostRuntime) -> Result<(), Fail> {
-    let rows =
-        "INSERT INTO mark VALUES (X'630dcd2966c4336691125448bbb25b4ff412a49c732db2c8abc1b8581bd710dd', 1, 4294967295); INSERT INTO taken VALUES (X'630dcd2966c4336691125448bbb25b4ff412a49c732db2c8abc1b8581bd710dd', 1, 0, 4294967295);";
-    let mut keeper = keeper(database(rt.alloc(), &[TABLES, rows]).ok_or("database")?)?;
+    let mut keeper = keeper(ledger(
+        rt.alloc(),
+        &[(1, 4_294_967_295)],
+        &[(1, 0, 4_294_967_295)],
+    ).ok_or("database")?)?;
     assert_eq!(rt;
         reserve(&mut keeper, &ID, 1, 0),
         Err(ReserveFault::ZeroCount)
@@ -86,9 +88,9 @@ fn second_run_continues_the_numbers(rt: HostRuntime) -> Result<(), Fail> {
 
 #[test]
 fn a_long_range_goes_on(rt: HostRuntime) -> Result<(), Fail> {
-    let rows =
-        "INSERT INTO mark VALUES (X'630dcd2966c4336691125448bbb25b4ff412a49c732db2c8abc1b8581bd710dd', 1, 70000); INSERT INTO taken VALUES (X'630dcd2966c4336691125448bbb25b4ff412a49c732db2c8abc1b8581bd710dd', 1, 0, 70000);";
-    let mut keeper = keeper(database(rt.alloc(), &[TABLES, rows]).ok_or("database")?)?;
+    let mut keeper = keeper(ledger(rt.alloc(), &[(1, 70_000)], &[(1, 0, 70_000)]).ok_or(
+        "database",
+    )?)?;
     assert_eq!(rt; reserve(&mut keeper, &ID, 1, 2), Ok((70_000, 2)));
     assert!(rt; has_taken(&mut keeper, &ID, 1, &[(0, 70_000), (70_000, 2)]));
     Ok(())
@@ -110,9 +112,7 @@ fn a_refused_second_write_leaves_the_mark(rt: HostRuntime) -> Result<(), Fail> {
 
 #[test]
 fn a_refused_database_is_handed_back(rt: HostRuntime) -> Result<(), Fail> {
-    let rows =
-        "INSERT INTO taken VALUES (X'630dcd2966c4336691125448bbb25b4ff412a49c732db2c8abc1b8581bd710dd', 1, 0, 1);";
-    let conn = database(rt.alloc(), &[TABLES, rows]).ok_or("database")?;
+    let conn = ledger(rt.alloc(), &[], &[(1, 0, 1)]).ok_or("database")?;
     let Err((fault, mut conn)) = Keeper::open(conn) else {
         return Err("opened".into());
     };
