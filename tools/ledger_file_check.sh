@@ -1,17 +1,25 @@
 #!/bin/bash
 # Reads a ledger file of ours with the stock sqlite3, and opens one of sqlite3's with ours. LEDGER_FILE names the built program, which
-# `rt run` builds in crates/ledger_file where it isn't there.
+# `rt run` builds in crates/ledger_file where it isn't there or is older than its source. Where sqlite3 isn't there it ends well, and
+# under CI it fails.
 set -eu
 cd "$(dirname "$0")/.."
 if ! command -v sqlite3 >/dev/null; then
     echo "ledger_file_check: skipped, sqlite3 isn't there"
-    exit 0
+    [ -z "${CI:-}" ] && exit 0 || exit 1
 fi
 folder=$(mktemp -d)
 trap 'rm -rf "$folder"' EXIT
 program=${LEDGER_FILE:-$PWD/crates/ledger_file/out/ledger_file}
-[ -x "$program" ] || (cd crates/ledger_file && rt run) >"$folder/log" 2>&1 || { cat "$folder/log"; exit 1; }
-ours() { "$program" "$@" 2>"$folder/log" || true; }
+is_old() { [ ! -x "$program" ] || [ -n "$(find crates/{ledger_file,reserve_core,ledger_core,journal_core}/src -newer "$program" -print -quit)" ]; }
+if [ -z "${LEDGER_FILE:-}" ] && is_old; then
+    (cd crates/ledger_file && rt run) >"$folder/log" 2>&1 || { cat "$folder/log"; exit 1; }
+fi
+ours() { # what it prints, and its status where that isn't 0
+    local status=0
+    "$program" "$@" 2>"$folder/log" || status=$?
+    [ "$status" = 0 ] || echo "status $status"
+}
 wants() { # NAME WANTED GOT
     [ "$2" = "$3" ] || { echo "ledger_file_check: $1: '$3', not '$2'"; cat "$folder/log"; exit 1; }
 }
@@ -47,6 +55,6 @@ wants 'next of theirs' 'reserved 70002 5' "$(ours reserve "$b" 7 5)"
 wants 'integrity of theirs' ok "$(sqlite3 "$b" 'PRAGMA integrity_check')"
 wants 'rows of theirs' '7|70007' "$(sqlite3 "$b" 'SELECT device, next FROM mark')"
 sqlite3 "$b" 'UPDATE mark SET next = 70008'
-wants 'a mark past the ranges' '' "$(ours taken "$b" 7)"
+wants 'a mark past the ranges' 'status 1' "$(ours taken "$b" 7)"
 grep -q 'not a ledger' "$folder/log" || { echo 'ledger_file_check: a bad store was not named'; cat "$folder/log"; exit 1; }
 echo 'ledger_file_check: our file read by sqlite3, and its file opened by ours'
