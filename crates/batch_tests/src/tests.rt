@@ -7,7 +7,9 @@ use crate::meeting::Meeting;
 use crate::run::Run;
 use container_core::{Key, open, seal};
 use crew_core::{Free, Outcome};
-use ledger_core::{Device, FromMemory, IssueFault, Range, Schedule, Spent, Tally, ToMemory, Way, audit, prefix};
+use ledger_core::{
+    Device, FromMemory, IssueFault, Range, Schedule, Spent, Tally, ToMemory, Way, audit, prefix,
+};
 use std::alloc::Global;
 use std::test::*;
 
