@@ -45,20 +45,20 @@ fn file_command<'a>(alloc: Global, name: &'a str, about: &'a str) -> Result<Comm
     let workers = Arg::new(alloc, "workers")
         .long("workers")
         .value_name("N")
-        .value_parser(value_parser!(u32).range(1..=16))
+        .value_parser(value_parser!(u32).range(1..=MAX_WORKERS as i64))
         .default_value("1")
         .help("Workers on one file, side by side, 1 to 16");
     let max_bytes = Arg::new(alloc, "max-bytes")
         .long("max-bytes")
         .value_name("N")
-        .value_parser(value_parser!(u64).range(0..=1_099_511_627_776))
+        .value_parser(value_parser!(u64).range(0..=MAX_BYTES as i64))
         .default_value("1073741824")
         .help("A FILE of more plaintext bytes is refused, 0 to 1099511627776");
     let files = Arg::new(alloc, "FILE")
         .required(true)
         .num_args(1..)
         .action(ArgAction::Append)
-        .help("The files, each worked in turn");
+        .help("The files, whose lines stand in this order");
     let command = Command::new(alloc, name)
         .about(about)
         .arg(key)?
@@ -99,14 +99,14 @@ fn seal_command<'a>(alloc: Global) -> Result<Command<'a>, Error> {
         .long("device")
         .value_name("N")
         .required(true)
-        .value_parser(value_parser!(u32).range(0..=16_777_215))
+        .value_parser(value_parser!(u32).range(0..=Device::MAX as i64))
         .help("This machine's number under this key, 0 to 16777215; no two machines share one");
     let lanes = Arg::new(alloc, "lanes")
         .long("lanes")
         .value_name("N")
-        .value_parser(value_parser!(u32).range(1..=16))
+        .value_parser(value_parser!(u32).range(1..=MAX_LANES as i64))
         .default_value("1")
-        .help("How many files are sealed at once, 1 to 16");
+        .help("Files sealed side by side, 1 to 16; above 1 only with one worker");
     let journal = Arg::new(alloc, "journal")
         .long("journal")
         .value_name("F")
