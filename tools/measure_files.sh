@@ -1,62 +1,76 @@
 #!/bin/bash
-# Times sealing and opening of one file of 1 GiB, by workers, and of 10,000 files of 4 KiB, by lanes, beside `age` and `cp`: each in
-# turn, ROUNDS times over; prints of each the best wall seconds, the user seconds of that run, and its peak memory.
+# Times sealing and opening of one file of 1 GiB, by workers, and of many files of one size, by lanes, beside `age` and `cp`: each in
+# turn, ROUNDS times over; prints of each the best wall seconds, and the user seconds and the peak memory of that run.
 # usage: tools/measure_files.sh FOLDER [ROUNDS]    FOLDER: an empty folder, best in memory-backed storage, with 6 GiB free
 # `age` and GNU `time` are Debian's packages of these names.
 set -eu
-here=$(cd "$(dirname "$0")/.." && pwd)
-sealer=$here/crates/sealer/out/sealer
+sealer=$(cd "$(dirname "$0")/.." && pwd)/crates/sealer/out/sealer
 rounds=${2:-3}
 cd "$1"
 command -v age >/dev/null && command -v age-keygen >/dev/null && [ -x /usr/bin/time ] || { echo 'age or time is missing'; exit 1; }
 
-head -c 1073741824 /dev/zero | openssl enc -chacha20 -K "$(printf '00%.0s' $(seq 32))" -iv "$(printf '00%.0s' $(seq 16))" > big
-mkdir many
-split -b 4096 -a 5 -d <(head -c 40960000 big) many/f
+# The files, of pseudorandom bytes: `big`, and in the folder of each size many files of it.
+sizes='4KiB 64KiB 256KiB 1MiB'
+head -c 1G /dev/zero | openssl enc -chacha20 -K "$(printf '00%.0s' $(seq 32))" -iv "$(printf '00%.0s' $(seq 16))" > big
+mkdir $sizes
+head -c 40960000 big | split -b 4KiB -a 5 -d - 4KiB/f
+for size in 64KiB 256KiB 1MiB; do head -c 128M big | split -b $size -a 5 -d - $size/f; done
 openssl rand -hex 32 > key
 age-keygen -o age.key 2>/dev/null
 to=$(age-keygen -y age.key)
+export to
 
-# timed NAME COMMAND..: keeps the best of the runs of this name
+# timed NAME COMMAND..: notes one run under this name
+: > all
 timed() {
     /usr/bin/time -o figures -f '%e %U %M' "${@:2}" > lines 2> errors || { echo "$1 failed: $(head -1 errors)"; exit 1; }
-    read -r wall user memory < <(tail -1 figures)
-    echo "$wall $user $memory $1" >> all
+    echo "$(tail -1 figures) $1" >> all
 }
-export sealer to
+seals() { timed "$1" "$sealer" seal --key key --ledger ledger --device 1 "${@:2}"; }
+opens() { timed "$1" "$sealer" open --key key "${@:2}"; }
 
-: > all
-for _ in $(seq "$rounds"); do
-    rm -f big.cp; timed 'cp, 1 GiB' cp big big.cp; rm big.cp
+one_file() {
+    timed 'cp, 1 GiB' cp big copy
+    rm copy
+    mv big kept
     for workers in 1 2 4; do
-        rm -f big.stm
-        timed "seal, 1 GiB, $workers workers" "$sealer" seal --key key --ledger ledger --device 1 --workers $workers big
-        mv big big.kept
-        timed "open, 1 GiB, $workers workers" "$sealer" open --key key --workers $workers big.stm
-        cmp big big.kept
-        mv big.kept big
+        mv kept big
+        seals "seal --workers $workers, 1 GiB" --workers $workers big
+        mv big kept
+        opens "open --workers $workers, 1 GiB" --workers $workers big.stm
+        cmp big kept
+        rm big big.stm
     done
-    rm -f big.stm
+    mv kept big
     timed 'age -e, 1 GiB' age -r "$to" -o big.age big
-    timed 'age -d, 1 GiB' age -d -i age.key -o big.opened big.age
-    cmp big big.opened
-    rm big.age big.opened
-    for lanes in 1 4; do
-        rm -f many/*.stm
-        timed "seal, 10,000 files, $lanes lanes" "$sealer" seal --key key --ledger ledger --device 1 --lanes $lanes many/f*
+    timed 'age -d, 1 GiB' age -d -i age.key -o copy big.age
+    cmp big copy
+    rm big.age copy
+}
+
+many_files() { # SIZE
+    local many
+    many="$(ls "$1" | wc -l) of $1"
+    timed "cp -r, $many" cp -r "$1" copies
+    rm -r copies
+    mkdir sealed
+    for lanes in 1 2 4; do
+        rm -f sealed/*
+        seals "seal --lanes $lanes, $many" --lanes $lanes "$1"/f*
+        mv "$1"/*.stm sealed
     done
-    mkdir opened
-    mv many/*.stm opened
-    (cd opened && "$sealer" verify --key ../key ./*.stm > /dev/null)
-    timed 'open, 10,000 files' "$sealer" open --key key opened/*.stm
-    rm opened/*.stm
-    diff -rq many opened
-    rm -r opened
-    timed 'age -e, 10,000 files' bash -c 'for f in many/f*; do age -r "$to" -o "$f.age" "$f" || exit 1; done'
-    rm many/*.age
-    timed 'cp -r, 10,000 files' cp -r many copied
-    rm -r copied
+    opens "open, $many" sealed/*
+    rm sealed/*.stm
+    diff -rq "$1" sealed
+    rm -r sealed
+}
+
+for _ in $(seq "$rounds"); do
+    one_file
+    for size in $sizes; do many_files $size; done
 done
+# Once, since it starts a program for each file.
+timed 'age -e, 10000 of 4KiB' bash -c 'for f in 4KiB/f*; do age -r "$to" -o "$f.age" "$f" || exit 1; done'
 echo '| what | wall s | user s | peak MiB |'
 echo '|---|---|---|---|'
 cut -d ' ' -f 4- all | awk '!seen[$0]++' | while read -r name; do
