@@ -18,9 +18,9 @@ use container_core::OpenFault;
 use std::alloc::{AllocError, Global};
 use std::thread::{Threads, join, join_mut};
 
-// How many pieces a worker makes in a round but the first and the last: 4 MiB, made in some 13 ms, where its thread starts in less
+// How many pieces a worker makes in a round but the first and the last: 1 MiB, made in some 4 ms, where its thread starts in less
 // than 0.1 ms.
-const ROUND: u32 = 64;
+const ROUND: u32 = 16;
 
 // The pieces of a round, by their numbers: from `begin` on, a multiple of the number of workers, and below `end`.
 #[derive(Clone, Copy)]
