@@ -182,7 +182,15 @@ fn end_job<W: Sink>(
             seat,
             bytes: container,
             spent,
-        } => write_container(ledger, seats, seat, container.as_slice(), spent, writer, bytes),
+        } => write_container(
+            ledger,
+            seats,
+            seat,
+            container.as_slice(),
+            spent,
+            writer,
+            bytes,
+        ),
     }
 }
 

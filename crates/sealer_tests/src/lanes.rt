@@ -127,7 +127,8 @@ fn files_that_fail_in_a_group_spend_no_number(rt: HostRuntime) -> Result<(), Fai
     assert_eq!(rt;
         out.lines.bytes(),
         b"failed m: cannot open\nfailed long: too long\nsealed a file 0 bytes 1\n\
-failed a: output exists\nsealed c file 1 bytes 2\nfailed long: too long\n".as_slice()
+failed a: output exists\nsealed c file 1 bytes 2\nfailed long: too long\n"
+            .as_slice()
     );
     assert!(rt; holds(rt.alloc(), &folder, "a.stm", 0, b"1")?);
     assert!(rt; holds(rt.alloc(), &folder, "c.stm", 1, b"22")?);
@@ -166,7 +167,9 @@ fn an_input_that_fails_in_a_group_spends_no_number(rt: HostRuntime) -> Result<()
 }
 
 #[test]
-fn an_output_that_fails_in_a_group_is_removed_and_its_number_void(rt: HostRuntime) -> Result<(), Fail> {
+fn an_output_that_fails_in_a_group_is_removed_and_its_number_void(
+    rt: HostRuntime,
+) -> Result<(), Fail> {
     let mut keeper = new_keeper(rt.alloc())?;
     let mut folder = MemoryFolder::new(rt.alloc());
     folder.put("a", b"x")?;

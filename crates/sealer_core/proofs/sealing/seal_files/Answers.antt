@@ -12,7 +12,7 @@ pub returns-then-options-eq1-clause-sealed : goal.returns-then-options-eq1-claus
 returns-then-options-eq1-clause-sealed g c =
     let one : c.args.options.now.lanes ≡ 1 = c.if-options-eq1.true in
     let fresh : c.args.seats.now ≡ fresh_seats c.args.ledger.now.ledger c.args.ledger.now.terms 1 =
-        c.requires.fresh ∙ ap (fresh_seats c.args.ledger.now.ledger c.args.ledger.now.terms) one in
+    c.requires.fresh ∙ ap (fresh_seats c.args.ledger.now.ledger c.args.ledger.now.terms) one in
     subst (λ (lanes : ℕ). AreSealed lanes (map (λ (name : Bor (List ℕ)). name.now) c.args.options.now.files.now)
     (operations_of (set c.args.seats.now 0 c.seal_one_lane.new.seat)) c.seal_one_lane.result
     (g.W.Sink.taken c.args.lines.now) (g.W.Sink.taken c.seal_one_lane.new.lines) (g.W.Sink.failures c.args.lines.now) (g.W.Sink.failures c.seal_one_lane.new.lines)
