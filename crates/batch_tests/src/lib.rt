@@ -3,12 +3,10 @@
 
 pub mod held;
 pub mod jobs;
-pub mod meeting;
 pub mod run;
 #[cfg(test)]
 mod tests;
 
 pub use crate::held::Held;
 pub use crate::jobs::{jobs_of, texts};
-pub use crate::meeting::Meeting;
 pub use crate::run::Run;

@@ -3,10 +3,10 @@ ghost use Rattle.std.specs.Prelude.{◌≡◌, IfOk};
 
 use crate::held::Held;
 use crate::jobs::{jobs_of, texts};
-use crate::meeting::Meeting;
 use crate::run::Run;
 use container_core::{Key, open, seal};
 use crew_core::{Free, Outcome};
+use crew_tests::Meeting;
 use ledger_core::{
     Device, FromMemory, IssueFault, Range, Schedule, Spent, Tally, ToMemory, Way, audit, prefix,
 };

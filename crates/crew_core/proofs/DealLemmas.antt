@@ -1,13 +1,13 @@
 -- The deals of all workers are all pieces.
-use Rattle.std.proofs.Common.{◌≡◌, ◌≢◌, ℕ, ◌+◌, ◌*◌, ◌/◌, ◌%◌, ◌<◌, ◌≤◌, List, [], ◌∷◌, ◌++◌, length, get_or, All, Contains, None, ◌⊎◌, refl, ap, sym, ◌∙◌, arith, inl, inr, mul-le-mul_right, mul_comm}
-use Rattle.std.proofs.Math.Nat.{mod-add-div}
+use Rattle.std.proofs.Common.{◌≡◌, ◌≢◌, ℕ, ◌+◌, ◌-◌, ◌*◌, ◌/◌, ◌%◌, ◌<◌, ◌≤◌, List, [], ◌∷◌, ◌++◌, length, get_or, All, Contains, None, ◌⊎◌, refl, ap, sym, ◌∙◌, arith, inl, inr, mul-le-mul_right, mul_comm}
+use Rattle.std.proofs.Math.Nat.{mod-add-div, mod-lt}
 use Rattle.std.proofs.lemmas.List.{get_or_append_left, get_or_push, length_push}
 use Rattle.std.proofs.lemmas.List.Elements.{All-append, Contains-append_left, Contains-append_right}
 use Rattle.std.proofs.lemmas.Bool.{cases_lt, cases_eq}
 use Rattle.crew_core.specs.Pieces.{PieceView, WorkView, ShelfView, piece_of, place_of, with_piece}
 use Rattle.crew_core.specs.Answer.{IsOf}
 use Rattle.crew_core.proofs.AnswerLemmas.{filled-stowed, Fits-made}
-use Rattle.crew_core.specs.Deal.{IsBegun, IsDeal, IsMade, HasOthers}
+use Rattle.crew_core.specs.Deal.{IsDeal, IsMade, HasFirst, HasOthers, HasUpTo, IsMultiple}
 
 pub next_number : (worker workers n : ℕ) → worker + n * workers + workers ≡ worker + (n + 1) * workers
 next_number worker workers n = grind arith
@@ -27,6 +27,12 @@ number_at : (worker workers n : ℕ) → n % workers ≡ worker → worker + (n 
 number_at worker workers n is =
     ap (λ m. m + n / workers * workers) (sym is) ∙ ap (λ m. n % workers + m) (mul_comm (n / workers) workers) ∙ mod-add-div n workers
 
+less_next : (m n : ℕ) → m < n → m + 1 ≤ n
+less_next m n less = omega arith
+
+over : (k l workers : ℕ) → k < l → k * workers + workers ≤ l * workers
+over k l workers less = let r = mul-le-mul_right workers (less_next k l less) in let e = one_more k workers in omega arith
+
 -- the first pieces of a deal are all below the number of the next one
 begun_at : (worker workers long n : ℕ) → n < worker + long * workers → n % workers ≡ worker → n / workers < long
 begun_at worker workers long n low is =
@@ -36,37 +42,80 @@ begun_at worker workers long n low is =
       | inr more ↦ let m = mul-le-mul_right workers more in absurd (omega arith)
     ]
 
-pub begun_covers : (w : WorkView) (worker workers : ℕ) (ps : List PieceView) → IsBegun w worker workers ps → (n : ℕ) → n < worker + length ps * workers → n % workers ≡ worker
-    → Contains ps (piece_of w n)
-begun_covers w worker workers ps begun n low is =
-    let inside = begun_at worker workers (length ps) n low is in
-    (n / workers, inside, begun.each (n / workers) (piece_of w n) inside ∙ ap (piece_of w) (number_at worker workers n is))
-
-pub begun_within : (w : WorkView) (worker workers : ℕ) (ps : List PieceView) → IsBegun w worker workers ps → (n : ℕ) → n < worker + length ps * workers → n % workers ≡ worker
-    → n < length w.values
-begun_within w worker workers ps begun n low is =
-    let at = begun.within (n / workers) (begun_at worker workers (length ps) n low is) in
+-- the pieces from a multiple on come after as many of the same worker
+begun_from : (worker workers rounds n : ℕ) → worker < workers → rounds * workers ≤ n → n % workers ≡ worker → rounds ≤ n / workers
+begun_from worker workers rounds n low from is =
     let place = number_at worker workers n is in
+    elim (cases_lt (n / workers) rounds) [
+      | inl less ↦ let o = over (n / workers) rounds workers less in absurd (omega arith)
+      | inr more ↦ more
+    ]
+
+-- the place of a number in the deal that begins at this number
+pub place_in : (worker workers rounds first n : ℕ) → first ≡ rounds * workers + worker → worker < workers → rounds * workers ≤ n → n % workers ≡ worker
+    → first + (n / workers - rounds) * workers ≡ n
+place_in worker workers rounds first n e low from is =
+    let place = number_at worker workers n is in
+    let after : rounds + (n / workers - rounds) ≡ n / workers = let f = begun_from worker workers rounds n low from is in omega arith in
+    let both : rounds * workers + (n / workers - rounds) * workers ≡ (n / workers) * workers = sum_of rounds (n / workers - rounds) workers ∙ ap (λ m. m * workers) after in
     omega arith
+  where
+    sum_of : (a b k : ℕ) → a * k + b * k ≡ (a + b) * k
+    sum_of a b k = grind arith
 
-begun_made : (w : WorkView) (worker workers : ℕ) (ps : List PieceView) → IsBegun w worker workers ps → All (IsMade w) ps
-begun_made w worker workers ps begun k d at = let e = begun.each k d at in rw e (refl, begun.within k at)
+place_within : (worker workers rounds first long n : ℕ) → first ≡ rounds * workers + worker → worker < workers → rounds * workers ≤ n → n % workers ≡ worker
+    → n < first + long * workers → n / workers - rounds < long
+place_within worker workers rounds first long n e low from is below =
+    let at = place_in worker workers rounds first n e low from is in
+    elim (cases_lt (n / workers - rounds) long) [
+      | inl less ↦ less
+      | inr more ↦ let m = mul-le-mul_right workers more in absurd (omega arith)
+    ]
 
-pub next_deal : (w : WorkView) (worker upto workers : ℕ) (ps qs : List PieceView) → upto ≡ worker + 1 → HasOthers w worker workers ps
-    → IsDeal w worker workers (length w.values) qs → HasOthers w upto workers (ps ++ qs)
-next_deal w worker upto workers ps qs next has deal = record {
-  made = All-append (IsMade w) ps qs has.made (begun_made w worker workers qs deal.begun);
-  covers = λ n at some low. elim (cases_eq (n % workers) worker) [
-    | inl same ↦ let a = deal.all in Contains-append_right ps qs (piece_of w n) (begun_covers w worker workers qs deal.begun n (omega arith) same)
-    | inr other ↦ Contains-append_left ps qs (piece_of w n) (has.covers n at some (omega arith))
+-- a deal has the piece of each number of its worker from its first one on
+pub deal_covers : (w : WorkView) (worker workers rounds first end : ℕ) (ps : List PieceView) → first ≡ rounds * workers + worker → worker < workers
+    → IsDeal w first workers end ps → (n : ℕ) → rounds * workers ≤ n → n < end → n % workers ≡ worker → Contains ps (piece_of w n)
+deal_covers w worker workers rounds first end ps e low deal n from below is =
+    let all = deal.all in
+    let inside = place_within worker workers rounds first (length ps) n e low from is (omega arith) in
+    let j = n / workers - rounds in
+    (j, inside, deal.begun.each j (piece_of w n) inside ∙ ap (piece_of w) (place_in worker workers rounds first n e low from is))
+
+pub deal_made : (w : WorkView) (first workers end : ℕ) (ps : List PieceView) → IsDeal w first workers end ps → All (IsMade w) ps
+deal_made w first workers end ps deal k d at = let e = deal.begun.each k d at in rw e (refl, deal.begun.within k at)
+
+pub next_deal : (w : WorkView) (worker upto workers begin end : ℕ) (ps qs : List PieceView) → upto ≡ worker + 1 → worker < workers → IsMultiple workers begin
+    → HasOthers w worker workers begin end ps → IsDeal w (begin + worker) workers end qs → HasOthers w upto workers begin end (ps ++ qs)
+next_deal w worker upto workers begin end ps qs next under multiple has deal = record {
+  made = All-append (IsMade w) ps qs has.made (deal_made w (begin + worker) workers end qs deal);
+  covers = λ n from below some low. elim (cases_eq (n % workers) worker) [
+    | inl same ↦ Contains-append_right ps qs (piece_of w n)
+        (deal_covers w worker workers multiple.0 (begin + worker) end qs (ap (λ m. m + worker) multiple.1) under deal n (omega arith) below same)
+    | inr other ↦ Contains-append_left ps qs (piece_of w n) (has.covers n from below some (omega arith))
   ];
 }
 
-less_next : (m n : ℕ) → m < n → m + 1 ≤ n
-less_next m n less = omega arith
+-- without workers other than 0 there is nothing to have
+pub no_others : (w : WorkView) (workers begin end : ℕ) → HasOthers w 1 workers begin end []
+no_others w workers begin end = record {
+  made = λ k d at. absurd (omega arith);
+  covers = λ n from below some low. absurd (omega arith);
+}
 
-over : (k l workers : ℕ) → k < l → k * workers + workers ≤ l * workers
-over k l workers less = let r = mul-le-mul_right workers (less_next k l less) in let e = one_more k workers in omega arith
+-- a round by all workers
+pub round_made : (w : WorkView) (workers begin end : ℕ) (s : ShelfView) (ps : List PieceView) → 0 < workers → HasFirst w workers begin end s
+    → HasOthers w workers workers begin end ps → HasUpTo w end s ps
+round_made w workers begin end s ps some first others = record {
+  of = first.of;
+  made = others.made;
+  still = λ n at below. elim (cases_lt n begin) [
+    | inl early ↦ inr (first.before n at early)
+    | inr late ↦ elim (cases_eq (n % workers) 0) [
+      | inl zero ↦ inr (first.filled n late below zero)
+      | inr other ↦ inl (others.covers n late below (omega arith) (mod-lt n some))
+    ]
+  ];
+}
 
 -- a multiple of the number of workers is the next one, or one before it
 pub next_multiple : (workers rounds n : ℕ) → 0 < workers → n % workers ≡ 0 → n < rounds * workers + workers → (n ≡ rounds * workers) ⊎ (n < rounds * workers)
@@ -94,14 +143,14 @@ one_round_more number step rounds workers e f = let o = one_more rounds workers 
 pub is_made : (w : WorkView) (n : ℕ) (p : PieceView) → p ≡ piece_of w n → n < length w.values → IsMade w p
 is_made w n p e at = rw e (refl, at)
 
--- the multiples below the next one are filled, where those below this one are and this one is stowed
-pub filled_next : (w : WorkView) (s t : ShelfView) (p : PieceView) (workers rounds number step n : ℕ) → 0 < workers
-    → number ≡ rounds * workers → step ≡ workers → IsOf w s → IsMade w p → p.number ≡ number
+-- the multiples from this one on and below the next are filled, where those below this one are and this one is stowed
+pub filled_next : (w : WorkView) (s t : ShelfView) (p : PieceView) (workers rounds begin number step n : ℕ) → 0 < workers
+    → number ≡ rounds * workers → IsOf w s → IsMade w p → p.number ≡ number
     → place_of t p ≢ None → (t ≡ s) ⊎ (t ≡ with_piece s p)
-    → ((k : ℕ) → k < number → k % workers ≡ 0 → get_or s.places k None ≢ None)
-    → n < number + step → n % workers ≡ 0 → get_or t.places n None ≢ None
-filled_next w s t p workers rounds number step n some e f of made this filled either was low is =
+    → ((k : ℕ) → begin ≤ k → k < number → k % workers ≡ 0 → get_or s.places k None ≢ None)
+    → begin ≤ n → n < number + step → step ≡ workers → n % workers ≡ 0 → get_or t.places n None ≢ None
+filled_next w s t p workers rounds begin number step n some e of made this filled either was late low f is =
     elim (next_multiple workers rounds n some is (omega arith)) [
       | inl here ↦ let same : p.number ≡ n = this ∙ e ∙ sym here in rw same at filled
-      | inr before ↦ filled-stowed s t p n (Fits-made w s p of made) either (was n (omega arith) is)
+      | inr before ↦ filled-stowed s t p n (Fits-made w s p of made) either (was n late (omega arith) is)
     ]

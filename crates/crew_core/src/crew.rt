@@ -1,11 +1,13 @@
-//! The workers: each makes the pieces that it was dealt. Worker 0, the caller's thread, puts its own on the shelf as they come,
-//! and those of the others once they have ended. To make the shelf is to write the whole once, so where there are more workers a
-//! thread of its own makes it, while worker 0 makes its first pieces.
-ghost use Rattle.std.specs.Prelude.{◌≡◌, ◌≢◌, ℕ, ◌<◌, ◌≤◌, ◌⊎◌, All, None, Ok, Err, IfOk, IfErr, length, slice_index_or};
+//! The workers: the pieces are made round by round, in each by every worker so many of those that it was dealt.
+//!
+//! Worker 0, the caller's thread, puts its own pieces on the shelf as they come, and those of the others while the next round is
+//! made: so few pieces are held at once, and the memory of the ones put is used again. To make the shelf is to write the whole
+//! once; where there are more workers a thread of its own does, beside the first round.
+ghost use Rattle.std.specs.Prelude.{◌≡◌, ◌≢◌, ℕ, ◌+◌, ◌*◌, ◌<◌, ◌≤◌, ◌⊎◌, All, None, Ok, Err, IfOk, IfErr, IfSome, IfNone, length, slice_index_or};
 ghost use Rattle.std.specs.Thread.{IsSync};
-ghost use Rattle.crew_core.specs.Pieces.{Fits, empty_shelf, place_of, with_piece};
+ghost use Rattle.crew_core.specs.Pieces.{Fits, place_of, empty_shelf, with_piece};
 ghost use Rattle.crew_core.specs.Answer.{IsOf, whole_of};
-ghost use Rattle.crew_core.specs.Deal.{IsBegun, IsDeal, IsMade, IsStill, HasFirst, HasOthers};
+ghost use Rattle.crew_core.specs.Deal.{IsDeal, IsMade, IsStill, HasFirst, HasOthers, HasUpTo, IsMultiple};
 
 use crate::fault::ShelfFault;
 use crate::gate::Gate;
@@ -14,7 +16,19 @@ use crate::shelf::Shelf;
 use crate::work::Work;
 use container_core::OpenFault;
 use std::alloc::{AllocError, Global};
-use std::thread::{Threads, join};
+use std::thread::{Threads, join, join_mut};
+
+// How many pieces a worker makes in a round but the first and the last: 1 MiB, made in some 4 ms, where its thread starts in less
+// than 0.1 ms.
+const ROUND: u32 = 16;
+
+// The pieces of a round, by their numbers: from `begin` on, a multiple of the number of workers, and below `end`.
+#[derive(Clone, Copy)]
+struct Round {
+    workers: u32,
+    begin: u32,
+    end: u32,
+}
 
 // Puts a piece on its place, or lets it go where the place is taken.
 fn stow(shelf: &mut Shelf, piece: Piece)
@@ -42,128 +56,191 @@ fn stow_all(work: &Work, shelf: &mut Shelf, mut pieces: Vec<Piece>)
     }
 }
 
-// The pieces of a worker below `end`.
+// The pieces of a worker in a round.
 fn deal<G: Gate>(
     alloc: Global,
     work: &Work,
     worker: u32,
-    workers: u32,
-    end: u32,
+    round: Round,
     gate: &G,
 ) -> Result<Vec<Piece>, AllocError>
-    requires worker { (worker < workers) × (workers ≤ 16) }
-    requires end { end ≤ length work.now.values }
-    ensures { IfOk result (λ v. IsDeal work.now worker workers end v.items) }
+    requires worker { (worker < round.workers) × (round.workers ≤ 16) }
+    requires end { round.end ≤ length work.now.values }
+    ensures { IfOk result (λ v. IsDeal work.now (round.begin + worker) round.workers round.end v.items) }
 {
-    let end = u64::from(end);
-    let mut pieces = Vec::with_capacity(alloc, (end / u64::from(workers)) as usize + 1)?;
-    let mut number = u64::from(worker);
+    let workers = u64::from(round.workers);
+    let begin = u64::from(round.begin);
+    let end = u64::from(round.end);
+    let mut pieces = Vec::with_capacity(alloc, (end.saturating_sub(begin) / workers) as usize + 1)?;
+    let mut number = begin + u64::from(worker);
     while number < end {
         gate.pass(worker, number as u32);
         pieces.push(work.piece(alloc, number as u32)?)?;
-        number += u64::from(workers);
+        number += workers;
     }
     Ok(pieces)
 }
 
-// The shelf with the pieces of worker 0, of which the first are there.
-fn rest_of_first<G: Gate>(
+// The shelf with the pieces of the rounds before and those of worker 0 in this one.
+fn next_part<G: Gate>(
     alloc: Global,
     work: &Work,
-    workers: u32,
+    round: Round,
     gate: &G,
     mut shelf: Shelf,
     pieces: Vec<Piece>,
 ) -> Result<Shelf, AllocError>
-    requires workers { (0 < workers) × (workers ≤ 16) }
-    requires shelf { shelf ≡ empty_shelf work.now }
-    requires pieces { IsBegun work.now 0 workers pieces.items }
-    ensures { IfOk result (λ shelf. HasFirst work.now workers shelf) }
+    requires workers { (0 < round.workers) × (round.workers ≤ 16) }
+    requires begin { IsMultiple round.workers round.begin }
+    requires end { round.end ≤ length work.now.values }
+    requires before { HasUpTo work.now round.begin shelf pieces.items }
+    ensures { IfOk result (λ shelf. HasFirst work.now round.workers round.begin round.end shelf) }
 {
-    let count = u64::from(work.count());
-    let mut number = pieces.len() as u64 * u64::from(workers);
     stow_all(work, &mut shelf, pieces);
-    while number < count {
+    let workers = u64::from(round.workers);
+    let end = u64::from(round.end);
+    let mut number = u64::from(round.begin);
+    while number < end {
         gate.pass(0, number as u32);
         let piece = work.piece(alloc, number as u32)?;
         stow(&mut shelf, piece);
-        number += u64::from(workers);
+        number += workers;
     }
     Ok(shelf)
 }
 
-// Below which number worker 0 makes its pieces before it has the shelf. A seventh of the pieces take one thread about as long as
-// another takes to make the shelf.
-fn early_end(count: u32, workers: u32) -> u32
-    requires { (count ≤ 16777216) × (workers ≤ 16) }
-    ensures { result ≤ count }
-{
-    if workers == 1 {
-        return 0;
-    }
-    count.min(count / 7 * workers)
-}
-
-// The shelf with the pieces of worker 0.
-fn first_deal<R: Threads, G: Gate>(
+// The shelf, made by a thread of its own, with the pieces of worker 0 in the first round.
+fn first_part<R: Threads, G: Gate>(
     rt: &R,
     alloc: Global,
     work: &Work,
-    workers: u32,
+    round: Round,
     gate: &G,
 ) -> Result<Shelf, AllocError>
-    requires { (0 < workers) × (workers ≤ 16) }
-    ensures { IfOk result (λ shelf. HasFirst work.now workers shelf) }
+    requires workers { (0 < round.workers) × (round.workers ≤ 16) }
+    requires begin { round.begin ≡ 0 }
+    requires end { round.end ≤ length work.now.values }
+    ensures { IfOk result (λ shelf. HasFirst work.now round.workers round.begin round.end shelf) }
 {
-    let end = early_end(work.count(), workers);
-    if end == 0 {
-        let shelf = Shelf::new(alloc, work)?;
-        return rest_of_first(alloc, work, workers, gate, shelf, Vec::new(alloc));
-    }
     let other = move || -> Result<Shelf, AllocError>
         ensures { IfOk result (λ shelf. shelf ≡ empty_shelf work.entry.now) }
     { Shelf::new(alloc, work) };
     let here = move || -> Result<Vec<Piece>, AllocError>
-        requires { (0 < workers) × (workers ≤ 16) × (end ≤ length work.now.values) }
-        ensures { IfOk result (λ v. IsDeal work.entry.now 0 workers end v.items) }
-    { deal(alloc, work, 0, workers, end, gate) };
+        requires { (0 < round.workers) × (round.workers ≤ 16) × (round.end ≤ length work.now.values) }
+        ensures { IfOk result (λ v. IsDeal work.entry.now (round.begin + 0) round.workers round.end v.items) }
+    { deal(alloc, work, 0, round, gate) };
     let (made, first) = join(rt, other, here);
-    let shelf = made?;
+    let mut shelf = made?;
     let pieces = first?;
-    rest_of_first(alloc, work, workers, gate, shelf, pieces)
+    stow_all(work, &mut shelf, pieces);
+    Ok(shelf)
 }
 
-// The shelf with the pieces of worker 0, and the pieces of the other workers below `upto`.
+// One round by the workers below `upto`: the shelf with the pieces of the rounds before and those of worker 0 in this one, and
+// the pieces of the others. Takes what the rounds before made, if there was one.
 fn crew<R: Threads + Sync, G: Gate + Sync>(
     rt: &R,
     alloc: Global,
     work: &Work,
+    round: Round,
     upto: u32,
-    workers: u32,
     gate: &G,
+    before: &mut Option<(Shelf, Vec<Piece>)>,
 ) -> Result<(Shelf, Vec<Piece>), AllocError>
-    requires { (0 < upto) × (upto ≤ workers) × (workers ≤ 16) }
-    ensures { IfOk result (λ done. HasFirst work.now workers done.0 × HasOthers work.now upto workers done.1.items) }
+    requires upto { (0 < upto) × (upto ≤ round.workers) × (round.workers ≤ 16) }
+    requires begin { IsMultiple round.workers round.begin }
+    requires end { round.end ≤ length work.now.values }
+    requires first { IfNone before.old (round.begin ≡ 0) }
+    requires before { IfSome before.old (λ s. HasUpTo work.now round.begin s.0 s.1.items) }
+    ensures { IfOk result (λ r. HasFirst work.now round.workers round.begin round.end r.0 × HasOthers work.now upto round.workers round.begin round.end r.1.items) }
 {
     if upto == 1 {
-        // Room for the pieces of all others, before any is made here.
-        let others = Vec::with_capacity(alloc, work.count() as usize)?;
-        return Ok((first_deal(rt, alloc, work, workers, gate)?, others));
+        let shelf = match before.take() {
+            Some((shelf, pieces)) => next_part(alloc, work, round, gate, shelf, pieces)?,
+            None => first_part(rt, alloc, work, round, gate)?,
+        };
+        return Ok((shelf, Vec::new(alloc)));
     }
     let last = upto - 1;
-    let other = move || -> Result<Vec<Piece>, AllocError>
-        requires { IsSync G.row × (last < workers) × (workers ≤ 16) }
-        ensures { IfOk result (λ v. IsDeal work.entry.now last workers (length work.entry.now.values) v.items) }
-    { deal(alloc, work, last, workers, work.count(), gate) };
-    let here = move || -> Result<(Shelf, Vec<Piece>), AllocError>
-        requires { IsSync R.row × IsSync G.row × (0 < last) × (last ≤ workers) × (workers ≤ 16) }
-        ensures { IfOk result (λ done. HasFirst work.entry.now workers done.0 × HasOthers work.entry.now last workers done.1.items) }
-    { crew(rt, alloc, work, last, workers, gate) };
-    let (theirs, ours) = join(rt, other, here);
+    let mut other = || -> Result<Vec<Piece>, AllocError>
+        requires { IsSync G.row × (last < round.workers) × (round.workers ≤ 16) × (round.end ≤ length work.now.values) }
+        ensures { IfOk result (λ v. IsDeal work.entry.now (round.begin + last) round.workers round.end v.items) }
+    { deal(alloc, work, last, round, gate) };
+    let mut here = || -> Result<(Shelf, Vec<Piece>), AllocError>
+        requires { IsSync R.row × IsSync G.row × (0 < last) × (last ≤ round.workers) × (round.workers ≤ 16) × IsMultiple round.workers round.begin
+            × (round.end ≤ length work.now.values) × IfNone before.now (round.begin ≡ 0) × IfSome before.now (λ s. HasUpTo work.now round.begin s.0 s.1.items) }
+        ensures { IfOk result (λ r. HasFirst work.entry.now round.workers round.begin round.end r.0 × HasOthers work.entry.now last round.workers round.begin round.end r.1.items) }
+    { crew(rt, alloc, work, round, last, gate, before) };
+    let (theirs, ours) = join_mut(rt, &mut other, &mut here);
     let (shelf, mut pieces) = ours?;
     let mut more = theirs?;
     pieces.append(&mut more)?;
     Ok((shelf, pieces))
+}
+
+// Where the first round ends. A seventh of the pieces take one thread about as long as another takes to make the shelf.
+fn first_end(count: u32, workers: u32) -> u32
+    requires { (count ≤ 16777216) × (0 < workers) × (workers ≤ 16) }
+    ensures within { result ≤ count }
+    ensures multiple { IsMultiple workers result }
+{
+    if workers == 1 {
+        return 0;
+    }
+    (count / 7).min(count / workers) * workers
+}
+
+// The shelf with the pieces of the first round, those of the workers other than 0 beside it.
+fn first_round<R: Threads + Sync, G: Gate + Sync>(
+    rt: &R,
+    alloc: Global,
+    work: &Work,
+    workers: u32,
+    end: u32,
+    gate: &G,
+) -> Result<(Shelf, Vec<Piece>), AllocError>
+    requires workers { (0 < workers) × (workers ≤ 16) }
+    requires end { end ≤ length work.now.values }
+    ensures { IfOk result (λ r. HasUpTo work.now end r.0 r.1.items) }
+{
+    if end == 0 {
+        return Ok((Shelf::new(alloc, work)?, Vec::new(alloc)));
+    }
+    let begin = 0;
+    let round = Round {
+        workers,
+        begin,
+        end,
+    };
+    crew(rt, alloc, work, round, workers, gate, &mut None)
+}
+
+// The shelf with the pieces of all rounds, the last ones of the workers other than 0 beside it.
+fn all_rounds<R: Threads + Sync, G: Gate + Sync>(
+    rt: &R,
+    alloc: Global,
+    work: &Work,
+    workers: u32,
+    gate: &G,
+) -> Result<(Shelf, Vec<Piece>), AllocError>
+    requires { (0 < workers) × (workers ≤ 16) }
+    ensures { IfOk result (λ r. HasUpTo work.now (length work.now.values) r.0 r.1.items) }
+{
+    let count = work.count();
+    let mut begin = first_end(count, workers);
+    let mut made = first_round(rt, alloc, work, workers, begin, gate)?;
+    while begin < count {
+        let next = begin + ROUND * workers;
+        let end = count.min(next);
+        let round = Round {
+            workers,
+            begin,
+            end,
+        };
+        made = crew(rt, alloc, work, round, workers, gate, &mut Some(made))?;
+        begin = next;
+    }
+    Ok(made)
 }
 
 // What one thread answers to the work, or that memory was refused.
@@ -180,10 +257,10 @@ pub(crate) fn work_whole<R: Threads + Sync, G: Gate + Sync>(
 {
     // A worker more than there are pieces would have none.
     let workers = workers.min(work.count());
-    let Ok((mut shelf, others)) = crew(rt, alloc, work, workers, workers, gate) else {
+    let Ok((mut shelf, pieces)) = all_rounds(rt, alloc, work, workers, gate) else {
         return Err(OpenFault::OutOfMemory);
     };
-    stow_all(work, &mut shelf, others);
+    stow_all(work, &mut shelf, pieces);
     match shelf.finish(alloc) {
         Ok(bytes) => Ok(bytes),
         Err((ShelfFault::Forged { chunk }, _)) => Err(OpenFault::Forged { chunk }),

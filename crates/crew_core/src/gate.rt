@@ -1,8 +1,10 @@
-//! What every worker passes before each piece of work: a place for tests, and for whoever wants to watch or hold workers.
+//! What every worker passes before each piece of work, and every lane before each job: a place for tests, and for whoever wants to
+//! watch or hold workers.
 
-/// A gate, shared by all workers.
+/// A gate, shared by all workers or lanes.
 pub trait Gate {
-    /// Called by a worker right before it makes a piece: the worker's number, from 0 on, and the number of the piece's chunk.
+    /// Called by a worker right before it makes a piece: the worker's number, from 0 on, and the number of the piece's chunk. In a
+    /// batch called by a lane, once for each job, right before it issues a number: the lane's number, from 0 on, and the job's.
     fn pass(&self, worker: u32, piece: u32);
 }
 
