@@ -31,7 +31,8 @@ wants 'first range' 'reserved 0 3' "$(ours reserve "$a" 1 3)"
 wants 'second range' 'reserved 3 1' "$(ours reserve "$a" 1 1)"
 wants 'other device' 'reserved 0 65535' "$(ours reserve "$a" 2 65535)"
 wants integrity ok "$(sqlite3 "$a" 'PRAGMA integrity_check')"
-wants tables 'mark taken' "$(sqlite3 "$a" "SELECT name FROM sqlite_schema WHERE type = 'table' ORDER BY name" | tr '\n' ' ' | sed 's/ $//')"
+wants 'all that is in it' 'mark sqlite_autoindex_mark_1 sqlite_autoindex_taken_1 taken' \
+    "$(sqlite3 "$a" 'SELECT name FROM sqlite_schema ORDER BY name' | tr '\n' ' ' | sed 's/ $//')"
 wants mark "$key_id|1|4 $key_id|2|65535" "$(sqlite3 "$a" 'SELECT hex(key_id), device, next FROM mark ORDER BY key_id, device' | tr '\n' ' ' | sed 's/ $//')"
 wants taken '1|0|3 1|3|1 2|0|65535' "$(sqlite3 "$a" 'SELECT device, lo, size FROM taken ORDER BY key_id, device, lo' | tr '\n' ' ' | sed 's/ $//')"
 # A file that was closed is whole without its log.

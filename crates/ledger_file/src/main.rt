@@ -1,7 +1,8 @@
 //! Reserves ranges in a ledger file, and measures what that costs.
 //!
 //! Without an argument it reserves in memory and prints the ranges. `reserve FILE DEVICE COUNT` reserves in a file and prints the
-//! range, `taken FILE DEVICE` prints the ranges, `measure FOLDER` times open and reserve in files of 10, 1,000 and 10,000 ranges.
+//! range, `taken FILE DEVICE` prints the ranges, `measure FOLDER` times open and reserve in files of 10, 1,000 and 10,000 ranges, which
+//! it makes in the empty folder.
 #![tactic(auto)]
 
 ghost use Rattle.std.specs.Prelude.{◌≡◌, false};

@@ -1,14 +1,13 @@
 -- What a query of one table reads.
-use Rattle.std.proofs.Common.{◌≡◌, ℕ, ℤ, pos, List, [], ◌∷◌, map, filter, flat_map, Bool, true, false, cond, ◌++◌, refl, sym, ap, subst, ◌∙◌, IsPermutation, Result, Ok, Err, IfErr, IfOk, OnOk, IsTrue, Option, Some, None, inl, inr, ◌⊎◌}
+use Rattle.std.proofs.Common.{◌≡◌, ℕ, List, [], ◌∷◌, map, filter, flat_map, Bool, true, false, cond, ◌++◌, refl, sym, ap, subst, ◌∙◌, IsPermutation, Result, Ok, Err, IfErr, IfOk, OnOk, IsTrue, Option, Some, None, inl, inr, ◌⊎◌}
 use Rattle.std.specs.List.{list_all}
 use Rattle.std.proofs.lemmas.List.Sorted.{IsPermutation-map}
 use Rattle.sqlite_resolve.specs.declared.compiled.Compiled.{Compiled}
 use Rattle.sqlite_schema.specs.declared.command.Returning.{Returning}
 use Rattle.sqlite.specs.declared.error.Error.{Error}
-use Rattle.sqlite.specs.declared.types.Value.TheVariants.{Null}
 use Rattle.sqlite.specs.Order.{Row}
 use Rattle.sqlite.specs.Term.{Term, holds, eval_all}
-use Rattle.sqlite.specs.Query.{Query, IsAnswer, output, Output, matches}
+use Rattle.sqlite.specs.Query.{Query, IsAnswer, output, Output}
 use Rattle.sqlite.specs.Listing.{understood}
 use Rattle.sqlite.proofs.Callers.{IsPlain}
 use Rattle.sqlite.specs.Tree.{Trees}

@@ -1,5 +1,5 @@
 -- What the statements do to the rows.
-use Rattle.std.proofs.Common.{◌≡◌, ◌≢◌, ◌⊎◌, inl, inr, ℕ, ℤ, pos, negsuc, List, [], ◌∷◌, map, filter, Bool, true, false, cond, Option, Some, None, Ok, Err, Result, IfOk, OnOk, IsPermutation, refl, sym, ap, subst, ◌∙◌}
+use Rattle.std.proofs.Common.{◌≡◌, ◌⊎◌, inl, inr, ℕ, ℤ, pos, List, [], ◌∷◌, filter, Bool, true, false, cond, None, Ok, Err, Result, OnOk, refl, sym, ap, subst, ◌∙◌}
 use Rattle.sqlite.specs.declared.types.Value.{Value}
 use Rattle.sqlite.specs.declared.types.Value.TheVariants.{Null, Int, Blob}
 use Rattle.sqlite.specs.Order.{Row, column}
@@ -10,13 +10,12 @@ use Rattle.sqlite.specs.Source.TheVariants.{Values}
 use Rattle.sqlite.specs.Command.TheVariants.{Insert, Update}
 use Rattle.sqlite.specs.Edit.{Edit, edit_of, next_rowid, are_fresh, put_all, without_all}
 use Rattle.sqlite_rules.specs.Calls.{ids_of}
-use Rattle.sqlite_schema.specs.declared.schema.Schema.{Schema}
 use Rattle.sqlite.specs.Cast.{cast}
 use Rattle.sqlite.specs.Rowids.TheVariants.{Chosen, Given}
 use Rattle.sqlite.specs.Does.{Tally, Does}
 use Rattle.sqlite.specs.Rows.{Written}
 use Rattle.sqlite.specs.Program.{overlay}
-use Rattle.sqlite.specs.Tree.{Trees, put_row, without_rowid, rowid}
+use Rattle.sqlite.specs.Tree.{Trees, without_rowid}
 use Rattle.sqlite.specs.declared.error.Error.{Error}
 use Rattle.sqlite.specs.Listing.{understood}
 use Rattle.sqlite.specs.Effect.{Database}
@@ -24,7 +23,7 @@ use Rattle.sqlite.specs.State.{State, mode_of, Executes, ExecutesInside}
 use Rattle.sqlite.proofs.Callers.{statement_of, runs_as, one_step, one_permutation}
 use Rattle.reserve_core.specs.Tables.{mark_table, taken_table, ledger_schema, IsLedger}
 use Rattle.reserve_core.specs.Reservations.{mark_row, taken_row}
-use Rattle.reserve_core.specs.Writes.{Puts, Took, Entered, Moved}
+use Rattle.reserve_core.specs.Writes.{Took, Entered, Moved}
 use Rattle.reserve_core.proofs.Asks.{picks, answers}
 use Rattle.reserve_core.proofs.Texts.{take_text, take_terms, take_is, take_plain, enter_text, enter_terms, enter_is, enter_plain, move_text, move_query, move_is, move_plain, of_owner}
 

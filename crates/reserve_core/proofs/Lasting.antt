@@ -2,7 +2,7 @@
 --
 -- The next connection shows one of the databases that the crash may leave. It can't be one without tables, since its trees list the
 -- two; so its lists are those that its rows hold, and rows hold one list for each key id and device.
-use Rattle.std.proofs.Common.{◌≡◌, ◌⊎◌, inl, inr, ℕ, ◌+◌, List, [], ◌∷◌, ◌++◌, length, take, Bool, true, false, cond, bytes_eq, ◌==◌, ◌&&◌, refl, sym, ap, subst, ◌∙◌, IsPermutation, IsTrue}
+use Rattle.std.proofs.Common.{◌≡◌, inl, inr, ℕ, List, [], ◌∷◌, ◌++◌, length, take, true, false, cond, bytes_eq, ◌==◌, ◌&&◌, refl, sym, ap, subst, ◌∙◌}
 use Rattle.std.proofs.Math.Logic.{∥∥₁_elim}
 use Rattle.std.specs.List.{AllZip}
 use Rattle.std.specs.Coded.{Coded, Coded-set, code_by, coded×, coded_ℕ, coded_list}
@@ -15,7 +15,7 @@ use Rattle.sqlite.specs.Effect.{Database, IsDatabase}
 use Rattle.sqlite.specs.State.{State, HasCleanDisk, Survives}
 use Rattle.sqlite_catalog.specs.Listing.{IsSound}
 use Rattle.reserve_core.specs.Lasting.{Begins, Keeps, Last}
-use Rattle.reserve_core.specs.Reservations.{Span, span, next_of, HoldLists, Holds, Lists, Opened, no_lists, reserved}
+use Rattle.reserve_core.specs.Reservations.{Span, span, next_of, HoldLists, Holds, Lists, Opened, reserved}
 use Rattle.reserve_core.specs.Tables.{no_schema, ledger_schema}
 use Rattle.reserve_core.specs.Writes.{IsReady}
 use Rattle.reserve_core.proofs.Runs.{adjacent_same}

@@ -1,5 +1,5 @@
 -- What moving the mark does, where the key id and device have one row.
-use Rattle.std.proofs.Common.{◌≡◌, ℕ, ℤ, pos, List, [], ◌∷◌, filter, Result, Ok, Err, OnOk, Option, Some, None, refl, sym, ap, subst, ◌∙◌, inl, bytes_eq, ◌==◌, ◌&&◌, true}
+use Rattle.std.proofs.Common.{◌≡◌, ℕ, pos, List, [], ◌∷◌, filter, Result, Ok, Err, OnOk, refl, sym, ap, subst, ◌∙◌, inl}
 use Rattle.std.specs.List.{AllByRecursion}
 use Rattle.sqlite.specs.declared.types.Value.TheVariants.{Int, Blob}
 use Rattle.sqlite.specs.Order.{Row}
@@ -12,8 +12,8 @@ use Rattle.sqlite_rules.specs.Lists.{Has}
 use Rattle.sqlite_rules.proofs.ListLemmas.{all_has, all_from, has_filtered}
 use Rattle.reserve_core.specs.Tables.{IsLedger}
 use Rattle.reserve_core.specs.Reads.{is_for}
-use Rattle.reserve_core.specs.Reservations.{IsMarkRow, mark_row}
-use Rattle.reserve_core.specs.Writes.{Entered, Marked, IsMarkOf, Moved}
+use Rattle.reserve_core.specs.Reservations.{IsMarkRow}
+use Rattle.reserve_core.specs.Writes.{Entered, Marked, Moved}
 use Rattle.reserve_core.proofs.Asks.{picks}
 use Rattle.reserve_core.proofs.Effects.{updates}
 use Rattle.reserve_core.proofs.Owners.{picks_marks, filter_same, same_owner}

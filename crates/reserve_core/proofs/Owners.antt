@@ -1,5 +1,5 @@
 -- Whose row it is.
-use Rattle.std.proofs.Common.{◌≡◌, ℕ, ℤ, pos, negsuc, List, [], ◌∷◌, filter, Bool, true, false, cond, ◌&&◌, bytes_eq, ◌==◌, refl, sym, ap, subst, ◌∙◌, arith}
+use Rattle.std.proofs.Common.{◌≡◌, ℕ, pos, negsuc, List, [], ◌∷◌, filter, Bool, true, false, ◌&&◌, bytes_eq, ◌==◌, refl, sym, subst, ◌∙◌, arith}
 use Rattle.std.specs.List.{AllByRecursion}
 use Rattle.std.specs.Ordering.{int_eq}
 use Rattle.std.proofs.lemmas.Bool.{and_parts, true≢false, false_from_ne_true}
@@ -12,7 +12,6 @@ use Rattle.sqlite.specs.Order.{Row, column}
 use Rattle.sqlite.specs.Ops.{unary, binary, is_true}
 use Rattle.sqlite_sql.specs.declared.ops.BinaryOp.TheVariants.{Compare}
 use Rattle.sqlite_sql.specs.declared.ops.CompareOp.TheVariants.{Eq}
-use Rattle.sqlite_rules.specs.Lists.{Has}
 use Rattle.sqlite_typed.proofs.TestLemmas.{at_blobs, at_ints, same_bytes, bytes_eq_refl}
 use Rattle.reserve_core.specs.Reads.{is_blob, is_number, is_for}
 use Rattle.reserve_core.specs.Reservations.{IsMarkRow, IsTakenRow}

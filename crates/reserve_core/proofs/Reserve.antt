@@ -2,10 +2,10 @@
 --
 -- Both writes put a row among rows of which none has its rowid, so the new rows are the old ones and one more, in some order. Where
 -- the mark is moved, its old row goes first: no other row has its rowid, so the rows of other key ids and devices stay.
-use Rattle.std.proofs.Common.{◌≡◌, ◌≢◌, ◌⊎◌, inl, inr, ℕ, ◌+◌, ◌≤◌, ℤ, pos, List, [], ◌∷◌, ◌++◌, map, filter, Bool, true, false, cond, not, ◌&&◌, bytes_eq, ◌==◌, refl, sym, ap, subst, ◌∙◌, IsPermutation, Ordering, Less, Equal, Greater, arith}
+use Rattle.std.proofs.Common.{◌≡◌, ◌≢◌, inl, inr, ℕ, ◌+◌, ◌≤◌, ℤ, List, [], ◌∷◌, ◌++◌, map, filter, Bool, true, false, cond, not, ◌&&◌, bytes_eq, ◌==◌, refl, sym, ap, subst, ◌∙◌, IsPermutation, Ordering, Less, Equal, Greater, arith}
 use Rattle.std.specs.List.{AllByRecursion}
-use Rattle.std.specs.Ordering.{is_eq, match_ordering, int_eq}
-use Rattle.std.proofs.lemmas.Bool.{or_parts, and_parts, not-true, true≢false, false_from_ne_true, cases_Bool}
+use Rattle.std.specs.Ordering.{is_eq, match_ordering}
+use Rattle.std.proofs.lemmas.Bool.{or_parts, and_parts, not-true, true≢false, false_from_ne_true}
 use Rattle.std.proofs.lemmas.Cmp.{tied_itself}
 use Rattle.std.proofs.lemmas.List.Sorted.{IsPermutation-refl, IsPermutation-trans, IsPermutation-sym, IsPermutation-map, IsPermutation-append_left, IsPermutation-append_right, IsPermutation-append_comm, IsPermutation-to_front}
 use Rattle.sqlite.specs.declared.types.Value.TheVariants.{Int}
@@ -22,9 +22,8 @@ use Rattle.sqlite_keyed.proofs.ListLemmas.{IsPermutation-filter, ascending-filte
 use Rattle.sqlite_keyed.proofs.KeyedLemmas.{same_int}
 use Rattle.sqlite.proofs.Callers.{one_permutation}
 use Rattle.reserve_core.specs.Reads.{is_for}
-use Rattle.reserve_core.specs.Writes.{Puts, Entered, Moved, Marked, Took, Appends, HaveRowids}
-use Rattle.reserve_core.specs.Reservations.{Span, span, Adjacent, end_from, next_of, Lists, reserved, mark_row, taken_row, IsOwner, IsMarkRow, IsTakenRow, range_in, next_in, IsNext, IsList, HoldLists, Holds}
-use Rattle.reserve_core.specs.Tables.{IsLedger}
+use Rattle.reserve_core.specs.Writes.{Puts, Marked, Appends, HaveRowids}
+use Rattle.reserve_core.specs.Reservations.{Span, span, Adjacent, end_from, next_of, Lists, reserved, mark_row, taken_row, IsOwner, IsMarkRow, IsTakenRow, range_in, IsNext, IsList, Holds}
 use Rattle.reserve_core.proofs.Owners.{own_owner, same_owner, apart_rows}
 
 -- ---- a row is put among the rows

@@ -1,22 +1,20 @@
 -- Runs of adjacent ranges are lists: of each key id and device the rows of `taken` are one run, since no two rows of `mark` are of it.
-use Rattle.std.proofs.Common.{◌≡◌, ◌≢◌, ◌⊎◌, inl, inr, ◌<◌, ◌≤◌, ◌+◌, ℕ, ℤ, pos, negsuc, List, [], ◌∷◌, ◌++◌, map, filter, length, Bool, true, false, cond, not, ◌&&◌, nat_lt, Option, Some, None, is_some, refl, sym, ap, subst, ◌∙◌, IsPermutation, arith}
+use Rattle.std.proofs.Common.{◌≡◌, inl, inr, ◌<◌, ◌≤◌, ◌+◌, ℕ, ℤ, pos, negsuc, List, [], ◌∷◌, ◌++◌, map, filter, length, Bool, true, false, cond, Some, None, is_some, refl, sym, ap, subst, ◌∙◌, IsPermutation, arith}
 use Rattle.std.specs.List.{AllByRecursion, list_all}
-use Rattle.std.specs.declared.cmp.Ordering.TheVariants.{Less}
 use Rattle.std.specs.Ordering.{on}
 use Rattle.std.specs.Cmp.{IsTotalOrder}
-use Rattle.std.proofs.lemmas.Bool.{and_parts, true≢false, false_from_ne_true, cases_Bool}
+use Rattle.std.proofs.lemmas.Bool.{and_parts, true≢false, false_from_ne_true}
 use Rattle.std.proofs.lemmas.Bool.Decides.{nat_tests}
 use Rattle.std.proofs.lemmas.Cmp.{on_total, then_total, tied_itself}
 use Rattle.std.proofs.lemmas.List.Sorted.{IsPermutation-refl, IsPermutation-sym, IsPermutation-trans, IsPermutation-map, Contains-permutation}
 use Rattle.sqlite.specs.declared.types.Value.{Value}
 use Rattle.sqlite.specs.declared.types.Value.TheVariants.{Null, Int, Real, Text, Blob}
 use Rattle.sqlite.specs.Order.{Row, column}
-use Rattle.sqlite.specs.Tree.{IsAscending, rowid}
-use Rattle.sqlite.specs.Edit.{id_in}
+use Rattle.sqlite.specs.Tree.{IsAscending}
 use Rattle.sqlite_value.specs.Order.{value_cmp}
 use Rattle.sqlite_value.proofs.OrderLemmas.{value_cmp_total}
 use Rattle.sqlite_rules.specs.Lists.{Has}
-use Rattle.sqlite_rules.proofs.ListLemmas.{all_has, all_from, has_filtered, has_kept, test_has, test_from, has_contained, contains_had}
+use Rattle.sqlite_rules.proofs.ListLemmas.{all_has, all_from, has_filtered, test_has, test_from, has_contained, contains_had}
 use Rattle.reserve_core.specs.Reads.{is_key, is_within, is_rowid, is_mark_row, is_taken_row, as_number, is_blob, is_number, is_for, shown_range}
 use Rattle.reserve_core.specs.Reservations.{Span, Adjacent, end_from, next_of, range_in, next_in, IsOwner, IsMarkRow, IsTakenRow, IsNext, IsList, HoldLists, Lists, AreApart, span, span_shown, spans_of}
 use Rattle.reserve_core.specs.Runs.{Chain, owner_cmp, IsBefore, IsBelow, OwnRun, Runs, RisesFrom}

@@ -1,5 +1,5 @@
 -- Rows that were read hold the lists that the tables hold.
-use Rattle.std.proofs.Common.{◌≡◌, ◌≢◌, ℕ, ℤ, List, [], ◌∷◌, map, filter, Bool, true, false, cond, refl, sym, ap, subst, ◌∙◌, IsPermutation}
+use Rattle.std.proofs.Common.{◌≡◌, ℕ, List, [], ◌∷◌, map, filter, Bool, true, false, cond, refl, sym, ap, subst, ◌∙◌, IsPermutation}
 use Rattle.std.specs.List.{AllByRecursion, IsDistinct, list_all}
 use Rattle.std.specs.Ordering.{is_eq}
 use Rattle.std.specs.declared.cmp.Ordering.{Ordering}
@@ -11,7 +11,7 @@ use Rattle.std.proofs.lemmas.List.Sorted.{IsPermutation-sym, IsPermutation-trans
 use Rattle.sqlite.specs.declared.types.Value.TheVariants.{Int}
 use Rattle.sqlite.specs.Order.{Row, column}
 use Rattle.sqlite.specs.Edit.{id_in}
-use Rattle.sqlite.specs.Tree.{IsAscending, rowid}
+use Rattle.sqlite.specs.Tree.{IsAscending}
 use Rattle.sqlite.specs.Effect.{Database}
 use Rattle.sqlite_value.specs.Order.{value_cmp}
 use Rattle.sqlite_value.proofs.OrderLemmas.{value_cmp_total}
@@ -21,7 +21,6 @@ use Rattle.sqlite_keyed.proofs.ListLemmas.{IsPermutation-filter}
 use Rattle.reserve_core.specs.Reads.{is_for, is_span, shown_id, shown_mark, shown_range, shown_taken}
 use Rattle.reserve_core.specs.Reservations.{range_in, next_of, IsMarkRow, IsTakenRow, IsNext, IsList, HoldLists, Lists, Holds, no_lists}
 use Rattle.reserve_core.specs.Runs.{Chain, IsBelow}
-use Rattle.reserve_core.specs.Tables.{IsLedger}
 use Rattle.reserve_core.specs.Writes.{HaveRowids, IsEmptyLedger}
 use Rattle.reserve_core.proofs.Reserve.{next_permuted}
 use Rattle.reserve_core.proofs.Runs.{rowids_ascend}

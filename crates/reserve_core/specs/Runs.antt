@@ -1,5 +1,5 @@
 -- How one pass reads the rows of both tables in the order of their keys.
-use Rattle.std.specs.Prelude.{⊤, ◌≡◌, ◌<◌, ℕ, ℤ, pos, true, List, [], ◌∷◌, ◌++◌, map, Option, Some, None}
+use Rattle.std.specs.Prelude.{⊤, ◌≡◌, ◌<◌, ℕ, pos, true, List, [], ◌∷◌, ◌++◌, map, Option, Some, None}
 use Rattle.std.specs.List.{AllByRecursion}
 use Rattle.std.specs.declared.cmp.Ordering.{Ordering}
 use Rattle.std.specs.declared.cmp.Ordering.TheVariants.{Less}

@@ -74,9 +74,6 @@ impl<S: Alter> Keeper<S> {
         }
     }
 
-    /// The greatest number of file numbers of a range.
-    pub const MAX_COUNT: u32 = Range::MAX_SIZE;
-
     /// Reserves the next `count` file numbers of the key and device: 1 to 65,535 of them, each below 2^32.
     ///
     /// Once it answers `Ok` they are reserved for good, over crashes too. A crash during the call leaves the lists from before, or

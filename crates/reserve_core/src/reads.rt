@@ -1,8 +1,7 @@
 //! What the tables hold, read.
 ghost use Rattle.std.specs.List.{AllByRecursion, list_all};
-ghost use Rattle.std.specs.Prelude.{◌≡◌, Err, ◌⊎◌, ◌≤◌, ◌<◌, ◌^◌, IsTrue, OnOk, IfOk, IfErr, true, false, [], ◌∷◌, pos, Ok, Some, None, map, filter, IsPermutation};
+ghost use Rattle.std.specs.Prelude.{◌≡◌, Err, ◌⊎◌, ◌≤◌, IsTrue, OnOk, IfOk, IfErr, true, false, [], ◌∷◌, pos, Ok, Some, None, map, filter, IsPermutation};
 ghost use Rattle.sqlite.specs.declared.types.Value.TheVariants.{Int};
-ghost use Rattle.sqlite.specs.Order.{column};
 ghost use Rattle.sqlite.specs.State.{HasCleanDisk, IsLive, Survives, KeepsCommit, Shows};
 ghost use Rattle.sqlite.specs.Held.{state};
 ghost use Rattle.reserve_core.specs.Tables.{IsLedger};

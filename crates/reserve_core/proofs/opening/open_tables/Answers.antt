@@ -1,4 +1,4 @@
-use Rattle.std.proofs.Common.{◌≡◌, inl, inr, IsTrue, arith, rules}
+use Rattle.std.proofs.Common.{◌≡◌, inr, rules}
 use Rattle.sqlite.proofs.StateLemmas.{survives_weaker}
 use Rattle.sqlite.specs.Held.{state}
 use Rattle.reserve_core.specs.Reservations.{no_lists}

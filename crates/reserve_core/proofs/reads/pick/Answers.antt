@@ -1,4 +1,3 @@
-use Rattle.std.proofs.Common.{pos, [], ◌∷◌}
 use Rattle.sqlite.specs.Held.{state}
 use Rattle.reserve_core.proofs.Asks.{if_ok, on_ok, shown_open, query_kept}
 use Rattle.reserve_core.proofs.Picks.{picks_next}

@@ -2,7 +2,7 @@ use Rattle.std.proofs.Common.{arith}
 use Rattle.sqlite.specs.State.{HasCleanDisk}
 use Rattle.sqlite.specs.Held.{state}
 use Rattle.reserve_core.specs.Reservations.{spans_of}
-use Rattle.reserve_core.proofs.Asks.{if_ok, both_ok}
+use Rattle.reserve_core.proofs.Asks.{both_ok}
 use Rattle.reserve_core.proofs.Runs.{ranges_read}
 use Rattle.reserve_core.proofs.Shown.{are_spans}
 use Rattle.reserve_core.proofs.reads.ranges_of.Goals as goal

@@ -1,11 +1,11 @@
-use Rattle.std.proofs.Common.{◌≡◌, IsTrue, map, sym, subst, ◌∙◌, IsPermutation, arith, rules}
+use Rattle.std.proofs.Common.{◌≡◌, IsTrue, map, sym, subst, IsPermutation, arith, rules}
 use Rattle.sqlite.specs.State.{HasCleanDisk, Survives}
 use Rattle.sqlite.specs.Tree.{Trees}
 use Rattle.sqlite.proofs.StateLemmas.{survives_then}
 use Rattle.sqlite.proofs.Callers.{survives_begin}
 use Rattle.sqlite.specs.Held.{state}
 use Rattle.sqlite.specs.Effect.{Database}
-use Rattle.reserve_core.specs.Reads.{shown_mark, shown_taken}
+use Rattle.reserve_core.specs.Reads.{shown_taken}
 use Rattle.reserve_core.specs.Tables.{IsLedger}
 use Rattle.reserve_core.proofs.reads.read_all.Goals as goal
 

@@ -1,4 +1,4 @@
-use Rattle.std.proofs.Common.{◌≡◌, true, None, refl, sym, ap, subst, ◌∙◌, arith, rules}
+use Rattle.std.proofs.Common.{arith, rules}
 use Rattle.reserve_core.specs.Reads.{is_for}
 use Rattle.reserve_core.proofs.Runs.{next_row}
 use Rattle.reserve_core.proofs.rows.end_for.Goals as goal

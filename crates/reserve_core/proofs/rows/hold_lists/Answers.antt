@@ -1,5 +1,4 @@
-use Rattle.std.proofs.Common.{◌≡◌, true, false, sym, ap, ◌∙◌, arith, rules, tests}
-use Rattle.std.specs.List.{list_all}
+use Rattle.std.proofs.Common.{rules, tests}
 use Rattle.reserve_core.proofs.Runs.{holds_runs, all_marks, all_taken, no_items}
 use Rattle.reserve_core.proofs.rows.hold_lists.Goals as goal
 use Rattle.reserve_core.proofs.rows.hold_lists.Goals.{then-not-are_marks-via-then-not-are_marks, then-not-are_marks-via-else-not-are_marks+then-not-are_taken, else-is_empty-via-then-is_empty+else-is_empty-2, else-is_empty-via-else-is_empty, then-is_bad_first-via-then-is_bad_first, then-is_bad_first-via-else-is_bad_first+then-is_bad_first-2}

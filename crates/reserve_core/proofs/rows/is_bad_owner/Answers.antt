@@ -1,4 +1,4 @@
-use Rattle.std.proofs.Common.{◌≡◌, Some, None, sym, ap, ◌∙◌, arith, rules, tests}
+use Rattle.std.proofs.Common.{rules, tests}
 use Rattle.reserve_core.proofs.Runs.{fits}
 use Rattle.reserve_core.proofs.rows.is_bad_owner.Goals as goal
 

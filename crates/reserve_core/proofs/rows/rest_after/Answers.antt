@@ -1,4 +1,4 @@
-use Rattle.std.proofs.Common.{◌≡◌, true, refl, sym, ◌∙◌, arith, rules}
+use Rattle.std.proofs.Common.{rules}
 use Rattle.reserve_core.specs.Reads.{is_for}
 use Rattle.reserve_core.proofs.Runs.{run_more}
 use Rattle.reserve_core.proofs.rows.rest_after.Goals as goal

@@ -1,4 +1,4 @@
-use Rattle.std.proofs.Common.{◌≡◌, ◌≤◌, ℕ, List, ◌++◌, map, length, true}
+use Rattle.std.proofs.Common.{◌≡◌, ◌≤◌, List, ◌++◌, map, length, true}
 use Rattle.std.specs.List.{AllByRecursion}
 use Rattle.sqlite.specs.Order.{Row}
 use Rattle.reserve_core.specs.Reads.{is_for}
