@@ -26,7 +26,7 @@ use Rattle.sealer_core.specs.declared.line.FileOutcome.TheVariants.{Sealed, Open
 use Rattle.sealer_core.specs.Lines.{FileLine}
 use Rattle.sealer_core.specs.Folder.{Step, stepped}
 use Rattle.sealer_core.specs.Work.{AreTold}
-use Rattle.sealer_core.specs.Group.{holds, HasEnded, IsHeld, AreHeld, IsCounted, IsEnding, AreEnded, AreEnding, IsGroup, refused_lines, name_of, IsPrepared, made_for}
+use Rattle.sealer_core.specs.Group.{holds, HasEnded, IsHeld, AreHeld, IsCounted, IsEnding, AreEnded, AreEnding, IsGroup, refused_lines, name_of, IsPrepared, made_for, read_of}
 use Rattle.sealer_core.specs.declared.group.Prepared.{Prepared}
 use Rattle.sealer_core.specs.declared.line.FileFault.TheVariants.{OutOfMemory}
 use Rattle.sealer_core.specs.Sealing.{Accounts, AreSealed, IsOfSealing, creations_of, removals_of, line_of, operations_of, created_as, removed_as, sealed_name, seals, voids, tells_of, times_sealed, times_voided}
@@ -334,6 +334,11 @@ module _ {W : Type 0} (items items' : List (Prepared W)) (file : Prepared W) (is
   prepared_steps steps steps' steps'' so stepping =
       stepping ∙ ap (λ s. stepped s (made_for file)) so ∙ stepped-stepped steps (flat_map made_for items) (made_for file)
       ∙ ap (stepped steps) (ap (λ l. flat_map made_for items ++ l) (sym (append-nil (made_for file))) ∙ sym (flat_map-append made_for items (file ∷ [])) ∙ sym (ap (flat_map made_for) is))
+
+  pub prepared_read : (jobs jobs' : List ℕ) → jobs ≡ flat_map read_of items → jobs' ≡ jobs ++ read_of file → jobs' ≡ flat_map read_of items'
+  prepared_read jobs jobs' so more =
+      more ∙ ap (λ l. l ++ read_of file) so ∙ ap (λ l. flat_map read_of items ++ l) (sym (append-nil (read_of file)))
+      ∙ sym (flat_map-append read_of items (file ∷ [])) ∙ sym (ap (flat_map read_of) is)
 
   pub prepared_all : All IsPrepared items → IsPrepared file → All IsPrepared items'
   prepared_all so its = subst (All IsPrepared) (sym is) (All-push IsPrepared items file so its)
