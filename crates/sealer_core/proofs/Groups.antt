@@ -431,13 +431,14 @@ refused_group names operations status status' old new failures failures' steps s
 -- one group more was sealed
 pub groups_more : (lanes : ℕ) (names more names' : List (List ℕ)) (operations operations' : List Entry) (status status' : ℕ)
     (old mid new : Option (List ℕ)) (failures failures' failures'' : Option ℕ) (steps steps' steps'' : Option (List Step))
-    → AreSealed lanes names operations status old mid failures failures' steps steps'
+    → (s : AreSealed lanes names operations status old mid failures failures' steps steps') → All (λ (g : List FileLine). length g ≡ lanes) s.worked.groups
     → IsGroup more operations operations' status status' mid new failures' failures'' steps' steps'' → length more ≤ lanes → names ++ more ≡ names'
-    → AreSealed lanes names' operations' status' old new failures failures'' steps steps''
-groups_more lanes names more names' operations operations' status status' old mid new failures failures' failures'' steps steps' steps'' s g few longer =
+    → (t : AreSealed lanes names' operations' status' old new failures failures'' steps steps'') × (length more ≡ lanes → All (λ (g : List FileLine). length g ≡ lanes) t.worked.groups)
+groups_more lanes names more names' operations operations' status status' old mid new failures failures' failures'' steps steps' steps'' s full g few longer =
     let long : length more ≡ length g.lines = ap length (sym g.named) ∙ length-map g.lines (λ (l : FileLine). l.name) in
-    sealed_more lanes names more names' g.lines operations operations' status status' old mid new failures failures' failures'' steps steps' steps'' s (omega arith)
-    g.named g.fitting g.stepwise (g.told s.worked.lines old failures s.worked.told) longer (g.accounts s.worked.lines s.accounts)
+    let (t, each) = sealed_more lanes names more names' g.lines operations operations' status status' old mid new failures failures' failures'' steps steps' steps'' s full (omega arith)
+    g.named g.fitting g.stepwise (g.told s.worked.lines old failures s.worked.told) longer (g.accounts s.worked.lines s.accounts) in
+    (t, λ is. each (sym long ∙ is))
 
 pub rest_all : {X : Type 0} (P : X → Type 0) (xs ys : List X) (x : X) → xs ≡ x ∷ ys → All P xs → All P ys
 rest_all P xs ys x is all = λ k d below. subst (All P) is all (suc k) d (omega arith)

@@ -1,5 +1,5 @@
 -- What `seal_all` does with a list of files, and how its lines stand to the operations of the ledger.
-use Rattle.std.specs.Prelude.{⊤, ◌≡◌, ◌≢◌, ℕ, ◌+◌, ◌<◌, ◌≤◌, Bool, true, false, nat_eq, List, [], ◌∷◌, ◌++◌, count_by, slice_get, length, map, All, codes, Option, Some, None, flat_map}
+use Rattle.std.specs.Prelude.{⊤, ◌≡◌, ◌≢◌, ℕ, ◌+◌, ◌-◌, ◌<◌, ◌≤◌, Bool, true, false, nat_eq, List, [], ◌∷◌, ◌++◌, count_by, slice_get, length, take, map, All, codes, Option, Some, None, flat_map}
 use Rattle.journal_core.specs.declared.entry.Entry.{Entry}
 use Rattle.journal_core.specs.declared.entry.Event.TheVariants.{Granted, Exhausted, Settled}
 use Rattle.journal_core.specs.declared.entry.Way.TheVariants as ended
@@ -136,11 +136,12 @@ pub record IsReserved (key_id : List ℕ) (device count : ℕ) (old new : State)
       → (range.device ≡ device) × (range.lo ≡ next_of (lists key_id device)) × (range.size ≡ count) × Holds new.now (reserved lists key_id device count)
   pub lasts : HasCleanDisk new → (trees : Trees) → new.may_leave trees → trees ≡ new.now.trees
 
--- Every file was worked, in order and in groups of at most so many; and their lines were told.
+-- Every file was worked, in order and in groups of so many, the last of at most so many; and their lines were told.
 pub record AreGrouped (lanes : ℕ) (names : List (List ℕ)) (status : ℕ) (old new : Option (List ℕ)) (failures failures' : Option ℕ)
     (steps steps' : Option (List Step)) : Type 0 where
   pub groups : List (List FileLine)
   pub few : All (λ group. length group ≤ lanes) groups
+  pub full : All (λ group. length group ≡ lanes) (take (length groups - 1) groups)
   pub lines : List FileLine
   pub joined : lines ≡ flat_map (λ group. group) groups
   pub named : map (λ line. line.name) lines ≡ names
@@ -154,7 +155,7 @@ pub record AreSealed (lanes : ℕ) (names : List (List ℕ)) (operations : List 
   pub worked : AreGrouped lanes names status old new failures failures' steps steps'
   pub accounts : Accounts worked.lines operations
 
--- So they were, in groups of at most as many as the ledger has seats, over one legal history, and no number stands in two lines.
+-- So they were, with a group for as many files as the ledger has seats, over one legal history, and no number stands in two lines.
 pub record HasSealed (names : List (List ℕ)) (terms : Terms) (history : List Entry) (status : ℕ) (old new : Option (List ℕ))
     (failures failures' : Option ℕ) (steps steps' : Option (List Step)) : Type 0 where
   pub worked : AreGrouped terms.seats names status old new failures failures' steps steps'
