@@ -26,7 +26,7 @@ use Rattle.sealer_core.specs.declared.line.FileOutcome.TheVariants.{Sealed, Open
 use Rattle.sealer_core.specs.Lines.{FileLine}
 use Rattle.sealer_core.specs.Folder.{Step, stepped}
 use Rattle.sealer_core.specs.Work.{AreTold}
-use Rattle.sealer_core.specs.Group.{holds, HasEnded, IsHeld, AreHeld, IsCounted, IsEnding, AreEnded, AreEnding, IsGroup, refused_lines, name_of, IsPrepared, made_for}
+use Rattle.sealer_core.specs.Group.{holds, HasEnded, IsHeld, AreHeld, IsCounted, IsEnding, AreEnded, AreEnding, IsGroup, refused_lines, name_of, IsPrepared, made_for, read_of}
 use Rattle.sealer_core.specs.declared.group.Prepared.{Prepared}
 use Rattle.sealer_core.specs.declared.line.FileFault.TheVariants.{OutOfMemory}
 use Rattle.sealer_core.specs.Sealing.{Accounts, AreSealed, IsOfSealing, creations_of, removals_of, line_of, operations_of, created_as, removed_as, sealed_name, seals, voids, tells_of, times_sealed, times_voided}
@@ -335,6 +335,11 @@ module _ {W : Type 0} (items items' : List (Prepared W)) (file : Prepared W) (is
       stepping ∙ ap (λ s. stepped s (made_for file)) so ∙ stepped-stepped steps (flat_map made_for items) (made_for file)
       ∙ ap (stepped steps) (ap (λ l. flat_map made_for items ++ l) (sym (append-nil (made_for file))) ∙ sym (flat_map-append made_for items (file ∷ [])) ∙ sym (ap (flat_map made_for) is))
 
+  pub prepared_read : (jobs jobs' : List ℕ) → jobs ≡ flat_map read_of items → jobs' ≡ jobs ++ read_of file → jobs' ≡ flat_map read_of items'
+  prepared_read jobs jobs' so more =
+      more ∙ ap (λ l. l ++ read_of file) so ∙ ap (λ l. flat_map read_of items ++ l) (sym (append-nil (read_of file)))
+      ∙ sym (flat_map-append read_of items (file ∷ [])) ∙ sym (ap (flat_map read_of) is)
+
   pub prepared_all : All IsPrepared items → IsPrepared file → All IsPrepared items'
   prepared_all so its = subst (All IsPrepared) (sym is) (All-push IsPrepared items file so its)
 
@@ -426,13 +431,14 @@ refused_group names operations status status' old new failures failures' steps s
 -- one group more was sealed
 pub groups_more : (lanes : ℕ) (names more names' : List (List ℕ)) (operations operations' : List Entry) (status status' : ℕ)
     (old mid new : Option (List ℕ)) (failures failures' failures'' : Option ℕ) (steps steps' steps'' : Option (List Step))
-    → AreSealed lanes names operations status old mid failures failures' steps steps'
+    → (s : AreSealed lanes names operations status old mid failures failures' steps steps') → All (λ (g : List FileLine). length g ≡ lanes) s.worked.groups
     → IsGroup more operations operations' status status' mid new failures' failures'' steps' steps'' → length more ≤ lanes → names ++ more ≡ names'
-    → AreSealed lanes names' operations' status' old new failures failures'' steps steps''
-groups_more lanes names more names' operations operations' status status' old mid new failures failures' failures'' steps steps' steps'' s g few longer =
+    → (t : AreSealed lanes names' operations' status' old new failures failures'' steps steps'') × (length more ≡ lanes → All (λ (g : List FileLine). length g ≡ lanes) t.worked.groups)
+groups_more lanes names more names' operations operations' status status' old mid new failures failures' failures'' steps steps' steps'' s full g few longer =
     let long : length more ≡ length g.lines = ap length (sym g.named) ∙ length-map g.lines (λ (l : FileLine). l.name) in
-    sealed_more lanes names more names' g.lines operations operations' status status' old mid new failures failures' failures'' steps steps' steps'' s (omega arith)
-    g.named g.fitting g.stepwise (g.told s.worked.lines old failures s.worked.told) longer (g.accounts s.worked.lines s.accounts)
+    let (t, each) = sealed_more lanes names more names' g.lines operations operations' status status' old mid new failures failures' failures'' steps steps' steps'' s full (omega arith)
+    g.named g.fitting g.stepwise (g.told s.worked.lines old failures s.worked.told) longer (g.accounts s.worked.lines s.accounts) in
+    (t, λ is. each (sym long ∙ is))
 
 pub rest_all : {X : Type 0} (P : X → Type 0) (xs ys : List X) (x : X) → xs ≡ x ∷ ys → All P xs → All P ys
 rest_all P xs ys x is all = λ k d below. subst (All P) is all (suc k) d (omega arith)

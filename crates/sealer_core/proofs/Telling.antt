@@ -1,8 +1,8 @@
 -- One line more: what was told of the files so far, and what is told with the next one.
-use Rattle.std.proofs.Common.{◌≡◌, ◌≢◌, ℕ, ◌≤◌, Bool, true, false, ◌||◌, if◌then◌else◌, inl, inr, ⊎_elim, refl, sym, ap, subst, ◌∙◌, List, [], ◌∷◌, ◌++◌, map, append-nil, append_assoc, Option, None, Some, flat_map, All, Bor, take, length, get_or, ◌+◌, ◌<◌, add-one, arith, lit≤}
-use Rattle.std.proofs.Math.Seq.{take-suc}
+use Rattle.std.proofs.Common.{◌≡◌, ◌≢◌, ℕ, ◌≤◌, Bool, true, false, ◌||◌, if◌then◌else◌, inl, inr, ⊎_elim, refl, sym, ap, subst, ◌∙◌, List, [], ◌∷◌, ◌++◌, map, append-nil, append_assoc, Option, None, Some, flat_map, All, Bor, take, length, get_or, ◌+◌, ◌-◌, ◌<◌, add-one, arith, lit≤}
+use Rattle.std.proofs.Math.Seq.{take-suc, take-append_seam}
 use Rattle.std.proofs.KnownBytes.{Appends-nil, Appends-trans}
-use Rattle.std.proofs.lemmas.List.{map-append}
+use Rattle.std.proofs.lemmas.List.{map-append, length-append}
 use Rattle.std.proofs.lemmas.List.Folds.{list_any-append}
 use Rattle.std.specs.List.{list_any}
 use Rattle.journal_core.specs.Streams.{Appends, AppendsFront, counted}
@@ -120,29 +120,39 @@ worked_more fits steps_for names names' line status status' old mid new failures
       ∙ ap (stepped steps) (ap (λ l. flat_map steps_for w.lines ++ l) (sym (append-nil (steps_for line))) ∙ sym (flat_map-append steps_for w.lines (line ∷ [])));
 }
 
--- a group of files more was sealed
+all_but_last : {X : Type 0} (xs : List X) (x : X) → take (length (xs ++ x ∷ []) - 1) (xs ++ x ∷ []) ≡ xs
+all_but_last xs x =
+    let long : length (xs ++ x ∷ []) ≡ length xs + 1 = length-append xs (x ∷ []) in
+    let before : length (xs ++ x ∷ []) - 1 ≡ length xs = omega arith in
+    ap (λ n. take n (xs ++ x ∷ [])) before ∙ take-append_seam xs (x ∷ [])
+
+-- a group of files more was sealed; where it is full, as those before it are, all are
 pub sealed_more : (lanes : ℕ) (names more names' : List (List ℕ)) (group : List FileLine) (operations operations' : List Entry) (status status' : ℕ)
     (old mid new : Option (List ℕ)) (failures failures' failures'' : Option ℕ) (steps steps' steps'' : Option (List Step))
-    → (s : AreSealed lanes names operations status old mid failures failures' steps steps') → length group ≤ lanes
+    → (s : AreSealed lanes names operations status old mid failures failures' steps steps') → All (λ (g : List FileLine). length g ≡ lanes) s.worked.groups → length group ≤ lanes
     → map (λ (line : FileLine). line.name) group ≡ more → All (λ (line : FileLine). IsOfSealing line.outcome) group
     → steps'' ≡ stepped steps' (group_steps group) → AreTold status' (s.worked.lines ++ group) old new failures failures''
     → names ++ more ≡ names' → Accounts (s.worked.lines ++ group) operations'
-    → AreSealed lanes names' operations' status' old new failures failures'' steps steps''
-sealed_more lanes names more names' group operations operations' status status' old mid new failures failures' failures'' steps steps' steps'' s few called fit stepping told longer accounts = record {
-  worked = record {
-    groups = s.worked.groups ++ group ∷ [];
-    few = All-push (λ (g : List FileLine). length g ≤ lanes) s.worked.groups group s.worked.few few;
-    lines = s.worked.lines ++ group;
-    joined = ap (λ l. l ++ group) s.worked.joined ∙ ap (λ l. flat_map (λ (g : List FileLine). g) s.worked.groups ++ l) (sym (append-nil group))
-        ∙ sym (flat_map-append (λ (g : List FileLine). g) s.worked.groups (group ∷ []));
-    named = map-append (λ (l : FileLine). l.name) s.worked.lines group ∙ ap (λ l. l ++ map (λ (l : FileLine). l.name) group) s.worked.named ∙ ap (λ l. names ++ l) called ∙ longer;
-    fitting = All-append (λ (l : FileLine). IsOfSealing l.outcome) s.worked.lines group s.worked.fitting fit;
-    told = told;
-    stepwise = stepping ∙ ap (λ s. stepped s (group_steps group)) s.worked.stepwise ∙ stepped-stepped steps (flat_map group_steps s.worked.groups) (group_steps group)
-        ∙ ap (stepped steps) (ap (λ l. flat_map group_steps s.worked.groups ++ l) (sym (append-nil (group_steps group))) ∙ sym (flat_map-append group_steps s.worked.groups (group ∷ [])));
-  };
-  accounts = accounts;
-}
+    → (t : AreSealed lanes names' operations' status' old new failures failures'' steps steps'') × (length group ≡ lanes → All (λ (g : List FileLine). length g ≡ lanes) t.worked.groups)
+sealed_more lanes names more names' group operations operations' status status' old mid new failures failures' failures'' steps steps' steps'' s full few called fit stepping told longer accounts = (
+  record {
+    worked = record {
+      groups = s.worked.groups ++ group ∷ [];
+      few = All-push (λ (g : List FileLine). length g ≤ lanes) s.worked.groups group s.worked.few few;
+      full = subst (All (λ (g : List FileLine). length g ≡ lanes)) (sym (all_but_last s.worked.groups group)) full;
+      lines = s.worked.lines ++ group;
+      joined = ap (λ l. l ++ group) s.worked.joined ∙ ap (λ l. flat_map (λ (g : List FileLine). g) s.worked.groups ++ l) (sym (append-nil group))
+          ∙ sym (flat_map-append (λ (g : List FileLine). g) s.worked.groups (group ∷ []));
+      named = map-append (λ (l : FileLine). l.name) s.worked.lines group ∙ ap (λ l. l ++ map (λ (l : FileLine). l.name) group) s.worked.named ∙ ap (λ l. names ++ l) called ∙ longer;
+      fitting = All-append (λ (l : FileLine). IsOfSealing l.outcome) s.worked.lines group s.worked.fitting fit;
+      told = told;
+      stepwise = stepping ∙ ap (λ s. stepped s (group_steps group)) s.worked.stepwise ∙ stepped-stepped steps (flat_map group_steps s.worked.groups) (group_steps group)
+          ∙ ap (stepped steps) (ap (λ l. flat_map group_steps s.worked.groups ++ l) (sym (append-nil (group_steps group))) ∙ sym (flat_map-append group_steps s.worked.groups (group ∷ [])));
+    };
+    accounts = accounts;
+  },
+  λ is. All-push (λ (g : List FileLine). length g ≡ lanes) s.worked.groups group full is,
+)
 
 -- the steps of a group of one
 alone : (line : FileLine) → creations_of line ++ removals_of line ≡ group_steps (line ∷ [])
@@ -152,31 +162,36 @@ alone line = ap (λ l. l ++ removals_of line) (sym (append-nil (creations_of lin
 -- one file more was sealed by one lane
 pub sealed_one : (names names' : List (List ℕ)) (line : FileLine) (operations operations' : List Entry) (status status' : ℕ)
     (old mid new : Option (List ℕ)) (failures failures' failures'' : Option ℕ) (steps steps' steps'' : Option (List Step))
-    → (s : AreSealed 1 names operations status old mid failures failures' steps steps') → IsOfSealing line.outcome
+    → (s : AreSealed 1 names operations status old mid failures failures' steps steps') → All (λ (g : List FileLine). length g ≡ 1) s.worked.groups → IsOfSealing line.outcome
     → steps'' ≡ stepped steps' (creations_of line ++ removals_of line) → AreTold status' (s.worked.lines ++ line ∷ []) old new failures failures''
     → names ++ line.name ∷ [] ≡ names' → Accounts (s.worked.lines ++ line ∷ []) operations'
-    → AreSealed 1 names' operations' status' old new failures failures'' steps steps''
-sealed_one names names' line operations operations' status status' old mid new failures failures' failures'' steps steps' steps'' s fit stepping told longer accounts =
-    sealed_more 1 names (line.name ∷ []) names' (line ∷ []) operations operations' status status' old mid new failures failures' failures'' steps steps' steps'' s (lit≤ tt) refl
+    → (t : AreSealed 1 names' operations' status' old new failures failures'' steps steps'') × All (λ (g : List FileLine). length g ≡ 1) t.worked.groups
+sealed_one names names' line operations operations' status status' old mid new failures failures' failures'' steps steps' steps'' s full fit stepping told longer accounts =
+    let (t, each) = sealed_more 1 names (line.name ∷ []) names' (line ∷ []) operations operations' status status' old mid new failures failures' failures'' steps steps' steps'' s full (lit≤ tt) refl
     (All-cons (λ (l : FileLine). IsOfSealing l.outcome) line [] fit (All-nil (λ (l : FileLine). IsOfSealing l.outcome)))
-    (stepping ∙ ap (stepped steps') (alone line)) told longer accounts
+    (stepping ∙ ap (stepped steps') (alone line)) told longer accounts in
+    (t, each refl)
 
 -- before the first file
 pub nothing_sealed : (lanes : ℕ) (operations : List Entry) (taken : Option (List ℕ)) (failures : Option ℕ) (steps : Option (List Step)) → Accounts [] operations
-    → AreSealed lanes [] operations 0 taken taken failures failures steps steps
-nothing_sealed lanes operations taken failures steps accounts = record {
-  worked = record {
-    groups = [];
-    few = λ k d below. absurd (omega (arith, below));
-    lines = [];
-    joined = refl;
-    named = refl;
-    fitting = λ k d below. absurd (omega (arith, below));
-    told = nothing_told taken failures;
-    stepwise = stepped-nil steps;
-  };
-  accounts = accounts;
-}
+    → (t : AreSealed lanes [] operations 0 taken taken failures failures steps steps) × All (λ (g : List FileLine). length g ≡ lanes) t.worked.groups
+nothing_sealed lanes operations taken failures steps accounts = (
+  record {
+    worked = record {
+      groups = [];
+      few = λ k d below. absurd (omega (arith, below));
+      full = All-nil (λ (g : List FileLine). length g ≡ lanes);
+      lines = [];
+      joined = refl;
+      named = refl;
+      fitting = λ k d below. absurd (omega (arith, below));
+      told = nothing_told taken failures;
+      stepwise = stepped-nil steps;
+    };
+    accounts = accounts;
+  },
+  All-nil (λ (g : List FileLine). length g ≡ lanes),
+)
 
 -- one name more
 pub names-step : (files : List (Bor (List ℕ))) (i : ℕ) (d : Bor (List ℕ)) → i < length files

@@ -1,10 +1,12 @@
 -- Inside: files that are sealed in a group, by several lanes: before the sealing, and between it and their lines.
-use Rattle.std.specs.Prelude.{⊤, ◌≡◌, ◌⊎◌, ℕ, ◌+◌, ◌<◌, ◌≤◌, Bool, false, nat_eq, if◌then◌else◌, List, [], ◌∷◌, ◌++◌, map, All, count_by, flat_map, Option, string_bytes}
+use Rattle.std.specs.Prelude.{⊤, ◌≡◌, ◌⊎◌, ℕ, ◌+◌, ◌<◌, ◌≤◌, Bool, false, nat_eq, if◌then◌else◌, List, [], ◌∷◌, ◌++◌, drop, map, All, count_by, flat_map, Option, string_bytes}
 use Rattle.journal_core.specs.declared.entry.Entry.{Entry}
 use Rattle.journal_core.specs.declared.entry.Event.{Event}
 use Rattle.journal_core.specs.declared.entry.Event.TheVariants.{Settled}
 use Rattle.journal_core.specs.declared.entry.Way.TheVariants as ended
 use Rattle.journal_core.specs.History.{entry, times_granted}
+use Rattle.journal_core.specs.Streams.{Appends, AppendsFront}
+use Rattle.container_core.specs.declared.fault.SealFault.TheVariants as sealing_fault
 use Rattle.crew_core.specs.declared.outcome.Outcome.{Outcome}
 use Rattle.crew_core.specs.declared.outcome.Outcome.TheVariants as job
 use Rattle.crew_core.specs.Batch.{seat_of}
@@ -13,10 +15,10 @@ use Rattle.sealer_core.specs.declared.group.Prepared.TheVariants.{Refused, Unrea
 use Rattle.sealer_core.specs.declared.line.FileOutcome.{FileOutcome}
 use Rattle.sealer_core.specs.declared.line.FileOutcome.TheVariants.{Sealed, Failed}
 use Rattle.sealer_core.specs.declared.line.FileFault.{FileFault}
-use Rattle.sealer_core.specs.declared.line.FileFault.TheVariants.{CannotOpen, OutputExists, CannotCreate, OutOfMemory}
+use Rattle.sealer_core.specs.declared.line.FileFault.TheVariants.{CannotOpen, OutputExists, CannotCreate, OutOfMemory, Unsealed}
 use Rattle.sealer_core.specs.Folder.{Step, Created, stepped}
 use Rattle.sealer_core.specs.Lines.{FileLine}
-use Rattle.sealer_core.specs.Sealing.{IsOfSealing, Accounts, creations_of, removals_of, group_steps, line_of, sealed_name, times_sealed, times_voided, times_told}
+use Rattle.sealer_core.specs.Sealing.{IsOfSealing, Accounts, unissued_as, creations_of, removals_of, group_steps, line_of, sealed_name, times_sealed, times_voided, times_told}
 use Rattle.sealer_core.specs.Work.{AreTold}
 
 -- ---- a file before the sealing
@@ -46,6 +48,12 @@ made_for (Refused name fault) = []
 made_for (Unread name output fault) = Created (sealed_name name.now) ∷ []
 made_for (Read name output writer bytes) = Created (sealed_name name.now) ∷ []
 
+-- how many bytes it has, where it was read
+abbrev pub read_of : {W : Type 0} → Prepared W → List ℕ
+read_of (Refused name fault) = []
+read_of (Unread name output fault) = []
+read_of (Read name output writer bytes) = bytes ∷ []
+
 -- ---- between the sealing and the lines
 
 -- the outcome has spent this number
@@ -54,12 +62,13 @@ holds number (job.Sealed seat bytes spent) = nat_eq number spent.number
 holds number (job.Spoiled seat spent) = nat_eq number spent.number
 holds number (job.Unissued seat fault) = false
 
--- it names one of so many seats, and how its number ended
+-- its number ended as it says
 abbrev pub HasEnded : Outcome → Type 0
 HasEnded (job.Sealed seat bytes spent) = spent.way ≡ ended.Sealed
 HasEnded (job.Spoiled seat spent) = spent.way ≡ ended.Void
 HasEnded (job.Unissued seat fault) = ⊤
 
+-- it names one of so many seats, and its number ended as it says
 abbrev pub IsHeld : ℕ → Outcome → Type 0
 IsHeld seats o = (seat_of o < seats) × HasEnded o
 
@@ -77,6 +86,37 @@ IsCounted old new event = ((p : Entry → Bool) → count_by p new ≡ count_by 
 abbrev pub IsEnding : ℕ → List Entry → List Entry → FileOutcome → Type 0
 IsEnding number old new (Sealed n bytes) = (n ≡ number) × IsCounted old new (Settled number ended.Sealed)
 IsEnding number old new _ = IsCounted old new (Settled number ended.Void)
+
+-- ---- how a file ends
+
+-- An output gets this container: whole, and then the line tells this number and so many bytes; or cut short, and then the file failed.
+abbrev pub IsPut : List ℕ → ℕ → ℕ → Option (List ℕ) → Option (List ℕ) → FileOutcome → Type 0
+IsPut container number bytes old new (Sealed n m) = (n ≡ number) × (m ≡ bytes) × Appends old new container
+IsPut container number bytes old new end = (end ≡ Failed (Unsealed sealing_fault.Write)) × AppendsFront old new container
+
+-- A file of so many bytes ends by the outcome of its job: its output gets the container that was sealed, under the number that this
+-- was sealed under; or the file failed as the outcome says.
+abbrev pub IsEndOf : ℕ → Option (List ℕ) → Option (List ℕ) → Outcome → FileOutcome → Type 0
+IsEndOf bytes old new (job.Sealed seat container spent) end = IsPut container.items spent.number bytes old new end
+IsEndOf bytes old new (job.Spoiled seat spent) end = end ≡ Failed (Unsealed sealing_fault.OutOfMemory)
+IsEndOf bytes old new (job.Unissued seat fault) end = end ≡ Failed (unissued_as fault)
+
+-- It ends by the first of the outcomes. Where there is none memory for them was refused.
+abbrev pub IsEndBy : ℕ → Option (List ℕ) → Option (List ℕ) → List Outcome → FileOutcome → Type 0
+IsEndBy bytes old new [] end = end ≡ Failed (Unsealed sealing_fault.OutOfMemory)
+IsEndBy bytes old new (outcome ∷ outcomes) end = IsEndOf bytes old new outcome end
+
+-- A file ends by its own fault, or where it was read by the first of the outcomes.
+abbrev pub IsEndIn : {W : Type 0} → List Outcome → Prepared W → FileOutcome → Type 0
+IsEndIn outcomes (Refused name fault) end = end ≡ Failed fault
+IsEndIn outcomes (Unread name output fault) end = end ≡ Failed (Unsealed fault)
+IsEndIn outcomes (Read name output writer bytes) end = (old : Option (List ℕ)) × ((new : Option (List ℕ)) × IsEndBy bytes old new outcomes end)
+
+-- the outcomes that are left for the files behind it: a file that was read has the first one, and no other file has any
+abbrev pub left_by : {W : Type 0} → Prepared W → List Outcome → List Outcome
+left_by (Refused name fault) outcomes = outcomes
+left_by (Unread name output fault) outcomes = outcomes
+left_by (Read name output writer bytes) outcomes = drop 1 outcomes
 
 -- ---- the lines of a group
 

@@ -1,15 +1,19 @@
 -- What `seal_all` does with a list of files, and how its lines stand to the operations of the ledger.
-use Rattle.std.specs.Prelude.{⊤, ◌≡◌, ◌≢◌, ℕ, ◌+◌, ◌<◌, ◌≤◌, Bool, true, false, nat_eq, List, [], ◌∷◌, ◌++◌, count_by, slice_get, length, map, All, codes, Option, Some, None, flat_map}
+use Rattle.std.specs.Prelude.{⊤, ◌≡◌, ◌≢◌, ℕ, ◌+◌, ◌-◌, ◌<◌, ◌≤◌, Bool, true, false, nat_eq, List, [], ◌∷◌, ◌++◌, count_by, slice_get, length, take, map, All, codes, Option, Some, None, flat_map}
 use Rattle.journal_core.specs.declared.entry.Entry.{Entry}
 use Rattle.journal_core.specs.declared.entry.Event.TheVariants.{Granted, Exhausted, Settled}
 use Rattle.journal_core.specs.declared.entry.Way.TheVariants as ended
 use Rattle.journal_core.specs.History.{Terms, Legal, times_granted}
 use Rattle.journal_core.specs.Range.{Numbers}
 use Rattle.journal_core.specs.Streams.{Appends, AppendsFront}
+use Rattle.container_core.specs.declared.fault.SealFault.TheVariants as sealing_fault
+use Rattle.ledger_core.specs.declared.fault.IssueFault.{IssueFault}
+use Rattle.ledger_core.specs.declared.fault.IssueFault.TheVariants as issue_fault
 use Rattle.ledger_core.specs.Shared.{SeatView}
 use Rattle.reserve_core.specs.Reservations.{Lists, Holds, next_of, reserved}
 use Rattle.sqlite.specs.State.{State, HasCleanDisk}
 use Rattle.sqlite_trees.specs.Tree.{Trees}
+use Rattle.sealer_core.specs.declared.line.FileFault.{FileFault}
 use Rattle.sealer_core.specs.declared.line.FileFault.TheVariants.{CannotOpen, OutputExists, CannotCreate, OutOfMemory, NoNumber, Unsealed}
 use Rattle.sealer_core.specs.declared.line.FileOutcome.{FileOutcome}
 use Rattle.sealer_core.specs.declared.line.FileOutcome.TheVariants.{Sealed, Opened, Good, Failed}
@@ -40,6 +44,12 @@ IsOfNumber (Sealed number bytes) = ⊤
 IsOfNumber (Failed NoNumber) = ⊤
 IsOfNumber (Failed (Unsealed fault)) = ⊤
 IsOfNumber _ = ⊥
+
+-- the fault of a file for which no number was issued
+abbrev pub unissued_as : IssueFault → FileFault
+unissued_as issue_fault.Exhausted = NoNumber
+unissued_as issue_fault.SeatClosed = NoNumber
+unissued_as issue_fault.OutOfMemory = Unsealed sealing_fault.OutOfMemory
 
 -- the steps on outputs that sealing a file makes: its output is created where the input was opened, and where the file then fails
 -- its removal is tried
@@ -126,11 +136,12 @@ pub record IsReserved (key_id : List ℕ) (device count : ℕ) (old new : State)
       → (range.device ≡ device) × (range.lo ≡ next_of (lists key_id device)) × (range.size ≡ count) × Holds new.now (reserved lists key_id device count)
   pub lasts : HasCleanDisk new → (trees : Trees) → new.may_leave trees → trees ≡ new.now.trees
 
--- Every file was worked, in order and in groups of at most so many; and their lines were told.
+-- Every file was worked, in order and in groups of so many, the last of at most so many; and their lines were told.
 pub record AreGrouped (lanes : ℕ) (names : List (List ℕ)) (status : ℕ) (old new : Option (List ℕ)) (failures failures' : Option ℕ)
     (steps steps' : Option (List Step)) : Type 0 where
   pub groups : List (List FileLine)
   pub few : All (λ group. length group ≤ lanes) groups
+  pub full : All (λ group. length group ≡ lanes) (take (length groups - 1) groups)
   pub lines : List FileLine
   pub joined : lines ≡ flat_map (λ group. group) groups
   pub named : map (λ line. line.name) lines ≡ names
@@ -144,7 +155,7 @@ pub record AreSealed (lanes : ℕ) (names : List (List ℕ)) (operations : List 
   pub worked : AreGrouped lanes names status old new failures failures' steps steps'
   pub accounts : Accounts worked.lines operations
 
--- So they were, in groups of as many as the ledger has seats, over one legal history, and no number stands in two lines.
+-- So they were, with a group for as many files as the ledger has seats, over one legal history, and no number stands in two lines.
 pub record HasSealed (names : List (List ℕ)) (terms : Terms) (history : List Entry) (status : ℕ) (old new : Option (List ℕ))
     (failures failures' : Option ℕ) (steps steps' : Option (List Step)) : Type 0 where
   pub worked : AreGrouped terms.seats names status old new failures failures' steps steps'

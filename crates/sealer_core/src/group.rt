@@ -1,17 +1,18 @@
 //! Files sealed in groups, by several lanes of a ledger. Of a group each file in turn has its input opened, its output created
 //! and its input read; those that were read are sealed side by side; then each container in turn is written, and its number
 //! settled.
-ghost use Rattle.std.specs.Prelude.{◌≡◌, ℕ, Option, ◌+◌, ◌<◌, ◌≤◌, List, [], ◌∷◌, ◌++◌, length, map, All, flat_map, option_to_list, vec_len, IfOk, OnOk, OnErr};
+ghost use Rattle.std.specs.Prelude.{◌≡◌, ◌⊎◌, ℕ, Option, ◌+◌, ◌<◌, ◌≤◌, List, [], ◌∷◌, ◌++◌, length, drop, map, All, flat_map, vec_len, IfOk, OnErr};
 ghost use Rattle.journal_core.specs.declared.entry.Event.TheVariants.{Settled};
 ghost use Rattle.journal_core.specs.declared.entry.Way.TheVariants.{Sealed};
-ghost use Rattle.journal_core.specs.Streams.{Appends};
+ghost use Rattle.journal_core.specs.Streams.{Consumes};
 ghost use Rattle.ledger_core.specs.Closing.{AreAllSeats};
 ghost use Rattle.sealer_core.specs.Folder.{stepped};
-ghost use Rattle.sealer_core.specs.Group.{name_of, IsPrepared, made_for, IsHeld, IsCounted, IsEnding, AreHeld, AreEnded, IsGroup, refused_lines};
+ghost use Rattle.sealer_core.specs.Group.{name_of, IsPrepared, made_for, read_of, IsHeld, IsCounted, IsEnding, IsPut, IsEndOf, IsEndBy, IsEndIn, left_by, AreHeld, AreEnded, IsGroup, refused_lines};
 ghost use Rattle.sealer_core.specs.Lines.{FileLine};
 ghost use Rattle.sealer_core.specs.Work.{AreTold};
+ghost use Rattle.crew_core.specs.Batch.{AreOutcomes};
 ghost use Rattle.crew_core.specs.declared.outcome.Outcome.{Outcome};
-ghost use Rattle.sealer_core.specs.Sealing.{Accounts, AreSealed, IfSealed, IsOfNumber, IsOfSealing, line_of, operations_of, created_as, removed_as, sealed_name};
+ghost use Rattle.sealer_core.specs.Sealing.{Accounts, AreSealed, IsOfNumber, IsOfSealing, line_of, operations_of, created_as, removed_as, sealed_name};
 
 use crate::commands::tell;
 use crate::folder::{Folder, FolderFault};
@@ -73,6 +74,7 @@ fn prepare_file<'a, F: Folder>(
     requires short { All (λ job. length job.items ≤ 1099511627776) jobs.old.items }
     ensures short { All (λ job. length job.items ≤ 1099511627776) jobs.new.items }
     ensures count { vec_len jobs.new ≤ vec_len jobs.old + 1 }
+    ensures read { map (λ job. length job.items) jobs.new.items ≡ map (λ job. length job.items) jobs.old.items ++ read_of result }
     ensures name { name_of result ≡ name.now }
     ensures prepared { IsPrepared result }
     ensures steps { F.steps folder.new ≡ stepped (F.steps folder.old) (made_for result) }
@@ -130,6 +132,9 @@ fn read_job<R: Source>(
     requires short { All (λ job. length job.items ≤ 1099511627776) jobs.old.items }
     ensures short { All (λ job. length job.items ≤ 1099511627776) jobs.new.items }
     ensures count { vec_len jobs.new ≤ vec_len jobs.old + 1 }
+    ensures read { IfOk result (λ bytes. (job : _) × (jobs.new.items ≡ jobs.old.items ++ job ∷ []) × (bytes ≡ length job.items)
+        × Consumes (R.left reader.old) (R.left reader.new) job.items) }
+    ensures unread { OnErr result (jobs.new.items ≡ jobs.old.items) }
 {
     let plain = match read_to_limit(alloc, reader, max_bytes) {
         Ok(plain) => plain,
@@ -169,6 +174,7 @@ fn end_job<W: Sink>(
     ensures all { AreAllSeats ledger.now seats.new }
     ensures count { length seats.new ≡ length seats.old }
     ensures outcome { IsOfNumber result }
+    ensures end { IsEndOf bytes (W.taken writer.old) (W.taken writer.new) outcome result }
     ensures accounts { (name : List ℕ) (lines : List FileLine) (others : List Outcome) → AreHeld lines (outcome ∷ others) (operations_of seats.old)
         → AreHeld (lines ++ line_of name result ∷ []) others (operations_of seats.new) }
 {
@@ -208,6 +214,8 @@ fn end_next<W: Sink>(
     ensures count { length seats.new ≡ length seats.old }
     ensures held { All (IsHeld (length seats.old)) outcomes.new.items }
     ensures outcome { IsOfNumber result }
+    ensures next { outcomes.new.items ≡ drop 1 outcomes.old.items }
+    ensures end { IsEndBy bytes (W.taken writer.old) (W.taken writer.new) outcomes.old.items result }
     ensures accounts { (name : List ℕ) (lines : List FileLine) → AreHeld lines outcomes.old.items (operations_of seats.old)
         → AreHeld (lines ++ line_of name result ∷ []) outcomes.new.items (operations_of seats.new) }
 {
@@ -233,7 +241,7 @@ fn write_container<W: Sink>(
     ensures all { AreAllSeats ledger.now seats.new }
     ensures count { length seats.new ≡ length seats.old }
     ensures outcome { IsOfNumber result }
-    ensures written { IfSealed result (λ number n. (number ≡ spent.number) × (n ≡ bytes) × Appends (W.taken writer.old) (W.taken writer.new) container.now) }
+    ensures written { IsPut container.now spent.number bytes (W.taken writer.old) (W.taken writer.new) result }
     ensures accounts { IsEnding spent.number (operations_of seats.old) (operations_of seats.new) result }
 {
     let number = spent.number();
@@ -264,6 +272,8 @@ fn end_file<F: Folder>(
     ensures count { length seats.new ≡ length seats.old }
     ensures held { All (IsHeld (length seats.old)) outcomes.new.items }
     ensures outcome { IsOfSealing result }
+    ensures next { outcomes.new.items ≡ left_by file.entry outcomes.old.items }
+    ensures end { IsEndIn outcomes.old.items file.entry result }
     ensures created { created_as (sealed_name (name_of file.entry)) result ≡ made_for file.entry }
     ensures removed { F.steps folder.new ≡ stepped (F.steps folder.old) (removed_as (sealed_name (name_of file.entry)) result) }
     ensures accounts { (lines : List FileLine) → AreHeld lines outcomes.old.items (operations_of seats.old)
@@ -332,6 +342,7 @@ fn prepare_group<'a, F: Folder>(
     ensures steps { IfOk result (λ group. F.steps folder.new ≡ stepped (F.steps folder.old) (flat_map made_for group.0.items)) }
     ensures short { IfOk result (λ group. All (λ job. length job.items ≤ 1099511627776) group.1.items) }
     ensures few { IfOk result (λ group. vec_len group.1 ≤ length names.now) }
+    ensures read { IfOk result (λ group. map (λ job. length job.items) group.1.items ≡ flat_map read_of group.0.items) }
     ensures refused { OnErr result (folder.new ≡ folder.old) }
 {
     let mut files = VecDeque::with_capacity(alloc, names.len())?;
@@ -358,6 +369,7 @@ fn seal_jobs<T: Threads + Sync>(
     ensures all { AreAllSeats ledger.now seats.new }
     ensures count { length seats.new ≡ length seats.old }
     ensures held { All (IsHeld (length seats.old)) result.items }
+    ensures outcomes { (result.items ≡ []) ⊎ AreOutcomes key.now (map (λ job. job.items) jobs.now) result.items }
     ensures accounts { (lines : List FileLine) → Accounts lines (operations_of seats.old) → AreHeld lines result.items (operations_of seats.new) }
 {
     let lanes = jobs.len() as u32;

@@ -8,7 +8,7 @@ ghost use Rattle.ledger_core.specs.Shared.{Extends, IsSameSeat};
 ghost use Rattle.sealer_core.specs.Folder.{stepped};
 ghost use Rattle.sealer_core.specs.Lines.{FileLine};
 ghost use Rattle.sealer_core.specs.declared.line.FileOutcome.TheVariants.{Failed};
-ghost use Rattle.sealer_core.specs.Sealing.{Accounts, AreSealed, IfSealed, IsOfNumber, IsOfSealing, line_of, creations_of, removals_of};
+ghost use Rattle.sealer_core.specs.Sealing.{Accounts, AreSealed, IfSealed, IsOfNumber, IsOfSealing, unissued_as, line_of, creations_of, removals_of};
 
 use crate::commands::tell;
 use crate::folder::{Folder, FolderFault};
@@ -23,7 +23,8 @@ use std::thread::Threads;
 
 /// Why a file has no number.
 pub(crate) fn fault_of(fault: IssueFault) -> FileFault
-    ensures { IsOfNumber (Failed result) }
+    ensures fault { result ≡ unissued_as fault }
+    ensures outcome { IsOfNumber (Failed result) }
 {
     match fault {
         IssueFault::Exhausted | IssueFault::SeatClosed => FileFault::NoNumber,

@@ -1,5 +1,5 @@
 use Rattle.std.proofs.Common.{arith}
-use Rattle.sealer_core.proofs.Groups.{prepared_names, prepared_steps, prepared_all}
+use Rattle.sealer_core.proofs.Groups.{prepared_names, prepared_steps, prepared_read, prepared_all}
 use Rattle.sealer_core.proofs.Telling.{names-step}
 use Rattle.sealer_core.proofs.group.prepare_group.Goals as goal
 
@@ -21,4 +21,5 @@ loop-name-preserved g c =
       steps = prepared_steps _ _ _ b.items _ _ _ i.steps p.steps;
       short = p.short;
       few = omega arith;
+      read = prepared_read _ _ _ b.items _ _ i.read p.read;
     }

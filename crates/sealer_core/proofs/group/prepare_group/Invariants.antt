@@ -2,7 +2,7 @@
 use Rattle.std.proofs.Common.{◌≡◌, ◌≤◌, length, map, take, flat_map, All, vec_len}
 use Rattle.std.specs.VecDeque.{deque_len, deque_capacity}
 use Rattle.sealer_core.specs.Folder.{stepped}
-use Rattle.sealer_core.specs.Group.{name_of, IsPrepared, made_for}
+use Rattle.sealer_core.specs.Group.{name_of, IsPrepared, made_for, read_of}
 use Rattle.sealer_core.proofs.group.prepare_group.Given as goal
 
 abbrev pub invariant-loop-name : goal.invariant-loop-name
@@ -14,4 +14,5 @@ invariant-loop-name g l = record {
   steps : g.F.Folder.steps l.folder ≡ stepped (g.F.Folder.steps l.initial.folder) (flat_map made_for l.files.items);
   short : All (λ job. length job.items ≤ 1099511627776) l.jobs.items;
   few : vec_len l.jobs ≤ l.name-index;
+  read : map (λ job. length job.items) l.jobs.items ≡ flat_map read_of l.files.items;
 }

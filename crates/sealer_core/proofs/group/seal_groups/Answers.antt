@@ -8,12 +8,14 @@ use Rattle.sealer_core.proofs.Telling.{nothing_sealed}
 use Rattle.sealer_core.proofs.group.seal_groups.Goals as goal
 
 pub loop-done-init : goal.loop-done-init
-loop-done-init g c = record {
-  all = c.requires.all;
-  count = refl;
-  within = omega arith;
-  sealed = nothing_sealed _ _ _ _ _ (subst (λ (l : List Entry). Accounts [] l) (sym c.requires.fresh) accounts_none);
-}
+loop-done-init g c =
+    let none = nothing_sealed (length c.args.seats.now) _ (g.L.Sink.taken c.args.lines.now) (g.L.Sink.failures c.args.lines.now) (g.F.Folder.steps c.args.folder.now)
+    (subst (λ (l : List Entry). Accounts [] l) (sym c.requires.fresh) accounts_none) in record {
+      all = c.requires.all;
+      count = refl;
+      within = omega arith;
+      sealed = (none.0, λ below. none.1);
+    }
 
 pub loop-done-preserved : goal.loop-done-preserved
 loop-done-preserved g c =
@@ -26,12 +28,13 @@ loop-done-preserved g c =
     let least = c.min.ensures in
     let count = i.count in
     let within = i.within in
-    let more = length-map group (λ (name : Bor (List ℕ)). name.now) in record {
+    let long = length-map group (λ (name : Bor (List ℕ)). name.now) in
+    let more = groups_more (length c.args.seats.now) _ (map (λ (name : Bor (List ℕ)). name.now) group) _ _ _ _ _ _ _ _ _ _ _ _ _ _ i.sealed.0 (i.sealed.1 c.loop-done-test.true) s.group (omega arith)
+    (group_names files group c.loop-done.done _ (c.split_at-in-loop-done.ensures.front ∙ ap (take c.min.result) c.split_at.ensures.back) short) in record {
       all = s.all;
       count = s.count ∙ i.count;
       within = omega arith;
-      sealed = groups_more (length c.args.seats.now) _ (map (λ (name : Bor (List ℕ)). name.now) group) _ _ _ _ _ _ _ _ _ _ _ _ _ _ i.sealed s.group (omega arith)
-          (group_names files group c.loop-done.done _ (c.split_at-in-loop-done.ensures.front ∙ ap (take c.min.result) c.split_at.ensures.back) short);
+      sealed = (more.0, λ below. more.1 (omega (arith, below)));
     }
 
 pub returns-clause-sealed : goal.returns-clause-sealed
@@ -39,4 +42,4 @@ returns-clause-sealed g c =
     subst (λ (f : List (Bor (List ℕ))). AreSealed (length c.args.seats.now) (map (λ (name : Bor (List ℕ)). name.now) f) (operations_of c.loop-done.seats) c.loop-done.status
     (g.L.Sink.taken c.args.lines.now) (g.L.Sink.taken c.loop-done.lines) (g.L.Sink.failures c.args.lines.now) (g.L.Sink.failures c.loop-done.lines)
     (g.F.Folder.steps c.args.folder.now) (g.F.Folder.steps c.loop-done.folder))
-    (take_all c.loop-done.done c.args.options.now.files.now c.loop-done-test.false) c.loop-done.invariant.sealed
+    (take_all c.loop-done.done c.args.options.now.files.now c.loop-done-test.false) c.loop-done.invariant.sealed.0

@@ -1,5 +1,5 @@
--- The groups so far were sealed.
-use Rattle.std.proofs.Common.{◌≡◌, ◌≤◌, ◌-◌, length, map, take}
+-- The groups so far were sealed, and where files are left all of them are full.
+use Rattle.std.proofs.Common.{◌≡◌, ◌<◌, ◌≤◌, ◌-◌, All, length, map, take}
 use Rattle.ledger_core.specs.Closing.{AreAllSeats}
 use Rattle.sealer_core.specs.Sealing.{AreSealed, operations_of}
 use Rattle.sealer_core.proofs.group.seal_groups.Given as goal
@@ -9,9 +9,10 @@ invariant-loop-done g l = record {
   all : AreAllSeats l.ledger l.seats;
   count : length l.seats ≡ length l.initial.seats;
   within : l.done ≤ length l.options.files.now;
-  sealed : AreSealed (length l.initial.seats) (map (λ name. name.now) (take l.done l.options.files.now)) (operations_of l.seats) l.status
+  sealed : (s : AreSealed (length l.initial.seats) (map (λ name. name.now) (take l.done l.options.files.now)) (operations_of l.seats) l.status
       (g.L.Sink.taken l.initial.lines) (g.L.Sink.taken l.lines) (g.L.Sink.failures l.initial.lines) (g.L.Sink.failures l.lines)
-      (g.F.Folder.steps l.initial.folder) (g.F.Folder.steps l.folder);
+      (g.F.Folder.steps l.initial.folder) (g.F.Folder.steps l.folder))
+      × (l.done < length l.options.files.now → All (λ group. length group ≡ length l.initial.seats) s.worked.groups);
 }
 
 abbrev pub decreases-loop-done : goal.decreases-loop-done

@@ -19,8 +19,8 @@ loop-name-preserved g c =
     let s = c.seal_file-outcome.ensures in record {
       ours = s.same.ledger ∙ i.ours;
       same = record { ledger = s.same.ledger ∙ i.same.ledger; terms = s.same.terms ∙ i.same.terms; number = s.same.number ∙ i.same.number };
-      sealed = sealed_one _ _ _ _ _ _ _ _ _ _ _ _ _ _ _ _ i.sealed s.outcome s.steps (c.tell-status.ensures _ _ _ i.sealed.worked.told)
-          (names-step _ _ _ c.loop-name-test.true) (s.accounts _ i.sealed.accounts);
+      sealed = sealed_one _ _ _ _ _ _ _ _ _ _ _ _ _ _ _ _ i.sealed.0 i.sealed.1 s.outcome s.steps (c.tell-status.ensures _ _ _ i.sealed.0.worked.told)
+          (names-step _ _ _ c.loop-name-test.true) (s.accounts _ i.sealed.0.accounts);
     }
 
 pub returns-clause-sealed : goal.returns-clause-sealed
@@ -28,4 +28,4 @@ returns-clause-sealed g c =
     subst (λ (f : List (Bor (List ℕ))). AreSealed 1 (map (λ (name : Bor (List ℕ)). name.now) f) c.loop-name.seat.mine c.loop-name.status
     (g.W.Sink.taken c.args.lines.now) (g.W.Sink.taken c.loop-name.lines) (g.W.Sink.failures c.args.lines.now) (g.W.Sink.failures c.loop-name.lines)
     (g.F.Folder.steps c.args.folder.now) (g.F.Folder.steps c.loop-name.folder))
-    (take_all c.loop-name.name-index c.args.options.now.files.now c.loop-name-test.false) c.loop-name.invariant.sealed
+    (take_all c.loop-name.name-index c.args.options.now.files.now c.loop-name-test.false) c.loop-name.invariant.sealed.0
