@@ -1,7 +1,7 @@
 //! A folder in memory, whose calls, readers and writers fail where they are told to.
 //!
 //! It serves the tests of the commands, here and in the crates above. Its readers and writers tell nothing of their bytes.
-ghost use Rattle.std.specs.Prelude.{◌≡◌, ◌<◌, ◌↔◌, [], ◌∷◌, ◌++◌, None, Some, Err, IfSome, IsSome, IsTrue, OnOk, OnErr, Contains, IfOk, length, string_bytes};
+ghost use Rattle.std.specs.Prelude.{◌≡◌, ◌<◌, [], ◌∷◌, ◌++◌, None, Some, IfSome, OnOk, IfOk, length, string_bytes};
 ghost use Rattle.sealer_core.specs.Memory.{memory_view};
 
 use crate::folder::{Folder, FolderFault};

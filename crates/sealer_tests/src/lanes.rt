@@ -102,6 +102,11 @@ fn two_lanes_share_a_group_and_a_third_file_follows(rt: HostRuntime) -> Result<(
         return Err(Fail::new("no journal"));
     };
     assert!(rt; journal.bytes().starts_with(b"range 1 0 3 2\n"));
+    // Seat 1 has sealed, too.
+    let Ok(text) = str::from_utf8(journal.bytes()) else {
+        return Err(Fail::new("no text"));
+    };
+    assert!(rt; text.contains("\n1 issue "));
     assert_eq!(rt;
         audited(rt.alloc(), &out)?.bytes(),
         b"legal: 3 granted, 3 sealed, 0 void, 0 open, 0 refused\n".as_slice()
@@ -185,6 +190,90 @@ fn an_output_that_fails_in_a_group_is_removed_and_its_number_void(
     assert_eq!(rt; out.lines.bytes(), b"failed a: write failed\n".as_slice());
     assert!(rt; journal_is(&out, b"range 1 0 1 2\n0 issue 0\n0 void 0\n"));
     assert!(rt; !folder.has("a.stm"));
+    Ok(())
+}
+
+#[test]
+fn files_of_a_group_fail_and_are_sealed_each_by_its_own_outcome(
+    rt: HostRuntime,
+) -> Result<(), Fail> {
+    let mut keeper = new_keeper(rt.alloc())?;
+    let mut folder = MemoryFolder::new(rt.alloc());
+    folder.put("a", b"22")?;
+    folder.put("b", b"1")?;
+    folder.put("c", b"333")?;
+    // A container of one byte has 41 bytes.
+    folder.pace_writers(Pace {
+        most: 64,
+        schedule: Schedule::Bytes(41),
+    });
+    let mut out = steady_outs(rt.alloc())?;
+    assert_eq!(rt;
+        seal_by(
+            &rt,
+            &mut keeper,
+            &mut folder,
+            &["a", "b", "c"],
+            &mut out,
+            8,
+            3
+        ),
+        1
+    );
+    let lines = out.lines.bytes();
+    assert!(rt; lines.starts_with(b"failed a: write failed\nsealed b file "));
+    assert!(rt; lines.ends_with(b" bytes 1\nfailed c: write failed\n"));
+    assert!(rt; folder.has("b.stm") && !folder.has("a.stm") && !folder.has("c.stm"));
+    assert_eq!(rt;
+        audited(rt.alloc(), &out)?.bytes(),
+        b"legal: 3 granted, 1 sealed, 2 void, 0 open, 0 refused\n".as_slice()
+    );
+    Ok(())
+}
+
+#[test]
+fn an_output_that_cannot_be_created_in_a_group_spends_no_number(
+    rt: HostRuntime,
+) -> Result<(), Fail> {
+    let mut keeper = new_keeper(rt.alloc())?;
+    let mut folder = MemoryFolder::new(rt.alloc());
+    folder.put("s", b"1")?;
+    folder.put("t", b"22")?;
+    // The first call opens `s`, and the second would create its output.
+    folder.refuse_call(1);
+    let mut out = steady_outs(rt.alloc())?;
+    assert_eq!(rt;
+        seal_by(&rt, &mut keeper, &mut folder, &["s", "t"], &mut out, 8, 2),
+        1
+    );
+    assert_eq!(rt;
+        out.lines.bytes(),
+        b"failed s: cannot create\nsealed t file 0 bytes 2\n".as_slice()
+    );
+    assert!(rt; !folder.has("s.stm") && holds(rt.alloc(), &folder, "t.stm", 0, b"22")?);
+    assert!(rt; journal_is(&out, b"range 1 0 2 2\n0 issue 0\n0 sealed 0\n"));
+    Ok(())
+}
+
+#[test]
+fn in_a_group_the_line_is_the_same_where_the_removal_fails(rt: HostRuntime) -> Result<(), Fail> {
+    let mut keeper = new_keeper(rt.alloc())?;
+    let mut folder = MemoryFolder::new(rt.alloc());
+    folder.put("a", b"x")?;
+    folder.pace_writers(Pace {
+        most: 3,
+        schedule: Schedule::Bytes(10),
+    });
+    // The third call would remove the output.
+    folder.refuse_call(2);
+    let mut out = steady_outs(rt.alloc())?;
+    assert_eq!(rt;
+        seal_by(&rt, &mut keeper, &mut folder, &["a"], &mut out, 8, 2),
+        1
+    );
+    assert_eq!(rt; out.lines.bytes(), b"failed a: write failed\n".as_slice());
+    assert!(rt; folder.has("a.stm"));
+    assert!(rt; journal_is(&out, b"range 1 0 1 2\n0 issue 0\n0 void 0\n"));
     Ok(())
 }
 
