@@ -95,13 +95,6 @@ next_deal w worker upto workers begin end ps qs next under multiple has deal = r
   ];
 }
 
--- without workers other than 0 there is nothing to have
-pub no_others : (w : WorkView) (workers begin end : ℕ) → HasOthers w 1 workers begin end []
-no_others w workers begin end = record {
-  made = λ k d at. absurd (omega arith);
-  covers = λ n from below some low. absurd (omega arith);
-}
-
 -- a round by all workers
 pub round_made : (w : WorkView) (workers begin end : ℕ) (s : ShelfView) (ps : List PieceView) → 0 < workers → HasFirst w workers begin end s
     → HasOthers w workers workers begin end ps → HasUpTo w end s ps
