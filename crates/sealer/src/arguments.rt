@@ -3,15 +3,12 @@ ghost use Rattle.std.specs.Prelude.{◌<◌, ◌≤◌, ◌≡◌, IfOk, length}
 
 use clap::{Arg, ArgAction, ArgMatches, Command, Error, value_parser};
 use ledger_core::Device;
-use sealer_core::{MAX_BYTES, MAX_WORKERS};
+use sealer_core::{MAX_BYTES, MAX_LANES, MAX_WORKERS};
 use std::alloc::Global;
 use thiserror::Error as ThisError;
 
 /// Plaintext bytes of a file where no limit is given: 1 GiB.
 pub const DEFAULT_MAX_BYTES: u64 = 1 << 30;
-
-/// The greatest number of lanes.
-const MAX_LANES: u32 = 16;
 
 /// The program's command: `seal`, `open`, `verify` and `audit`.
 pub fn command<'a>(alloc: Global) -> Result<Command<'a>, Error> {

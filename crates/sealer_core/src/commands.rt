@@ -22,6 +22,9 @@ pub const SUFFIX: &str = ".stm";
 /// The greatest number of workers.
 pub const MAX_WORKERS: u32 = 16;
 
+/// The greatest number of lanes.
+pub const MAX_LANES: u32 = 16;
+
 /// The greatest number of plaintext bytes of a file that can be asked for: 2^40.
 pub const MAX_BYTES: u64 = 1 << 40;
 

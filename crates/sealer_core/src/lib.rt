@@ -17,7 +17,9 @@ pub mod sealing;
 mod trouble;
 
 pub use crate::auditor::run_audit;
-pub use crate::commands::{MAX_BYTES, MAX_WORKERS, OpenOptions, Outs, open_all, verify_all};
+pub use crate::commands::{
+    MAX_BYTES, MAX_LANES, MAX_WORKERS, OpenOptions, Outs, open_all, verify_all,
+};
 pub use crate::engine::{open_one, seal_one, verify_one};
 pub use crate::folder::{Folder, FolderFault};
 pub use crate::key_file::{KeyFault, read_key};
