@@ -27,7 +27,7 @@ use Rattle.sealer_core.specs.Lines.{FileLine}
 use Rattle.sealer_core.specs.Folder.{Step, stepped}
 use Rattle.sealer_core.specs.Work.{AreTold}
 use Rattle.sealer_core.specs.Group.{holds, HasEnded, IsHeld, AreHeld, IsCounted, IsEnding, AreEnded, AreEnding, IsGroup, refused_lines, name_of, IsPrepared, made_for, read_of}
-use Rattle.sealer_core.specs.declared.group.Prepared.{Prepared}
+use Rattle.sealer_core.specs.declared.prepare.Prepared.{Prepared}
 use Rattle.sealer_core.specs.declared.line.FileFault.TheVariants.{OutOfMemory}
 use Rattle.sealer_core.specs.Sealing.{Accounts, AreSealed, IsOfSealing, creations_of, removals_of, line_of, operations_of, created_as, removed_as, sealed_name, seals, voids, tells_of, times_sealed, times_voided}
 use Rattle.sealer_core.proofs.Numbering.{adds_failure, told_push, sum_below_zeros, sum_below_first}

@@ -10,8 +10,8 @@ use Rattle.container_core.specs.declared.fault.SealFault.TheVariants as sealing_
 use Rattle.crew_core.specs.declared.outcome.Outcome.{Outcome}
 use Rattle.crew_core.specs.declared.outcome.Outcome.TheVariants as job
 use Rattle.crew_core.specs.Batch.{seat_of}
-use Rattle.sealer_core.specs.declared.group.Prepared.{Prepared}
-use Rattle.sealer_core.specs.declared.group.Prepared.TheVariants.{Refused, Unread, Read}
+use Rattle.sealer_core.specs.declared.prepare.Prepared.{Prepared}
+use Rattle.sealer_core.specs.declared.prepare.Prepared.TheVariants.{Refused, Unread, Read}
 use Rattle.sealer_core.specs.declared.line.FileOutcome.{FileOutcome}
 use Rattle.sealer_core.specs.declared.line.FileOutcome.TheVariants.{Sealed, Failed}
 use Rattle.sealer_core.specs.declared.line.FileFault.{FileFault}

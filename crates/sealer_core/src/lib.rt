@@ -12,6 +12,7 @@ mod lane;
 pub mod laws;
 pub mod line;
 pub mod memory;
+mod prepare;
 pub mod run;
 pub mod sealing;
 mod trouble;

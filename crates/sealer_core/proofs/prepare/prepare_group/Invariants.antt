@@ -3,7 +3,7 @@ use Rattle.std.proofs.Common.{◌≡◌, ◌≤◌, length, map, take, flat_map,
 use Rattle.std.specs.VecDeque.{deque_len, deque_capacity}
 use Rattle.sealer_core.specs.Folder.{stepped}
 use Rattle.sealer_core.specs.Group.{name_of, IsPrepared, made_for, read_of}
-use Rattle.sealer_core.proofs.group.prepare_group.Given as goal
+use Rattle.sealer_core.proofs.prepare.prepare_group.Given as goal
 
 abbrev pub invariant-loop-name : goal.invariant-loop-name
 invariant-loop-name g l = record {

@@ -1,6 +1,6 @@
 use Rattle.std.proofs.Common.{rules}
-use Rattle.sealer_core.proofs.group.read_job.Goals as goal
-use Rattle.sealer_core.proofs.group.read_job.Goals.{in-Ok-push, in-Err}
+use Rattle.sealer_core.proofs.prepare.read_job.Goals as goal
+use Rattle.sealer_core.proofs.prepare.read_job.Goals.{in-Ok-push, in-Err}
 
 pub returns-clause-read : goal.returns-clause-read
 returns-clause-read g c =

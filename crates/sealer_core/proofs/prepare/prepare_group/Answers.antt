@@ -1,7 +1,7 @@
 use Rattle.std.proofs.Common.{arith}
 use Rattle.sealer_core.proofs.Groups.{prepared_names, prepared_steps, prepared_read, prepared_all}
 use Rattle.sealer_core.proofs.Telling.{names-step}
-use Rattle.sealer_core.proofs.group.prepare_group.Goals as goal
+use Rattle.sealer_core.proofs.prepare.prepare_group.Goals as goal
 
 pub loop-name-preserved : goal.loop-name-preserved
 loop-name-preserved g c =

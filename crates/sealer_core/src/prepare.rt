@@ -1,0 +1,159 @@
+//! Files of a group before they are sealed: of each in turn its input is opened, its output created and its input read.
+ghost use Rattle.std.specs.Prelude.{◌≡◌, ◌+◌, ◌≤◌, [], ◌∷◌, ◌++◌, length, map, All, flat_map, vec_len, IfOk, OnErr};
+ghost use Rattle.journal_core.specs.Streams.{Consumes};
+ghost use Rattle.sealer_core.specs.Folder.{stepped};
+ghost use Rattle.sealer_core.specs.Group.{name_of, IsPrepared, made_for, read_of};
+
+use crate::folder::{Folder, FolderFault};
+use crate::line::FileFault;
+use container_core::SealFault;
+use ledger_core::{ReadFault, Source, read_to_limit};
+use std::alloc::{AllocError, Global};
+use std::collections::VecDeque;
+
+/// A file of a group before the sealing.
+#[derive(Drop)]
+pub(crate) enum Prepared<'a, W: Drop> {
+    /// No output was created.
+    Refused {
+        name: &'a str,
+        fault: FileFault,
+    },
+    /// Its output was created, and its plaintext wasn't read.
+    Unread {
+        name: &'a str,
+        output: String,
+        fault: SealFault,
+    },
+    /// Its output was created, and its plaintext of so many bytes is among the jobs.
+    Read {
+        name: &'a str,
+        output: String,
+        writer: W,
+        bytes: u64,
+    },
+}
+
+impl<'a, W: Drop> Prepared<'a, W> {
+    /// The file's name.
+    pub(crate) fn name(&self) -> &'a str
+        ensures { result.now ≡ name_of self.now }
+    {
+        match self {
+            Prepared::Refused { name, .. } => name,
+            Prepared::Unread { name, .. } => name,
+            Prepared::Read { name, .. } => name,
+        }
+    }
+}
+
+// Opens a file's input, creates its output, and reads the input: its plaintext becomes the last of the jobs.
+fn prepare_file<'a, F: Folder>(
+    alloc: Global,
+    folder: &mut F,
+    name: &'a str,
+    max_bytes: u64,
+    jobs: &mut Vec<Vec<u8>>,
+) -> Prepared<'a, F::Writer>
+    requires max_bytes { max_bytes ≤ 1099511627776 }
+    requires short { All (λ job. length job.items ≤ 1099511627776) jobs.old.items }
+    ensures short { All (λ job. length job.items ≤ 1099511627776) jobs.new.items }
+    ensures count { vec_len jobs.new ≤ vec_len jobs.old + 1 }
+    ensures read { map (λ job. length job.items) jobs.new.items ≡ map (λ job. length job.items) jobs.old.items ++ read_of result }
+    ensures name { name_of result ≡ name.now }
+    ensures prepared { IsPrepared result }
+    ensures steps { F.steps folder.new ≡ stepped (F.steps folder.old) (made_for result) }
+{
+    let Ok(output) = format!(in alloc; "{name}.stm") else {
+        return Prepared::Refused {
+            name,
+            fault: FileFault::OutOfMemory,
+        };
+    };
+    let Ok(mut reader) = folder.open(name) else {
+        return Prepared::Refused {
+            name,
+            fault: FileFault::CannotOpen,
+        };
+    };
+    let writer = match folder.create(output.as_str()) {
+        Ok(writer) => writer,
+        Err(FolderFault::Exists) => {
+            return Prepared::Refused {
+                name,
+                fault: FileFault::OutputExists,
+            };
+        }
+        Err(FolderFault::Failed) => {
+            return Prepared::Refused {
+                name,
+                fault: FileFault::CannotCreate,
+            };
+        }
+    };
+    match read_job(alloc, &mut reader, max_bytes, jobs) {
+        Ok(bytes) => Prepared::Read {
+            name,
+            output,
+            writer,
+            bytes,
+        },
+        Err(fault) => Prepared::Unread {
+            name,
+            output,
+            fault,
+        },
+    }
+}
+
+// Reads an input whole, as the last of the jobs. The answer is how many bytes it has.
+fn read_job<R: Source>(
+    alloc: Global,
+    reader: &mut R,
+    max_bytes: u64,
+    jobs: &mut Vec<Vec<u8>>,
+) -> Result<u64, SealFault>
+    requires max_bytes { max_bytes ≤ 1099511627776 }
+    requires short { All (λ job. length job.items ≤ 1099511627776) jobs.old.items }
+    ensures short { All (λ job. length job.items ≤ 1099511627776) jobs.new.items }
+    ensures count { vec_len jobs.new ≤ vec_len jobs.old + 1 }
+    ensures read { IfOk result (λ bytes. (job : _) × (jobs.new.items ≡ jobs.old.items ++ job ∷ []) × (bytes ≡ length job.items)
+        × Consumes (R.left reader.old) (R.left reader.new) job.items) }
+    ensures unread { OnErr result (jobs.new.items ≡ jobs.old.items) }
+{
+    let plain = match read_to_limit(alloc, reader, max_bytes) {
+        Ok(plain) => plain,
+        Err(ReadFault::TooLong) => return Err(SealFault::TooLong),
+        Err(ReadFault::OutOfMemory) => return Err(SealFault::OutOfMemory),
+        Err(ReadFault::Read) => return Err(SealFault::Read),
+    };
+    let bytes = plain.len() as u64;
+    match jobs.push(plain) {
+        Ok(()) => Ok(bytes),
+        Err(_) => Err(SealFault::OutOfMemory),
+    }
+}
+
+/// Prepares the files of a group in turn: what became of each, and the plaintexts of those that were read.
+pub(crate) fn prepare_group<'a, F: Folder>(
+    alloc: Global,
+    folder: &mut F,
+    names: &[&'a str],
+    max_bytes: u64,
+) -> Result<(VecDeque<Prepared<'a, F::Writer>>, Vec<Vec<u8>>), AllocError>
+    requires max_bytes { max_bytes ≤ 1099511627776 }
+    ensures names { IfOk result (λ group. map name_of group.0.items ≡ map (λ name. name.now) names.now) }
+    ensures prepared { IfOk result (λ group. All IsPrepared group.0.items) }
+    ensures steps { IfOk result (λ group. F.steps folder.new ≡ stepped (F.steps folder.old) (flat_map made_for group.0.items)) }
+    ensures short { IfOk result (λ group. All (λ job. length job.items ≤ 1099511627776) group.1.items) }
+    ensures few { IfOk result (λ group. vec_len group.1 ≤ length names.now) }
+    ensures read { IfOk result (λ group. map (λ job. length job.items) group.1.items ≡ flat_map read_of group.0.items) }
+    ensures refused { OnErr result (folder.new ≡ folder.old) }
+{
+    let mut files = VecDeque::with_capacity(alloc, names.len())?;
+    let mut jobs = Vec::with_capacity(alloc, names.len())?;
+    for name in names {
+        files.push_back_reserved(prepare_file(alloc, folder, name, max_bytes, &mut jobs));
+    }
+    Ok((files, jobs))
+}
