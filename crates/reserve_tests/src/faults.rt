@@ -27,6 +27,10 @@ fn a_range_without_a_mark(rt: HostRuntime) -> Result<(), Fail> {
         opening_of(rt.alloc(), &[], &[(1, 0, 1)]),
         Some(Err(BadStore))
     );
+    assert_eq!(rt;
+        opening_of(rt.alloc(), &[], &[(1, 1, 2)]),
+        Some(Err(BadStore))
+    );
     Ok(())
 }
 
