@@ -1,13 +1,14 @@
 #!/bin/bash
 # Seals a handful of containers with our `seal`, and opens them with tools/open_container.py, which knows docs/FORMATS.md alone.
-# Says so, and ends well, where Python's package `cryptography` isn't there. RT names the command that runs a crate (rt).
+# Where Python's package `cryptography` isn't there it says so and ends well, and under CI it fails. RT names the command that runs a
+# crate (rt).
 set -eu
 cd "$(dirname "$0")/.."
 folder=$(mktemp -d)
 trap 'rm -rf "$folder"' EXIT
 if ! python3 -c 'import cryptography' 2>/dev/null; then
     echo "check_containers: skipped, Python's package cryptography isn't there"
-    exit 0
+    [ -z "${CI:-}" ] && exit 0 || exit 1
 fi
 (cd crates/container_tables && "${RT:-rt}" run -- make "$folder") >"$folder/log" 2>&1 || { cat "$folder/log"; exit 1; }
 python3 -c 'print(bytes(range(32)).hex())' >"$folder/key"
