@@ -318,13 +318,18 @@ for name in ledger ledger-wal ledger-shm ledger-journal; do
     wants "journal-at-$name" 2 '' 'journal: cannot create'
     is "nothing-at-$name" no test -e "life/place/$name"
 done
-for name in ledger ledger-wal; do
+for name in ledger ledger-wal ledger-shm ledger-journal; do
     placed --journal "life/same/$name" life/place/a
     wants "journal-at-$name-by-another-path" 2 '' 'journal: cannot create'
-    rm -f life/place/ledger*
+    is "empty-at-$name" no test -s "life/place/$name"
 done
+rm -f life/place/ledger life/place/ledger-wal
+ln -s place/ledger life/linked
 placed life/place/a
 wants first-in-place 0 'sealed life/place/a file 0 bytes 1492' ''
+rm -f life/place/ledger-journal
+run seal --key "$key" --ledger life/linked --device 1 --journal life/place/ledger-journal life/place/b
+wants journal-beside-what-is-linked 2 '' 'journal: cannot create'
 rm -f life/place/ledger-wal
 placed --journal life/same/ledger-wal life/place/b
 wants journal-at-the-log 2 '' 'journal: cannot create'

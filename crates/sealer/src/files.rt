@@ -1,4 +1,5 @@
 //! The file system as a folder.
+use crate::ledger::{is_beside, is_of_ledger};
 use ledger_core::{FromRead, ToWrite};
 use sealer_core::{Folder, FolderFault};
 use std::fs;
@@ -25,31 +26,29 @@ pub enum JournalFault {
     CannotCreate,
 }
 
-/// A new journal file, where one is asked for.
-pub fn new_journal<F: Folder>(
-    folder: &mut F,
+/// A new journal file, where one is asked for. It may not be the ledger file or a file beside it, by whatever path: the ledger would
+/// write there, or its next opening would take the journal for what a database left undone.
+pub fn new_journal<R: Files + AllocGlobal>(
+    folder: &mut SystemFiles<R>,
     path: Option<&str>,
-) -> Result<Option<F::Writer>, JournalFault> {
+    ledger: &str,
+) -> Result<Option<ToWrite<R::File>>, JournalFault> {
     let Some(path) = path else {
         return Ok(None);
     };
-    match folder.create(path) {
-        Ok(writer) => Ok(Some(writer)),
-        Err(FolderFault::Exists) => Err(JournalFault::Exists),
-        Err(FolderFault::Failed) => Err(JournalFault::CannotCreate),
+    if is_beside(path, ledger) {
+        return Err(JournalFault::CannotCreate);
     }
-}
-
-/// Whether a journal file is still as it was created. Where its path also named the ledger file or the log beside that, the ledger
-/// has written into it.
-pub fn is_untouched<F: OpenFile + Drop>(journal: &Option<ToWrite<F>>) -> bool {
-    let Some(writer) = journal else {
-        return true;
+    let journal = match folder.create(path) {
+        Ok(journal) => journal,
+        Err(FolderFault::Exists) => return Err(JournalFault::Exists),
+        Err(FolderFault::Failed) => return Err(JournalFault::CannotCreate),
     };
-    match writer.0.metadata() {
-        Ok(metadata) => metadata.len() == 0,
-        Err(_) => false,
+    // It stays, empty: another run may have taken it for its ledger by now.
+    if is_of_ledger(folder.0, &journal.0, ledger) {
+        return Err(JournalFault::CannotCreate);
     }
+    Ok(Some(journal))
 }
 
 /// What stands in for standard streams that are closed, so that no file that is opened later takes the number of one and gets what
@@ -63,10 +62,7 @@ pub fn stand_ins<R: Files>(rt: &R) -> [Option<R::File>; 3] {
 }
 
 /// Opens a file to be read. A directory is none.
-pub fn open_file<R: Files + AllocGlobal>(
-    rt: &R,
-    name: &str,
-) -> Result<FromRead<BufReader<R::File>>, FolderFault> {
+pub fn open_unbuffered<R: Files>(rt: &R, name: &str) -> Result<R::File, FolderFault> {
     let Ok(file) = File::open(rt, name) else {
         return Err(FolderFault::Failed);
     };
@@ -76,10 +72,7 @@ pub fn open_file<R: Files + AllocGlobal>(
     if metadata.is_dir() {
         return Err(FolderFault::Failed);
     }
-    match BufReader::with_capacity(rt.alloc(), BUFFER, file) {
-        Ok(reader) => Ok(FromRead(reader)),
-        Err(_) => Err(FolderFault::Failed),
-    }
+    Ok(file)
 }
 
 impl<R: Files + AllocGlobal> Folder for SystemFiles<'_, R> {
@@ -89,8 +82,11 @@ impl<R: Files + AllocGlobal> Folder for SystemFiles<'_, R> {
     type Writer = ToWrite<R::File>;
 
     fn open(&mut self, name: &str) -> Result<Self::Reader, FolderFault> {
-        match open_file(self.0, name) {
-            Ok(reader) => Ok(reader),
+        let Ok(file) = open_unbuffered(self.0, name) else {
+            return Err(FolderFault::Failed);
+        };
+        match BufReader::with_capacity(self.0.alloc(), BUFFER, file) {
+            Ok(reader) => Ok(FromRead(reader)),
             Err(_) => Err(FolderFault::Failed),
         }
     }

@@ -1,6 +1,10 @@
 //! The ledger file.
 use reserve_core::{Keeper, ReserveFault};
 use sqlite::{Connection, FileFrom, FileStore, Start};
+use std::fs;
+use std::fs::OpenFile;
+use std::os::unix::fs::MetadataExt;
+use std::rt::Files;
 use thiserror::Error;
 
 /// Why the ledger file can't be used. The texts are those that the program prints.
@@ -42,4 +46,34 @@ pub fn is_beside(path: &str, ledger: &str) -> bool {
         Some(rest) => matches!(rest, "" | "-wal" | "-shm" | "-journal"),
         None => false,
     }
+}
+
+/// Whether a file that was just created is, by whatever path, the ledger file or one that its database keeps beside it. Where that
+/// can't be told it counts as one.
+pub fn is_of_ledger<R: Files + AllocGlobal, F: OpenFile>(
+    rt: &R,
+    created: &F,
+    ledger: &str,
+) -> bool {
+    let Ok(own) = created.metadata() else {
+        return true;
+    };
+    // The database's files lie where a link leads.
+    let real = fs::canonicalize(rt, ledger);
+    let base = match &real {
+        Ok(path) => path.as_str(),
+        Err(_) => ledger,
+    };
+    for end in ["", "-wal", "-shm", "-journal"] {
+        let Ok(name) = format!(in rt.alloc(); "{base}{end}") else {
+            return true;
+        };
+        if let Ok(other) = fs::metadata(rt, name.as_str())
+            && other.dev() == own.dev()
+            && other.ino() == own.ino()
+        {
+            return true;
+        }
+    }
+    false
 }

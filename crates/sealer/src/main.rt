@@ -9,8 +9,8 @@ mod files;
 mod ledger;
 
 use crate::arguments::{command, max_bytes, seal_request, workers};
-use crate::files::{JournalFault, SystemFiles, is_untouched, new_journal, open_file, stand_ins};
-use crate::ledger::{is_beside, keeper_of};
+use crate::files::{SystemFiles, new_journal, open_unbuffered, stand_ins};
+use crate::ledger::keeper_of;
 use clap::{ArgMatches, Error};
 use container_core::Key;
 use ledger_core::{FromRead, ToWrite};
@@ -107,13 +107,7 @@ fn seal<R: Files + AllocGlobal + Eprint + Threads + Sync, O: Write + Drop, E: Wr
         }
     };
     let mut folder = SystemFiles(rt);
-    if let Some(path) = request.journal
-        && is_beside(path, request.ledger)
-    {
-        let _ = eprintln!(rt; "journal: {}", JournalFault::CannotCreate);
-        return FAULT;
-    }
-    let journal = match new_journal(&mut folder, request.journal) {
+    let journal = match new_journal(&mut folder, request.journal, request.ledger) {
         Ok(journal) => journal,
         Err(fault) => {
             let _ = eprintln!(rt; "journal: {fault}");
@@ -127,12 +121,6 @@ fn seal<R: Files + AllocGlobal + Eprint + Threads + Sync, O: Write + Drop, E: Wr
             return FAULT;
         }
     };
-    // By whatever path: a journal in the ledger's place would overwrite what is reserved there.
-    if !is_untouched(&journal) {
-        let _ = keeper.release().close();
-        let _ = eprintln!(rt; "journal: {}", JournalFault::CannotCreate);
-        return FAULT;
-    }
     let options = SealOptions {
         device: request.device,
         files: request.files,
@@ -201,8 +189,8 @@ fn over_files<R: Files + AllocGlobal + Eprint + Threads + Sync, O: Write + Drop,
 
 /// The key in the file of this path.
 fn key_of<R: Files + AllocGlobal>(rt: &R, path: &str) -> Result<Key, KeyFault> {
-    match open_file(rt, path) {
-        Ok(mut reader) => read_key(&mut reader),
+    match open_unbuffered(rt, path) {
+        Ok(file) => read_key(&mut FromRead(file)),
         Err(_) => Err(KeyFault::CannotOpen),
     }
 }
