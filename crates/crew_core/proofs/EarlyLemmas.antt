@@ -1,8 +1,11 @@
 -- Which fault shows before any chunk is opened.
-use Rattle.std.proofs.Common.{◌≡◌, ℕ, ◌+◌, ◌<◌, ◌≤◌, Bool, true, false, List, length, Option, Some, None, not, if◌then◌else◌, ap, ◌∙◌, arith}
+use Rattle.std.proofs.Common.{◌≡◌, ℕ, ◌+◌, ◌<◌, ◌≤◌, Bool, true, false, List, length, take, drop, Option, Some, None, not, if◌then◌else◌, ap, ◌∙◌, arith}
 use Rattle.std.proofs.lemmas.Bool.{false_from_ne_true}
 use Rattle.std.proofs.lemmas.Bool.Decides.{nat_tests}
-use Rattle.std.specs.Prelude.{nat_lt}
+use Rattle.std.proofs.lemmas.Option.{none-some}
+use Rattle.std.specs.Prelude.{nat_lt, ◌==◌, slice_index}
+use Rattle.std.specs.Str.{bytes_eq}
+use Rattle.container_core.specs.Container.{magic, hint_of}
 use Rattle.container_core.specs.declared.fault.OpenFault.{OpenFault}
 use Rattle.container_core.specs.declared.fault.OpenFault.TheVariants.{TooLong, ShortHeader, BadMagic, BadVersion, BadExponent, KeyMismatch, BadLength, Forged, OutOfMemory, Read, Write}
 use Rattle.container_core.specs.Chunks.{container_length, has_plaintext}
@@ -67,3 +70,32 @@ early-refused key bytes body (Forged chunk) long within good refused = absurd re
 early-refused key bytes body OutOfMemory long within good refused = absurd refused
 early-refused key bytes body Read long within good refused = absurd refused
 early-refused key bytes body Write long within good refused = absurd refused
+
+-- the fault that the tests of a container name, from its length to its cutting
+abbrev named_by : (long short alien version exponent hint cut : Bool) → Option OpenFault
+named_by long short alien version exponent hint cut =
+    first_fault (if long then Some TooLong else None)
+    (first_fault (if short then Some ShortHeader else
+    (if alien then Some BadMagic else
+    (if version then Some BadVersion else
+    (if exponent then Some BadExponent else
+    (if hint then Some KeyMismatch else None)))))
+    (if cut then Some BadLength else None))
+
+never_memory : (long short alien version exponent hint cut : Bool) → named_by long short alien version exponent hint cut ≡ Some OutOfMemory → ⊥
+never_memory true short alien version exponent hint cut e = absurd (cc e)
+never_memory false true alien version exponent hint cut e = absurd (cc e)
+never_memory false false true version exponent hint cut e = absurd (cc e)
+never_memory false false false true exponent hint cut e = absurd (cc e)
+never_memory false false false false true hint cut e = absurd (cc e)
+never_memory false false false false false true cut e = absurd (cc e)
+never_memory false false false false false false true e = absurd (cc e)
+never_memory false false false false false false false e = none-some OutOfMemory e
+
+-- want of memory is no fault that shows before any chunk is opened
+pub early-no_memory : (key bytes : List ℕ) (most : ℕ) → early_fault key most bytes ≡ Some OutOfMemory → ⊥
+unfolding header_fault early_fault
+early-no_memory key bytes most e =
+    never_memory (nat_lt (container_length most) (length bytes)) (nat_lt (length bytes) 24) (not (bytes_eq (take 8 bytes) magic))
+    (not (slice_index bytes 8 == 1)) (not (slice_index bytes 9 == 16)) (not (bytes_eq (take 7 (drop 17 bytes)) (hint_of key)))
+    (not (has_plaintext most (length bytes))) e

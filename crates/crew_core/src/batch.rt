@@ -13,7 +13,8 @@ use std::thread::Threads;
 
 /// Seals at most 65,535 jobs, each of at most 2^40 bytes, by 1 to 16 lanes. Lane i uses the seat at place i, and of k lanes it
 /// works off the jobs i, i + k, i + 2k and so on: for each it passes the gate with the job's number, issues a number, and seals
-/// the job on its own thread. The caller's thread is lane 0, and works off each lane that can't be started.
+/// the job on its own thread. The caller's thread is lane 0, and works off each lane that can't be started. There are no more
+/// lanes than jobs.
 ///
 /// The answer has one outcome for each job, in the order of the jobs. Nothing is settled: that is the caller's. Where memory for
 /// the places of all outcomes is refused, nothing was issued.
@@ -39,6 +40,8 @@ pub fn seal_batch<R: Threads + Sync, G: Gate + Sync>(
     ensures past_lanes { (i : ℕ) → lanes ≤ i → slice_get seats.new i ≡ slice_get seats.old i }
     ensures refused { OnErr result (seats.new ≡ seats.old) }
 {
+    // A lane more than there are jobs would have none.
+    let lanes = lanes.min(jobs.len() as u32).max(1);
     let batch = Batch::new(key, ledger, jobs, lanes);
     let mut outcomes = Vec::with_capacity(alloc, jobs.len())?;
     let mut all = all_places(alloc, jobs.len() / lanes as usize + 1, lanes)?;

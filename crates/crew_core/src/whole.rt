@@ -1,9 +1,9 @@
 //! A whole container sealed or opened by several workers. Beside more than one, one thread more runs for as long as it takes to make
 //! the shelf.
-ghost use Rattle.std.specs.Prelude.{◌≡◌, ◌≢◌, ◌<◌, ◌≤◌, ◌⊎◌, length, Ok, Err, IfOk, IfErr, OnOk, OnErr};
+ghost use Rattle.std.specs.Prelude.{◌≡◌, ◌≢◌, ◌<◌, ◌≤◌, ◌⊎◌, None, length, Ok, Err, IfOk, IfErr, OnOk, OnErr};
 ghost use Rattle.std.specs.Bool.{OnTrue, OnFalse};
 ghost use Rattle.container_core.specs.Container.{container};
-ghost use Rattle.container_core.specs.Opening.{opening};
+ghost use Rattle.container_core.specs.Opening.{early_fault, opening};
 ghost use Rattle.crew_core.specs.Spending.{spent_as};
 ghost use Rattle.journal_core.specs.declared.entry.Way.TheVariants.{Sealed, Void};
 ghost use Rattle.ledger_core.specs.Range.{prefix_of};
@@ -73,6 +73,9 @@ pub fn open_whole<R: Threads + Sync, G: Gate + Sync>(
     requires { (0 < workers) × (workers ≤ 16) }
     ensures plaintext { IfOk result (λ out. opening key.now 1099511627776 container.now ≡ Ok out.items) }
     ensures fault { IfErr result (λ fault. (fault ≡ OpenFault.OutOfMemory) ⊎ (opening key.now 1099511627776 container.now ≡ Err fault)) }
+
+    // Memory is taken only where neither the length nor the header has a fault.
+    ensures memory { result ≡ Err OpenFault.OutOfMemory → early_fault key.now 1099511627776 container.now ≡ None }
 {
     let work = match Work::opening(key, container) {
         Ok(work) => work,

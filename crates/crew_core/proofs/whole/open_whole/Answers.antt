@@ -2,6 +2,7 @@ use Rattle.std.proofs.Common.{inl, inr, Err, ap, sym, ◌∙◌}
 use Rattle.std.proofs.lemmas.Result.{IfOk-weaker, IfErr-weaker}
 use Rattle.crew_core.specs.Answer.{named, whole_of}
 use Rattle.crew_core.proofs.AnswerLemmas.{opening-whole_of, opening-early}
+use Rattle.crew_core.proofs.EarlyLemmas.{early-no_memory}
 use Rattle.crew_core.proofs.whole.open_whole.Goals as goal
 
 pub returns-in-Err-clause-fault : goal.returns-in-Err-clause-fault
@@ -21,3 +22,10 @@ returns-clause-fault g c =
       | inr (chunk, is, e) ↦ inr (whole ∙ ap named e ∙ ap (λ f. Err f) (sym is))
     ])
     c.work_whole.ensures.fault
+
+pub returns-in-Err-clause-memory : goal.returns-in-Err-clause-memory
+returns-in-Err-clause-memory g c = λ memory.
+    absurd (early-no_memory c.args.key.now c.args.container.now 1099511627776 (cc (c.in-Err.ensures.fault, memory)))
+
+pub returns-clause-memory : goal.returns-clause-memory
+returns-clause-memory g c = λ _. c.in-Ok.ensures.faultless
