@@ -141,7 +141,7 @@ fn two_lanes_meet(rt: HostRuntime) -> Result<(), Fail> {
     let key = Key::new(COUNTING);
     let mut run = opened(alloc, 0, 2, 2)?;
     let jobs = jobs_of(alloc, 2)?;
-    let gate = Meeting::new(TURNS);
+    let gate = Meeting::new(2, TURNS);
     let outcomes = run.seal(&rt, alloc, &key, jobs.as_slice(), 2, &gate)?;
     assert!(rt; !gate.gave_up());
     assert_eq!(rt; gate.passes(), 2);
@@ -158,14 +158,34 @@ fn two_lanes_meet(rt: HostRuntime) -> Result<(), Fail> {
     Ok(())
 }
 
-// That the test above can fail: two jobs on one lane, and the gate gives up.
+// A thread of its own for each lane that has a job: with fewer, four would not all be held at once.
+#[test]
+fn four_lanes_meet(rt: HostRuntime) -> Result<(), Fail> {
+    let alloc = rt.alloc();
+    let key = Key::new(COUNTING);
+    let mut run = opened(alloc, 0, 4, 16)?;
+    let jobs = jobs_of(alloc, 4)?;
+    let gate = Meeting::new(4, TURNS);
+    let outcomes = run.seal(&rt, alloc, &key, jobs.as_slice(), 16, &gate)?;
+    assert!(rt; !gate.gave_up());
+    assert_eq!(rt; gate.passes(), 4);
+    for (n, outcome) in outcomes.iter().enumerate() {
+        let job = jobs.as_slice().get(n).ok_or("an outcome too many")?;
+        let sealed = is_sealed(alloc, &key, job.as_slice(), outcome)?;
+        assert!(rt; sealed, "job {n}");
+        assert_eq!(rt; seat_of(outcome) as usize, n);
+    }
+    Ok(())
+}
+
+// That the tests above can fail: two jobs on one lane, and the gate gives up.
 #[test]
 fn one_lane_meets_nobody(rt: HostRuntime) -> Result<(), Fail> {
     let alloc = rt.alloc();
     let key = Key::new(COUNTING);
     let mut run = opened(alloc, 0, 2, 2)?;
     let jobs = jobs_of(alloc, 2)?;
-    let gate = Meeting::new(1000);
+    let gate = Meeting::new(2, 1000);
     let outcomes = run.seal(&rt, alloc, &key, jobs.as_slice(), 1, &gate)?;
     assert!(rt; gate.gave_up());
     assert_eq!(rt; (gate.passes(), outcomes.len()), (2, 2));

@@ -10,7 +10,7 @@ use std::alloc::Global;
 use std::test::Fail;
 use std::thread::Threads;
 
-// How often the first pass looks for a second, where two workers are to meet.
+// How often a pass looks for the others, where workers are to meet.
 const TURNS: u64 = 1_000_000_000;
 
 // The whole of a work that a single thread makes: it passes the gate in the name of so many workers.
@@ -34,14 +34,14 @@ fn alone<G: Gate>(alloc: Global, work: &Work, workers: u32, gate: &G) -> Result<
 #[test]
 fn two_workers_meet(rt: HostRuntime) -> Result<(), Fail> {
     let plain = zeros(rt.alloc(), 65_537)?;
-    let gate = Meeting::new(TURNS);
+    let gate = Meeting::new(2, TURNS);
     let bytes = sealed(&rt, rt.alloc(), 0, plain.as_slice(), 2, &gate)?;
     assert!(rt; !gate.gave_up());
     assert_eq!(rt; gate.passes(), 2);
     assert_eq!(rt; bytes.len(), 65_593);
     assert_eq!(rt; Sha256::digest(bytes.as_slice()), ZEROS);
     let key = Key::new(COUNTING);
-    let gate = Meeting::new(TURNS);
+    let gate = Meeting::new(2, TURNS);
     let back = open_whole(&rt, rt.alloc(), &key, bytes.as_slice(), 2, &gate)?;
     assert!(rt; !gate.gave_up());
     assert_eq!(rt; gate.passes(), 2);
@@ -55,32 +55,61 @@ fn one_thread_meets_nobody(rt: HostRuntime) -> Result<(), Fail> {
     let key = Key::new(COUNTING);
     let plain = zeros(rt.alloc(), 65_537)?;
     let work = Work::sealing(&key, [0, 0, 1, 0, 0, 0, 0], plain.as_slice());
-    let gate = Meeting::new(1000);
+    let gate = Meeting::new(2, 1000);
     let bytes = alone(rt.alloc(), &work, 2, &gate)?;
     assert!(rt; gate.gave_up());
     assert_eq!(rt; gate.passes(), 2);
     assert_eq!(rt; Sha256::digest(bytes.as_slice()), ZEROS);
     let work = Work::opening(&key, bytes.as_slice())?;
-    let gate = Meeting::new(1000);
+    let gate = Meeting::new(2, 1000);
     let back = alone(rt.alloc(), &work, 2, &gate)?;
     assert!(rt; gate.gave_up());
     assert!(rt; back.as_slice() == plain.as_slice());
     Ok(())
 }
 
-// Whether so many workers pass with the pieces of their deals, each once, as they seal 18 chunks and open them.
+// A thread of its own for each worker: with fewer, four would not all be held at once.
+#[test]
+fn four_workers_meet(rt: HostRuntime) -> Result<(), Fail> {
+    let plain = zeros(rt.alloc(), 3 * 65_536 + 1)?;
+    let gate = Meeting::new(4, TURNS);
+    let bytes = sealed(&rt, rt.alloc(), 0, plain.as_slice(), 4, &gate)?;
+    assert!(rt; !gate.gave_up());
+    assert_eq!(rt; gate.passes(), 4);
+    let key = Key::new(COUNTING);
+    let gate = Meeting::new(4, TURNS);
+    let back = open_whole(&rt, rt.alloc(), &key, bytes.as_slice(), 4, &gate)?;
+    assert!(rt; !gate.gave_up());
+    assert_eq!(rt; gate.passes(), 4);
+    assert!(rt; back.as_slice() == plain.as_slice());
+    Ok(())
+}
+
+// That the test above can fail: with three workers three pass at first, and the gate gives up.
+#[test]
+fn three_workers_are_no_four(rt: HostRuntime) -> Result<(), Fail> {
+    let plain = zeros(rt.alloc(), 3 * 65_536 + 1)?;
+    let gate = Meeting::new(4, 1000);
+    sealed(&rt, rt.alloc(), 0, plain.as_slice(), 3, &gate)?;
+    assert!(rt; gate.gave_up());
+    assert_eq!(rt; gate.passes(), 4);
+    Ok(())
+}
+
+// Whether so many workers pass with the pieces of their deals, each once, as they seal so many chunks and open them.
 fn are_dealt<R: Threads + Sync>(
     rt: &R,
     alloc: Global,
     plain: &[u8],
+    chunks: u32,
     workers: u32,
 ) -> Result<bool, Fail>
     requires plain { length plain.now ≤ 1099511627776 }
     requires workers { (0 < workers) × (workers ≤ 16) }
 {
-    let sealing = Recorder::new(alloc, 18)?;
+    let sealing = Recorder::new(alloc, chunks)?;
     let bytes = sealed(rt, alloc, 0, plain, workers, &sealing)?;
-    let opening = Recorder::new(alloc, 18)?;
+    let opening = Recorder::new(alloc, chunks)?;
     let opens = opens_to(rt, alloc, bytes.as_slice(), plain, workers, &opening)?;
     let workers = u64::from(workers);
     Ok(opens && sealing.is_deal_of(workers) && opening.is_deal_of(workers))
@@ -92,7 +121,18 @@ fn each_worker_passes_with_its_deal(rt: HostRuntime) -> Result<(), Fail> {
     // 1, 4, 7, 10, 13 and 16.
     for third in 0..6 {
         let workers = 3 * third + 1;
-        let dealt = are_dealt(&rt, rt.alloc(), plain.as_slice(), workers)?;
+        let dealt = are_dealt(&rt, rt.alloc(), plain.as_slice(), 18, workers)?;
+        assert!(rt; dealt, "{workers} workers");
+    }
+    Ok(())
+}
+
+// More pieces a worker than one round has.
+#[test]
+fn each_piece_is_passed_once_in_many_rounds(rt: HostRuntime) -> Result<(), Fail> {
+    let plain = pattern(rt.alloc(), 99 * 65_536 + 1)?;
+    for workers in 2..4 {
+        let dealt = are_dealt(&rt, rt.alloc(), plain.as_slice(), 100, workers)?;
         assert!(rt; dealt, "{workers} workers");
     }
     Ok(())

@@ -1,11 +1,12 @@
-//! A gate that two workers must meet.
+//! A gate that several workers must meet.
 use crew_core::Gate;
 use std::sync::atomic::{AtomicU64, Ordering};
 
-/// Holds the first pass until a second has come, and gives up after so many turns. Where one thread does all the work, no second
-/// pass comes while the first is held.
+/// Holds the passes until so many have come as are wanted, and gives up after so many turns. Where fewer threads do the work, the
+/// one that is wanted last doesn't come while the others are held.
 #[derive(Drop)]
 pub struct Meeting {
+    wanted: u64,
     turns: u64,
     passes: AtomicU64,
     gave_up: AtomicU64,
@@ -13,8 +14,9 @@ pub struct Meeting {
 
 impl Meeting {
     /// The gate before any pass.
-    pub fn new(turns: u64) -> Meeting {
+    pub fn new(wanted: u64, turns: u64) -> Meeting {
         Meeting {
+            wanted,
             turns,
             passes: AtomicU64::new(0),
             gave_up: AtomicU64::new(0),
@@ -26,7 +28,7 @@ impl Meeting {
         self.passes.load(Ordering::SeqCst)
     }
 
-    /// Whether the first pass was let go without a second.
+    /// Whether a pass was let go before as many had come as are wanted.
     pub fn gave_up(&self) -> bool {
         self.gave_up.load(Ordering::SeqCst) > 0
     }
@@ -34,11 +36,9 @@ impl Meeting {
 
 impl Gate for Meeting {
     fn pass(&self, _worker: u32, _piece: u32) {
-        if self.passes.fetch_add(1, Ordering::SeqCst) > 0 {
-            return;
-        }
+        self.passes.fetch_add(1, Ordering::SeqCst);
         for _turn in 0..self.turns {
-            if self.passes.load(Ordering::SeqCst) > 1 {
+            if self.passes.load(Ordering::SeqCst) >= self.wanted {
                 return;
             }
         }
