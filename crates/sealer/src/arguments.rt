@@ -10,6 +10,24 @@ use thiserror::Error as ThisError;
 /// Plaintext bytes of a file where no limit is given: 1 GiB.
 pub const DEFAULT_MAX_BYTES: u64 = 1 << 30;
 
+/// What stands at the end of the help of `open` and `verify`.
+const FILES_HELP: &str =
+    "A line on standard output tells of each FILE. Exit status: 0 where none failed, 1 where some did, 2 where
+nothing was done, or a line could not be written. A FILE is held in memory whole.";
+
+/// What stands at the end of the help of `seal`.
+const SEAL_HELP: &str =
+    "A line on standard output tells of each FILE. Exit status: 0 where none failed, 1 where some did, 2 where
+standard error tells why, or a line could not be written. FILEs are held in memory whole.
+
+Keep one ledger file for each key and device number, and never use a copy of it, nor one that was restored or lost: take
+a new device number, or a new key. Else two files can get one number, and then neither is safe.";
+
+/// What stands at the end of the help of `audit`.
+const AUDIT_HELP: &str =
+    "Exit status: 0 where the journal is legal, 1 where it is not, 2 where it could not be read or the verdict not be
+written.";
+
 /// The program's command: `seal`, `open`, `verify` and `audit`.
 pub fn command<'a>(alloc: Global) -> Result<Command<'a>, Error> {
     let seal = seal_command(alloc)?;
@@ -19,15 +37,16 @@ pub fn command<'a>(alloc: Global) -> Result<Command<'a>, Error> {
         "Checks each FILE whole, then writes its plaintext to the name without .stm",
     )?;
     let verify = file_command(alloc, "verify", "Checks each FILE whole and writes no file")?;
-    let audit = Command::new(alloc, "audit").about(
-        "Audits the journal on standard input and prints the verdict: status 0 where it is legal, else 1",
-    );
+    let audit = Command::new(alloc, "audit")
+        .about("Audits the journal on standard input and prints the verdict")
+        .after_help(AUDIT_HELP);
     let sealer = Command::new(alloc, "sealer")
         .about("Seals, opens and verifies many files under one key, each under a number of its own")
+        .after_help("Behind a command, --help tells its options and its exit statuses.")
         .subcommand_required(true)
         .subcommand(seal)?
-        .subcommand(open)?
-        .subcommand(verify)?
+        .subcommand(open.after_help(FILES_HELP))?
+        .subcommand(verify.after_help(FILES_HELP))?
         .subcommand(audit)?;
     Ok(sealer)
 }
@@ -38,7 +57,7 @@ fn file_command<'a>(alloc: Global, name: &'a str, about: &'a str) -> Result<Comm
         .long("key")
         .value_name("F")
         .required(true)
-        .help("The key file: 64 hex digits");
+        .help("The key file: 64 hex digits, then nothing or one end of line");
     let workers = Arg::new(alloc, "workers")
         .long("workers")
         .value_name("N")
@@ -97,7 +116,7 @@ fn seal_command<'a>(alloc: Global) -> Result<Command<'a>, Error> {
         .value_name("N")
         .required(true)
         .value_parser(value_parser!(u32).range(0..=Device::MAX as i64))
-        .help("This machine's number under this key, 0 to 16777215; no two machines share one");
+        .help("The number of this ledger under this key, 0 to 16777215: no two ledgers share one");
     let lanes = Arg::new(alloc, "lanes")
         .long("lanes")
         .value_name("N")
@@ -114,7 +133,7 @@ fn seal_command<'a>(alloc: Global) -> Result<Command<'a>, Error> {
         "Seals each FILE to FILE.stm, each under a number of its own",
     )?;
     let command = command.arg(ledger)?.arg(device)?.arg(lanes)?.arg(journal)?;
-    Ok(command)
+    Ok(command.after_help(SEAL_HELP))
 }
 
 /// What `seal` is asked for.

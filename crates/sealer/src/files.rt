@@ -37,7 +37,10 @@ pub fn new_journal<R: Files + AllocGlobal>(
         return Ok(None);
     };
     if is_beside(path, ledger) {
-        return Err(JournalFault::CannotCreate);
+        return match fs::metadata(folder.0, path) {
+            Ok(_) => Err(JournalFault::Exists),
+            Err(_) => Err(JournalFault::CannotCreate),
+        };
     }
     let journal = match folder.create(path) {
         Ok(journal) => journal,

@@ -19,6 +19,7 @@ use sealer_core::{
 };
 use sqlite::Wary;
 use std::alloc::Global;
+use std::fmt::Display;
 use std::io::{Read, Write};
 use std::process::ExitCode;
 use std::rt::{Env, Files};
@@ -68,6 +69,12 @@ fn told<R: Print + Eprint>(rt: &R, error: &Error) -> u8 {
     if error.exit_code() == 0 { 0 } else { FAULT }
 }
 
+/// Prints what of the run is at fault, and why, on standard error. The answer is the status.
+fn complain<R: Eprint, F: Display + Drop>(rt: &R, subject: &str, fault: F) -> u8 {
+    let _ = eprintln!(rt; "{subject}: {fault}");
+    FAULT
+}
+
 /// Runs the command that was asked for. `host` is the runtime too: a ledger file is opened by it alone.
 fn run<
     R: Files + AllocGlobal + Eprint + Threads + Sync,
@@ -94,32 +101,20 @@ fn seal<R: Files + AllocGlobal + Eprint + Threads + Sync, O: Write + Drop, E: Wr
 ) -> u8 {
     let request = match seal_request(matches) {
         Ok(request) => request,
-        Err(usage) => {
-            let _ = eprintln!(rt; "usage: {usage}");
-            return FAULT;
-        }
+        Err(fault) => return complain(rt, "usage", fault),
     };
     let key = match key_of(rt, request.key) {
         Ok(key) => key,
-        Err(fault) => {
-            let _ = eprintln!(rt; "key: {fault}");
-            return FAULT;
-        }
+        Err(fault) => return complain(rt, "key", fault),
     };
     let mut folder = SystemFiles(rt);
     let journal = match new_journal(&mut folder, request.journal, request.ledger) {
         Ok(journal) => journal,
-        Err(fault) => {
-            let _ = eprintln!(rt; "journal: {fault}");
-            return FAULT;
-        }
+        Err(fault) => return complain(rt, "journal", fault),
     };
     let mut keeper = match keeper_of(host, request.ledger, Wary) {
         Ok(keeper) => keeper,
-        Err(fault) => {
-            let _ = eprintln!(rt; "ledger: {fault}");
-            return FAULT;
-        }
+        Err(fault) => return complain(rt, "ledger", fault),
     };
     let options = SealOptions {
         device: request.device,
@@ -164,10 +159,7 @@ fn over_files<R: Files + AllocGlobal + Eprint + Threads + Sync, O: Write + Drop,
     }
     let key = match key_of(rt, path) {
         Ok(key) => key,
-        Err(fault) => {
-            let _ = eprintln!(rt; "key: {fault}");
-            return FAULT;
-        }
+        Err(fault) => return complain(rt, "key", fault),
     };
     let options = OpenOptions {
         files,
@@ -204,9 +196,6 @@ fn audit_input<R: Eprint, I: Read + Drop, O: Write + Drop>(
 ) -> u8 {
     match run_audit(alloc, &mut FromRead(input), &mut ToWrite(output)) {
         Ok(status) => status,
-        Err(fault) => {
-            let _ = eprintln!(rt; "audit: {fault}");
-            FAULT
-        }
+        Err(fault) => complain(rt, "audit", fault),
     }
 }
