@@ -4,7 +4,7 @@ set -u
 cd "$(dirname "$0")/.."
 sealer=$PWD/crates/sealer/out/sealer
 room=$(mktemp -d)
-trap 'rm -rf "$room"' EXIT
+trap 'umount "$room/small" 2>/dev/null; rm -rf "$room"' EXIT
 runs=0 bad=0
 
 # has TOOL: what some runs need. Where it isn't there they are left out, which is told at the end, and is a failure under CI.
@@ -13,16 +13,27 @@ command -v sqlite3 >/dev/null || missing="$missing sqlite3"
 python3 -c 'import cryptography' 2>/dev/null || missing="$missing cryptography"
 has() { case " $missing " in *" $1 "*) return 1 ;; esac; }
 
-# wants NAME STATUS OUT ERR: what the last run left; OUT and ERR are whole texts, or 'begins TEXT'
+# as_user COMMAND..: as a user whom modes bind, where the tests are run as root
+as_user() { if [ "$(id -u)" = 0 ]; then setpriv --reuid=65534 --regid=65534 --clear-groups "$@"; else "$@"; fi; }
+
+# wants NAME STATUS OUT ERR: what the last run left; OUT and ERR are whole texts less their last line feed, or 'begins TEXT'
 wants() {
     runs=$((runs + 1))
     for stream in out err; do
         [ $stream = out ] && text=$3 || text=$4
-        got=$(cat "$room/$stream")
         case $text in
-            'begins '*) case $got in "${text#begins }"*) ;; *) bad=1; echo "$1: $stream is: $got" ;; esac ;;
-            *) [ "$got" = "$text" ] || { bad=1; echo "$1: $stream is: $got"; } ;;
+            'begins '*)
+                text=${text#begins }
+                head -c "$(printf '%s' "$text" | wc -c)" "$room/$stream" > "$room/got"
+                printf '%s' "$text" > "$room/wanted"
+                ;;
+            *)
+                cp "$room/$stream" "$room/got"
+                printf '%s' "${text:+$text
+}" > "$room/wanted"
+                ;;
         esac
+        cmp -s "$room/got" "$room/wanted" || { bad=1; echo "$1: $stream is: $(cat "$room/$stream")"; }
     done
     [ "$status" = "$2" ] || { bad=1; echo "$1: status $status"; }
 }
@@ -48,6 +59,13 @@ wants directory 2 '' 'audit: read failed'
 wants full 2 '' 'audit: write failed'
 "$sealer" audit < examples/journal.txt 2> "$room/err" >&-; status=$?; : > "$room/out"
 wants closed 2 '' 'audit: write failed'
+run audit <&-
+wants closed-input 2 '' 'audit: read failed'
+{ sleep 0.2; "$sealer" audit < examples/journal.txt 2> "$room/err"; echo $? > "$room/status"; } | true
+status=$(cat "$room/status"); : > "$room/out"
+wants nobody-reads 2 '' 'audit: write failed'
+"$sealer" audit --help > /dev/full 2> "$room/err"; status=$?; : > "$room/out"
+wants full-help 2 '' ''
 for help in --help help -h; do
     run $help < /dev/null
     wants "$help" 0 'begins Seals, opens and verifies many files' ''
@@ -266,13 +284,66 @@ failed life/zero: too long
 failed life/numbers.plain: too long
 failed /proc/version: cannot create' ''
 is no-partial-output test "$(ls life/*.stm | tr '\n' ' ')" = 'life/again.stm life/empty.stm life/more.stm life/numbers.stm '
-if [ "$(id -u)" != 0 ]; then
-    mkdir life/locked
-    : > life/locked/a
-    chmod 555 life/locked
-    seals life/locked/a
-    wants read-only-folder 1 'failed life/locked/a: cannot create' ''
-    chmod 755 life/locked
+# Modes: an unreadable FILE and key, a folder that can't be written. No number is spent.
+mkdir locked
+cp "$sealer" locked/sealer
+cp "$key" locked/key
+cp "$key" locked/no-key
+seq 1 400 > locked/a
+seq 1 400 > locked/b
+cp "$here/examples/numbers.stm" locked/numbers.stm
+mkdir locked/ledgers
+chmod 777 locked/ledgers
+[ "$(id -u)" != 0 ] || chown 65534 locked/no-key locked/b
+chmod 000 locked/no-key locked/b
+chmod 755 "$room"
+chmod 555 locked
+unprivileged() { (cd locked && as_user ./sealer "$@") > out 2> err; status=$?; }
+unprivileged seal --key key --ledger ledgers/l --device 1 --journal ledgers/j a b
+wants locked-seal 1 'failed a: cannot create
+failed b: cannot open' ''
+is locked-spends-none test "$(cat locked/ledgers/j)" = 'range 1 0 2 1'
+unprivileged open --key key numbers.stm
+wants locked-open 1 'failed numbers.stm: cannot create' ''
+unprivileged seal --key no-key --ledger ledgers/l --device 1 a
+wants locked-key 2 '' 'key: cannot open'
+unprivileged seal --key key --ledger l --device 1 a
+wants locked-ledger 2 '' 'ledger: cannot open'
+unprivileged seal --key key --ledger ledgers/l --device 1 --journal j a
+wants locked-journal 2 '' 'journal: cannot create'
+is locked-is-as-it-was test "$(ls locked | tr '\n' ' ')" = 'a b key ledgers no-key numbers.stm sealer '
+chmod 755 locked
+# A full disk, of 300 KiB: an output, a journal, a ledger. Once there is room the numbers go on.
+mkdir small
+if mount -t tmpfs -o size=300k none small 2>/dev/null; then
+    small() { run seal --key "$key" --ledger life/small --device 1 "$@"; }
+    head -c 200000 /dev/zero > small/x
+    small small/x
+    wants full-disk-output 1 'failed small/x: write failed' ''
+    is full-disk-keeps-no-part test "$(ls small)" = x
+    head -c 200000 /dev/zero 2>/dev/null > small/fill 2>/dev/null
+    : > life/small.empty
+    small --journal small/journal life/small.empty
+    wants full-disk-journal 2 'sealed life/small.empty file 1 bytes 0' 'journal: write failed'
+    run verify --key "$key" life/small.empty.stm
+    wants full-disk-container 0 'good life/small.empty.stm bytes 0' ''
+    rm life/small.empty.stm
+    run seal --key "$key" --ledger small/ledger --device 1 life/small.empty
+    wants full-disk-ledger 2 '' 'ledger: cannot open'
+    is full-disk-seals-nothing no test -e life/small.empty.stm
+    rm small/fill small/x
+    run seal --key "$key" --ledger small/ledger --device 1 life/small.empty
+    wants room-again 0 'sealed life/small.empty file 0 bytes 0' ''
+    # A reservation that finds no room gives no number away, and the next one goes on behind the first.
+    cat /dev/zero > small/fill 2>/dev/null
+    run seal --key "$key" --ledger small/ledger --device 1 life/none
+    is full-disk-reserves-nothing test "$status $(cat out err | head -c 7)" = '2 ledger:'
+    rm small/fill life/small.empty.stm
+    run seal --key "$key" --ledger small/ledger --device 1 life/small.empty
+    wants room-once-more 0 'sealed life/small.empty file 1 bytes 0' ''
+    umount small
+else
+    echo 'left out: a full disk, since no file system can be mounted here'
 fi
 # A file of at most 64 KiB.
 seq 1 20000 > life/large
@@ -281,6 +352,28 @@ status=$?
 wants write-fails-at-sealing 1 'failed life/large: write failed
 sealed life/empty.plain file 1 bytes 0' ''
 is the-cut-container-is-removed no test -e life/large.stm
+
+# A link that leads nowhere, in the place of an output: nothing is written through it. Names of every kind.
+cp life/numbers life/dangling
+ln -s nowhere life/dangling.stm
+seals life/dangling
+wants dangling 1 'failed life/dangling: output exists' ''
+is dangling-leads-nowhere no test -e life/nowhere
+rm life/dangling life/dangling.stm
+mkdir life/names
+cp life/numbers 'life/names/ a b'
+cp life/numbers life/names/-x
+printf 'c' > 'life/names/c
+d'
+(cd life/names && exec "$sealer" seal --key "$key" --ledger ledger --device 1 -- ' a b' -x '' - 'c
+d') > out 2> err
+status=$?
+wants names 1 'sealed  a b file 0 bytes 1492
+sealed -x file 1 bytes 1492
+failed : cannot open
+failed -: cannot open
+sealed c
+d file 2 bytes 1' ''
 
 # What fails: standard output. The files and the journal are worked.
 cp life/numbers life/untold
@@ -327,6 +420,10 @@ rm -f life/place/ledger life/place/ledger-wal
 ln -s place/ledger life/linked
 placed life/place/a
 wants first-in-place 0 'sealed life/place/a file 0 bytes 1492' ''
+for path in place/ledger same/ledger linked; do
+    placed --journal "life/$path" life/place/b
+    wants "journal-is-a-ledger by $path" 2 '' 'journal: output exists'
+done
 rm -f life/place/ledger-journal
 run seal --key "$key" --ledger life/linked --device 1 --journal life/place/ledger-journal life/place/b
 wants journal-beside-what-is-linked 2 '' 'journal: cannot create'
@@ -377,6 +474,16 @@ if has sqlite3; then
     sqlite3 life/other 'CREATE TABLE mark (a INTEGER)'
     run seal --key "$key" --ledger life/other --device 1 life/waits
     wants ledger-of-others 2 '' 'ledger: not a ledger'
+    # Beside a ledger's two tables nothing else may stand, and its file may have no second name.
+    cp life/ledger life/indexed
+    sqlite3 life/indexed 'CREATE INDEX more ON taken (lo)'
+    run seal --key "$key" --ledger life/indexed --device 1 life/waits
+    wants ledger-with-an-index 2 '' 'ledger: cannot open'
+    ln life/indexed life/second-name
+    sqlite3 life/indexed 'DROP INDEX more'
+    run seal --key "$key" --ledger life/indexed --device 1 life/waits
+    wants ledger-with-two-names 2 '' 'ledger: cannot open'
+    rm life/second-name
     cp life/ledger life/gap
     sqlite3 life/gap 'UPDATE mark SET next = next + 1'
     run seal --key "$key" --ledger life/gap --device 1 life/waits
@@ -521,6 +628,22 @@ run verify --key "$key" life/pipe.stm life/second.stm
 wants killed-output 1 'failed life/pipe.stm: header cut short
 good life/second.stm bytes 1492' ''
 
+# Two runs at once on one ledger that isn't there yet: no number is given twice, and one that is refused says so.
+for i in 1 2 3 4 5 6 7 8 9 10; do
+    mkdir "life/both$i"
+    echo "$i" > "life/both$i/a"
+    echo "$i" > "life/both$i/b"
+    "$sealer" seal --key "$key" --ledger "life/both$i/ledger" --device 1 "life/both$i/a" > both.a 2>&1 & one=$!
+    "$sealer" seal --key "$key" --ledger "life/both$i/ledger" --device 1 "life/both$i/b" > both.b 2>&1
+    wait "$one"
+    case $(cat both.a both.b | sed 's,life/both[0-9]*/,,' | sort | tr '\n' ';') in
+        'ledger: cannot open;sealed a file 0 bytes '*';' | 'ledger: cannot open;sealed b file 0 bytes '*';') ;;
+        'sealed a file 0 bytes '*';sealed b file 1 bytes '*';' | 'sealed a file 1 bytes '*';sealed b file 0 bytes '*';') ;;
+        *) bad=1; echo "both-$i: $(cat both.a both.b)" ;;
+    esac
+    runs=$((runs + 1))
+done
+
 # Two runs at once for one output: one of them makes it.
 for i in 1 2 3 4 5 6 7 8 9 10; do
     cp life/numbers "life/race$i"
@@ -551,6 +674,5 @@ for tool in $missing; do
     echo "left out: the runs that need $tool"
     [ -z "${CI:-}" ] || bad=1
 done
-[ "$(id -u)" != 0 ] || echo 'left out: a read-only folder, which root can write'
 [ $bad = 0 ] && echo "$runs runs as they should be"
 exit $bad

@@ -1,37 +1,81 @@
-/* Refuses the Nth allocation of a program, N from the variable REFUSE, and says on standard error to which thread:
+/* Refuses a program what it asks the system for, and says on standard error that it did. Loaded before the program:
  *
- *     cc -O2 -shared -fPIC -o /tmp/refuse.so tools/refuse_allocation.c -ldl
- *     (cd crates/crew_tests && rt test)
- *     for n in $(seq 1 25); do
- *       REFUSE=$n LD_PRELOAD=/tmp/refuse.so crates/crew_tests/out/crew_tests_tests sealed::a_refused_growth_is_out_of_memory
- *     done
+ *     cc -O2 -shared -fPIC -o /tmp/refuse.so tools/refuse.c -ldl
+ *     REFUSE=20 LD_PRELOAD=/tmp/refuse.so crates/sealer/out/sealer --help
+ *
+ * REFUSE=N           the Nth allocation or growth is refused, counted from 1
+ * REFUSE_FROM=N      that one, and all after it
+ * REFUSE_THREADS=N   the Nth thread is refused, and all after it
  */
 #define _GNU_SOURCE
 #include <dlfcn.h>
+#include <errno.h>
+#include <pthread.h>
 #include <stdatomic.h>
 #include <stdlib.h>
 #include <string.h>
 #include <sys/syscall.h>
 #include <unistd.h>
 
-static void *(*next)(size_t);
-static atomic_long calls;
-static long refused;
+static void *(*next_malloc)(size_t);
+static void *(*next_realloc)(void *, size_t);
+static int (*next_memalign)(void **, size_t, size_t);
+static int (*next_thread)(pthread_t *, const pthread_attr_t *, void *(*)(void *), void *);
+static atomic_long allocations, threads;
+static long one, from, thread_from;
+
+static long number(const char *name) {
+    const char *word = getenv(name);
+    return word ? atol(word) : 0;
+}
+
+__attribute__((constructor)) static void begin(void) {
+    next_malloc = (void *(*)(size_t))dlsym(RTLD_NEXT, "malloc");
+    next_realloc = (void *(*)(void *, size_t))dlsym(RTLD_NEXT, "realloc");
+    next_memalign = (int (*)(void **, size_t, size_t))dlsym(RTLD_NEXT, "posix_memalign");
+    next_thread = (int (*)(pthread_t *, const pthread_attr_t *, void *(*)(void *), void *))dlsym(RTLD_NEXT, "pthread_create");
+    one = number("REFUSE");
+    from = number("REFUSE_FROM");
+    thread_from = number("REFUSE_THREADS");
+}
 
 static void say(const char *text) {
     if (write(2, text, strlen(text)) < 0)
         _exit(9);
 }
 
-void *malloc(size_t bytes) {
-    if (!next) {
-        next = (void *(*)(size_t))dlsym(RTLD_NEXT, "malloc");
-        const char *word = getenv("REFUSE");
-        refused = word ? atol(word) : 0;
-    }
-    if (refused > 0 && atomic_fetch_add(&calls, 1) + 1 == refused) {
-        say(syscall(SYS_gettid) == getpid() ? "refused to the first thread\n" : "refused to another thread\n");
+static int is_refused(void) {
+    long n = atomic_fetch_add(&allocations, 1) + 1;
+    if (n != one && !(from > 0 && n >= from))
         return 0;
+    say(syscall(SYS_gettid) == getpid() ? "refused to the first thread\n" : "refused to another thread\n");
+    return 1;
+}
+
+void *malloc(size_t bytes) {
+    if (!next_malloc)
+        begin();
+    return is_refused() ? 0 : next_malloc(bytes);
+}
+
+void *realloc(void *old, size_t bytes) {
+    if (!next_realloc)
+        begin();
+    return is_refused() ? 0 : next_realloc(old, bytes);
+}
+
+int posix_memalign(void **made, size_t alignment, size_t bytes) {
+    if (!next_memalign)
+        begin();
+    return is_refused() ? ENOMEM : next_memalign(made, alignment, bytes);
+}
+
+int pthread_create(pthread_t *thread, const pthread_attr_t *how, void *(*body)(void *), void *with) {
+    if (!next_thread)
+        begin();
+    if (thread_from > 0 && atomic_fetch_add(&threads, 1) + 1 >= thread_from) {
+        say("refused a thread\n");
+        return EAGAIN;
     }
-    return next(bytes);
+    return next_thread(thread, how, body, with);
 }
