@@ -1,5 +1,5 @@
 -- The laws of lives: adjacent ranges are apart, so grants have different prefixes, so sealed chunks have different nonces.
-use Rattle.std.proofs.Common.{◌≡◌, ◌≢◌, ℕ, zero, suc, ◌+◌, ◌/◌, ◌%◌, ◌^◌, ◌<◌, ◌≤◌, Bool, List, [], ◌∷◌, length, Some, None, refl, sym, ap, ◌∙◌, subst, arith, append-nil}
+use Rattle.std.proofs.Common.{◌≡◌, ◌≢◌, ℕ, zero, suc, ◌+◌, ◌++◌, ◌/◌, ◌%◌, ◌^◌, ◌<◌, ◌≤◌, Bool, List, [], ◌∷◌, length, Some, None, refl, sym, ap, ◌∙◌, subst, arith, append-nil}
 use mathlib.Core.Logic.{dite}
 use native.Mathlib.Decide.{dec_le}
 use Rattle.std.specs.Prelude.{slice_get}
@@ -11,13 +11,13 @@ use Rattle.journal_core.specs.Range.{range_of, prefix_of}
 use Rattle.journal_core.specs.History.{Legal, entry}
 use Rattle.journal_core.proofs.Prefixes.{grants_once}
 use Rattle.container_core.specs.Chunks.{chunks}
-use Rattle.container_core.specs.Container.{header_of}
-use Rattle.container_core.specs.Stream.{nonce_of, prefix_in, is_nil}
+use Rattle.container_core.specs.Container.{container, header_of}
+use Rattle.container_core.specs.Stream.{nonce_of, prefix_in, is_nil, sealed_chunk, stream}
 use Rattle.container_core.proofs.PartsLemmas.{length-chunks}
 use Rattle.container_core.proofs.HeaderLemmas.{prefix_in-header_of}
 use Rattle.container_core.proofs.LawLemmas.{nonce_of-injective}
 use Rattle.reserve_core.specs.Reservations.{Span, Adjacent, end_from}
-use Rattle.sealer_core.specs.Life.{Run, Refused, CutOff, Acknowledged, reserved, history_of, IsRun, IsLife, Lives, Grant, HasGrant, prefix_by, stream_nonces, container_nonces}
+use Rattle.sealer_core.specs.Life.{Run, Refused, CutOff, Acknowledged, reserved, history_of, IsRun, IsLife, Lives, Grant, HasGrant, prefix_by, stream_nonces, container_nonces, sealed_under}
 
 -- ranges of a list
 
@@ -270,3 +270,19 @@ one_nonce key lives sealed one other chunk another nonce has also few slight at 
     let yours : nonce ≡ nonce_of (prefix_by other) (0 + another) end = same ∙ ap (λ (z : List ℕ). nonce_of z (0 + another) end) q in
     let (prefixes, numbers, flags) = nonce_of-injective (prefix_by one) (prefix_by other) (0 + chunk) (0 + another) last end refl (omega arith) (omega arith) (sym mine ∙ yours) in
     (one_grant lives one other has also prefixes, omega arith)
+
+-- the nonces of STREAM
+
+stream_under : (key header : List ℕ) (number : ℕ) (list : List (List ℕ))
+    → stream key header number list ≡ sealed_under key header (stream_nonces header number list) list
+unfolding stream sealed_chunk stream_nonces sealed_under
+stream_under key header number [] = refl
+stream_under key header number (chunk ∷ rest) =
+    ap (λ (s : List ℕ). sealed_chunk key header number (is_nil rest) chunk ++ s) (stream_under key header (number + 1) rest)
+
+pub container_under : (key : List ℕ) (grant : Grant) (plain : List ℕ)
+    → container key (prefix_by grant) plain
+    ≡ header_of key (prefix_by grant) ++ sealed_under key (header_of key (prefix_by grant)) (container_nonces key grant plain) (chunks plain)
+unfolding container container_nonces
+container_under key grant plain =
+    ap (λ (s : List ℕ). header_of key (prefix_by grant) ++ s) (stream_under key (header_of key (prefix_by grant)) 0 (chunks plain))

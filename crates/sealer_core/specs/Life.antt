@@ -6,6 +6,7 @@ use Rattle.journal_core.specs.declared.entry.Entry.{Entry}
 use Rattle.journal_core.specs.Range.{range_of, prefix_of}
 use Rattle.journal_core.specs.History.{Legal, entry}
 use Rattle.reserve_core.specs.Reservations.{Span, Adjacent, next_of}
+use Rattle.aead_core.specs.Aead.{aead}
 use Rattle.container_core.specs.Chunks.{chunks}
 use Rattle.container_core.specs.Container.{header_of}
 use Rattle.container_core.specs.Stream.{nonce_of, prefix_in, is_nil}
@@ -81,3 +82,11 @@ stream_nonces header number (chunk ∷ rest) = nonce_of (prefix_in header) numbe
 -- the nonces of the container of a plaintext under a grant
 unfoldable pub container_nonces : List ℕ → Grant → List ℕ → List (List ℕ)
 container_nonces key grant plain = stream_nonces (header_of key (prefix_by grant)) 0 (chunks plain)
+
+-- chunks sealed by the AEAD one after another, each under the nonce at its place: its ciphertext, then its tag
+unfoldable pub sealed_under : List ℕ → List ℕ → List (List ℕ) → List (List ℕ) → List ℕ
+sealed_under key header [] list = []
+sealed_under key header (nonce ∷ nonces) [] = []
+sealed_under key header (nonce ∷ nonces) (chunk ∷ rest) =
+    let pair = aead key nonce header chunk in
+    (pair.0 ++ pair.1) ++ sealed_under key header nonces rest

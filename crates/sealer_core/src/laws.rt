@@ -1,9 +1,11 @@
 //! No nonce is used twice, over all runs of one key: what follows of the definitions of STREAM, ranges, legal histories and
 //! the life of a ledger file. Each law is the contract of a function that does nothing.
-ghost use Rattle.std.specs.Prelude.{◌≡◌, ◌≢◌, ℕ, ◌+◌, ◌^◌, ◌<◌, ◌≤◌, List, length, Some, slice_get};
+ghost use Rattle.std.specs.Prelude.{◌≡◌, ◌≢◌, ℕ, ◌+◌, ◌^◌, ◌<◌, ◌≤◌, ◌++◌, List, length, Some, slice_get};
 ghost use Rattle.journal_core.specs.Range.{prefix_of};
+ghost use Rattle.container_core.specs.Chunks.{chunks};
+ghost use Rattle.container_core.specs.Container.{container, header_of};
 ghost use Rattle.reserve_core.specs.Reservations.{Span};
-ghost use Rattle.sealer_core.specs.Life.{Grant, HasGrant, IsLife, Lives, Run, container_nonces, prefix_by, reserved};
+ghost use Rattle.sealer_core.specs.Life.{Grant, HasGrant, IsLife, Lives, Run, container_nonces, prefix_by, reserved, sealed_under};
 
 /// In the life of a key and device no number is in two of the ranges that its runs reserved.
 pub fn ranges_are_apart()
@@ -28,4 +30,12 @@ pub fn no_nonce_is_used_twice()
         → slice_get (container_nonces key one (sealed one)) chunk ≡ Some nonce
         → slice_get (container_nonces key other (sealed other)) another ≡ Some nonce
         → (one ≡ other) × (chunk ≡ another) }
+{}
+
+/// These nonces are those of STREAM: the container of a plaintext under a grant is its header, and behind it the plaintext's chunks
+/// in order, each sealed by the AEAD under the nonce at its place.
+pub fn containers_are_sealed_under_their_nonces()
+    ensures { (key : List ℕ) (grant : Grant) (plain : List ℕ)
+        → container key (prefix_by grant) plain
+        ≡ header_of key (prefix_by grant) ++ sealed_under key (header_of key (prefix_by grant)) (container_nonces key grant plain) (chunks plain) }
 {}
