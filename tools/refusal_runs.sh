@@ -1,7 +1,8 @@
 #!/bin/bash
 # Runs the built program with its allocations refused in turn, and with threads refused (tools/refuse.c). Whatever is refused, the run
 # ends by itself with a status and a text of README, what stands on the disk is whole, and no number is given twice. Of the 2,500
-# allocations in which the ledger file is opened every fifth is refused, all others each.
+# allocations in which the ledger file is opened every fifth is refused (by several workers or lanes every fiftieth), and of those from
+# which on all are refused every seventh; all others each.
 # Prints 'N refusals as they should be', or what differs. Where no C compiler is there it says so and ends well, and under CI it fails.
 set -u
 cd "$(dirname "$0")/.."
@@ -35,12 +36,22 @@ refused() {
         [ $status = 2 ] || differs "status $status"
         grep -Eqx "$texts" err && [ "$(wc -l < err)" = 1 ] || differs 'another text'
     fi
+    # The lines and the status go together: a file that failed is 1, lines alone of what was done are 0, and 2 is all else.
+    if grep -q '^failed ' out; then
+        [ $status != 0 ] || differs "status $status"
+        grep '^failed ' out | grep -Eqv ': (out of memory|cannot open|cannot create)$' && differs 'another fault'
+    elif [ ! -s out ]; then
+        [ $status = 2 ] || differs "status $status"
+    elif [ ! -s err ] && grep -Eqv '^(sealed|opened|good|legal:) ' out; then
+        differs 'another line'
+    fi
     cat out err >> seen
 }
 
 # What a sealing of these files under number 0 makes, and the text.
 seq 1 400 > text
-seq 1 60000 > long
+# Seven chunks: by several workers a thread of its own makes the room for the whole.
+seq 1 70000 > long
 "$sealer" seal --key "$key" --ledger first --device 1 text > out 2>&1 && mv text.stm text.wanted || exit 1
 "$sealer" seal --key "$key" --ledger second --device 1 long > out 2>&1 && mv long.stm long.wanted || exit 1
 
@@ -65,6 +76,15 @@ next() { if grep -qx 'ledger: cannot open' err; then n=$((n + $1)); else n=$((n 
 n=1
 while seal_refused REFUSE $n; do next 5; done
 [ $n -gt 100 ] || differs 'too few allocations'
+# By workers: also where the growth is refused to another thread, the whole container or none.
+n=1
+while
+    rm -f ledger ledger-wal long.stm
+    refused REFUSE $n seal --key "$key" --ledger ledger --device 1 --workers 3 long
+do
+    if [ -e long.stm ]; then cmp -s long.stm long.wanted || differs 'another container'; elif grep -q '^sealed' out; then differs 'no container'; fi
+    next 50
+done
 # And all allocations from one on, at every seventh.
 n=1
 while seal_refused REFUSE_FROM $n; do n=$((n + 7)); done
@@ -117,11 +137,13 @@ do
 done
 
 # Threads: what can't be started is worked on the caller's, and the answer is the same.
-for n in 1 2 3; do
+for n in 1 2 3 4; do
     rm -f ledger ledger-wal long.stm opened opened.stm
     refused REFUSE_THREADS $n seal --key "$key" --ledger ledger --device 1 --workers 4 long && cmp -s long.stm long.wanted || differs 'sealing by workers'
     cp long.wanted opened.stm
     refused REFUSE_THREADS $n open --key "$key" --workers 4 opened.stm && cmp -s opened long || differs 'opening by workers'
+    # Four lanes start three.
+    [ $n -lt 4 ] || continue
     rm -rf lanes
     mkdir lanes
     for i in 1 2 3 4; do cp text lanes/$i; done
