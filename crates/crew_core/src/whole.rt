@@ -1,5 +1,5 @@
-//! A whole container sealed or opened by several workers. Beside more than one, one thread more runs for as long as it takes to make
-//! the shelf.
+//! A whole container sealed or opened by several workers. Where there are more than one and at least seven chunks, one thread more
+//! runs for as long as it takes to make the shelf.
 ghost use Rattle.std.specs.Prelude.{◌≡◌, ◌≢◌, ◌<◌, ◌≤◌, ◌⊎◌, None, length, Ok, Err, IfOk, IfErr, OnOk, OnErr};
 ghost use Rattle.std.specs.Bool.{OnTrue, OnFalse};
 ghost use Rattle.container_core.specs.Container.{container};

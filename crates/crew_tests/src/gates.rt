@@ -49,7 +49,30 @@ fn two_workers_meet(rt: HostRuntime) -> Result<(), Fail> {
     Ok(())
 }
 
-// That the test above can fail: a body on the caller's thread alone gives the same container, and the gate gives up.
+// That the test above can fail: by one worker the container is the same, and the gate gives up.
+#[test]
+fn one_worker_meets_nobody(rt: HostRuntime) -> Result<(), Fail> {
+    let plain = zeros(rt.alloc(), 65_537)?;
+    let gate = Meeting::new(2, 1000);
+    let bytes = sealed(&rt, rt.alloc(), 0, plain.as_slice(), 1, &gate)?;
+    assert!(rt; gate.gave_up());
+    assert_eq!(rt; gate.passes(), 2);
+    assert_eq!(rt; Sha256::digest(bytes.as_slice()), ZEROS);
+    let gate = Meeting::new(2, 1000);
+    let opens = opens_to(
+        &rt,
+        rt.alloc(),
+        bytes.as_slice(),
+        plain.as_slice(),
+        1,
+        &gate,
+    )?;
+    assert!(rt; opens);
+    assert!(rt; gate.gave_up());
+    Ok(())
+}
+
+// And that a body on the caller's thread alone fails, whatever number of workers it is told: the gate gives up.
 #[test]
 fn one_thread_meets_nobody(rt: HostRuntime) -> Result<(), Fail> {
     let key = Key::new(COUNTING);
@@ -90,9 +113,20 @@ fn four_workers_meet(rt: HostRuntime) -> Result<(), Fail> {
 fn three_workers_are_no_four(rt: HostRuntime) -> Result<(), Fail> {
     let plain = zeros(rt.alloc(), 3 * 65_536 + 1)?;
     let gate = Meeting::new(4, 1000);
-    sealed(&rt, rt.alloc(), 0, plain.as_slice(), 3, &gate)?;
+    let bytes = sealed(&rt, rt.alloc(), 0, plain.as_slice(), 3, &gate)?;
     assert!(rt; gate.gave_up());
     assert_eq!(rt; gate.passes(), 4);
+    let gate = Meeting::new(4, 1000);
+    let opens = opens_to(
+        &rt,
+        rt.alloc(),
+        bytes.as_slice(),
+        plain.as_slice(),
+        3,
+        &gate,
+    )?;
+    assert!(rt; opens);
+    assert!(rt; gate.gave_up());
     Ok(())
 }
 

@@ -102,6 +102,17 @@ fn any_number_of_workers_gives_one_container(rt: HostRuntime) -> Result<(), Fail
     Ok(())
 }
 
+// Each number of workers, where there are more chunks than workers.
+#[test]
+fn any_number_of_workers_gives_eighteen_chunks(rt: HostRuntime) -> Result<(), Fail> {
+    let plain = pattern(rt.alloc(), 1_114_113)?;
+    for workers in 1..17 {
+        let bytes = sealed(&rt, rt.alloc(), 258, plain.as_slice(), workers, &Free)?;
+        assert_eq!(rt; Sha256::digest(bytes.as_slice()), EIGHTEEN);
+    }
+    Ok(())
+}
+
 #[test]
 fn no_byte_is_one_chunk(rt: HostRuntime) -> Result<(), Fail> {
     for workers in [1, 2, 16] {
