@@ -2,7 +2,7 @@
 //!
 //! A file that fails keeps no other from being worked. Where a line can't be written no further line is tried, the files are
 //! still worked, and the exit status is 2.
-ghost use Rattle.std.specs.Prelude.{◌≡◌, ℕ, ◌<◌, ◌≤◌, List, [], ◌∷◌, ◌++◌, length, map, Option, Ok, Err, IfSome, if◌then◌else◌};
+ghost use Rattle.std.specs.Prelude.{◌≡◌, ℕ, ◌<◌, ◌≤◌, List, [], ◌∷◌, ◌++◌, length, map, Option, Ok, Err, IfSome, codes, if◌then◌else◌};
 ghost use Rattle.sealer_core.specs.Folder.{stepped};
 ghost use Rattle.sealer_core.specs.Lines.{FileLine, is_failed};
 ghost use Rattle.sealer_core.specs.Work.{output_of, IsOfOpening, IsOfVerifying, opening_steps, no_steps, IsOutcomeOf, steps_of, AreTold, AreWorked};
@@ -65,7 +65,8 @@ enum Task {
 
 // The name of the output of a sealed file: at least one byte, before `.stm`.
 fn output_name(name: &str) -> Option<&str>
-    ensures { IfSome result (λ output. output.now ≡ output_of name.now) }
+    ensures name { IfSome result (λ output. output.now ≡ output_of name.now) }
+    ensures suffix { IfSome result (λ output. name.now ≡ output.now ++ codes ".stm") }
 {
     let output = name.strip_suffix(SUFFIX)?;
     if output.is_empty() {
