@@ -10,6 +10,11 @@ use thiserror::Error as ThisError;
 /// Plaintext bytes of a file where no limit is given: 1 GiB.
 pub const DEFAULT_MAX_BYTES: u64 = 1 << 30;
 
+/// What stands at the end of the program's help.
+const SEALER_HELP: &str =
+    "Exit status: 0 where all is well, 1 where some FILE failed or the journal is not legal, 2 at any other fault.
+Behind a command, --help tells its options and what it prints.";
+
 /// What stands at the end of the help of `open` and `verify`.
 const FILES_HELP: &str =
     "A line on standard output tells of each FILE. Exit status: 0 where none failed, 1 where some did, 2 where
@@ -18,10 +23,11 @@ nothing was done, or a line could not be written. A FILE is held in memory whole
 /// What stands at the end of the help of `seal`.
 const SEAL_HELP: &str =
     "A line on standard output tells of each FILE. Exit status: 0 where none failed, 1 where some did, 2 where
-standard error tells why, or a line could not be written. FILEs are held in memory whole.
+standard error tells why, or a line could not be written. FILEs are held in memory whole; at most 65535 a run.
 
-Keep one ledger file for each key and device number, and never use a copy of it, nor one that was restored or lost: take
-a new device number, or a new key. Else two files can get one number, and then neither is safe.";
+A key is made by `openssl rand -hex 32`. Back up the key and the sealed files. Keep one ledger file for each key and
+device number, and never use a copy of it, nor one that was restored: where it was lost or put back take a new device number,
+or a new key. Else two files can get one number, and then neither is safe.";
 
 /// What stands at the end of the help of `audit`.
 const AUDIT_HELP: &str =
@@ -42,7 +48,7 @@ pub fn command<'a>(alloc: Global) -> Result<Command<'a>, Error> {
         .after_help(AUDIT_HELP);
     let sealer = Command::new(alloc, "sealer")
         .about("Seals, opens and verifies many files under one key, each under a number of its own")
-        .after_help("Behind a command, --help tells its options and its exit statuses.")
+        .after_help(SEALER_HELP)
         .subcommand_required(true)
         .subcommand(seal)?
         .subcommand(open.after_help(FILES_HELP))?
