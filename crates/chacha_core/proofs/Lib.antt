@@ -1,2 +1,3 @@
 pub mod StreamLemmas
+mod StateLemmas
 mod WordLemmas

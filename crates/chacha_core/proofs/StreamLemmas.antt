@@ -159,3 +159,17 @@ apply_step key nonce first i k old cur words piece fits small now same made =
     ap (λ (zs : List ℕ). zs ++ (piece ++ drop k (drop a cur))) front
     ∙ ap (λ (zs : List ℕ). xor_from f 0 (take a old) ++ (piece ++ drop k zs)) behind
     ∙ xor_step f a k old piece fits piece_is
+
+-- a text of two blocks, of which the second may be cut
+pub chacha20-two_blocks : (key nonce : List ℕ) (counter : ℕ) (first second : List ℕ) → length first ≡ 64 → length second ≤ 64
+    → chacha20 key nonce counter (first ++ second)
+    ≡ xor_from (slice_index (block key counter nonce)) 0 first ++ xor_from (slice_index (block key (counter + 1) nonce)) 0 second
+unfolding chacha20
+chacha20-two_blocks key nonce counter first second whole short =
+    let f = keystream_byte key nonce counter in
+    let here : counter + 0 ≡ counter = omega arith in
+    xor_from-append f 0 first second
+    ∙ ap (λ (n : ℕ). xor_from f 0 first ++ xor_from f n second) (omega arith)
+    ∙ ap (λ (zs : List ℕ). zs ++ xor_from f (64 * 1) second) (sym (xor_from-block key nonce counter 0 first (omega arith)))
+    ∙ ap (λ (n : ℕ). xor_from (slice_index (block key n nonce)) 0 first ++ xor_from f (64 * 1) second) here
+    ∙ ap (λ (zs : List ℕ). xor_from (slice_index (block key counter nonce)) 0 first ++ zs) (sym (xor_from-block key nonce counter 1 second short))

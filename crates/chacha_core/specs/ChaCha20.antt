@@ -1,6 +1,7 @@
 -- ChaCha20 (RFC 8439, 2.1 to 2.4). A word is a number below 2 ^ 32, a byte one below 256, and keys,
 -- nonces, blocks and texts are lists of bytes.
-use Rattle.std.specs.Prelude.{ℕ, zero, suc, ◌+◌, ◌*◌, ◌/◌, ◌%◌, ◌^◌, List, [], ◌∷◌, ◌++◌, take, drop, bit_xor, slice_index}
+use Rattle.std.specs.Prelude.{ℕ, zero, suc, ◌+◌, ◌*◌, ◌/◌, ◌%◌, ◌^◌, List, [], ◌∷◌, ◌++◌, take, drop}
+use Rattle.std.specs.Prelude.{bit_xor, slice_index, slice_set}
 use Rattle.std.specs.Int.{w32, rotate_left, to_le_bytes, from_le_bytes}
 
 -- the sum of two words, modulo 2 ^ 32
@@ -24,36 +25,29 @@ quarter_round a b c d =
     let b = xor_roll b c 7 in
     (a, b, c, d)
 
--- the quarter round on the words of a state at four places (2.2)
-abbrev pub quarter_round_at : List ℕ → ℕ → ℕ → ℕ → ℕ → ℕ × ℕ × ℕ × ℕ
-quarter_round_at state x y z w =
-    quarter_round (slice_index state x) (slice_index state y) (slice_index state z) (slice_index state w)
+-- the quarter round on a state's words at the places x, y, z and w (2.2)
+abbrev pub quarter_round_at : ℕ → ℕ → ℕ → ℕ → List ℕ → List ℕ
+quarter_round_at x y z w state =
+    let words = quarter_round (slice_index state x) (slice_index state y) (slice_index state z) (slice_index state w) in
+    slice_set (slice_set (slice_set (slice_set state x words.0) y words.1) z words.2) w words.3
 
--- quarter rounds on the four columns of the state, read as four rows of four words (2.3)
+-- quarter rounds on the four columns of the state, read as four rows of four words (2.3.1)
 unfoldable pub column_rounds : List ℕ → List ℕ
 column_rounds state =
-    let a = quarter_round_at state 0 4 8 12 in
-    let b = quarter_round_at state 1 5 9 13 in
-    let c = quarter_round_at state 2 6 10 14 in
-    let d = quarter_round_at state 3 7 11 15 in
-    a.0 ∷ b.0 ∷ c.0 ∷ d.0 ∷
-    a.1 ∷ b.1 ∷ c.1 ∷ d.1 ∷
-    a.2 ∷ b.2 ∷ c.2 ∷ d.2 ∷
-    a.3 ∷ b.3 ∷ c.3 ∷ d.3 ∷ []
+    let state = quarter_round_at 0 4 8 12 state in
+    let state = quarter_round_at 1 5 9 13 state in
+    let state = quarter_round_at 2 6 10 14 state in
+    quarter_round_at 3 7 11 15 state
 
--- quarter rounds on the four diagonals (2.3)
+-- quarter rounds on the four diagonals (2.3.1)
 unfoldable pub diagonal_rounds : List ℕ → List ℕ
 diagonal_rounds state =
-    let a = quarter_round_at state 0 5 10 15 in
-    let b = quarter_round_at state 1 6 11 12 in
-    let c = quarter_round_at state 2 7 8 13 in
-    let d = quarter_round_at state 3 4 9 14 in
-    a.0 ∷ b.0 ∷ c.0 ∷ d.0 ∷
-    d.1 ∷ a.1 ∷ b.1 ∷ c.1 ∷
-    c.2 ∷ d.2 ∷ a.2 ∷ b.2 ∷
-    b.3 ∷ c.3 ∷ d.3 ∷ a.3 ∷ []
+    let state = quarter_round_at 0 5 10 15 state in
+    let state = quarter_round_at 1 6 11 12 state in
+    let state = quarter_round_at 2 7 8 13 state in
+    quarter_round_at 3 4 9 14 state
 
--- n times the columns, then the diagonals (2.3)
+-- n times the columns, then the diagonals (2.3.1)
 unfoldable pub double_rounds : ℕ → List ℕ → List ℕ
 double_rounds zero state = state
 double_rounds (suc n) state = diagonal_rounds (column_rounds (double_rounds n state))

@@ -1,1 +1,2 @@
 pub mod ChaCha20
+pub mod Vectors

@@ -1,7 +1,8 @@
 //! What follows of the definitions alone, each law the contract of a function that does nothing.
 
 ghost use Rattle.std.specs.Prelude.{◌≡◌, ℕ, List, length};
-ghost use Rattle.chacha_core.specs.ChaCha20.{chacha20};
+ghost use Rattle.chacha_core.specs.ChaCha20.{quarter_round, block, chacha20};
+ghost use Rattle.chacha_core.specs.Vectors.{key, block_nonce, first_block, text_nonce, plaintext, ciphertext};
 
 /// Enciphering twice under one key, nonce and counter gives the text back.
 pub fn twice_gives_back()
@@ -13,4 +14,15 @@ pub fn twice_gives_back()
 pub fn length_stays()
     ensures { (key nonce text : List ℕ) (counter : ℕ)
         → length (chacha20 key nonce counter text) ≡ length text }
+{}
+
+/// The definitions give what RFC 8439 prints beside them: quarter rounds (2.1.1, 2.2.1), a block
+/// (2.3.2), and an enciphered text of two blocks, the second one cut (2.4.2).
+pub fn vectors_of_the_rfc()
+    ensures quarter_round { quarter_round 0x11111111 0x01020304 0x9b8d6f43 0x01234567
+        ≡ (0xea2a92f4, 0xcb1cf8ce, 0x4581472e, 0x5881c4bb) }
+    ensures quarter_round_of_a_state { quarter_round 0x516461b1 0x2a5f714c 0x53372767 0x3d631689
+        ≡ (0xbdb886dc, 0xcfacafd2, 0xe46bea80, 0xccc07c79) }
+    ensures block { block key 1 block_nonce ≡ first_block }
+    ensures text { chacha20 key text_nonce 1 plaintext ≡ ciphertext }
 {}

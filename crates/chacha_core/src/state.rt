@@ -1,16 +1,18 @@
-// The state of sixteen words and its twenty rounds (RFC 8439, 2.1 to 2.3).
-//
-// A state is four rows of four words: the constants, the key in two rows, and the counter with the
-// nonce. Sums are modulo 2^32.
+//! The state of sixteen words and its twenty rounds (RFC 8439, 2.1 to 2.3).
+//!
+//! A state is four rows of four words: the constants, the key in two rows, and the counter with the
+//! nonce. The words are numbered from 0 to 15, row by row, and sums are modulo 2^32.
 
 ghost use Rattle.std.specs.Prelude.{◌≡◌, ◌+◌, ◌*◌, ◌≤◌, length};
-ghost use Rattle.chacha_core.specs.ChaCha20.{quarter_round, column_rounds, diagonal_rounds, word_at, start_state, add_states, block_words};
+ghost use Rattle.chacha_core.specs.ChaCha20.{quarter_round, column_rounds, diagonal_rounds};
+ghost use Rattle.chacha_core.specs.ChaCha20.{word_at, start_state, add_states, block_words};
 
 use byteorder::{ByteOrder, LittleEndian};
 
-// The RFC's count of double rounds.
+// The RFC's twenty rounds, by two.
 const DOUBLE_ROUNDS: u32 = 10;
 
+/// The quarter round on four words (2.1).
 #[inline(always)]
 pub(crate) fn quarter_round(a: u32, b: u32, c: u32, d: u32) -> (u32, u32, u32, u32)
     ensures { result ≡ quarter_round a b c d }
@@ -26,68 +28,35 @@ pub(crate) fn quarter_round(a: u32, b: u32, c: u32, d: u32) -> (u32, u32, u32, u
     (a, b, c, d)
 }
 
+// Quarter rounds on the four columns (2.3.1).
 #[inline(always)]
 fn column_rounds(state: [u32; 16]) -> [u32; 16]
     ensures { result ≡ column_rounds state }
 {
-    let [
-        k0,
-        l0,
-        m0,
-        n0,
-        k1,
-        l1,
-        m1,
-        n1,
-        k2,
-        l2,
-        m2,
-        n2,
-        k3,
-        l3,
-        m3,
-        n3,
-    ] = state;
-    let (k0, k1, k2, k3) = quarter_round(k0, k1, k2, k3);
-    let (l0, l1, l2, l3) = quarter_round(l0, l1, l2, l3);
-    let (m0, m1, m2, m3) = quarter_round(m0, m1, m2, m3);
-    let (n0, n1, n2, n3) = quarter_round(n0, n1, n2, n3);
+    let (x0, x4, x8, x12) = quarter_round(state[0], state[4], state[8], state[12]);
+    let (x1, x5, x9, x13) = quarter_round(state[1], state[5], state[9], state[13]);
+    let (x2, x6, x10, x14) = quarter_round(state[2], state[6], state[10], state[14]);
+    let (x3, x7, x11, x15) = quarter_round(state[3], state[7], state[11], state[15]);
     [
-        k0, l0, m0, n0, k1, l1, m1, n1, k2, l2, m2, n2, k3, l3, m3, n3,
+        x0, x1, x2, x3, x4, x5, x6, x7, x8, x9, x10, x11, x12, x13, x14, x15,
     ]
 }
 
+// Quarter rounds on the four diagonals (2.3.1).
 #[inline(always)]
 fn diagonal_rounds(state: [u32; 16]) -> [u32; 16]
     ensures { result ≡ diagonal_rounds state }
 {
-    let [
-        k0,
-        l0,
-        m0,
-        n0,
-        n1,
-        k1,
-        l1,
-        m1,
-        m2,
-        n2,
-        k2,
-        l2,
-        l3,
-        m3,
-        n3,
-        k3,
-    ] = state;
-    let (k0, k1, k2, k3) = quarter_round(k0, k1, k2, k3);
-    let (l0, l1, l2, l3) = quarter_round(l0, l1, l2, l3);
-    let (m0, m1, m2, m3) = quarter_round(m0, m1, m2, m3);
-    let (n0, n1, n2, n3) = quarter_round(n0, n1, n2, n3);
+    let (x0, x5, x10, x15) = quarter_round(state[0], state[5], state[10], state[15]);
+    let (x1, x6, x11, x12) = quarter_round(state[1], state[6], state[11], state[12]);
+    let (x2, x7, x8, x13) = quarter_round(state[2], state[7], state[8], state[13]);
+    let (x3, x4, x9, x14) = quarter_round(state[3], state[4], state[9], state[14]);
     [
-        k0, l0, m0, n0, n1, k1, l1, m1, m2, n2, k2, l2, l3, m3, n3, k3,
+        x0, x1, x2, x3, x4, x5, x6, x7, x8, x9, x10, x11, x12, x13, x14, x15,
     ]
 }
 
+// Word i of a list of bytes, little-endian.
 fn word_at(bytes: &[u8], i: usize) -> u32
     requires { 4 * i + 4 ≤ length bytes.now }
     ensures { result ≡ word_at bytes.now i }
@@ -119,6 +88,7 @@ pub(crate) fn start_state(key: &[u8; 32], counter: u32, nonce: &[u8; 12]) -> [u3
     ]
 }
 
+// Two states added word by word.
 #[inline(always)]
 fn add_states(x: &[u32; 16], y: &[u32; 16]) -> [u32; 16]
     ensures { result ≡ add_states x.now y.now }
