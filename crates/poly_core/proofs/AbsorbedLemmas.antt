@@ -3,8 +3,9 @@ use Rattle.std.proofs.Common.{◌≡◌, ℕ, ◌+◌, ◌-◌, ◌*◌, ◌/◌
 use Rattle.std.proofs.lemmas.List.{length-append, length-drop, length-take-le, drop-append-le, append_assoc, take_at, take_rest, take-append-drop, take-replicate}
 use Rattle.std.proofs.Math.Seq.{take-add}
 use Rattle.std.specs.Int.{w128, to_le_bytes}
-use Rattle.poly_core.specs.Poly1305.{prime, polynomial, block_number, block_numbers, block_count, key_r, key_s, poly1305}
-use Rattle.poly_core.specs.Absorbed.{Progress, Absorbed, whole_sum, cut_rest, zeros}
+use Rattle.poly_core.specs.Poly1305.{prime, polynomial, block_number, block_numbers, block_count, key_r, key_s, poly1305, pad16}
+use Rattle.poly_core.specs.Absorbed.{Progress, Absorbed}
+use Rattle.poly_core.specs.WholeBlocks.{whole_sum, cut_rest}
 use Rattle.poly_core.proofs.SumLemmas.{block_numbers-append, whole_sum-next, cut_rest-whole, polynomial-cut, polynomial-whole}
 
 pub Absorbed-nothing : (mac : Progress) (key : List ℕ) → mac.r ≡ key_r key → mac.s ≡ key_s key → mac.sum ≡ 0 → mac.rest ≡ []
@@ -18,7 +19,7 @@ length-cut_rest m = length-drop (16 * (length m / 16)) m ∙ omega arith
 
 -- how many bytes wait
 pub Absorbed-length : (mac : Progress) (key m : List ℕ) → Absorbed mac key m → length mac.rest ≡ length m % 16
-unfolding Absorbed
+unfolding Absorbed whole_sum cut_rest
 Absorbed-length mac key m held = ap length held.3 ∙ length-cut_rest m
 
 -- a piece that fills no block
@@ -45,7 +46,7 @@ Absorbed-short old new key m piece held er es esum erest short =
 pub Absorbed-filled : (old new : Progress) (key m piece : List ℕ) → Absorbed old key m
     → new.r ≡ old.r → new.s ≡ old.s → new.sum ≡ ((old.sum + block_number (old.rest ++ piece)) * old.r) % prime → new.rest ≡ []
     → length old.rest + length piece ≡ 16 → Absorbed new key (m ++ piece)
-unfolding Absorbed
+unfolding Absorbed whole_sum cut_rest
 Absorbed-filled old new key m piece held er es esum erest fills =
     let long = Absorbed-length old key m held in
     let cut : length (cut_rest m) + length piece ≡ 16 = omega (arith, length-cut_rest m) in
@@ -65,7 +66,7 @@ pub Absorbed-whole : (old new : Progress) (key m blocks : List ℕ) → Absorbed
     → new.r ≡ old.r → new.s ≡ old.s
     → (length m % 16 ≡ 0 → old.sum ≡ whole_sum old.r m → new.sum ≡ whole_sum old.r (m ++ blocks))
     → new.rest ≡ [] → Absorbed new key (m ++ blocks)
-unfolding Absorbed
+unfolding Absorbed whole_sum cut_rest
 Absorbed-whole old new key m blocks held none whole er es sum erest =
     let long = Absorbed-length old key m held in
     let empty : length old.rest ≡ 0 = ap length none in
@@ -81,7 +82,7 @@ Absorbed-whole old new key m blocks held none whole er es sum erest =
 pub Absorbed-tag_cut : (mac : Progress) (key m : List ℕ) (sum tag : ℕ) → Absorbed mac key m → 0 < length mac.rest
     → sum % prime ≡ ((mac.sum + block_number mac.rest) * mac.r) % prime
     → tag ≡ (sum % prime + mac.s) % 2 ^ 128 → to_le_bytes w128 tag ≡ poly1305 key m
-unfolding Absorbed poly1305
+unfolding Absorbed whole_sum cut_rest poly1305
 Absorbed-tag_cut mac key m sum tag held cut esum etag =
     let long = Absorbed-length mac key m held in
     let last =
@@ -97,7 +98,7 @@ Absorbed-tag_cut mac key m sum tag held cut esum etag =
 pub Absorbed-tag_whole : (mac : Progress) (key m : List ℕ) (sum tag : ℕ) → Absorbed mac key m → length mac.rest ≡ 0
     → sum % prime ≡ mac.sum
     → tag ≡ (sum % prime + mac.s) % 2 ^ 128 → to_le_bytes w128 tag ≡ poly1305 key m
-unfolding Absorbed poly1305
+unfolding Absorbed whole_sum cut_rest poly1305
 Absorbed-tag_whole mac key m sum tag held whole esum etag =
     let long = Absorbed-length mac key m held in
     let last = esum ∙ held.2 ∙ sym (polynomial-whole (key_r key) m (omega arith)) in
@@ -126,9 +127,9 @@ three_parts m bytes f e first second =
     ∙ ap (λ (zs : List ℕ). m ++ zs) (take-append-drop e bytes)
 
 -- the zeros behind a message
-pub take-zeros : (mac : Progress) (key m : List ℕ) (lacking : ℕ) → Absorbed mac key m → lacking ≡ (16 - length mac.rest) % 16
-    → take lacking (replicate 16 0) ≡ zeros (length m)
-take-zeros mac key m lacking held same =
+pub take-pad16 : (mac : Progress) (key m : List ℕ) (lacking : ℕ) → Absorbed mac key m → lacking ≡ (16 - length mac.rest) % 16
+    → take lacking (replicate 16 0) ≡ pad16 m
+take-pad16 mac key m lacking held same =
     let long = Absorbed-length mac key m held in
     let count : lacking ≡ (16 - length m % 16) % 16 = same ∙ ap (λ k. (16 - k) % 16) long in
     take-replicate {X = ℕ} lacking 16 0 (omega arith) ∙ ap (λ n. replicate n 0) count

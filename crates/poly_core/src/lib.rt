@@ -10,6 +10,7 @@ ghost use Rattle.std.specs.Prelude.{◌≡◌, ◌↔◌, IsTrue};
 
 mod blocks;
 mod lanes;
+pub mod laws;
 mod limbs;
 mod mac;
 #[cfg(test)]
@@ -19,7 +20,8 @@ mod vectors;
 
 pub use mac::Mac;
 
-/// Whether two tags of 16 bytes are equal. It compares by `==`: nothing is claimed of the time that it takes.
+/// Whether two tags of 16 bytes are equal. It compares by `==`: nothing is claimed of the time that
+/// it takes.
 pub fn same(a: &[u8; 16], b: &[u8; 16]) -> bool
     ensures { IsTrue result ↔ (a.now ≡ b.now) }
 {

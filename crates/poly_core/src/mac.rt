@@ -1,8 +1,8 @@
 // The authenticator of a message that comes piece by piece (RFC 8439, 2.5).
 
 ghost use Rattle.std.specs.Prelude.{◌≡◌, ℕ, ◌+◌, ◌-◌, ◌%◌, ◌<◌, ◌≤◌, List, [], ◌++◌, length};
-ghost use Rattle.poly_core.specs.Poly1305.{poly1305};
-ghost use Rattle.poly_core.specs.Absorbed.{Absorbed, zeros};
+ghost use Rattle.poly_core.specs.Poly1305.{poly1305, pad16};
+ghost use Rattle.poly_core.specs.Absorbed.{Absorbed};
 
 use crate::blocks::{BLOCK, absorb_blocks, block_at, cut_block, key_r, key_s};
 use crate::limbs::{Limbs, ZERO, square, step, tag_number};
@@ -74,7 +74,7 @@ impl Mac {
     /// Appends zeros up to a multiple of 16 bytes, none at a multiple (RFC 8439, 2.8).
     pub fn pad(&mut self)
         ensures { (key message : List ℕ) → Absorbed self.old key message
-            → Absorbed self.new key (message ++ zeros (length message)) }
+            → Absorbed self.new key (message ++ pad16 message) }
     {
         let lacking = self.lacking();
         self.take_in(&[0; BLOCK][..lacking]);
