@@ -1,11 +1,11 @@
 -- The AEAD pair and its opening, both ways.
-use Rattle.std.proofs.Common.{◌≡◌, ℕ, ◌-◌, ◌%◌, List, ◌++◌, length, replicate, Some, None, Bool, true, false, if◌then◌else◌, refl, sym, ap, ◌∙◌, arith}
+use Rattle.std.proofs.Common.{◌≡◌, ℕ, ◌-◌, ◌%◌, List, ◌++◌, length, replicate, Some, None, Bool, true, false}
+use Rattle.std.proofs.Common.{if◌then◌else◌, refl, sym, ap, ◌∙◌, arith}
 use Rattle.std.proofs.lemmas.List.{length-append, length-replicate}
 use Rattle.std.proofs.lemmas.Slice.Eq.{bytes_eq-Decides}
 use Rattle.std.specs.Str.{bytes_eq}
 use Rattle.chacha_core.proofs.StreamLemmas.{length-chacha20, chacha20-chacha20}
-use Rattle.poly_core.specs.Poly1305.{poly1305}
-use Rattle.poly_core.specs.Absorbed.{zeros}
+use Rattle.poly_core.specs.Poly1305.{poly1305, pad16}
 use Rattle.aead_core.specs.Aead.{enciphered, tag_of, aead, opened}
 
 not_true : (b : Bool) → (b ≡ true → ⊥) → b ≡ false
@@ -39,7 +39,8 @@ opened-tag_of key nonce aad ciphertext tag right =
 pub opened-aead : (key nonce aad plaintext : List ℕ)
     → opened key nonce aad (aead key nonce aad plaintext).0 (aead key nonce aad plaintext).1 ≡ Some plaintext
 opened-aead key nonce aad plaintext =
-    opened-tag_of key nonce aad (enciphered key nonce plaintext) (tag_of key nonce aad (enciphered key nonce plaintext)) refl
+    opened-tag_of key nonce aad (enciphered key nonce plaintext)
+    (tag_of key nonce aad (enciphered key nonce plaintext)) refl
     ∙ ap (λ (zs : List ℕ). Some zs) (enciphered-enciphered key nonce plaintext)
 
 -- a wrong tag doesn't open
@@ -59,7 +60,8 @@ aead-enciphered key nonce aad ciphertext tag plaintext made right =
     ap (enciphered key nonce) made ∙ enciphered-enciphered key nonce ciphertext in
     ap (λ (c : List ℕ). (c, tag_of key nonce aad c)) back ∙ ap (λ (t : List ℕ). (ciphertext, t)) (sym right)
 
-pub aead-opened : (key nonce aad ciphertext tag plaintext : List ℕ) → opened key nonce aad ciphertext tag ≡ Some plaintext
+pub aead-opened : (key nonce aad ciphertext tag plaintext : List ℕ) → opened key nonce aad ciphertext tag
+    ≡ Some plaintext
     → aead key nonce aad plaintext ≡ (ciphertext, tag)
 unfolding opened
 aead-opened key nonce aad ciphertext tag plaintext e =
@@ -68,11 +70,11 @@ aead-opened key nonce aad ciphertext tag plaintext e =
     aead-enciphered key nonce aad ciphertext tag plaintext (sym both.1) ((bytes_eq-Decides tag t).0 both.0)
 
 -- the zeros behind what stands behind padded bytes
-pub zeros-padded : (aad text : List ℕ) → zeros (length ((aad ++ zeros (length aad)) ++ text)) ≡ zeros (length text)
-zeros-padded aad text =
+pub pad16-padded : (aad text : List ℕ) → pad16 ((aad ++ pad16 aad) ++ text) ≡ pad16 text
+pad16-padded aad text =
     let n : ℕ = (16 - length aad % 16) % 16 in
-    let long = length-append (aad ++ zeros (length aad)) text in
-    let front = length-append aad (zeros (length aad)) in
-    let pad : length (zeros (length aad)) ≡ n = length-replicate {A = ℕ} n 0 in
-    let same : (16 - length ((aad ++ zeros (length aad)) ++ text) % 16) % 16 ≡ (16 - length text % 16) % 16 = omega arith in
+    let long = length-append (aad ++ pad16 aad) text in
+    let front = length-append aad (pad16 aad) in
+    let pad : length (pad16 aad) ≡ n = length-replicate {A = ℕ} n 0 in
+    let same : (16 - length ((aad ++ pad16 aad) ++ text) % 16) % 16 ≡ (16 - length text % 16) % 16 = omega arith in
     ap (λ k. replicate k 0) same

@@ -3,18 +3,17 @@ use Rattle.std.specs.Prelude.{ℕ, List, ◌++◌, length, take, Option, Some, N
 use Rattle.std.specs.Int.{w64, to_le_bytes}
 use Rattle.std.specs.Str.{bytes_eq}
 use Rattle.chacha_core.specs.ChaCha20.{block, chacha20}
-use Rattle.poly_core.specs.Poly1305.{poly1305}
-use Rattle.poly_core.specs.Absorbed.{zeros}
+use Rattle.poly_core.specs.Poly1305.{poly1305, pad16}
 
 -- the Poly1305 key of one message: the first 32 bytes of the block with counter 0 (2.6)
 unfoldable pub one_time_key : List ℕ → List ℕ → List ℕ
 one_time_key key nonce = take 32 (block key 0 nonce)
 
--- what the tag covers: the associated data and the ciphertext, each with zeros up to a multiple of 16,
--- and their two lengths in 8 bytes each (2.8)
-unfoldable pub covered : List ℕ → List ℕ → List ℕ
-covered aad ciphertext =
-    aad ++ zeros (length aad) ++ ciphertext ++ zeros (length ciphertext)
+-- what the tag is made over: the associated data and the ciphertext, each with zeros up to a multiple of 16
+-- behind it, and their two lengths in 8 bytes each (2.8.1)
+unfoldable pub mac_data : List ℕ → List ℕ → List ℕ
+mac_data aad ciphertext =
+    aad ++ pad16 aad ++ ciphertext ++ pad16 ciphertext
     ++ to_le_bytes w64 (length aad) ++ to_le_bytes w64 (length ciphertext)
 
 -- a text enciphered, or deciphered, from counter 1 on (2.8)
@@ -23,7 +22,7 @@ enciphered key nonce text = chacha20 key nonce 1 text
 
 -- the tag of associated data and a ciphertext (2.8)
 unfoldable pub tag_of : List ℕ → List ℕ → List ℕ → List ℕ → List ℕ
-tag_of key nonce aad ciphertext = poly1305 (one_time_key key nonce) (covered aad ciphertext)
+tag_of key nonce aad ciphertext = poly1305 (one_time_key key nonce) (mac_data aad ciphertext)
 
 -- the AEAD pair of a plaintext: its ciphertext and its tag (2.8)
 abbrev pub aead : List ℕ → List ℕ → List ℕ → List ℕ → List ℕ × List ℕ

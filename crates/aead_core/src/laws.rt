@@ -1,7 +1,9 @@
 //! What follows of the definitions alone, each law the contract of a function that does nothing.
 
 ghost use Rattle.std.specs.Prelude.{◌≡◌, ℕ, List, length, Some};
-ghost use Rattle.aead_core.specs.Aead.{aead, enciphered, tag_of, opened};
+ghost use Rattle.chacha_core.specs.Vectors.{plaintext};
+ghost use Rattle.aead_core.specs.Aead.{one_time_key, aead, enciphered, tag_of, opened};
+ghost use Rattle.aead_core.specs.Vectors.{key, generation_nonce, generated_key, nonce, aad, ciphertext, tag};
 
 /// Opening what was sealed gives the plaintext back.
 pub fn sealed_opens()
@@ -23,4 +25,11 @@ pub fn lengths()
         ≡ length text }
     ensures tag { (key nonce aad ciphertext : List ℕ)
         → length (tag_of key nonce aad ciphertext) ≡ 16 }
+{}
+
+/// The definitions give what RFC 8439 prints beside them: a one-time key (2.6.2), and the pair of a
+/// ciphertext and its tag (2.8.2).
+pub fn vectors_of_the_rfc()
+    ensures one_time_key { one_time_key key generation_nonce ≡ generated_key }
+    ensures pair { aead key nonce aad plaintext ≡ (ciphertext, tag) }
 {}

@@ -5,7 +5,8 @@
 //! tag of a plaintext, `opened` the plaintext of such a pair.
 #![tactic(auto)]
 
-ghost use Rattle.std.specs.Prelude.{◌≡◌, ◌+◌, ◌-◌, ◌*◌, ◌^◌, ◌≤◌, ◌↔◌, length, take, IsTrue, Some, None, false, if◌then◌else◌};
+ghost use Rattle.std.specs.Prelude.{◌≡◌, ◌+◌, ◌-◌, ◌*◌, ◌^◌, ◌≤◌, ◌↔◌, length, take};
+ghost use Rattle.std.specs.Prelude.{IsTrue, Some, None, false, if◌then◌else◌};
 ghost use Rattle.aead_core.specs.Aead.{one_time_key, tag_of, aead, opened};
 
 use chacha_core::{apply, block};

@@ -1,6 +1,8 @@
 -- A text XORed with a stream: its parts, its length, and the same stream twice.
-use Rattle.std.proofs.Common.{◌≡◌, ℕ, suc, ◌+◌, ◌*◌, ◌/◌, ◌%◌, ◌<◌, ◌≤◌, List, [], ◌∷◌, ◌++◌, length, take, drop, get_or, slice_index, slice_set, bit_xor, refl, sym, ap, ◌∙◌, arith}
-use Rattle.std.proofs.lemmas.List.{append_assoc, drop-drop, length-take-le, length-drop, length-append, append-nil, take_at, drop_at, take_all, drop_all, set-set}
+use Rattle.std.proofs.Common.{◌≡◌, ℕ, suc, ◌+◌, ◌*◌, ◌/◌, ◌%◌, ◌<◌, ◌≤◌, List, [], ◌∷◌, ◌++◌, length, take, drop}
+use Rattle.std.proofs.Common.{get_or, slice_index, slice_set, bit_xor, refl, sym, ap, ◌∙◌, arith}
+use Rattle.std.proofs.lemmas.List.{append_assoc, drop-drop, length-take-le, length-drop, length-append, append-nil}
+use Rattle.std.proofs.lemmas.List.{take_at, drop_at, take_all, drop_all, set-set}
 use Rattle.std.proofs.lemmas.Simd.{put_chunk_is}
 use Rattle.std.proofs.Math.Seq.{take-add}
 use Rattle.std.specs.Int.Bits.{xor_assoc, xor_self, xor_zero_r}
@@ -18,7 +20,8 @@ unfolding xor_from
 xor_from-xor_from f j [] = refl
 xor_from-xor_from f j (b ∷ bs) = rw (xor_assoc, xor_self, xor_zero_r, xor_from-xor_from f (suc j) bs)
 
-pub xor_from-append : (f : ℕ → ℕ) (j : ℕ) (xs ys : List ℕ) → xor_from f j (xs ++ ys) ≡ xor_from f j xs ++ xor_from f (j + length xs) ys
+pub xor_from-append : (f : ℕ → ℕ) (j : ℕ) (xs ys : List ℕ) → xor_from f j (xs ++ ys)
+    ≡ xor_from f j xs ++ xor_from f (j + length xs) ys
 unfolding xor_from
 xor_from-append f j [] ys = ap (λ k. xor_from f k ys) (omega arith)
 xor_from-append f j (x ∷ xs) ys =
@@ -48,7 +51,8 @@ xor_from-same f g j k (x ∷ xs) each =
     (λ i h. ap f (omega arith) ∙ each (suc i) (omega arith) ∙ ap g (omega arith)) in
     rw (first, rest) refl
 
-pub length-chacha20 : (key nonce : List ℕ) (counter : ℕ) (text : List ℕ) → length (chacha20 key nonce counter text) ≡ length text
+pub length-chacha20 : (key nonce : List ℕ) (counter : ℕ) (text : List ℕ) → length (chacha20 key nonce counter text)
+    ≡ length text
 unfolding chacha20
 length-chacha20 key nonce counter text = length-xor_from (keystream_byte key nonce counter) 0 text
 
@@ -71,11 +75,13 @@ xor_step f a k old ys fits same =
     rw (both, append_assoc, drop-drop) refl
 
 -- the parts of a text of which the first a bytes are XORed
-pub drop_done : (f : ℕ → ℕ) (a : ℕ) (old : List ℕ) → a ≤ length old → drop a (xor_from f 0 (take a old) ++ drop a old) ≡ drop a old
+pub drop_done : (f : ℕ → ℕ) (a : ℕ) (old : List ℕ) → a ≤ length old
+    → drop a (xor_from f 0 (take a old) ++ drop a old) ≡ drop a old
 drop_done f a old fits =
     drop_at (xor_from f 0 (take a old)) (drop a old) a (length-xor_from f 0 (take a old) ∙ length-take-le a old fits)
 
-pub take_done : (f : ℕ → ℕ) (a : ℕ) (old : List ℕ) → a ≤ length old → take a (xor_from f 0 (take a old) ++ drop a old) ≡ xor_from f 0 (take a old)
+pub take_done : (f : ℕ → ℕ) (a : ℕ) (old : List ℕ) → a ≤ length old
+    → take a (xor_from f 0 (take a old) ++ drop a old) ≡ xor_from f 0 (take a old)
 take_done f a old fits =
     take_at (xor_from f 0 (take a old)) (drop a old) a (length-xor_from f 0 (take a old) ∙ length-take-le a old fits)
 
@@ -125,10 +131,13 @@ keystream_byte-block key nonce counter i j small =
 
 -- a block of the text, or the rest of it, XORed with the keystream
 pub xor_from-block : (key nonce : List ℕ) (counter i : ℕ) (text : List ℕ) → length text ≤ 64
-    → xor_from (λ j. slice_index (block key (counter + i) nonce) j) 0 text ≡ xor_from (keystream_byte key nonce counter) (64 * i) text
+    → xor_from (λ j. slice_index (block key (counter + i) nonce) j) 0 text
+    ≡ xor_from (keystream_byte key nonce counter) (64 * i) text
 xor_from-block key nonce counter i text small =
-    xor_from-same (λ j. slice_index (block key (counter + i) nonce) j) (keystream_byte key nonce counter) 0 (64 * i) text
-    (λ j h. ap (slice_index (block key (counter + i) nonce)) (omega arith) ∙ sym (keystream_byte-block key nonce counter i j (omega arith)))
+    xor_from-same (λ j. slice_index (block key (counter + i) nonce) j) (keystream_byte key nonce counter) 0
+    (64 * i) text
+    (λ j h. ap (slice_index (block key (counter + i) nonce)) (omega arith)
+    ∙ sym (keystream_byte-block key nonce counter i j (omega arith)))
 
 -- a state with another counter
 pub start_state-set : (key nonce state : List ℕ) (counter : ℕ) → slice_set state 12 0 ≡ start_state key 0 nonce
@@ -161,15 +170,19 @@ apply_step key nonce first i k old cur words piece fits small now same made =
     ∙ xor_step f a k old piece fits piece_is
 
 -- a text of two blocks, of which the second may be cut
-pub chacha20-two_blocks : (key nonce : List ℕ) (counter : ℕ) (first second : List ℕ) → length first ≡ 64 → length second ≤ 64
+pub chacha20-two_blocks : (key nonce : List ℕ) (counter : ℕ) (first second : List ℕ) → length first ≡ 64
+    → length second ≤ 64
     → chacha20 key nonce counter (first ++ second)
-    ≡ xor_from (slice_index (block key counter nonce)) 0 first ++ xor_from (slice_index (block key (counter + 1) nonce)) 0 second
+    ≡ xor_from (slice_index (block key counter nonce)) 0 first ++ xor_from
+    (slice_index (block key (counter + 1) nonce)) 0 second
 unfolding chacha20
 chacha20-two_blocks key nonce counter first second whole short =
     let f = keystream_byte key nonce counter in
     let here : counter + 0 ≡ counter = omega arith in
     xor_from-append f 0 first second
     ∙ ap (λ (n : ℕ). xor_from f 0 first ++ xor_from f n second) (omega arith)
-    ∙ ap (λ (zs : List ℕ). zs ++ xor_from f (64 * 1) second) (sym (xor_from-block key nonce counter 0 first (omega arith)))
+    ∙ ap (λ (zs : List ℕ). zs ++ xor_from f (64 * 1) second)
+    (sym (xor_from-block key nonce counter 0 first (omega arith)))
     ∙ ap (λ (n : ℕ). xor_from (slice_index (block key n nonce)) 0 first ++ xor_from f (64 * 1) second) here
-    ∙ ap (λ (zs : List ℕ). xor_from (slice_index (block key counter nonce)) 0 first ++ zs) (sym (xor_from-block key nonce counter 1 second short))
+    ∙ ap (λ (zs : List ℕ). xor_from (slice_index (block key counter nonce)) 0 first ++ zs)
+    (sym (xor_from-block key nonce counter 1 second short))

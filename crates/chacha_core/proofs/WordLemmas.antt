@@ -1,6 +1,8 @@
 -- Words and their bytes.
-use Rattle.std.proofs.Common.{◌≡◌, ℕ, suc, ◌+◌, ◌-◌, ◌*◌, ◌/◌, ◌%◌, ◌^◌, ◌<◌, ◌≤◌, List, [], ◌∷◌, ◌++◌, length, take, drop, refl, sym, ap, ◌∙◌, arith, w32, Fits}
-use Rattle.std.proofs.lemmas.List.{append_assoc, take-append-drop, length-take-le, length-append, length-drop, take_at, drop_at, get_or-take, drop_all, append-nil}
+use Rattle.std.proofs.Common.{◌≡◌, ℕ, suc, ◌+◌, ◌-◌, ◌*◌, ◌/◌, ◌%◌, ◌^◌, ◌<◌, ◌≤◌, List, [], ◌∷◌, ◌++◌, length}
+use Rattle.std.proofs.Common.{take, drop, refl, sym, ap, ◌∙◌, arith, w32, Fits}
+use Rattle.std.proofs.lemmas.List.{append_assoc, take-append-drop, length-take-le, length-append, length-drop}
+use Rattle.std.proofs.lemmas.List.{take_at, drop_at, get_or-take, drop_all, append-nil}
 use Rattle.std.proofs.lemmas.Simd.{length-put_chunk, take_more_put_chunk}
 use Rattle.std.proofs.Math.Seq.{take-add, take-append-add}
 use Rattle.std.specs.Int.{to_le_bytes}
@@ -12,7 +14,8 @@ use Rattle.chacha_core.specs.ChaCha20.{word_bytes, word_at}
 pub word_bytes-append : (xs ys : List ℕ) → word_bytes (xs ++ ys) ≡ word_bytes xs ++ word_bytes ys
 word_bytes-append [] ys = refl
 word_bytes-append (x ∷ xs) ys =
-    ap (λ zs. to_le_bytes w32 x ++ zs) (word_bytes-append xs ys) ∙ sym (append_assoc (to_le_bytes w32 x) (word_bytes xs) (word_bytes ys))
+    ap (λ zs. to_le_bytes w32 x ++ zs) (word_bytes-append xs ys)
+    ∙ sym (append_assoc (to_le_bytes w32 x) (word_bytes xs) (word_bytes ys))
 
 pub length-word_bytes : (xs : List ℕ) → length (word_bytes xs) ≡ 4 * length xs
 length-word_bytes [] = refl
@@ -30,7 +33,8 @@ word_bytes-row ws row fits =
     let split : word_bytes ws ≡ word_bytes front ++ word_bytes back =
     ap word_bytes (sym (take-append-drop (4 * row) ws)) ∙ word_bytes-append front back in
     let at : drop (16 * row) (word_bytes ws) ≡ word_bytes back =
-    ap (drop (16 * row)) split ∙ drop_at (word_bytes front) (word_bytes back) (16 * row) (omega (arith, length-word_bytes front)) in
+    ap (drop (16 * row)) split ∙ drop_at (word_bytes front) (word_bytes back) (16 * row)
+    (omega (arith, length-word_bytes front)) in
     let four : length (take 4 back) ≡ 4 = length-take-le 4 back (omega (arith, length-drop (4 * row) ws)) in
     let split2 : word_bytes back ≡ word_bytes (take 4 back) ++ word_bytes (drop 4 back) =
     ap word_bytes (sym (take-append-drop 4 back)) ∙ word_bytes-append (take 4 back) (drop 4 back) in
@@ -77,26 +81,32 @@ word_at-little bytes i =
 pub row_written : (bytes ws : List ℕ) (row : ℕ) (ys : List ℕ) → row < 4 → length ws ≡ 16 → length bytes ≡ 64
     → ys ≡ take 16 (drop (16 * row) (word_bytes ws))
     → take (16 * row) bytes ≡ take (16 * row) (word_bytes ws)
-    → (length (put_mid (16 * row) (64 - 16 * row) bytes (put_chunk 0 (take (64 - 16 * row) (drop (16 * row) bytes)) ys)) ≡ 64)
-    × (take (16 * (row + 1)) (put_mid (16 * row) (64 - 16 * row) bytes (put_chunk 0 (take (64 - 16 * row) (drop (16 * row) bytes)) ys))
+    → (length (put_mid (16 * row) (64 - 16 * row) bytes
+    (put_chunk 0 (take (64 - 16 * row) (drop (16 * row) bytes)) ys)) ≡ 64)
+    × (take (16 * (row + 1)) (put_mid (16 * row) (64 - 16 * row) bytes
+    (put_chunk 0 (take (64 - 16 * row) (drop (16 * row) bytes)) ys))
     ≡ take (16 * (row + 1)) (word_bytes ws))
 row_written bytes ws row ys small words long same before =
     let at = 16 * row in
     let k = 64 - 16 * row in
     let mid = take k (drop at bytes) in
     let whole : length (word_bytes ws) ≡ 64 = omega (arith, length-word_bytes ws) in
-    let row_long : length ys ≡ 16 = ap length same ∙ length-take-le 16 (drop at (word_bytes ws)) (omega (arith, length-drop at (word_bytes ws))) in
+    let row_long : length ys ≡ 16 = ap length same
+    ∙ length-take-le 16 (drop at (word_bytes ws)) (omega (arith, length-drop at (word_bytes ws))) in
     let mid_long : length mid ≡ k = length-take-le k (drop at bytes) (omega (arith, length-drop at bytes)) in
     let put_long : length (put_chunk 0 mid ys) ≡ k = length-put_chunk 0 mid ys ∙ mid_long in
     let put = put_chunk 0 mid ys in
     let front : take 16 put ≡ ys = take_more_put_chunk 0 mid ys 16 (omega arith) (omega arith) in
     let end : put_mid at k bytes put ≡ take at bytes ++ put =
-    ap (λ (zs : List ℕ). take at bytes ++ zs) (ap (λ (zs : List ℕ). put ++ zs) (drop_all k (drop at bytes) (omega (arith, length-drop at bytes))) ∙ append-nil put) in
+    ap (λ (zs : List ℕ). take at bytes ++ zs)
+    (ap (λ (zs : List ℕ). put ++ zs) (drop_all k (drop at bytes) (omega (arith, length-drop at bytes)))
+    ∙ append-nil put) in
     let first : length (take at bytes) ≡ at = length-take-le at bytes (omega arith) in
     let next : 16 * (row + 1) ≡ at + 16 = omega arith in (
       ap length end ∙ omega (arith, length-append (take at bytes) put),
       ap (λ (n : ℕ). take n (put_mid at k bytes put)) next ∙ ap (take (at + 16)) end
           ∙ ap (λ (n : ℕ). take (n + 16) (take at bytes ++ put)) (sym first) ∙ take-append-add (take at bytes) put 16
-          ∙ ap (λ (zs : List ℕ). zs ++ take 16 put) before ∙ ap (λ (zs : List ℕ). take at (word_bytes ws) ++ zs) (front ∙ same)
+          ∙ ap (λ (zs : List ℕ). zs ++ take 16 put) before
+          ∙ ap (λ (zs : List ℕ). take at (word_bytes ws) ++ zs) (front ∙ same)
           ∙ sym (take-add at 16 (word_bytes ws)) ∙ ap (λ (n : ℕ). take n (word_bytes ws)) (sym next),
     )

@@ -1,5 +1,5 @@
-// The words of a block as bytes, and a text XORed with them (RFC 8439, 2.3 and 2.4), a row of four
-// words at a time.
+//! The words of a block as bytes, and a text XORed with them (RFC 8439, 2.3 and 2.4), a row of four
+//! words at a time.
 
 ghost use Rattle.std.specs.Prelude.{◌≡◌, ◌+◌, ◌*◌, ◌<◌, ◌≤◌, length, take, drop, slice_index};
 ghost use Rattle.chacha_core.specs.ChaCha20.{word_bytes, xor_from};

@@ -1,14 +1,19 @@
 -- How a mac's four values follow the message that it stands for.
-use Rattle.std.proofs.Common.{◌≡◌, ℕ, ◌+◌, ◌-◌, ◌*◌, ◌/◌, ◌%◌, ◌^◌, ◌<◌, ◌≤◌, List, [], ◌++◌, length, take, drop, replicate, sym, ap, ◌∙◌, arith}
-use Rattle.std.proofs.lemmas.List.{length-append, length-drop, length-take-le, drop-append-le, append_assoc, take_at, take_rest, take-append-drop, take-replicate}
+use Rattle.std.proofs.Common.{◌≡◌, ℕ, ◌+◌, ◌-◌, ◌*◌, ◌/◌, ◌%◌, ◌^◌, ◌<◌, ◌≤◌, List, [], ◌++◌, length, take, drop}
+use Rattle.std.proofs.Common.{replicate, sym, ap, ◌∙◌, arith}
+use Rattle.std.proofs.lemmas.List.{length-append, length-drop, length-take-le, drop-append-le, append_assoc}
+use Rattle.std.proofs.lemmas.List.{take_at, take_rest, take-append-drop, take-replicate}
 use Rattle.std.proofs.Math.Seq.{take-add}
 use Rattle.std.specs.Int.{w128, to_le_bytes}
-use Rattle.poly_core.specs.Poly1305.{prime, polynomial, block_number, block_numbers, block_count, key_r, key_s, poly1305, pad16}
+use Rattle.poly_core.specs.Poly1305.{prime, polynomial, block_number, block_numbers, block_count, key_r, key_s}
+use Rattle.poly_core.specs.Poly1305.{poly1305, pad16}
 use Rattle.poly_core.specs.Absorbed.{Progress, Absorbed}
 use Rattle.poly_core.specs.WholeBlocks.{whole_sum, cut_rest}
-use Rattle.poly_core.proofs.SumLemmas.{block_numbers-append, whole_sum-next, cut_rest-whole, polynomial-cut, polynomial-whole}
+use Rattle.poly_core.proofs.SumLemmas.{block_numbers-append, whole_sum-next, cut_rest-whole, polynomial-cut}
+use Rattle.poly_core.proofs.SumLemmas.{polynomial-whole}
 
-pub Absorbed-nothing : (mac : Progress) (key : List ℕ) → mac.r ≡ key_r key → mac.s ≡ key_s key → mac.sum ≡ 0 → mac.rest ≡ []
+pub Absorbed-nothing : (mac : Progress) (key : List ℕ) → mac.r ≡ key_r key → mac.s ≡ key_s key → mac.sum ≡ 0
+    → mac.rest ≡ []
     → Absorbed mac key []
 unfolding Absorbed whole_sum cut_rest block_numbers polynomial
 Absorbed-nothing mac key er es esum erest = (er, es, esum, erest)
@@ -44,7 +49,8 @@ Absorbed-short old new key m piece held er es esum erest short =
 
 -- a piece that fills the block
 pub Absorbed-filled : (old new : Progress) (key m piece : List ℕ) → Absorbed old key m
-    → new.r ≡ old.r → new.s ≡ old.s → new.sum ≡ ((old.sum + block_number (old.rest ++ piece)) * old.r) % prime → new.rest ≡ []
+    → new.r ≡ old.r → new.s ≡ old.s → new.sum ≡ ((old.sum + block_number (old.rest ++ piece)) * old.r) % prime
+    → new.rest ≡ []
     → length old.rest + length piece ≡ 16 → Absorbed new key (m ++ piece)
 unfolding Absorbed whole_sum cut_rest
 Absorbed-filled old new key m piece held er es esum erest fills =
@@ -62,7 +68,8 @@ Absorbed-filled old new key m piece held er es esum erest fills =
     )
 
 -- whole blocks behind whole blocks
-pub Absorbed-whole : (old new : Progress) (key m blocks : List ℕ) → Absorbed old key m → old.rest ≡ [] → length blocks % 16 ≡ 0
+pub Absorbed-whole : (old new : Progress) (key m blocks : List ℕ) → Absorbed old key m → old.rest ≡ []
+    → length blocks % 16 ≡ 0
     → new.r ≡ old.r → new.s ≡ old.s
     → (length m % 16 ≡ 0 → old.sum ≡ whole_sum old.r m → new.sum ≡ whole_sum old.r (m ++ blocks))
     → new.rest ≡ [] → Absorbed new key (m ++ blocks)
@@ -127,7 +134,8 @@ three_parts m bytes f e first second =
     ∙ ap (λ (zs : List ℕ). m ++ zs) (take-append-drop e bytes)
 
 -- the zeros behind a message
-pub take-pad16 : (mac : Progress) (key m : List ℕ) (lacking : ℕ) → Absorbed mac key m → lacking ≡ (16 - length mac.rest) % 16
+pub take-pad16 : (mac : Progress) (key m : List ℕ) (lacking : ℕ) → Absorbed mac key m → lacking
+    ≡ (16 - length mac.rest) % 16
     → take lacking (replicate 16 0) ≡ pad16 m
 take-pad16 mac key m lacking held same =
     let long = Absorbed-length mac key m held in

@@ -1,4 +1,4 @@
-// The authenticator of a message that comes piece by piece (RFC 8439, 2.5).
+//! The authenticator of a message that comes piece by piece (RFC 8439, 2.5).
 
 ghost use Rattle.std.specs.Prelude.{◌≡◌, ℕ, ◌+◌, ◌-◌, ◌%◌, ◌<◌, ◌≤◌, List, [], ◌++◌, length};
 ghost use Rattle.poly_core.specs.Poly1305.{poly1305, pad16};

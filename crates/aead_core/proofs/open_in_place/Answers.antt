@@ -12,7 +12,8 @@ returns-then-same-clause-plaintext c = λ _.
 pub returns-then-same-clause-value : goal.returns-then-same-clause-value
 unfolding enciphered
 returns-then-same-clause-value c =
-    opened-tag_of c.args.key.now c.args.nonce.now c.args.aad.now c.args.text.now c.args.tag.now (c.if-same.ensures.0 refl ∙ c.tag_of.ensures)
+    opened-tag_of c.args.key.now c.args.nonce.now c.args.aad.now c.args.text.now c.args.tag.now
+    (c.if-same.ensures.0 refl ∙ c.tag_of.ensures)
     ∙ ap (λ (p : List ℕ). Some p) (sym c.apply.ensures)
 
 pub returns-else-same-clause-value : goal.returns-else-same-clause-value

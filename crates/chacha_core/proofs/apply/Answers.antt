@@ -1,4 +1,5 @@
-use Rattle.std.proofs.Common.{ℕ, List, ◌≡◌, ◌+◌, ◌-◌, ◌*◌, ◌/◌, ◌++◌, ◌∙◌, arith, refl, ap, length, take, drop, slice_set}
+use Rattle.std.proofs.Common.{ℕ, List, ◌≡◌, ◌+◌, ◌-◌, ◌*◌, ◌/◌, ◌++◌, ◌∙◌, arith, refl, ap, length, take, drop}
+use Rattle.std.proofs.Common.{slice_set}
 use Rattle.std.proofs.lemmas.List.{set-set}
 use Rattle.chacha_core.specs.ChaCha20.{chacha20, xor_from, keystream_byte, block_words}
 use Rattle.chacha_core.proofs.StreamLemmas.{apply_step, start_state-set, xor_done}
@@ -20,11 +21,13 @@ whole_blocks-preserved c =
     let f = keystream_byte key nonce c.args.first in
     let k : ℕ = 64 * i + 64 - 64 * i in
     let next : 64 * i + k ≡ 64 * (i + 1) = omega arith in
-    let words = c.block_words.ensures ∙ ap block_words (start_state-set key nonce c.whole_blocks.state (c.args.first + i) c.whole_blocks.invariant.state) in
+    let words = c.block_words.ensures ∙ ap block_words
+    (start_state-set key nonce c.whole_blocks.state (c.args.first + i) c.whole_blocks.invariant.state) in
     record {
       state = set-set c.whole_blocks.state 12 (c.args.first + i) 0 ∙ c.whole_blocks.invariant.state;
       done =
-          apply_step key nonce c.args.first i k old c.whole_blocks.text c.block_words.result c.xor_block.new.text (omega arith) (omega arith)
+          apply_step key nonce c.args.first i k old c.whole_blocks.text c.block_words.result c.xor_block.new.text
+          (omega arith) (omega arith)
           c.whole_blocks.invariant.done words c.xor_block.ensures
           ∙ ap (λ (n : ℕ). xor_from f 0 (take n old) ++ drop n old) next;
     }
@@ -42,8 +45,10 @@ returns-then-text-gt0 c =
     let done = rw at_end at c.whole_blocks.invariant.done in
     let words =
     c.block_words-then-text-gt0.ensures
-    ∙ ap block_words (start_state-set key nonce c.whole_blocks.state (c.args.first + i) c.whole_blocks.invariant.state) in
-    apply_step key nonce c.args.first i k old c.whole_blocks.text c.block_words-then-text-gt0.result c.xor_rest.new.text (omega arith) (omega arith)
+    ∙ ap block_words (start_state-set key nonce c.whole_blocks.state
+    (c.args.first + i) c.whole_blocks.invariant.state) in
+    apply_step key nonce c.args.first i k old c.whole_blocks.text c.block_words-then-text-gt0.result
+    c.xor_rest.new.text (omega arith) (omega arith)
     done words c.xor_rest.ensures
     ∙ xor_done f (64 * i + k) old (omega arith)
 
@@ -51,4 +56,5 @@ pub returns-else-text-gt0 : goal.returns-else-text-gt0
 unfolding chacha20
 returns-else-text-gt0 c =
     c.whole_blocks.invariant.done
-    ∙ xor_done (keystream_byte c.args.key.now c.args.nonce.now c.args.first) (64 * c.whole_blocks.i) c.args.text.now (omega arith)
+    ∙ xor_done (keystream_byte c.args.key.now c.args.nonce.now c.args.first) (64 * c.whole_blocks.i) c.args.text.now
+    (omega arith)

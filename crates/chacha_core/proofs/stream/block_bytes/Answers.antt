@@ -5,7 +5,8 @@ use Rattle.chacha_core.proofs.stream.block_bytes.Goals as goal
 
 pub rows-preserved : goal.rows-preserved
 rows-preserved c =
-    row_written c.rows.bytes c.args.words.now c.rows.row c.row_bytes.result (omega arith) (omega arith) c.rows.invariant.0 c.row_bytes.ensures c.rows.invariant.1
+    row_written c.rows.bytes c.args.words.now c.rows.row c.row_bytes.result (omega arith)
+    (omega arith) c.rows.invariant.0 c.row_bytes.ensures c.rows.invariant.1
 
 pub returns : goal.returns
 returns c =

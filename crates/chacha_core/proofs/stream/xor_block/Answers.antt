@@ -1,4 +1,5 @@
-use Rattle.std.proofs.Common.{ℕ, List, ◌+◌, ◌*◌, ◌≡◌, ◌<◌, ◌++◌, arith, refl, sym, ap, ◌∙◌, length, take, drop, slice_index, get_or}
+use Rattle.std.proofs.Common.{ℕ, List, ◌+◌, ◌*◌, ◌≡◌, ◌<◌, ◌++◌, arith, refl, sym, ap, ◌∙◌, length, take, drop}
+use Rattle.std.proofs.Common.{slice_index, get_or}
 use Rattle.std.proofs.lemmas.List.{length-take-le, length-drop, get_or-take, get_or-drop}
 use Rattle.chacha_core.specs.ChaCha20.{word_bytes, xor_from}
 use Rattle.chacha_core.proofs.StreamLemmas.{xor_chunk, xor_done}

@@ -10,5 +10,6 @@ returns c =
     let f = λ (j : ℕ). slice_index (word_bytes c.args.words.now) j in
     let tail : List ℕ = drop n (replicate 64 0) in
     c.copy_from_slice-2.ensures.after
-    ∙ ap (take n) (c.xor_block.ensures ∙ ap (λ (zs : List ℕ). xor_from f 0 (zs ++ tail)) c.copy_from_slice.ensures.after)
+    ∙ ap (take n) (c.xor_block.ensures ∙ ap (λ (zs : List ℕ). xor_from f 0 (zs ++ tail))
+    c.copy_from_slice.ensures.after)
     ∙ take-xor_from f text tail

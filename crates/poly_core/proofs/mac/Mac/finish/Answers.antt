@@ -12,7 +12,8 @@ pub returns : goal.returns
 returns c = λ key message held.
     let inside = c.self.inside in
     let before = rw (← c.self.view_is) at held in
-    let waits : length (take inside.filled inside.rest) ≡ inside.filled = length-take-le inside.filled inside.rest (omega arith) in
+    let waits : length (take inside.filled inside.rest)
+    ≡ inside.filled = length-take-le inside.filled inside.rest (omega arith) in
     let residue = λ (n : Limbs). value n % prime in
     c.to_le_bytes.ensures ∙ elim c.if-filled-gt0.branch [
       | then-filled-gt0 w ↦
@@ -20,7 +21,9 @@ returns c = λ key message held.
           ap residue w.total-is ∙ w.step-total.ensures.value
           ∙ ap (λ (n : ℕ). ((value inside.sum + n) * value inside.r) % prime) w.cut_block.ensures.value
           ∙ sym (step-mod prime (value inside.sum) (block_number (take inside.filled inside.rest)) (value inside.r)) in
-          Absorbed-tag_cut _ key message (value c.if-filled-gt0.total) c.tag_number.result before (omega arith) sum c.tag_number.ensures
+          Absorbed-tag_cut _ key message (value c.if-filled-gt0.total) c.tag_number.result before
+          (omega arith) sum c.tag_number.ensures
       | else-filled-gt0 w ↦
-          Absorbed-tag_whole _ key message (value c.if-filled-gt0.total) c.tag_number.result before (omega arith) (ap residue w.total-is) c.tag_number.ensures
+          Absorbed-tag_whole _ key message (value c.if-filled-gt0.total) c.tag_number.result before (omega arith)
+          (ap residue w.total-is) c.tag_number.ensures
     ]

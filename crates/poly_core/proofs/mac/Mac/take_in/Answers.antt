@@ -13,7 +13,8 @@ returns-then-end-lt-BLOCK-clause-absorbed c = λ key message held.
     let before = rw (← c.self.view_is) at held in
     let waits = length-take-le inside.filled inside.rest (omega arith) in
     Absorbed-short _ _ key message c.args.piece.now before refl refl refl
-    (rest_written inside.rest c.args.piece.now c.copy_from_slice.new.self _ inside.filled _ (omega arith) c.copy_from_slice.ensures.after refl)
+    (rest_written inside.rest c.args.piece.now c.copy_from_slice.new.self _ inside.filled _
+    (omega arith) c.copy_from_slice.ensures.after refl)
     (omega arith)
 
 pub returns-else-end-lt-BLOCK-clause-absorbed : goal.returns-else-end-lt-BLOCK-clause-absorbed
@@ -24,10 +25,12 @@ returns-else-end-lt-BLOCK-clause-absorbed c = λ key message held.
     let same = ap (λ (p : Progress). length p.rest) c.self.view_is in
     let end : 16 ≡ inside.filled + length c.args.piece.now = omega arith in
     let written =
-    rest_written inside.rest c.args.piece.now c.copy_from_slice.new.self _ inside.filled 16 (omega arith) c.copy_from_slice.ensures.after end in
+    rest_written inside.rest c.args.piece.now c.copy_from_slice.new.self _ inside.filled 16
+    (omega arith) c.copy_from_slice.ensures.after end in
     let number = c.block_at.ensures.value ∙ ap block_number written in
     let sum =
     c.step-self-inside.ensures.value
     ∙ ap (λ (n : ℕ). ((value inside.sum + n) * value inside.r) % prime) number
-    ∙ sym (step-mod prime (value inside.sum) (block_number (take inside.filled inside.rest ++ c.args.piece.now)) (value inside.r)) in
+    ∙ sym (step-mod prime (value inside.sum) (block_number (take inside.filled inside.rest ++ c.args.piece.now))
+    (value inside.r)) in
     Absorbed-filled _ _ key message c.args.piece.now before refl refl sum refl (omega arith)
