@@ -16,12 +16,13 @@ use std::env;
 use std::io::{self, Print};
 use std::time::{Clock, Instant};
 
-/// The bytes of the text.
+// The bytes of the text.
 const TEXT: usize = 65_536;
 
-/// How many samples are taken of each, and how often a sample works over the text.
+// How many samples are taken of each kind of work.
 const SAMPLES: u32 = 400;
 
+// How often a sample works over the text.
 const ROUNDS: u32 = 8;
 
 const KEY: [u8; 32] = [
@@ -31,7 +32,7 @@ const KEY: [u8; 32] = [
 
 const NONCE: [u8; 12] = [0; 12];
 
-/// What is measured.
+// What is measured.
 #[derive(Clone, Copy)]
 enum Work {
     Apply,
@@ -39,9 +40,10 @@ enum Work {
     Seal,
 }
 
-// Works once over the text, and answers 16 bytes of the result: the first of the keystream's work, else the tag.
+// Works once over the text, and answers 16 bytes of the result: the tag, or of ChaCha20 the first
+// bytes of its text.
 fn work_over(work: Work, text: &mut [u8]) -> [u8; 16]
-    requires { length text.old ≤ 65536 }
+    requires { length text.old ≤ TEXT }
 {
     match work {
         Work::Apply => {
@@ -63,7 +65,7 @@ fn work_over(work: Work, text: &mut [u8]) -> [u8; 16]
 
 // The nanoseconds of one sample, and a byte of its results.
 fn sample(clock: &impl Clock, work: Work, text: &mut [u8]) -> io::Result<(u64, u8)>
-    requires { length text.old ≤ 65536 }
+    requires { length text.old ≤ TEXT }
 {
     let mut seen = 0;
     let start = Instant::now(clock)?;
@@ -76,7 +78,7 @@ fn sample(clock: &impl Clock, work: Work, text: &mut [u8]) -> io::Result<(u64, u
 
 // Prints the nanoseconds a byte of the best sample.
 fn measure<R: Clock + Print>(rt: &R, name: &str, work: Work, text: &mut [u8]) -> io::Result<()>
-    requires { length text.old ≤ 65536 }
+    requires { length text.old ≤ TEXT }
 {
     let mut best = u64::MAX;
     let mut seen = 0;
