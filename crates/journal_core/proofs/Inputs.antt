@@ -2,7 +2,7 @@
 use Rattle.std.proofs.Common.{◌≡◌, ℕ, ◌<◌, ◌≤◌, List, [], ◌++◌, length, take, Option, None, Some, IfSome, ap, ◌∙◌, subst, arith, append-nil, length-append}
 use Rattle.std.proofs.KnownBytes.{Consumes-trans, Consumes-whole}
 use Rattle.std.proofs.Math.Seq.{take_at}
-use Rattle.journal_core.specs.Streams.{Consumes, IsAtEnd}
+use Rattle.io_core.specs.Streams.{Consumes, IsAtEnd}
 
 -- a fact that holds anyway
 pub holds_anyway : (a : Option (List ℕ)) (n : ℕ) (P : Type 0) → P → IfSome a (λ input. length input < n → P)

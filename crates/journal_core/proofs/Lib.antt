@@ -8,7 +8,6 @@ pub mod Lines
 pub mod Numbers
 pub mod Owners
 pub mod Prefixes
-pub mod ReadLemmas
 pub mod Reading
 pub mod Separators
 pub mod Texts

@@ -1,20 +1,2 @@
--- What the contracts of readers to the end cite.
-use Rattle.std.specs.Prelude.{◌≡◌, ℕ, ◌≤◌, Bool, true, false, List, length, Option, Result, Ok, Err}
-use Rattle.journal_core.specs.Streams.{Consumes}
-use Rattle.journal_core.specs.declared.input.ReadFault.{ReadFault}
-use Rattle.journal_core.specs.declared.input.ReadFault.TheVariants.{TooLong, OutOfMemory, Read}
-
--- known bytes lost this many at the front
-abbrev pub ConsumesExactly : Option (List ℕ) → Option (List ℕ) → ℕ → Type 0
-ConsumesExactly old new n = (front : List ℕ) × Consumes old new front × (length front ≡ n)
-
--- known bytes lost at most this many at the front
-abbrev pub ConsumesUpTo : Option (List ℕ) → Option (List ℕ) → ℕ → Type 0
-ConsumesUpTo old new most = (front : List ℕ) × Consumes old new front × (length front ≤ most)
-
--- whether the reader failed
-abbrev pub is_read : {A : Type 0} → Result A ReadFault → Bool
-is_read (Ok value) = false
-is_read (Err TooLong) = false
-is_read (Err OutOfMemory) = false
-is_read (Err Read) = true
+-- What the contracts of readers to the end cite stands in io_core.
+pub use Rattle.io_core.specs.Reads.{ConsumesExactly, ConsumesUpTo, is_read}

@@ -3,13 +3,13 @@ ghost use Rattle.std.specs.Prelude.{◌≡◌, ◌≢◌, ◌<◌, List, [], ◌
 ghost use Rattle.journal_core.specs.declared.entry.Entry.{Entry};
 ghost use Rattle.journal_core.specs.AuditFaults.{fault_number, is_read, is_write};
 ghost use Rattle.journal_core.specs.History.{Terms, IsLawful, Legal, tally_of};
-ghost use Rattle.journal_core.specs.Streams.{Appends, AppendsFront, IsAtEnd, Keeps, counted};
+ghost use Rattle.io_core.specs.Streams.{Appends, AppendsFront, IsAtEnd, Keeps, counted};
 ghost use Rattle.journal_core.specs.Text.{journal_text};
 ghost use Rattle.journal_core.specs.Verdict.{IsVerdict, verdict_text};
 
 use crate::auditor::Auditor;
-use crate::stream::{Failed, Sink, Source, write_all};
 use crate::verdict::Verdict;
+use io_core::{Failed, Sink, Source, write_all};
 use std::alloc::Global;
 use thiserror::Error;
 

@@ -10,25 +10,23 @@ mod auditor;
 pub mod book;
 pub mod device;
 pub mod entry;
-pub mod input;
 pub mod journal;
 pub mod laws;
 mod line;
-pub mod memory;
 pub mod range;
 pub mod standing;
 mod state;
-pub mod stream;
 pub mod verdict;
 
 pub use crate::auditing::{AuditFault, audit};
 pub use crate::book::{Book, BookFault};
 pub use crate::device::{Device, prefix};
 pub use crate::entry::{Entry, Event, Tally, Way};
-pub use crate::input::{ReadFault, fill, read_to_limit};
 pub use crate::journal::Journal;
-pub use crate::memory::{FromMemory, Schedule, ToMemory};
 pub use crate::range::{BadRange, Range};
 pub use crate::standing::MAX_SEATS;
-pub use crate::stream::{Failed, FromRead, Sink, Source, ToWrite, write_all};
 pub use crate::verdict::Verdict;
+pub use io_core::{
+    Failed, FromRead, ReadFault, Sink, Source, ToWrite, fill, read_to_limit, write_all,
+};
+pub use io_memory::{FromMemory, Schedule, ToMemory};

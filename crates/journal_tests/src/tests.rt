@@ -1,7 +1,8 @@
 //! Runs of the plain ledger: values by hand, from the rules in docs/FORMATS.md.
+use io_core::{FromRead, ToWrite};
+use io_memory::{FromMemory, Schedule, ToMemory};
 use journal_core::{
-    AuditFault, BadRange, Book, BookFault, Device, FromMemory, FromRead, Range, Schedule, Tally,
-    ToMemory, ToWrite, Verdict, Way, audit, prefix,
+    AuditFault, BadRange, Book, BookFault, Device, Range, Tally, Verdict, Way, audit, prefix,
 };
 use std::io;
 use std::io::{ErrorKind, Read, Write};

@@ -1,7 +1,7 @@
 use Rattle.std.proofs.Common.{ℕ, [], ◌++◌, length, take, refl, ap, ◌∙◌, subst, arith, length-append, true}
 use Rattle.std.proofs.KnownBytes.{Consumes-nil, Consumes-trans}
 use Rattle.journal_core.specs.Verdict.{IsVerdict}
-use Rattle.journal_core.specs.Streams.{counted}
+use Rattle.io_core.specs.Streams.{counted}
 use Rattle.journal_core.specs.Audit.{HasRead}
 use Rattle.journal_core.proofs.Inputs.{holds_anyway, not_so_long, all_read, front_of}
 use Rattle.journal_core.proofs.auditing.judge_all.Goals as goal

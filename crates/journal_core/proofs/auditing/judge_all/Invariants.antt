@@ -1,6 +1,6 @@
 -- The bytes read so far were judged, and no read failed.
 use Rattle.std.proofs.Common.{◌≡◌, ◌≤◌, ◌<◌, ℕ, ◌-◌, List, length, vec_len}
-use Rattle.journal_core.specs.Streams.{Consumes}
+use Rattle.io_core.specs.Streams.{Consumes}
 use Rattle.journal_core.specs.Audit.{HasRead}
 use Rattle.journal_core.proofs.auditing.judge_all.Given as goal
 

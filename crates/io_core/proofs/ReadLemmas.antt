@@ -1,0 +1,15 @@
+-- What one more read adds.
+use Rattle.std.proofs.Common.{◌≡◌, ℕ, ◌+◌, ◌≤◌, List, ◌++◌, length, take, sym, ap, ◌∙◌, arith, length-append, length-take-le}
+use Rattle.std.proofs.lemmas.List.{take-append-le}
+use borrow.Rule.Slice.PartMut.{put_mid, post_of}
+use Rattle.std.proofs.Math.Seq.{take-append-add}
+
+-- n bytes were read into a buffer behind the first a
+pub filled_more : (a k n : ℕ) (xs ys : List ℕ) → a ≤ length xs → n ≤ length ys → take (a + n) (put_mid a k xs ys) ≡ take a xs ++ take n ys
+filled_more a k n xs ys h i =
+    let rest = ys ++ post_of a k xs in
+    ap (λ m. take (m + n) (take a xs ++ rest)) (sym (length-take-le a xs h)) ∙ take-append-add (take a xs) rest n
+    ∙ ap (λ l. take a xs ++ l) (take-append-le n ys (post_of a k xs) i)
+
+pub length_more : (xs ys : List ℕ) (n most : ℕ) → n ≤ length ys → length xs + n ≤ most → length (xs ++ take n ys) ≤ most
+length_more xs ys n most h i = omega (arith, length-append xs (take n ys), length-take-le n ys h)

@@ -1,0 +1,2 @@
+pub use Rattle.io_core.specs.Streams
+pub mod Memory

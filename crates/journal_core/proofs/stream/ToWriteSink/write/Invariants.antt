@@ -1,6 +1,0 @@
--- The writes that were interrupted left nothing.
-use Rattle.journal_core.specs.Streams.{Keeps}
-use Rattle.journal_core.proofs.stream.ToWriteSink.write.Given as goal
-
-abbrev pub invariant-loop : goal.invariant-loop
-invariant-loop g l = Keeps (g.W.Write.contents l.initial.self.0) (g.W.Write.contents l.self.0)
