@@ -1,5 +1,7 @@
 //! Laws of the ledger's words, and of what a seat has seen. Each function's contract is the law, and it does nothing.
-ghost use Rattle.std.specs.Prelude.{◌≡◌, ℕ, List, Some, slice_get};
+ghost use Rattle.std.specs.Prelude.{◌≡◌, ◌<◌, ℕ, List, Some, slice_get};
+ghost use Rattle.journal_core.specs.declared.entry.Event.TheVariants.{Granted, Exhausted};
+ghost use Rattle.journal_core.specs.History.{MayFollow, entry};
 ghost use Rattle.journal_core.specs.declared.entry.Entry.{Entry};
 ghost use Rattle.journal_core.specs.History.{Terms};
 ghost use Rattle.journal_core.specs.Prefixes.{GrantsOnce};
@@ -24,4 +26,10 @@ pub fn grants_seen(seat: &Seat)
 pub fn seats_agree()
     ensures { (terms : Terms) (seats : List SeatView) (history : List Entry) (i j : ℕ) (one other : SeatView) → IsWhole terms seats history
         → slice_get seats i ≡ Some one → slice_get seats j ≡ Some other → Agree one other }
+{}
+
+/// The history so far fixes what an issue is answered: one number, or that none is left.
+pub fn one_reply_fits()
+    ensures number { (terms : Terms) (before : List Entry) (s t m n : ℕ) → MayFollow terms before (entry s (Granted m)) → MayFollow terms before (entry t (Granted n)) → m ≡ n }
+    ensures none { (terms : Terms) (before : List Entry) (s t m : ℕ) → MayFollow terms before (entry s (Granted m)) → MayFollow terms before (entry t Exhausted) → ⊥ }
 {}
