@@ -91,7 +91,7 @@ impl Ledger {
             &mut seat.token,
         );
         match number {
-            Some(number) => Ok(Grant::of(seat.opening.range().device(), number)),
+            Some(number) => Ok(Grant::of(seat.opening.range().device(), number, &seat.own)),
             None => Err(IssueFault::Exhausted),
         }
     }

@@ -11,6 +11,7 @@ pub mod grant;
 pub mod laws;
 pub mod ledger;
 pub mod note;
+mod once;
 pub mod seat;
 mod steps;
 mod table;

@@ -4,10 +4,11 @@
 //! what the seat has seen: the counts in the word that the step found add up to it.
 ghost use Rattle.std.specs.Prelude.{◌≡◌, ℕ, ◌+◌, ◌/◌, ◌%◌, ◌^◌, ◌<◌, ◌≤◌, ◌↔◌, min, false, IsTrue, length, vec_len, vec_capacity, [], ◌∷◌, ◌++◌, ◌||◌};
 ghost use Rattle.std.specs.List.{slice_index_or};
+ghost use Rattle.std.specs.Option.{IfSome};
 ghost use Rattle.journal_core.specs.declared.entry.Event.TheVariants.{Granted, Exhausted, Settled};
 ghost use Rattle.journal_core.specs.History.{Begins, IsLawful, calls_of, entry, is_exhausted};
 ghost use Rattle.ledger_core.specs.Rule.{issue_reply, knower, packed, IsHeld};
-ghost use Rattle.ledger_core.specs.Logs.{HasMark, IsMarked, IsSeat, Steps, event_of, held_after, place_of_word};
+ghost use Rattle.ledger_core.specs.Logs.{EndsByGranting, HasMark, IsMarked, IsSeat, Steps, event_of, held_after, place_of_word};
 ghost use Rattle.ledger_core.specs.Shared.{Holds, IsClosedSeat, Knows, Sees, fresh_seat};
 
 use crate::counts::counts_in;
@@ -164,6 +165,7 @@ pub(crate) fn issue_in(
     ensures table { token.new.table_id ≡ token.old.table_id }
     ensures seat { IsSeat opening.now seat own.new.closed own.new.log.items own.new.held.items token.new.me }
     ensures step { Steps token.old.me.0 (entry seat (event_of result)) token.new.me.0 }
+    ensures granted { IfSome result (λ number. EndsByGranting number own.new.log.items) }
 {
     let found = issue_step(word, token);
     let granted = reply(opening, found);
