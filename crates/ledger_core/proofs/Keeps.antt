@@ -12,7 +12,7 @@ use Rattle.journal_core.specs.declared.entry.Event.TheVariants.{Granted, Exhaust
 use Rattle.journal_core.specs.declared.entry.Entry.{Entry}
 use Rattle.ledger_core.specs.declared.table.View.{View}
 use Rattle.journal_core.specs.History.{Terms, IsLawful, entry, granted, refused, times_granted, times_settled, calls_of, MayFollow, Legal}
-use Rattle.ledger_core.specs.Rule.{packed, StandsFor, Fits, Apart, HasHistory, IsKept, newcomer, added, Finds, Adds, issue_reply, Mine, issued, settled, looked, checked, first_seat, other_seats, note_of, hears, nobody}
+use Rattle.ledger_core.specs.Rule.{packed, StandsFor, Fits, Apart, HasHistory, IsKept, newcomer, added, Finds, Adds, issue_reply, Mine, issued, settled, looked, adopted, first_seat, other_seats, note_of, hears, nobody}
 use Rattle.journal_core.proofs.Histories.{MayReply, follows, calls_push, begins_refl, begins_more, legal_push, legal_none}
 use Rattle.journal_core.proofs.Bounds.{within}
 use Rattle.journal_core.proofs.Owners.{still_open}
@@ -241,17 +241,19 @@ looks k slots id me there s kept _ at _ =
       ((history, finds k history s id v h at there, refl), refl),
     )
 
--- a load that leaves the view
-pub checks : (k : Terms) (slots id : ℕ) (me : Mine) → 0 < me.0.width → Allows (IsKept k) slots id me 0 (λ n. n) (checked (step slots 0 0 0 none) me)
-checks k slots id me there s kept _ at _ =
+-- a load after which the seat has seen what it was told
+pub adopts : (k : Terms) (slots id : ℕ) (me : Mine) → 0 < me.0.width → Allows (IsKept k) slots id me 0 (λ n. n) (adopted (step slots 0 0 0 none) me)
+adopts k slots id me there s kept _ at _ =
     let history : List Entry = kept.0 in
     let h : HasHistory k history s = kept.1 in
     let v : View = me.0 in
-    let f = h.fits id v at in (
-      v,
+    let f = h.fits id v at in
+    let w : View = record v { seen = v.told } in
+    let fits : Fits k history w = record { terms = f.terms; seats = f.seats; seen = f.told; told = f.told; own = f.own; idle = f.idle } in (
+      w,
       keeps,
       tt,
-      (history, stays k history s id me.1 v v (get_or s.words 0 0) h at f (λ u stands. stands) (found_word k history s h)),
+      (history, stays k history s id me.1 v w (get_or s.words 0 0) h at fits (λ u stands. stands) (found_word k history s h)),
       ((history, finds k history s id v h at there, refl), refl),
     )
 

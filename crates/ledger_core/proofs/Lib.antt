@@ -1,5 +1,6 @@
 pub mod Callers
 pub mod Closing
+pub mod Heard
 pub mod Keeps
 pub mod Meetings
 pub mod Packing

@@ -9,12 +9,10 @@ use Rattle.std.proofs.lemmas.List.{length-set, set-get_or}
 use Rattle.std.proofs.lemmas.Option.{slice_get_within, slice_get-get_or}
 use Rattle.journal_core.specs.declared.entry.Entry.{Entry}
 use Rattle.journal_core.specs.History.{Begins, calls_of}
-use Rattle.ledger_core.specs.declared.table.View.{View}
-use Rattle.ledger_core.specs.Rule.{Checks, Finds, hears}
 use Rattle.ledger_core.specs.Shared.{LedgerId, SeatView, Agree, Knows, Sees}
 use Rattle.ledger_core.specs.Closing.{HasSeat, IsPassed, ArePassed, HaveMet}
 use Rattle.journal_core.proofs.Histories.{begins_refl, begins_trans}
-use Rattle.ledger_core.proofs.Seats.{calls_both}
+use Rattle.ledger_core.proofs.Seats.{calls_both, same_between}
 
 -- places of a list
 
@@ -96,18 +94,6 @@ sees_then u v w a b =
 pub sees_begins : (v w : SeatView) → Sees v w → Begins v.seen w.seen
 sees_begins v w s = (s.0, ap (λ (z : SeatView). z.seen) s.1)
 
--- between two histories that have the same of a seat there is no other
-same_between : (t : ℕ) (mine xs ys zs : List Entry) → Begins xs ys → Begins ys zs → calls_of t xs ≡ mine → calls_of t zs ≡ mine → calls_of t ys ≡ mine
-same_between t mine xs ys zs a b first last =
-    let left : calls_of t ys ≡ mine ++ calls_of t a.0 = ap (calls_of t) a.1 ∙ calls_both t xs a.0 ∙ ap (λ l. l ++ calls_of t a.0) first in
-    let right : mine ≡ calls_of t ys ++ calls_of t b.0 = sym last ∙ ap (calls_of t) b.1 ∙ calls_both t ys b.0 in
-    let none : length (calls_of t a.0) ≡ 0 = omega (arith, ap length left, ap length right, length-append mine (calls_of t a.0), length-append (calls_of t ys) (calls_of t b.0)) in
-    left ∙ ap (λ l. mine ++ l) (empty (calls_of t a.0) none) ∙ append-nil mine
-  where
-    empty : (l : List Entry) → length l ≡ 0 → l ≡ []
-    empty [] e = refl
-    empty (x ∷ xs) e = absurd (omega arith)
-
 -- of two histories that begin a third one begins the other
 begins_both : (xs ys zs : List Entry) → Begins xs zs → Begins ys zs → Begins xs ys ⊎ Begins ys xs
 begins_both [] ys zs a b = inl (ys, refl)
@@ -150,11 +136,10 @@ agree_met v w w' x y one two sees knows shown told same shown' told' sees' known
     agree_before v w x.seen y.seen (sees_begins v x sees) (subst (λ l. Begins l x.seen) shown told) (subst (λ l. Begins l y.seen) shown' told')
     (own_later v x sees knows) known.own (own_later w y second knows')
 
--- what a note shows of the seat that makes sure of it
-pub shows_own : (v note w after : View) (n t : ℕ) → w ≡ hears v note → v.seat ≡ t → Checks w n after → Begins (calls_of t note.seen) v.mine
-shows_own v note w after n t is seat checks =
-    let f = subst (λ (z : View). Finds z n checks.0) is checks.1 in
-    calls_begin t note.seen checks.0 v.mine f.told (subst (λ z. calls_of z checks.0 ≡ v.mine) seat f.own)
+-- and afterwards, where both have seen the same
+pub agree_after : (x y : SeatView) → Knows x → Knows y → y.seen ≡ x.seen → Agree x y
+agree_after x y one other same =
+    agree x.seen x y record { seen = begins_refl x.seen; own = one.own } record { seen = ([], sym same ∙ sym (append-nil y.seen)); own = ap (calls_of y.number) (sym same) ∙ other.own }
 
 -- twice round
 pub have_met : (from history to : List Entry) (old mid new : List SeatView) → ArePassed from history old mid → ArePassed history to mid new → HaveMet old new history

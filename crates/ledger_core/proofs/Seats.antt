@@ -1,5 +1,5 @@
 -- What a step leaves in a seat's fields.
-use Rattle.std.proofs.Common.{◌≡◌, ◌≢◌, ℕ, zero, suc, ◌+◌, ◌-◌, ◌%◌, ◌<◌, ◌≤◌, not, ◌&&◌, ◌||◌, count_by, Bool, true, false, cond, nat_eq, ltb, List, [], ◌∷◌, ◌++◌, map, length, get_or, set, replicate, refl, sym, ap, ◌∙◌, subst, arith, append-nil, eq-eqb, ne_eqb, ltb-true, ltb-false, lt-ltb, add-zero, add-one}
+use Rattle.std.proofs.Common.{◌≡◌, ◌≢◌, ℕ, zero, suc, ◌+◌, ◌-◌, ◌%◌, ◌<◌, ◌≤◌, not, ◌&&◌, ◌||◌, count_by, Bool, true, false, cond, nat_eq, ltb, List, [], ◌∷◌, ◌++◌, map, length, get_or, set, replicate, refl, sym, ap, ◌∙◌, subst, arith, length-append, append-nil, eq-eqb, ne_eqb, ltb-true, ltb-false, lt-ltb, add-zero, add-one}
 use mathlib.Core.Logic.{dite}
 use mathlib.Core.List.{map-append}
 use native.Mathlib.Decide.{ℕ_discrete}
@@ -198,6 +198,42 @@ seat_looks k t closed log held me w n history s f is slots =
       own = subst (λ (z : View). calls_of t z.seen ≡ z.mine) (sym is) own;
       entries = s.entries ∙ sym (ap (λ (z : View). z.mine) is);
       places = s.places ∙ sym (places_kept t me.0.seen history f.further (s.own ∙ sym own)) ∙ sym (ap (λ (z : View). places_from 0 t z.seen) is);
+      closed_is = s.closed_is ∙ sym (ap (λ (z : View). ltb 0 (refused z.mine)) is);
+      all_held = s.all_held;
+      held_is = λ j inside. s.held_is j inside ∙ sym (ap (λ (z : View). is_held (k.range.lo + j) z.mine) is);
+    }
+
+-- between two histories that have the same of a seat there is no other
+pub same_between : (t : ℕ) (mine xs ys zs : List Entry) → Begins xs ys → Begins ys zs → calls_of t xs ≡ mine → calls_of t zs ≡ mine → calls_of t ys ≡ mine
+same_between t mine xs ys zs a b first last =
+    let left : calls_of t ys ≡ mine ++ calls_of t a.0 = ap (calls_of t) a.1 ∙ calls_both t xs a.0 ∙ ap (λ l. l ++ calls_of t a.0) first in
+    let right : mine ≡ calls_of t ys ++ calls_of t b.0 = sym last ∙ ap (calls_of t) b.1 ∙ calls_both t ys b.0 in
+    let none : length (calls_of t a.0) ≡ 0 = omega (arith, ap length left, ap length right, length-append mine (calls_of t a.0), length-append (calls_of t ys) (calls_of t b.0)) in
+    left ∙ ap (λ l. mine ++ l) (empty (calls_of t a.0) none) ∙ append-nil mine
+  where
+    empty : (l : List Entry) → length l ≡ 0 → l ≡ []
+    empty [] e = refl
+    empty (x ∷ xs) e = absurd (omega arith)
+
+-- and after a load by which it adopts what it was told
+pub seat_adopts : (k : Terms) (t : ℕ) (closed : Bool) (log : List Record) (held : List Bool) (me w : Mine) (n : ℕ) (history : List Entry)
+    → IsSeat k t closed log held me → Finds me.0 n history → Begins me.0.seen me.0.told → w.0 ≡ record me.0 { seen = me.0.told } → w.1 ≡ me.1 → IsSeat k t closed log held w
+seat_adopts k t closed log held me w n history s f further is slots =
+    let told : List Entry = me.0.told in
+    let whole : calls_of t history ≡ me.0.mine = subst (λ (z : ℕ). calls_of z history ≡ me.0.mine) s.number f.own in
+    let own : calls_of t told ≡ me.0.mine = same_between t me.0.mine me.0.seen told history further f.told s.own whole in
+    let legal : Legal k told = legal_front k told f.told.0 (subst (Legal k) f.told.1 (subst (λ (z : Terms). Legal z history) s.terms f.legal)) in
+    record {
+      one_seat = ap (λ (z : View). z.width) is ∙ s.one_seat;
+      no_slots = slots ∙ s.no_slots;
+      terms = ap (λ (z : View). z.terms) is ∙ s.terms;
+      number = ap (λ (z : View). z.seat) is ∙ s.number;
+      inside = s.inside;
+      lawful = s.lawful;
+      legal = subst (λ (z : View). Legal k z.seen) (sym is) legal;
+      own = subst (λ (z : View). calls_of t z.seen ≡ z.mine) (sym is) own;
+      entries = s.entries ∙ sym (ap (λ (z : View). z.mine) is);
+      places = s.places ∙ sym (places_kept t me.0.seen told further (s.own ∙ sym own)) ∙ sym (ap (λ (z : View). places_from 0 t z.seen) is);
       closed_is = s.closed_is ∙ sym (ap (λ (z : View). ltb 0 (refused z.mine)) is);
       all_held = s.all_held;
       held_is = λ j inside. s.held_is j inside ∙ sym (ap (λ (z : View). is_held (k.range.lo + j) z.mine) is);

@@ -44,6 +44,10 @@ HasMark lo held (Granted n) = (lo ≤ n) × (n - lo < length held)
 HasMark lo held Exhausted = ⊤
 HasMark lo held (Settled n way) = (lo ≤ n) × (n - lo < length held)
 
+-- the last operation in the log granted this number
+abbrev pub EndsByGranting : ℕ → List Record → Type 0
+EndsByGranting number log = (before : List Record) × (last : Record) × (log ≡ before ++ last ∷ []) × (last.entry.event ≡ Granted number)
+
 -- the fields of a seat: record j of its log has entry j of its own operations, and the place where that stands in what it has seen
 pub record IsSeat (opened : Terms) (seat : ℕ) (closed : Bool) (log : List Record) (held : List Bool) (me : Mine) : Type 0 where
   pub one_seat : me.0.width ≡ 1

@@ -89,9 +89,9 @@ Settles number way view found after = (history : List Entry) × Adds view found 
 abbrev pub Looks : View → ℕ → View → Type 0
 Looks view found after = (history : List Entry) × Finds view found history × (after ≡ record view { seen = history })
 
--- the seat makes sure of the history so far, and stays as it is
-abbrev pub Checks : View → ℕ → View → Type 0
-Checks view found after = (history : List Entry) × Finds view found history × (after ≡ view)
+-- the seat has seen what it was told, and no more
+abbrev pub Adopts : View → ℕ → View → Type 0
+Adopts view found after = (history : List Entry) × Finds view found history × (after ≡ record view { seen = view.told })
 
 abbrev pub issued : Step (Unit {0}) → Mine → ℕ → Mine → Type 0
 issued step old found new = Issues old.0 found new.0 × (new.1 ≡ old.1)
@@ -102,8 +102,8 @@ settled number way step old found new = Settles number way old.0 found new.0 × 
 abbrev pub looked : Step (Unit {0}) → Mine → ℕ → Mine → Type 0
 looked step old found new = Looks old.0 found new.0 × (new.1 ≡ old.1)
 
-abbrev pub checked : Step (Unit {0}) → Mine → ℕ → Mine → Type 0
-checked step old found new = Checks old.0 found new.0 × (new.1 ≡ old.1)
+abbrev pub adopted : Step (Unit {0}) → Mine → ℕ → Mine → Type 0
+adopted step old found new = Adopts old.0 found new.0 × (new.1 ≡ old.1)
 
 -- the token may step: it is of this word, and stands for one seat
 pub record MayStep (word token : TableId) (me : Mine) : Type 0 where

@@ -32,6 +32,11 @@ pub record SeatView : Type 0 where
 abbrev pub seat_view : LedgerId → Terms → ℕ → List Entry → List Entry → SeatView
 seat_view ledger terms number seen mine = record { ledger = ledger; terms = terms; number = number; seen = seen; mine = mine }
 
+-- a note: what a seat of this ledger had seen
+pub record NoteView : Type 0 where
+  pub ledger : LedgerId
+  pub seen : List Entry
+
 -- a number that was granted
 pub record GrantView : Type 0 where
   pub device : ℕ

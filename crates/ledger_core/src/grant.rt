@@ -5,7 +5,10 @@
 ghost use Rattle.std.specs.Prelude.{◌≡◌};
 ghost use Rattle.journal_core.specs.declared.entry.Way.TheVariants.{Sealed, Void};
 ghost use Rattle.journal_core.specs.Range.{prefix_of};
+ghost use Rattle.ledger_core.specs.Logs.{EndsByGranting};
 
+use crate::once::Once;
+use crate::table::Own;
 use journal_core::{Device, Way, prefix};
 use std::marker::Model;
 
@@ -14,6 +17,7 @@ use std::marker::Model;
 pub struct Grant {
     device: Device,
     number: u32,
+    once: Once,
 }
 
 impl Model for Grant {
@@ -25,10 +29,16 @@ impl Model for Grant {
 }
 
 impl Grant {
-    pub(crate) fn of(device: Device, number: u32) -> Grant
+    // The grant that a seat's last operation gave.
+    pub(crate) fn of(device: Device, number: u32, own: &Own) -> Grant
+        requires granted { EndsByGranting number own.now.log.items }
         ensures { result ≡ record { device = device; number = number } }
     {
-        Grant { device, number }
+        Grant {
+            device,
+            number,
+            once: Once::of(own, number),
+        }
     }
 
     /// The number.

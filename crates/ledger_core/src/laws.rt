@@ -1,10 +1,12 @@
 //! Laws of the ledger's words, and of what a seat has seen. Each function's contract is the law, and it does nothing.
-ghost use Rattle.std.specs.Prelude.{◌≡◌, ℕ, List, Some, slice_get};
+ghost use Rattle.std.specs.Prelude.{◌≡◌, ◌≤◌, ◌++◌, ◌∷◌, ℕ, List, [], Some, slice_get};
 ghost use Rattle.journal_core.specs.declared.entry.Entry.{Entry};
-ghost use Rattle.journal_core.specs.History.{Terms};
+ghost use Rattle.journal_core.specs.declared.entry.Event.{Event};
+ghost use Rattle.journal_core.specs.declared.entry.Event.TheVariants.{Granted, Exhausted};
+ghost use Rattle.journal_core.specs.History.{Begins, MayFollow, Terms, entry, granted, refused, sealed, times_granted, voided};
 ghost use Rattle.journal_core.specs.Prefixes.{GrantsOnce};
 ghost use Rattle.ledger_core.specs.Closing.{IsWhole};
-ghost use Rattle.ledger_core.specs.Shared.{Agree, SeatView};
+ghost use Rattle.ledger_core.specs.Shared.{Agree, Extends, Knows, SeatView};
 
 use crate::seat::Seat;
 pub use journal_core::laws::{
@@ -22,6 +24,34 @@ pub fn grants_seen(seat: &Seat)
 /// Any two seats of one whole history agree: of what they have seen one begins the other, and what the one has seen of the other are
 /// the other's own operations, from the first on.
 pub fn seats_agree()
-    ensures { (terms : Terms) (seats : List SeatView) (history : List Entry) (i j : ℕ) (one other : SeatView) → IsWhole terms seats history
-        → slice_get seats i ≡ Some one → slice_get seats j ≡ Some other → Agree one other }
+    ensures { (terms : Terms) (seats : List SeatView) (history : List Entry) (i j : ℕ) (one other : SeatView)
+        → IsWhole terms seats history → slice_get seats i ≡ Some one → slice_get seats j ≡ Some other → Agree one other }
+{}
+
+/// The history so far fixes what an issue is answered: one number, or that none is left.
+pub fn one_reply_fits()
+    ensures number { (terms : Terms) (before : List Entry) (s t m n : ℕ)
+        → MayFollow terms before (entry s (Granted m)) → MayFollow terms before (entry t (Granted n)) → m ≡ n }
+    ensures none { (terms : Terms) (before : List Entry) (s t m : ℕ)
+        → MayFollow terms before (entry s (Granted m)) → MayFollow terms before (entry t Exhausted) → ⊥ }
+{}
+
+/// What a seat has heard of stands before whatever it does from then on.
+pub fn heard_stands_before()
+    ensures { (shown : List Entry) (old new : SeatView) (event : Event) → Begins shown old.seen → Extends old event new
+        → (between : List Entry) × (new.seen ≡ (shown ++ between) ++ entry old.number event ∷ []) }
+{}
+
+/// A number that a seat has heard of as granted is not granted to it, whoever granted it and whatever became of that seat.
+pub fn heard_numbers_are_not_granted_again()
+    ensures { (shown : List Entry) (old new : SeatView) (number : ℕ) → Begins shown old.seen
+        → Extends old (Granted number) new → Knows new → times_granted number shown ≡ 0 }
+{}
+
+/// No count is behind what the seat has heard of.
+pub fn a_tally_counts_what_was_heard()
+    ensures granted { (shown seen : List Entry) → Begins shown seen → granted shown ≤ granted seen }
+    ensures refused { (shown seen : List Entry) → Begins shown seen → refused shown ≤ refused seen }
+    ensures sealed { (shown seen : List Entry) → Begins shown seen → sealed shown ≤ sealed seen }
+    ensures void { (shown seen : List Entry) → Begins shown seen → voided shown ≤ voided seen }
 {}

@@ -15,7 +15,8 @@ ghost use Rattle.ledger_core.specs.Shared.{Agree, Extends, Holds, IsClosedSeat, 
 use crate::close::{meet_all, operations_of, put_together, room};
 use crate::fault::{IssueFault, OpenLedgerFault, SettleFault};
 use crate::grant::{Grant, Spent};
-use crate::seat::{Seat, check, issue_in, learn, look_in, settle_in, show, tally_of_word};
+use crate::note::Note;
+use crate::seat::{Seat, adopt, issue_in, learn, look_in, settle_in, show, tally_of_word};
 use crate::steps::{deal_step, open_word};
 use crate::table::{Opening, Own, Word};
 use journal_core::{Journal, MAX_SEATS, Range, Tally};
@@ -90,7 +91,7 @@ impl Ledger {
             &mut seat.token,
         );
         match number {
-            Some(number) => Ok(Grant::of(seat.opening.range().device(), number)),
+            Some(number) => Ok(Grant::of(seat.opening.range().device(), number, &seat.own)),
             None => Err(IssueFault::Exhausted),
         }
     }
@@ -139,6 +140,32 @@ impl Ledger {
         tally_of_word(&seat.opening, found)
     }
 
+    /// A note of what the seat has seen so far, for one other seat to hear. It waits for nobody, and takes no memory.
+    pub fn note(&self, seat: &mut Seat) -> Note
+        requires ours { seat.old.ledger ≡ self.now.ledger }
+        ensures ledger { result.ledger ≡ self.now.ledger }
+        ensures shows { result.seen ≡ seat.old.seen }
+        ensures same { seat.new ≡ seat.old }
+        ensures knows { Knows seat.new }
+    {
+        Note {
+            token: show(&self.word, seat),
+        }
+    }
+
+    /// The seat hears what a note shows: all of that stands before whatever the seat does from now on, also where the seat that
+    /// wrote the note is gone. It waits for nobody, and takes no memory.
+    pub fn hear(&self, seat: &mut Seat, note: Note)
+        requires ours { seat.old.ledger ≡ self.now.ledger }
+        requires note { note.ledger ≡ self.now.ledger }
+        ensures sees { Sees seat.old seat.new }
+        ensures heard { Begins note.seen seat.new.seen }
+        ensures knows { Knows seat.new }
+    {
+        let Note { token } = note;
+        learn(&self.word, seat, token);
+    }
+
     /// Lets the first seat see what either has seen, and then the second what the first has seen. It waits for nobody.
     ///
     /// Two seats of one ledger always agree: of what they have seen one begins the other. Here this shows.
@@ -147,6 +174,7 @@ impl Ledger {
         requires second { second.old.ledger ≡ self.now.ledger }
         ensures first { Sees first.old first.new × Begins second.old.seen first.new.seen }
         ensures second { Sees second.old second.new × Begins first.new.seen second.new.seen }
+        ensures one { second.new.seen ≡ first.new.seen }
         ensures agreed { Agree first.old second.old }
         ensures agree { Agree first.new second.new }
         ensures knows { Knows first.new × Knows second.new }
@@ -154,9 +182,7 @@ impl Ledger {
         let others = show(&self.word, second);
         learn(&self.word, first, others);
         let both = show(&self.word, first);
-        learn(&self.word, second, both);
-        let last = show(&self.word, second);
-        check(&self.word, first, last);
+        adopt(&self.word, second, both);
     }
 
     /// Lets seats meet, twice round in their order: each then sees one history with all that any of them has seen and done. It

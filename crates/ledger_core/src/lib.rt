@@ -10,6 +10,8 @@ pub mod fault;
 pub mod grant;
 pub mod laws;
 pub mod ledger;
+pub mod note;
+mod once;
 pub mod seat;
 mod steps;
 mod table;
@@ -17,6 +19,7 @@ mod table;
 pub use crate::fault::{IssueFault, OpenLedgerFault, SettleFault};
 pub use crate::grant::{Grant, Spent};
 pub use crate::ledger::Ledger;
+pub use crate::note::Note;
 pub use crate::seat::Seat;
 pub use journal_core::{
     AuditFault, BadRange, Book, BookFault, Device, Entry, Event, Failed, FromMemory, FromRead,

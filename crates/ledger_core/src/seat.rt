@@ -4,15 +4,16 @@
 //! what the seat has seen: the counts in the word that the step found add up to it.
 ghost use Rattle.std.specs.Prelude.{◌≡◌, ℕ, ◌+◌, ◌/◌, ◌%◌, ◌^◌, ◌<◌, ◌≤◌, ◌↔◌, min, false, IsTrue, length, vec_len, vec_capacity, [], ◌∷◌, ◌++◌, ◌||◌};
 ghost use Rattle.std.specs.List.{slice_index_or};
+ghost use Rattle.std.specs.Option.{IfSome};
 ghost use Rattle.journal_core.specs.declared.entry.Event.TheVariants.{Granted, Exhausted, Settled};
 ghost use Rattle.journal_core.specs.History.{Begins, IsLawful, calls_of, entry, is_exhausted};
 ghost use Rattle.ledger_core.specs.Rule.{issue_reply, knower, packed, IsHeld};
-ghost use Rattle.ledger_core.specs.Logs.{HasMark, IsMarked, IsSeat, Steps, event_of, held_after, place_of_word};
+ghost use Rattle.ledger_core.specs.Logs.{EndsByGranting, HasMark, IsMarked, IsSeat, Steps, event_of, held_after, place_of_word};
 ghost use Rattle.ledger_core.specs.Shared.{Holds, IsClosedSeat, Knows, Sees, fresh_seat};
 
 use crate::counts::counts_in;
 use crate::grant::Spent;
-use crate::steps::{check_step, hear_step, issue_step, look_step, settle_step, write_step};
+use crate::steps::{adopt_step, hear_step, issue_step, look_step, settle_step, write_step};
 use crate::table::{Opening, Own, Record, Token, Word};
 use journal_core::{Entry, Event, Tally};
 use std::marker::Model;
@@ -164,6 +165,7 @@ pub(crate) fn issue_in(
     ensures table { token.new.table_id ≡ token.old.table_id }
     ensures seat { IsSeat opening.now seat own.new.closed own.new.log.items own.new.held.items token.new.me }
     ensures step { Steps token.old.me.0 (entry seat (event_of result)) token.new.me.0 }
+    ensures granted { IfSome result (λ number. EndsByGranting number own.new.log.items) }
 {
     let found = issue_step(word, token);
     let granted = reply(opening, found);
@@ -246,15 +248,30 @@ pub(crate) fn learn(word: &Word, seat: &mut Seat, note: Token)
     look_in(word, &seat.opening, seat.number, &seat.own, &mut seat.token);
 }
 
-// The seat makes sure that what a note shows of it are its own operations, and stays as it is.
-pub(crate) fn check(word: &Word, seat: &mut Seat, note: Token)
+// What the seat was told, which goes on from what it has seen, is what it has seen.
+fn adopt_in(word: &Word, opening: &Opening, seat: u32, own: &Own, token: &mut Token)
+    requires table { (token.old.table_id ≡ word.now.shared.table_id) × (word.now.shared.table_id.words ≡ 1) }
+    requires seat { IsSeat opening.now seat own.now.closed own.now.log.items own.now.held.items token.old.me }
+    requires further { Begins token.old.me.0.seen token.old.me.0.told }
+    ensures table { token.new.table_id ≡ token.old.table_id }
+    ensures seat { IsSeat opening.now seat own.now.closed own.now.log.items own.now.held.items token.new.me }
+    ensures seen { (token.new.me.0.seen ≡ token.old.me.0.told) × (token.new.me.0.mine ≡ token.old.me.0.mine) }
+{
+    adopt_step(word, token);
+}
+
+// The seat sees what a note shows, which goes on from what it has seen.
+pub(crate) fn adopt(word: &Word, seat: &mut Seat, note: Token)
     requires table { (seat.old.ledger ≡ word.now.shared.table_id) × (word.now.shared.table_id.words ≡ 1) }
     requires note { (note.table_id ≡ word.now.shared.table_id) × (note.me.1 ≡ []) }
-    ensures same { seat.new ≡ seat.old }
-    ensures shown { Begins (calls_of seat.old.number note.me.0.seen) seat.old.mine }
+    requires further { Begins seat.old.seen note.me.0.seen }
+    ensures sees { Sees seat.old seat.new }
+    ensures shown { seat.new.seen ≡ note.me.0.seen }
+    ensures known { Knows seat.old }
+    ensures knows { Knows seat.new }
 {
     hear_step(word, &mut seat.token, note);
-    check_step(word, &mut seat.token);
+    adopt_in(word, &seat.opening, seat.number, &seat.own, &mut seat.token);
 }
 
 // The counts that a word tells. Of the issues, as many were granted as the range has numbers.

@@ -2,11 +2,11 @@
 ghost use Rattle.std.specs.Prelude.{◌≡◌, ◌<◌, [], IfOk};
 ghost use Rattle.journal_core.specs.declared.entry.Way.TheVariants.{Sealed, Void};
 ghost use Rattle.journal_core.specs.History.{IsLawful, refused};
-ghost use Rattle.ledger_core.specs.Rule.{newcomer, MayStep, IsHeld, Checks, Issues, Settles, Looks, note_of, hears, first_seat, other_seats};
+ghost use Rattle.ledger_core.specs.Rule.{newcomer, MayStep, IsHeld, Adopts, Issues, Settles, Looks, note_of, hears, first_seat, other_seats};
 
 use crate::counts::{ISSUED, SEALED, VOID};
 use crate::table::{
-    Check, Deal, Hear, Issue, Look, Naming, Opening, Seal, Token, Waste, Word, Write,
+    Adopt, Deal, Hear, Issue, Look, Naming, Opening, Seal, Token, Waste, Word, Write,
 };
 use atomic_table::Table;
 use journal_core::Way;
@@ -70,13 +70,13 @@ pub fn look_step(word: &Word, token: &mut Token) -> u64
     word.shared.load::<Look>(token, 0)
 }
 
-// The seat makes sure what the history now has of it.
-pub fn check_step(word: &Word, token: &mut Token) -> u64
+// What the seat was told is what it has seen.
+pub fn adopt_step(word: &Word, token: &mut Token) -> u64
     requires table { MayStep word.now.shared.table_id token.old.table_id token.old.me }
     ensures table { (token.new.table_id ≡ token.old.table_id) × (token.new.me.1 ≡ token.old.me.1) }
-    ensures step { Checks token.old.me.0 result token.new.me.0 }
+    ensures step { Adopts token.old.me.0 result token.new.me.0 }
 {
-    word.shared.load::<Check>(token, 0)
+    word.shared.load::<Adopt>(token, 0)
 }
 
 // A note of what this seat has seen.

@@ -140,13 +140,13 @@ impl Play<(), View> for Look {
     ghost then = { looked };
 }
 
-/// The word is loaded, and the seat's view stays.
-pub struct Check;
+/// The word is loaded, and the seat has seen what it was told.
+pub struct Adopt;
 
-impl Play<(), View> for Check {
-    ghost use Rattle.ledger_core.specs.Rule.{checked};
+impl Play<(), View> for Adopt {
+    ghost use Rattle.ledger_core.specs.Rule.{adopted};
 
-    ghost then = { checked };
+    ghost then = { adopted };
 }
 
 /// The first of a new ledger's seats is cut from the others.

@@ -1,6 +1,7 @@
 //! Runs of the shared ledger, in one thread and in four, from its opening to the text of its journal.
 #![tactic(auto)]
 
+pub mod order;
 pub mod run;
 #[cfg(test)]
 mod tests;

@@ -4,6 +4,7 @@ ghost use Rattle.ledger_core.specs.Closing.{AreAllSeats};
 ghost use Rattle.ledger_core.specs.Journal.{terms_of};
 ghost use Rattle.ledger_core.specs.Shared.{IsSameSeat};
 
+use crate::order::in_order;
 use ledger_core::{
     Grant, IssueFault, Journal, Ledger, OpenLedgerFault, Range, Seat, SettleFault, Spent, Tally,
 };
@@ -71,6 +72,19 @@ impl Run {
         meet_two(&self.ledger, self.seats.as_mut_slice(), first, second);
     }
 
+    /// The first seat tells the second by a note, as `in_order` does.
+    pub fn in_order(
+        &mut self,
+        first: usize,
+        second: usize,
+    ) -> Result<(Grant, Tally, Grant), IssueFault>
+        requires order { first < second }
+        requires inside { second < self.old.terms.seats }
+        ensures { self.new ≡ self.old }
+    {
+        tell(&self.ledger, self.seats.as_mut_slice(), first, second)
+    }
+
     /// All seats meet.
     pub fn meet_all(&mut self)
         ensures { self.new ≡ self.old }
@@ -86,8 +100,8 @@ impl Run {
         &self.seats[seat]
     }
 
-    /// The seats, in so many threads, issue until the range is at its end and settle every number: the even ones as used, the odd
-    /// ones as wasted.
+    /// The seats, in so many threads, issue until the range is at its end and settle every number: the even ones as
+    /// used, the odd ones as wasted.
     pub fn spend<R: Threads + Sync>(&mut self, rt: &R, threads: u32)
         ensures { self.new ≡ self.old }
     {
@@ -120,6 +134,22 @@ fn meet_two(ledger: &Ledger, seats: &mut [Seat], first: usize, second: usize)
 {
     let (front, back) = seats.split_at_mut(second);
     ledger.meet(&mut front[first], &mut back[0]);
+}
+
+// One of a ledger's seats tells another.
+fn tell(
+    ledger: &Ledger,
+    seats: &mut [Seat],
+    first: usize,
+    second: usize,
+) -> Result<(Grant, Tally, Grant), IssueFault>
+    requires all { AreAllSeats ledger.now seats.old }
+    requires order { first < second }
+    requires inside { second < length seats.old }
+    ensures { AreAllSeats ledger.now seats.new }
+{
+    let (front, back) = seats.split_at_mut(second);
+    in_order(ledger, &mut front[first], &mut back[0])
 }
 
 // All of a ledger's seats meet.

@@ -200,6 +200,51 @@ fn sixty_four_seats_spend_the_greatest_range(rt: HostRuntime) -> Result<(), Fail
     Ok(())
 }
 
+// One seat's log at its longest: a grant and a settlement of each number, and a refusal.
+#[test]
+fn one_seat_spends_the_greatest_range(rt: HostRuntime) -> Result<(), Fail> {
+    let mut run = Run::open(rt.alloc(), range_of(0, 65_535)?, 1)?;
+    run.spend(&rt, 1);
+    assert_eq!(rt;
+        run.tally(0),
+        Tally {
+            granted: 65_535,
+            refused: 1,
+            sealed: 32_768,
+            void: 32_767
+        }
+    );
+    let Ok(journal) = run.close() else {
+        return Err("memory was refused".into());
+    };
+    let text = journal.text(rt.alloc())?;
+    let line = audited(rt.alloc(), text.as_str()).ok_or("memory was refused")?;
+    assert_eq!(rt;
+        line.as_slice(),
+        b"legal: 65535 granted, 32768 sealed, 32767 void, 0 open, 1 refused\n".as_slice()
+    );
+    Ok(())
+}
+
+// The second seat has heard of the first one's grant: no count and no number of it is behind that.
+#[test]
+fn a_note_tells_what_was_done(rt: HostRuntime) -> Result<(), Fail> {
+    let mut run = Run::open(rt.alloc(), range_of(7, 2)?, 3)?;
+    let (seven, tally, eight) = run.in_order(0, 2)?;
+    assert_eq!(rt; (seven.number(), eight.number()), (7, 8));
+    assert_eq!(rt;
+        tally,
+        Tally {
+            granted: 1,
+            refused: 0,
+            sealed: 0,
+            void: 0
+        }
+    );
+    assert_eq!(rt; run.in_order(0, 1).err(), Some(IssueFault::Exhausted));
+    Ok(())
+}
+
 #[test]
 fn seats_are_from_one_to_sixty_four(rt: HostRuntime) -> Result<(), Fail> {
     let range = range_of(0, 1)?;
@@ -340,6 +385,8 @@ fn laws_are_called(rt: HostRuntime) -> Result<(), Fail> {
     drop(run.issue(0)?);
     laws::grants_seen(run.seat(0));
     laws::seats_agree();
+    laws::one_reply_fits();
+    laws::heard_stands_before();
     laws::counts_stay_small();
     let Ok(journal) = run.close() else {
         return Err("memory was refused".into());

@@ -1,4 +1,5 @@
 use Rattle.std.proofs.Common.{◌<◌, length, arith}
+use Rattle.ledger_core.proofs.Callers.{same_of}
 use Rattle.ledger_tests.proofs.Pairs.{all_after_two}
 use Rattle.ledger_tests.proofs.run.meet_two.Goals as goal
 
@@ -12,4 +13,4 @@ returns c =
     let inside : c.args.first < length c.split_at_mut-front.result.0.now = omega arith in
     let some : 0 < length c.split_at_mut-front.result.1.now = omega arith in
     all_after_two _ _ _ _ c.args.first c.index-front-first.result c.index-back-0.result c.meet.new.first c.meet.new.second c.requires.all s.value inside some
-    c.index-front-first.is c.index-back-0.is c.meet.ensures.first.0 c.meet.ensures.second.0
+    c.index-front-first.is c.index-back-0.is (same_of _ _ c.meet.ensures.first.0) (same_of _ _ c.meet.ensures.second.0)
