@@ -1,7 +1,7 @@
 -- Inside: which pieces a worker was dealt, and which of a work's pieces are there by then.
 use Rattle.std.specs.Prelude.{◌≡◌, ◌≢◌, ℕ, ◌+◌, ◌*◌, ◌%◌, ◌<◌, ◌≤◌, ◌⊎◌, List, length, None, slice_index_or, All, Contains}
-use Rattle.crew_core.specs.Pieces.{PieceView, WorkView, ShelfView, piece_of}
-use Rattle.crew_core.specs.Answer.{IsOf}
+use Rattle.piece_core.specs.Pieces.{PieceView, WorkView, ShelfView, piece_of}
+use Rattle.piece_core.specs.Answer.{IsOf}
 
 -- a number that worker 0 is dealt
 abbrev pub IsMultiple : ℕ → ℕ → Type 0

@@ -5,16 +5,13 @@
 //! once; where there are more workers a thread of its own does, beside the first round.
 ghost use Rattle.std.specs.Prelude.{◌≡◌, ◌≢◌, ℕ, ◌+◌, ◌*◌, ◌<◌, ◌≤◌, ◌⊎◌, All, None, Ok, Err, IfOk, IfErr, IfSome, IfNone, length, slice_index_or};
 ghost use Rattle.std.specs.Thread.{IsSync};
-ghost use Rattle.crew_core.specs.Pieces.{Fits, place_of, empty_shelf, with_piece};
-ghost use Rattle.crew_core.specs.Answer.{IsOf, whole_of};
+ghost use Rattle.piece_core.specs.Pieces.{Fits, place_of, empty_shelf, with_piece};
+ghost use Rattle.piece_core.specs.Answer.{IsOf, whole_of};
 ghost use Rattle.crew_core.specs.Deal.{IsDeal, IsMade, IsStill, HasFirst, HasOthers, HasUpTo, IsMultiple};
 
-use crate::fault::ShelfFault;
 use crate::gate::Gate;
-use crate::piece::Piece;
-use crate::shelf::Shelf;
-use crate::work::Work;
 use container_core::OpenFault;
+use piece_core::{Piece, Shelf, ShelfFault, Work};
 use std::alloc::{AllocError, Global};
 use std::thread::{Threads, join, join_mut};
 

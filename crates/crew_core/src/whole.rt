@@ -10,9 +10,9 @@ ghost use Rattle.ledger_core.specs.Range.{prefix_of};
 
 use crate::crew::work_whole;
 use crate::gate::Gate;
-use crate::work::Work;
 use container_core::{Key, OpenFault};
 use ledger_core::{Grant, Spent};
+use piece_core::Work;
 use std::alloc::{AllocError, Global};
 use std::thread::Threads;
 
