@@ -1,5 +1,7 @@
--- What one thread answers to a whole work: the pieces joined in the order of their numbers, or the least that doesn't check.
-use Rattle.std.specs.Prelude.{◌≡◌, ◌≢◌, ℕ, suc, ◌<◌, List, [], ◌∷◌, ◌++◌, length, Option, Some, None, map, slice_index_or, Result, Ok, Err}
+-- What one thread answers to a whole work: the pieces joined in the order of their numbers, or the least that doesn't
+-- check.
+use Rattle.std.specs.Prelude.{◌≡◌, ◌≢◌, ℕ, suc, ◌<◌, List, [], ◌∷◌, ◌++◌, length, Option, Some, None, map}
+use Rattle.std.specs.Prelude.{slice_index_or, Result, Ok, Err}
 use Rattle.container_core.specs.declared.fault.OpenFault.{OpenFault}
 use Rattle.container_core.specs.declared.fault.OpenFault.TheVariants.{Forged}
 use Rattle.piece_core.specs.declared.work.Kind.{Kind}

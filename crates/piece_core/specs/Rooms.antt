@@ -1,5 +1,6 @@
 -- Inside: the whole that pieces are joined to, and what a place of a shelf holds.
-use Rattle.std.specs.Prelude.{◌≡◌, ◌≢◌, ℕ, ◌+◌, ◌<◌, List, [], ◌∷◌, ◌++◌, length, Option, Some, None, slice_index_or, unwrap_or}
+use Rattle.std.specs.Prelude.{◌≡◌, ◌≢◌, ℕ, ◌+◌, ◌<◌, List, [], ◌∷◌, ◌++◌, length, Option, Some, None, slice_index_or}
+use Rattle.std.specs.Prelude.{unwrap_or}
 use Rattle.piece_core.specs.declared.work.Kind.{Kind}
 use Rattle.piece_core.specs.declared.shelf.Place.{Place}
 use Rattle.piece_core.specs.declared.shelf.Place.TheVariants.{Empty, Forged, Here, Apart}
@@ -29,7 +30,8 @@ shown kind prefix n (Apart bytes) part = Some (piece_at kind prefix n (Some byte
 -- the pieces at all places from a number on
 unfoldable pub places_from : Kind → List ℕ → ℕ → List Place → List (List ℕ) → List (Option PieceView)
 places_from kind prefix n [] parts = []
-places_from kind prefix n (place ∷ rest) parts = shown kind prefix n place (slice_index_or parts n []) ∷ places_from kind prefix (n + 1) rest parts
+places_from kind prefix n (place ∷ rest) parts =
+    shown kind prefix n place (slice_index_or parts n []) ∷ places_from kind prefix (n + 1) rest parts
 
 abbrev pub shelf_of : Kind → List ℕ → List (Option PieceView) → ShelfView
 shelf_of kind header places = record { kind = kind; header = header; places = places }
@@ -73,6 +75,7 @@ AllCheck s = (n : ℕ) → n < length s.places → value_in (slice_index_or s.pl
 
 -- a place shows this value, and the parts of the other places stay
 pub record Keeps (old new : List (List ℕ)) (n : ℕ) (value : Option (List ℕ)) (place : Place) : Type 0 where
-  pub shows : (kind : Kind) (prefix : List ℕ) (m : ℕ) → shown kind prefix m place (slice_index_or new n []) ≡ Some (piece_at kind prefix m value)
+  pub shows : (kind : Kind) (prefix : List ℕ) (m : ℕ)
+      → shown kind prefix m place (slice_index_or new n []) ≡ Some (piece_at kind prefix m value)
   pub others : (m : ℕ) → m ≢ n → slice_index_or new m [] ≡ slice_index_or old m []
   pub count : length new ≡ length old

@@ -9,14 +9,16 @@ ghost use Rattle.piece_core.specs.Values.{parts_of, value_at, values_of, sealing
 
 /// The whole of a sealing is the container; the whole of an opening without an early fault is what opening answers.
 pub fn wholes_of_works()
-    ensures sealing { (key prefix plain : List ℕ) → whole_of (sealing_of key prefix plain) ≡ Ok (container key prefix plain) }
+    ensures sealing { (key prefix plain : List ℕ)
+        → whole_of (sealing_of key prefix plain) ≡ Ok (container key prefix plain) }
     ensures opening { (key bytes : List ℕ) (most : ℕ) → early_fault key most bytes ≡ None
         → opening key most bytes ≡ named (whole_of (opening_of key bytes)) }
 {}
 
 /// A work has a piece for each chunk, in order: the chunk sealed or opened under its number, as the last where it is.
 pub fn pieces_by_number()
-    ensures count { (kind : Kind) (key header body : List ℕ) → length (values_of kind key header body) ≡ length (parts_of kind body) }
+    ensures count { (kind : Kind) (key header body : List ℕ)
+        → length (values_of kind key header body) ≡ length (parts_of kind body) }
     ensures value { (kind : Kind) (key header body : List ℕ) (n : ℕ) → n < length (parts_of kind body)
         → slice_index_or (values_of kind key header body) n None
         ≡ value_at kind key header n (n + 1 == length (parts_of kind body)) (slice_index_or (parts_of kind body) n []) }

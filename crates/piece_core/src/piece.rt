@@ -19,7 +19,12 @@ impl Model for Piece {
 
     ghost Value = { PieceView };
 
-    ghost view = { λ p. record { kind = p.kind; prefix = p.prefix; number = p.number; value = option_map (λ v. v.items) p.value } };
+    ghost view = { λ p. record {
+      kind = p.kind;
+      prefix = p.prefix;
+      number = p.number;
+      value = option_map (λ v. v.items) p.value;
+    } };
 }
 
 impl Piece {

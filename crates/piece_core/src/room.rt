@@ -1,10 +1,12 @@
 //! The whole that the pieces of a work are joined to: one buffer, reserved once, with a part for each piece.
-ghost use Rattle.std.specs.Prelude.{◌≡◌, ℕ, ◌+◌, ◌*◌, ◌^◌, ◌<◌, ◌≤◌, ◌++◌, List, [], length, take, drop, replicate, slice_index_or, slice_set, None, Some, IfOk, OnOk};
+ghost use Rattle.std.specs.Prelude.{◌≡◌, ℕ, ◌+◌, ◌*◌, ◌^◌, ◌<◌, ◌≤◌, ◌++◌, List, [], length, take, drop, replicate};
+ghost use Rattle.std.specs.Prelude.{slice_index_or, slice_set, None, Some, IfOk, OnOk};
 ghost use Rattle.piece_core.specs.Answer.{front_of};
 ghost use Rattle.piece_core.specs.Parts.{piece_size};
 ghost use Rattle.piece_core.specs.Rooms.{all_of};
 
 use crate::work::{Kind, Work};
+use container_core::cutting::MAX_BODY;
 use container_core::{CHUNK, HEADER, SEALED};
 use std::alloc::{AllocError, Global};
 use std::marker::Model;
@@ -25,10 +27,14 @@ impl Model for Room {
 
     ghost Value = { RoomView };
 
-    ghost view = { λ r. record { front = take r.front r.whole.items; parts = parts r.size (r.count - 1) (drop r.front r.whole.items) } };
+    ghost view = { λ r. record {
+      front = take r.front r.whole.items;
+      parts = parts r.size (r.count - 1) (drop r.front r.whole.items);
+    } };
 
     // Every part but the last has `size` bytes, and the last no more.
-    ghost invariant = { λ r. (0 < r.count) × (r.front + (r.count - 1) * r.size ≤ length r.whole.items) × (length r.whole.items ≤ r.front + r.count * r.size) };
+    ghost invariant = { λ r. (0 < r.count) × (r.front + (r.count - 1) * r.size ≤ length r.whole.items)
+        × (length r.whole.items ≤ r.front + r.count * r.size) };
 }
 
 // Appends so many zeros, to be written over.
@@ -51,9 +57,9 @@ fn size_of_piece(kind: Kind) -> usize
 
 // What stands before the pieces, with room for so many bytes in all.
 fn front_bytes(alloc: Global, work: &Work, bytes: usize) -> Result<Vec<u8>, AllocError>
-    requires { bytes ≤ 1099780063232 }
+    requires { bytes ≤ MAX_BODY }
     ensures front { IfOk result (λ v. v.items ≡ front_of work.now.kind work.now.header) }
-    ensures short { IfOk result (λ v. length v.items ≤ 24) }
+    ensures short { IfOk result (λ v. length v.items ≤ HEADER) }
 {
     let mut front = Vec::with_capacity(alloc, HEADER + bytes)?;
     match work.kind() {
@@ -94,7 +100,8 @@ fn write_over(whole: &mut [u8], begin: usize, bytes: &[u8])
 // The same in a vector.
 fn write_at(whole: &mut Vec<u8>, begin: usize, bytes: &[u8])
     requires { begin + length bytes.now ≤ length whole.old.items }
-    ensures { whole.new.items ≡ take begin whole.old.items ++ (bytes.now ++ drop (begin + length bytes.now) whole.old.items) }
+    ensures { whole.new.items ≡ take begin whole.old.items
+        ++ (bytes.now ++ drop (begin + length bytes.now) whole.old.items) }
 {
     write_over(whole.as_mut_slice(), begin, bytes);
 }
@@ -104,7 +111,8 @@ impl Room {
     pub(crate) fn new(alloc: Global, work: &Work) -> Result<Room, AllocError>
         ensures front { IfOk result (λ room. room.front ≡ front_of work.now.kind work.now.header) }
         ensures count { IfOk result (λ room. length room.parts ≡ length work.now.values) }
-        ensures sizes { IfOk result (λ room. (n : ℕ) (bytes : List ℕ) → n < length work.now.values → slice_index_or work.now.values n None ≡ Some bytes
+        ensures sizes { IfOk result (λ room. (n : ℕ) (bytes : List ℕ)
+            → n < length work.now.values → slice_index_or work.now.values n None ≡ Some bytes
             → length bytes ≡ length (slice_index_or room.parts n [])) }
     {
         let bytes = work.bytes_of_pieces();

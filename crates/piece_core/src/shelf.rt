@@ -1,8 +1,9 @@
 //! A place for each piece of a work.
 //!
-//! A piece that has as many bytes as its place is written where it belongs in the whole, and let go. Another one, which this
-//! shelf's work did not make, is kept apart.
-ghost use Rattle.std.specs.Prelude.{◌≡◌, ◌≢◌, ℕ, ◌+◌, ◌<◌, ◌≤◌, ◌++◌, ◌↔◌, List, [], length, replicate, slice_index_or, option_map, None, Some, Ok, Err, IfOk, IfErr, OnOk, OnErr, IfSome, IfNone, IsTrue};
+//! A piece that has as many bytes as its place is written where it belongs in the whole, and let go. Another one, which
+//! this shelf's work did not make, is kept apart.
+ghost use Rattle.std.specs.Prelude.{◌≡◌, ◌≢◌, ℕ, ◌+◌, ◌<◌, ◌≤◌, ◌++◌, ◌↔◌, List, [], length, replicate, slice_index_or};
+ghost use Rattle.std.specs.Prelude.{option_map, None, Some, Ok, Err, IfOk, IfErr, OnOk, OnErr, IfSome, IfNone, IsTrue};
 ghost use Rattle.std.specs.Bool.{OnTrue, OnFalse};
 ghost use Rattle.piece_core.specs.Pieces.{WorkView, empty_shelf, Fits, place_of, with_piece};
 ghost use Rattle.piece_core.specs.Answer.{IsFull, IsOf, shelf_whole, whole_of};
@@ -12,7 +13,7 @@ ghost use Rattle.piece_core.specs.Rooms.{held, held_from, IsWithout, HasAll, IsF
 use crate::fault::{PutFault, ShelfFault};
 use crate::piece::Piece;
 use crate::room::Room;
-use crate::work::{Kind, Work};
+use crate::work::{Kind, MAX_PIECES, Work};
 use std::alloc::{AllocError, Global};
 use std::marker::Model;
 
@@ -45,12 +46,18 @@ impl Model for Shelf {
     ghost use Rattle.piece_core.specs.Answer.{front_of};
     ghost use Rattle.piece_core.specs.Pieces.{ShelfView};
     ghost use Rattle.piece_core.specs.Rooms.{places_from};
+    ghost use Rattle.piece_core.specs.declared.work.TheConstants.{MAX_PIECES};
 
     ghost Value = { ShelfView };
 
-    ghost view = { λ s. record { kind = s.kind; header = s.header; places = places_from s.kind s.prefix 0 s.places.items s.room.parts } };
+    ghost view = { λ s. record {
+      kind = s.kind;
+      header = s.header;
+      places = places_from s.kind s.prefix 0 s.places.items s.room.parts;
+    } };
 
-    ghost invariant = { λ s. (s.prefix ≡ prefix_in s.header) × (s.room.front ≡ front_of s.kind s.header) × (length s.places.items ≡ length s.room.parts) × (vec_len s.places ≤ 16777216) };
+    ghost invariant = { λ s. (s.prefix ≡ prefix_in s.header) × (s.room.front ≡ front_of s.kind s.header)
+        × (length s.places.items ≡ length s.room.parts) × (vec_len s.places ≤ MAX_PIECES) };
 }
 
 // So many empty places.
@@ -85,8 +92,10 @@ fn is_empty_at(places: &[Place], number: usize) -> bool
 
 // Whether a place is empty.
 fn has_gap(places: &[Place]) -> bool
-    ensures gap { OnTrue result ((n : ℕ) × (n < length places.now) × (slice_index_or places.now n Place.Empty ≡ Place.Empty)) }
-    ensures full { OnFalse result ((n : ℕ) → n < length places.now → slice_index_or places.now n Place.Empty ≢ Place.Empty) }
+    ensures gap { OnTrue result ((n : ℕ) × (n < length places.now)
+        × (slice_index_or places.now n Place.Empty ≡ Place.Empty)) }
+    ensures full { OnFalse result ((n : ℕ) → n < length places.now
+        → slice_index_or places.now n Place.Empty ≢ Place.Empty) }
 {
     for n in 0..places.len() {
         if is_empty(&places[n]) {
@@ -109,7 +118,7 @@ fn is_without(place: &Place) -> bool
 
 // The least place without bytes.
 fn first_without(places: &[Place]) -> Option<u32>
-    requires { length places.now ≤ 16777216 }
+    requires { length places.now ≤ MAX_PIECES }
     ensures found { IfSome result (IsFirstWithout places.now) }
     ensures none { IfNone result (HasAll places.now) }
 {
@@ -123,8 +132,10 @@ fn first_without(places: &[Place]) -> Option<u32>
 
 // Whether the bytes of all pieces stand in the whole.
 fn are_here(places: &[Place]) -> bool
-    ensures yes { OnTrue result ((n : ℕ) → n < length places.now → slice_index_or places.now n Place.Empty ≡ Place.Here) }
-    ensures no { OnFalse result ((n : ℕ) × (n < length places.now) × (slice_index_or places.now n Place.Empty ≢ Place.Here)) }
+    ensures yes { OnTrue result ((n : ℕ) → n < length places.now
+        → slice_index_or places.now n Place.Empty ≡ Place.Here) }
+    ensures no { OnFalse result ((n : ℕ) × (n < length places.now)
+        × (slice_index_or places.now n Place.Empty ≢ Place.Here)) }
 {
     for n in 0..places.len() {
         match &places[n] {
@@ -163,7 +174,8 @@ fn keep(room: &mut Room, number: usize, value: Option<Vec<u8>>) -> Place
     requires { number < length room.old.parts }
     ensures front { room.new.front ≡ room.old.front }
     ensures kept { Keeps room.old.parts room.new.parts number (option_map (λ v. v.items) value) result }
-    ensures here { IfSome value (λ v. length v.items ≡ length (slice_index_or room.old.parts number []) → result ≡ Place.Here) }
+    ensures here { IfSome value (λ v. length v.items ≡ length (slice_index_or room.old.parts number [])
+        → result ≡ Place.Here) }
 {
     let Some(bytes) = value else {
         return Place::Forged;
@@ -177,7 +189,8 @@ fn keep(room: &mut Room, number: usize, value: Option<Vec<u8>>) -> Place
 }
 
 impl Shelf {
-    /// A shelf for the pieces of this work, with all places empty, and room for the whole. `AllocError` where memory was refused.
+    /// A shelf for the pieces of this work, with all places empty, and room for the whole. `AllocError` where memory
+    /// was refused.
     pub fn new(alloc: Global, work: &Work) -> Result<Shelf, AllocError>
         ensures { IfOk result (λ s. s ≡ empty_shelf work.now) }
     {
@@ -236,12 +249,13 @@ impl Shelf {
         }
     }
 
-    /// Puts a piece on its place. `Stranger` is tested first: where the piece is of another kind or prefix, or its number isn't
-    /// below the count. Else `Double` where its place is taken. At both nothing changes, and the piece is handed back. Takes no
-    /// memory.
+    /// Puts a piece on its place. `Stranger` is tested first: where the piece is of another kind or prefix, or its
+    /// number isn't below the count. Else `Double` where its place is taken. At both nothing changes, and the piece is
+    /// handed back. Takes no memory.
     pub fn put(&mut self, piece: Piece) -> Result<(), (PutFault, Piece)>
         // The place was empty and is filled, and no other changed.
-        ensures filled { OnOk result (Fits self.old piece × (place_of self.old piece ≡ None) × (self.new ≡ with_piece self.old piece)) }
+        ensures filled { OnOk result (Fits self.old piece × (place_of self.old piece ≡ None)
+            × (self.new ≡ with_piece self.old piece)) }
         ensures back { IfErr result (λ e. e.1 ≡ piece) }
         ensures same { OnErr result (self.new ≡ self.old) }
         ensures refused { IfErr result (λ e. Refuses self.old piece e.0) }
@@ -259,9 +273,10 @@ impl Shelf {
         Ok(())
     }
 
-    /// The pieces joined: of a sealing's pieces the container, of an opening's the plaintext. `Missing` where a place is empty;
-    /// else `Forged` of the least piece that doesn't check; else `OutOfMemory` where memory was refused, which is asked for only
-    /// where the shelf's work didn't make all the pieces. A fault hands the shelf back as it was.
+    /// The pieces joined: of a sealing's pieces the container, of an opening's the plaintext. `Missing` where a place
+    /// is empty; else `Forged` of the least piece that doesn't check; else `OutOfMemory` where memory was refused,
+    /// which is asked for only where the shelf's work didn't make all the pieces. A fault hands the shelf back as it
+    /// was.
     pub fn finish(self, alloc: Global) -> Result<Vec<u8>, (ShelfFault, Shelf)>
         ensures whole { IfOk result (λ v. IsFull self × (shelf_whole self ≡ Ok v.items)) }
         ensures back { IfErr result (λ e. e.1 ≡ self) }
@@ -269,7 +284,8 @@ impl Shelf {
 
         // Of pieces that a work of this shelf made, the whole is that work's, and so is the chunk that doesn't check.
         ensures made { IfOk result (λ v. (work : WorkView) → IsOf work self → whole_of work ≡ Ok v.items) }
-        ensures unmade { IfErr result (λ e. (work : WorkView) (chunk : ℕ) → IsOf work self → e.0 ≡ ShelfFault.Forged chunk → whole_of work ≡ Err chunk) }
+        ensures unmade { IfErr result (λ e. (work : WorkView) (chunk : ℕ) → IsOf work self
+            → e.0 ≡ ShelfFault.Forged chunk → whole_of work ≡ Err chunk) }
     {
         if let Some(fault) = self.fault() {
             return Err((fault, self));

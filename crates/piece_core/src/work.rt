@@ -1,5 +1,6 @@
 //! One sealing or opening, cut into pieces that can be made one by one, in any order.
-ghost use Rattle.std.specs.Prelude.{◌≡◌, ℕ, ◌+◌, ◌-◌, ◌*◌, ◌<◌, ◌≤◌, List, length, take, drop, min, slice_index_or, None, Some, IfOk, IfErr, OnOk, option_map};
+ghost use Rattle.std.specs.Prelude.{◌≡◌, ℕ, ◌+◌, ◌-◌, ◌*◌, ◌<◌, ◌≤◌, List, length, take, drop, min, slice_index_or};
+ghost use Rattle.std.specs.Prelude.{None, Some, IfOk, IfErr, OnOk, option_map};
 ghost use Rattle.container_core.specs.Chunks.{chunk_count};
 ghost use Rattle.container_core.specs.Opening.{early_fault};
 ghost use Rattle.container_core.specs.Stream.{sealed_chunk, opened_chunk};
@@ -8,12 +9,16 @@ ghost use Rattle.piece_core.specs.Values.{value_at, sealing_of, opening_of};
 ghost use Rattle.piece_core.specs.Parts.{part_size, least_part, piece_size, pieces_sum};
 
 use crate::piece::Piece;
+use container_core::cutting::MAX_BODY;
 use container_core::{
     CHUNK, HEADER, Header, Key, MAX_PLAIN, OpenFault, SEALED, TAG, container_bytes, cut,
     open_chunk, read_header, seal_chunk,
 };
 use std::alloc::{AllocError, Global};
 use std::marker::Model;
+
+/// The most pieces of a work: as many as the greatest plaintext has chunks.
+pub const MAX_PIECES: u32 = 1 << 24;
 
 /// What is done to each chunk.
 #[derive(Clone, Copy, PartialEq, Eq, Debug)]
@@ -41,7 +46,11 @@ impl<'a> Model for Work<'a> {
 
     ghost Value = { WorkView };
 
-    ghost view = { λ w. record { kind = w.kind; header = w.header; values = values_of w.kind w.key.now w.header w.body.now } };
+    ghost view = { λ w. record {
+      kind = w.kind;
+      header = w.header;
+      values = values_of w.kind w.key.now w.header w.body.now;
+    } };
 
     ghost invariant = { λ w. IsCut w.kind w.count w.body.now };
 }
@@ -58,7 +67,7 @@ fn size_of_part(kind: Kind) -> usize
 
 // How many chunks a plaintext has.
 fn count_of_chunks(bytes: usize) -> u32
-    requires { bytes ≤ 1099511627776 }
+    requires { bytes ≤ MAX_PLAIN }
     ensures { result ≡ chunk_count bytes }
 {
     (bytes.saturating_sub(1) / CHUNK + 1) as u32
@@ -73,7 +82,7 @@ fn sealed_copy(
     last: bool,
     chunk: &[u8],
 ) -> Result<Vec<u8>, AllocError>
-    requires { length chunk.now ≤ 65536 }
+    requires { length chunk.now ≤ CHUNK }
     ensures { IfOk result (λ v. v.items ≡ sealed_chunk key.now header.now number last chunk.now) }
 {
     let mut bytes = Vec::with_capacity(alloc, chunk.len() + TAG)?;
@@ -92,8 +101,8 @@ fn opened_copy(
     last: bool,
     sealed: &[u8],
 ) -> Result<Option<Vec<u8>>, AllocError>
-    requires tag { 16 ≤ length sealed.now }
-    requires small { length sealed.now ≤ 65552 }
+    requires tag { TAG ≤ length sealed.now }
+    requires small { length sealed.now ≤ SEALED }
     ensures { IfOk result (λ o. option_map (λ v. v.items) o ≡ opened_chunk key.now header.now number last sealed.now) }
 {
     let (text, end) = sealed.split_at(sealed.len() - TAG);
@@ -139,7 +148,7 @@ fn value_of(
 
 // Bytes of all pieces of a body.
 fn sum_of_pieces(kind: Kind, count: u32, bytes: usize) -> usize
-    requires { (count ≤ 16777216) × (bytes ≤ 1099780063232) }
+    requires { (count ≤ MAX_PIECES) × (bytes ≤ MAX_BODY) }
     ensures { result ≡ pieces_sum kind count bytes }
 {
     let tags = TAG * count as usize;
@@ -152,7 +161,7 @@ fn sum_of_pieces(kind: Kind, count: u32, bytes: usize) -> usize
 impl<'a> Work<'a> {
     /// The work of sealing a plaintext of at most 2^40 bytes. Takes no memory.
     pub fn sealing(key: &'a Key, prefix: [u8; 7], plain: &'a [u8]) -> Work<'a>
-        requires { length plain.now ≤ 1099511627776 }
+        requires { length plain.now ≤ MAX_PLAIN }
         ensures { result ≡ sealing_of key.now prefix plain.now }
     {
         Work {
@@ -164,12 +173,13 @@ impl<'a> Work<'a> {
         }
     }
 
-    /// The work of opening a container, or the first fault that shows before any chunk is opened: those of `OpenFault` from
-    /// `TooLong` (more bytes than the container of 2^40 plaintext bytes) to `BadLength`, in this order. Takes no memory.
+    /// The work of opening a container, or the first fault that shows before any chunk is opened: those of `OpenFault`
+    /// from `TooLong` (more bytes than the container of 2^40 plaintext bytes) to `BadLength`, in this order. Takes no
+    /// memory.
     pub fn opening(key: &'a Key, container: &'a [u8]) -> Result<Work<'a>, OpenFault>
         ensures work { IfOk result (λ w. w ≡ opening_of key.now container.now) }
-        ensures faultless { OnOk result (early_fault key.now 1099511627776 container.now ≡ None) }
-        ensures fault { IfErr result (λ fault. early_fault key.now 1099511627776 container.now ≡ Some fault) }
+        ensures faultless { OnOk result (early_fault key.now MAX_PLAIN container.now ≡ None) }
+        ensures fault { IfErr result (λ fault. early_fault key.now MAX_PLAIN container.now ≡ Some fault) }
     {
         if container.len() as u64 > container_bytes(MAX_PLAIN) {
             return Err(OpenFault::TooLong);
@@ -195,13 +205,13 @@ impl<'a> Work<'a> {
     pub fn count(&self) -> u32
         ensures count { result ≡ length self.now.values }
         ensures some { 0 < result }
-        ensures few { result ≤ 16777216 }
+        ensures few { result ≤ MAX_PIECES }
     {
         self.count
     }
 
-    /// The piece of this number, counted from 0: its chunk sealed, or opened, or that it doesn't check. The same number gives the
-    /// same piece. `AllocError` where memory was refused.
+    /// The piece of this number, counted from 0: its chunk sealed, or opened, or that it doesn't check. The same number
+    /// gives the same piece. `AllocError` where memory was refused.
     pub fn piece(&self, alloc: Global, number: u32) -> Result<Piece, AllocError>
         requires { number < length self.now.values }
         ensures { IfOk result (λ p. p ≡ piece_of self.now number) }
@@ -221,10 +231,12 @@ impl<'a> Work<'a> {
     pub(crate) fn bytes_of_pieces(&self) -> usize
         ensures least { (length self.now.values - 1) * piece_size self.now.kind ≤ result }
         ensures most { result ≤ length self.now.values * piece_size self.now.kind }
-        ensures few { result ≤ 1099780063232 }
+        ensures few { result ≤ MAX_BODY }
 
-        // Every piece that checks has the length of a part, where as many bytes are cut behind each `piece_size` of them.
-        ensures each { (n : ℕ) (bytes : List ℕ) → n < length self.now.values → slice_index_or self.now.values n None ≡ Some bytes
+        // Every piece that checks has the length of a part, where as many bytes are cut behind each `piece_size` of
+        // them.
+        ensures each { (n : ℕ) (bytes : List ℕ)
+            → n < length self.now.values → slice_index_or self.now.values n None ≡ Some bytes
             → length bytes ≡ min (piece_size self.now.kind) (result - n * piece_size self.now.kind) }
     {
         sum_of_pieces(self.kind, self.count, self.body.len())
