@@ -1,13 +1,39 @@
 -- The deals of all workers are all pieces.
-use Rattle.std.proofs.Common.{◌≡◌, ◌≢◌, ℕ, ◌+◌, ◌-◌, ◌*◌, ◌/◌, ◌%◌, ◌<◌, ◌≤◌, List, [], ◌∷◌, ◌++◌, length, get_or, All, Contains, None, ◌⊎◌, refl, ap, sym, ◌∙◌, arith, inl, inr, mul-le-mul_right, mul_comm}
+use Rattle.std.proofs.Common.{◌≡◌, ◌≢◌, ℕ, ◌+◌, ◌-◌, ◌*◌, ◌/◌, ◌%◌, ◌<◌, ◌≤◌, List, [], ◌∷◌, ◌++◌, length, get_or, All, Contains, None, ◌⊎◌, refl, ap, sym, ◌∙◌, arith, inl, inr, subst, mul-le-mul_right, mul_comm}
 use Rattle.std.proofs.Math.Nat.{mod-add-div, mod-lt}
 use Rattle.std.proofs.lemmas.List.{get_or_append_left, get_or_push, length_push}
-use Rattle.std.proofs.lemmas.List.Elements.{All-append, Contains-append_left, Contains-append_right}
+use Rattle.std.proofs.lemmas.List.Elements.{All-append, Contains-append_left, Contains-append_right, Contains-push_cases}
 use Rattle.std.proofs.lemmas.Bool.{cases_lt, cases_eq}
-use Rattle.crew_core.specs.Pieces.{PieceView, WorkView, ShelfView, piece_of, place_of, with_piece}
-use Rattle.crew_core.specs.Answer.{IsOf}
-use Rattle.crew_core.proofs.AnswerLemmas.{filled-stowed, Fits-made}
-use Rattle.crew_core.specs.Deal.{IsDeal, IsMade, HasFirst, HasOthers, HasUpTo, IsMultiple}
+use Rattle.piece_core.specs.Pieces.{PieceView, WorkView, ShelfView, piece_of, Fits, place_of, with_piece}
+use Rattle.piece_core.specs.Answer.{IsOf}
+use Rattle.piece_core.proofs.AnswerLemmas.{Fits-piece_of, IsOf-with_piece, filled-with_piece}
+use Rattle.crew_core.specs.Deal.{IsDeal, IsMade, IsStill, HasFirst, HasOthers, HasUpTo, IsMultiple}
+
+-- how `stow` may leave a shelf
+pub IsOf-stowed : (w : WorkView) (s t : ShelfView) (p : PieceView) → IsOf w s → IsMade w p → (t ≡ s) ⊎ (t ≡ with_piece s p) → IsOf w t
+IsOf-stowed w s t p of made (inl same) = rw same of
+IsOf-stowed w s t p of made (inr put) =
+    let P : PieceView → Type 0 = λ q. IsOf w (with_piece s q) in
+    rw put (subst P (sym made.0) (IsOf-with_piece w s p.number of made.1))
+
+pub Fits-made : (w : WorkView) (s : ShelfView) (p : PieceView) → IsOf w s → IsMade w p → Fits s p
+Fits-made w s p of made = let P : PieceView → Type 0 = λ q. Fits s q in subst P (sym made.0) (Fits-piece_of w s p.number of made.1)
+
+-- what was filled stays filled when a piece is stowed
+pub filled-stowed : (s t : ShelfView) (p : PieceView) (n : ℕ) → Fits s p → (t ≡ s) ⊎ (t ≡ with_piece s p) → get_or s.places n None ≢ None → get_or t.places n None ≢ None
+filled-stowed s t p n fits (inl same) done = rw same done
+filled-stowed s t p n fits (inr put) done = rw put (filled-with_piece s p n fits.number done)
+
+-- a place that is filled or still to come stays so when a piece is stowed
+pub still-stowed : (w : WorkView) (s t : ShelfView) (ps : List PieceView) (p : PieceView) (n : ℕ) → Fits s p → place_of t p ≢ None → (t ≡ s) ⊎ (t ≡ with_piece s p)
+    → IsStill w (ps ++ p ∷ []) s n → IsStill w ps t n
+still-stowed w s t ps p n fits filled either was = elim was [
+  | inl some ↦ elim (Contains-push_cases ps p (piece_of w n) some) [
+    | inl still ↦ inl still
+    | inr this ↦ inr (let same : p.number ≡ n = ap (λ q. q.number) this in rw same at filled)
+  ]
+  | inr done ↦ inr (filled-stowed s t p n fits either done)
+]
 
 pub next_number : (worker workers n : ℕ) → worker + n * workers + workers ≡ worker + (n + 1) * workers
 next_number worker workers n = grind arith

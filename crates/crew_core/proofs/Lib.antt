@@ -1,9 +1,4 @@
-pub mod ValueLemmas
-pub mod AnswerLemmas
 pub mod DealLemmas
-pub mod EarlyLemmas
-pub mod RoomLemmas
-pub mod ShelfLemmas
 pub mod StepLemmas
 pub mod LaneLemmas
 pub mod BatchLemmas

@@ -9,7 +9,8 @@ use Rattle.journal_core.specs.declared.entry.Entry.{Entry}
 use Rattle.journal_core.specs.History.{Begins, entry}
 use Rattle.journal_core.specs.Range.{prefix_of}
 use Rattle.ledger_core.specs.declared.fault.IssueFault.{IssueFault}
-use Rattle.ledger_core.specs.declared.fault.IssueFault.TheVariants.{Exhausted as NoNumber, SeatClosed, OutOfMemory as NoMemory}
+use Rattle.ledger_core.specs.declared.fault.IssueFault.TheVariants.{Exhausted as NoNumber, SeatClosed}
+use Rattle.ledger_core.specs.declared.fault.IssueFault.TheVariants.{OutOfMemory as NoMemory}
 use Rattle.ledger_core.specs.Shared.{SeatView, Holds, IsClosedSeat, IsSameSeat}
 use Rattle.crew_core.specs.declared.outcome.Outcome.{Outcome}
 use Rattle.crew_core.specs.declared.outcome.Outcome.TheVariants.{Sealed, Spoiled, Unissued}
@@ -40,16 +41,19 @@ issues number outcomes = map (entry number) (flat_map issue_of outcomes)
 abbrev pub of_seat : ℕ → List Outcome → List Outcome
 of_seat place outcomes = filter (λ o. nat_eq (seat_of o) place) outcomes
 
--- the outcome is one of this job: its container under the prefix of a number spent as sealed, or a number spent as void, or no number
+-- the outcome is one of this job: its container under the prefix of a number spent as sealed, or a number spent as
+-- void, or no number
 abbrev pub IsOutcome : List ℕ → List ℕ → Outcome → Type 0
-IsOutcome key job (Sealed seat bytes spent) = (bytes.items ≡ container key (prefix_of spent.device spent.number) job) × (spent.way ≡ AsSealed)
+IsOutcome key job (Sealed seat bytes spent) =
+    (bytes.items ≡ container key (prefix_of spent.device spent.number) job) × (spent.way ≡ AsSealed)
 IsOutcome key job (Spoiled seat spent) = spent.way ≡ AsVoid
 IsOutcome key job (Unissued seat fault) = ⊤
 
 -- one outcome for each job, in the order of the jobs
 pub record AreOutcomes (key : List ℕ) (jobs : List (List ℕ)) (outcomes : List Outcome) : Type 0 where
   pub count : length outcomes ≡ length jobs
-  pub each : (n : ℕ) (job : List ℕ) (o : Outcome) → slice_get jobs n ≡ Some job → slice_get outcomes n ≡ Some o → IsOutcome key job o
+  pub each : (n : ℕ) (job : List ℕ) (o : Outcome) → slice_get jobs n ≡ Some job
+      → slice_get outcomes n ≡ Some o → IsOutcome key job o
 
 -- what a fault says of the seat: one that got no number, or is closed, has met the end of the range
 abbrev pub IsFaultAt : SeatView → IssueFault → Type 0
@@ -65,17 +69,20 @@ IsAt seat (Unissued place fault) = IsFaultAt seat fault
 
 -- the outcome names one of so many seats, and says of it what holds
 abbrev pub IsAmong : ℕ → List SeatView → Outcome → Type 0
-IsAmong lanes seats o = (seat_of o < lanes) × ((seat : SeatView) × (slice_get seats (seat_of o) ≡ Some seat) × IsAt seat o)
+IsAmong lanes seats o =
+    (seat_of o < lanes) × ((seat : SeatView) × (slice_get seats (seat_of o) ≡ Some seat) × IsAt seat o)
 
 -- each outcome names one of so many seats, and says of it what holds
 abbrev pub AreAmong : ℕ → List SeatView → List Outcome → Type 0
 AreAmong lanes seats outcomes = (n : ℕ) (o : Outcome) → slice_get outcomes n ≡ Some o → IsAmong lanes seats o
 
--- each seat's own operations have grown by the issues that the outcomes name of it, each once and in the order of their jobs
+-- each seat's own operations have grown by the issues that the outcomes name of it, each once and in the order of their
+-- jobs
 abbrev pub AreIssued : List SeatView → List SeatView → List Outcome → Type 0
 AreIssued old new outcomes = (i : ℕ) (v w : SeatView) → slice_get old i ≡ Some v → slice_get new i ≡ Some w
     → w.mine ≡ v.mine ++ issues v.number (of_seat i outcomes)
 
 -- each seat is still itself, and what it has seen goes on from before
 abbrev pub GoOn : List SeatView → List SeatView → Type 0
-GoOn old new = (i : ℕ) (v w : SeatView) → slice_get old i ≡ Some v → slice_get new i ≡ Some w → IsSameSeat v w × Begins v.seen w.seen
+GoOn old new = (i : ℕ) (v w : SeatView) → slice_get old i ≡ Some v → slice_get new i ≡ Some w
+    → IsSameSeat v w × Begins v.seen w.seen

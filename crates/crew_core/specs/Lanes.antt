@@ -1,7 +1,11 @@
--- Inside: what all lanes of a batch share, what one lane leaves behind it, and how the outcomes of all lanes are put in order.
-use Rattle.std.specs.Prelude.{◌≡◌, ℕ, ◌+◌, ◌*◌, ◌/◌, ◌%◌, ◌<◌, ◌≤◌, List, [], ◌∷◌, ◌++◌, length, Some, slice_get, slice_index_or, All}
+-- Inside: what all lanes of a batch share, what one lane leaves behind it, and how the outcomes of all lanes are put in
+-- order.
+use Rattle.std.specs.Prelude.{◌≡◌, ℕ, ◌+◌, ◌*◌, ◌/◌, ◌%◌, ◌<◌, ◌≤◌, List, [], ◌∷◌, ◌++◌, length, Some, slice_get}
+use Rattle.std.specs.Prelude.{slice_index_or, All}
+use Rattle.container_core.specs.declared.TheConstants.{MAX_PLAIN}
 use Rattle.journal_core.specs.History.{Begins}
 use Rattle.ledger_core.specs.Shared.{LedgerId, SeatView, IsSameSeat}
+use Rattle.crew_core.specs.declared.TheConstants.{MAX_JOBS, MAX_LANES}
 use Rattle.crew_core.specs.declared.outcome.Outcome.{Outcome}
 use Rattle.crew_core.specs.Batch.{seat_of, issues, of_seat, IsOutcome, IsAt}
 
@@ -18,9 +22,9 @@ batch_of key ledger jobs lanes = record { key = key; ledger = ledger; jobs = job
 -- from 1 to 16 lanes, and at most 65,535 jobs, each of at most 2^40 bytes
 pub record IsBatch (batch : BatchView) : Type 0 where
   pub some_lanes : 0 < batch.lanes
-  pub few_lanes : batch.lanes ≤ 16
-  pub few_jobs : length batch.jobs ≤ 65535
-  pub short : All (λ job. length job ≤ 1099511627776) batch.jobs
+  pub few_lanes : batch.lanes ≤ MAX_LANES
+  pub few_jobs : length batch.jobs ≤ MAX_JOBS
+  pub short : All (λ job. length job ≤ MAX_PLAIN) batch.jobs
 
 -- the outcomes of one lane, and for how many there is room in all
 pub record PlacesView : Type 0 where
@@ -36,7 +40,8 @@ pub record IsStep (key job : List ℕ) (lane : ℕ) (old new : SeatView) (o : Ou
   pub seen : Begins old.seen new.seen
   pub same : IsSameSeat old new
 
--- the outcomes of a lane's jobs so far, and its seat by then: of so many lanes, number w is dealt the jobs w, w + lanes, w + 2 * lanes and so on
+-- the outcomes of a lane's jobs so far, and its seat by then: of so many lanes, number w is dealt the jobs w, w +
+-- lanes, w + 2 * lanes and so on
 pub record IsWorked (batch : BatchView) (lane : ℕ) (old new : SeatView) (outcomes : List Outcome) : Type 0 where
   pub within : (k : ℕ) → k < length outcomes → lane + k * batch.lanes < length batch.jobs
   pub each : (k : ℕ) (o : Outcome) → slice_get outcomes k ≡ Some o
@@ -47,7 +52,8 @@ pub record IsWorked (batch : BatchView) (lane : ℕ) (old new : SeatView) (outco
 
 -- the same where no job of the lane is left
 abbrev pub IsLane : BatchView → ℕ → SeatView → SeatView → List Outcome → Type 0
-IsLane batch lane old new outcomes = IsWorked batch lane old new outcomes × (length batch.jobs ≤ lane + length outcomes * batch.lanes)
+IsLane batch lane old new outcomes =
+    IsWorked batch lane old new outcomes × (length batch.jobs ≤ lane + length outcomes * batch.lanes)
 
 -- the places of a lane before its first job
 abbrev pub AreFree : BatchView → PlacesView → Type 0
@@ -87,5 +93,6 @@ AreDealt jobs places = (lane : ℕ) → lane < length places → IsDealt jobs (l
 -- the outcomes of all jobs, in their order: of each lane those that it made, in its order
 pub record AreWoven (jobs : ℕ) (places : List PlacesView) (out : List Outcome) : Type 0 where
   pub count : length out ≡ jobs
-  pub each : (n : ℕ) → n < jobs → slice_get out n ≡ slice_get (outcomes_at places (n % length places)) (n / length places)
+  pub each : (n : ℕ) → n < jobs
+      → slice_get out n ≡ slice_get (outcomes_at places (n % length places)) (n / length places)
   pub of : (lane : ℕ) → lane < length places → of_seat lane out ≡ outcomes_at places lane

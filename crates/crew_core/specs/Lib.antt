@@ -1,10 +1,4 @@
-pub mod Pieces
-pub mod Values
-pub mod Answer
-pub mod Faults
 pub mod Spending
-pub mod Parts
-pub mod Rooms
 pub mod Deal
 pub mod Batch
 pub mod Lanes

@@ -6,18 +6,19 @@ ghost use Rattle.ledger_core.specs.Shared.{SeatView};
 use crate::gate::Gate;
 use crate::lanes::{Batch, all_places, weave, work_lanes};
 use crate::outcome::Outcome;
-use container_core::Key;
+use crate::{MAX_JOBS, MAX_LANES};
+use container_core::{Key, MAX_PLAIN};
 use ledger_core::{Ledger, Seat};
 use std::alloc::{AllocError, Global};
 use std::thread::Threads;
 
-/// Seals at most 65,535 jobs, each of at most 2^40 bytes, by 1 to 16 lanes. Lane i uses the seat at place i, and of k lanes it
-/// works off the jobs i, i + k, i + 2k and so on: for each it passes the gate with the job's number, issues a number, and seals
-/// the job on its own thread. The caller's thread is lane 0, and works off each lane that can't be started. There are no more
-/// lanes than jobs.
+/// Seals at most 65,535 jobs, each of at most 2^40 bytes, by 1 to 16 lanes. Lane i uses the seat at place i, and of k
+/// lanes it works off the jobs i, i + k, i + 2k and so on: for each it passes the gate with the job's number, issues a
+/// number, and seals the job on its own thread. The caller's thread is lane 0, and works off each lane that can't be
+/// started. There are no more lanes than jobs.
 ///
-/// The answer has one outcome for each job, in the order of the jobs. Nothing is settled: that is the caller's. Where memory for
-/// the places of all outcomes is refused, nothing was issued.
+/// The answer has one outcome for each job, in the order of the jobs. Nothing is settled: that is the caller's. Where
+/// memory for the places of all outcomes is refused, nothing was issued.
 pub fn seal_batch<R: Threads + Sync, G: Gate + Sync>(
     rt: &R,
     alloc: Global,
@@ -28,11 +29,11 @@ pub fn seal_batch<R: Threads + Sync, G: Gate + Sync>(
     lanes: u32,
     gate: &G,
 ) -> Result<Vec<Outcome>, AllocError>
-    requires lanes { (0 < lanes) × (lanes ≤ 16) }
+    requires lanes { (0 < lanes) × (lanes ≤ MAX_LANES) }
     requires seats { lanes ≤ length seats.old }
     requires ours { (i : ℕ) (seat : SeatView) → slice_get seats.old i ≡ Some seat → seat.ledger ≡ ledger.now.ledger }
-    requires few { length jobs.now ≤ 65535 }
-    requires short { All (λ job. length job.items ≤ 1099511627776) jobs.now }
+    requires few { length jobs.now ≤ MAX_JOBS }
+    requires short { All (λ job. length job.items ≤ MAX_PLAIN) jobs.now }
     ensures outcomes { IfOk result (λ out. AreOutcomes key.now (map (λ job. job.items) jobs.now) out.items) }
     ensures issued { IfOk result (λ out. AreIssued seats.old seats.new out.items) }
     ensures at_seats { IfOk result (λ out. AreAmong lanes seats.new out.items) }

@@ -1,11 +1,13 @@
-//! What every worker passes before each piece of work, and every lane before each job: a place for tests, and for whoever wants to
-//! watch or hold workers.
+//! What every worker passes before each piece of work, and every lane before each job: a place for tests, and for
+//! whoever wants to watch or hold workers.
 
-/// A gate, shared by all workers or lanes. The workers of one call work in rounds, and none begins its next before all have ended the
-/// last: a gate may hold a worker until others have passed with their first piece, and not until one has passed with a later one.
+/// A gate, shared by all workers or lanes. The workers of one call work in rounds, and none begins its next before all
+/// have ended the last: a gate may hold a worker until others have passed with their first piece, and not until one has
+/// passed with a later one.
 pub trait Gate {
-    /// Called by a worker right before it makes a piece: the worker's number, from 0 on, and the number of the piece's chunk. In a
-    /// batch called by a lane, once for each job, right before it issues a number: the lane's number, from 0 on, and the job's.
+    /// Called by a worker right before it makes a piece: the worker's number, from 0 on, and the number of the piece's
+    /// chunk. In a batch called by a lane, once for each job, right before it issues a number: the lane's number, from
+    /// 0 on, and the job's.
     fn pass(&self, worker: u32, piece: u32);
 }
 

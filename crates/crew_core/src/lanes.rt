@@ -1,12 +1,14 @@
-//! The lanes of a batch: each works off the jobs that it was dealt, with a seat of its own and in places that were made before
-//! the first of them started. The outcomes are put in the order of the jobs once all lanes have ended.
-ghost use Rattle.std.specs.Prelude.{◌≡◌, ℕ, ◌+◌, ◌*◌, ◌<◌, ◌≤◌, ◌++◌, [], ◌∷◌, length, map, All, IfOk, IfNone, slice_index_or, option_to_list, vec_len, vec_capacity};
+//! The lanes of a batch: each works off the jobs that it was dealt, with a seat of its own and in places that were made
+//! before the first of them started. The outcomes are put in the order of the jobs once all lanes have ended.
+ghost use Rattle.std.specs.Prelude.{◌≡◌, ℕ, ◌+◌, ◌*◌, ◌<◌, ◌≤◌, ◌++◌, [], ◌∷◌, length, map, All, IfOk, IfNone};
+ghost use Rattle.std.specs.Prelude.{slice_index_or, option_to_list, vec_len, vec_capacity};
 ghost use Rattle.std.specs.Thread.{IsSync};
 ghost use Rattle.crew_core.specs.Lanes.{batch_of, AreDealt, AreFree, AreLanes, AreReady, AreWoven, IsLane, IsStep};
 
 use crate::gate::Gate;
 use crate::outcome::Outcome;
-use container_core::{Key, seal};
+use crate::{MAX_JOBS, MAX_LANES};
+use container_core::{Key, MAX_PLAIN, seal};
 use ledger_core::{Ledger, Seat};
 use std::alloc::{AllocError, Global};
 use std::collections::VecDeque;
@@ -30,7 +32,8 @@ impl<'a> Model for Batch<'a> {
 
     ghost view = { λ b. batch_of b.key.now b.ledger.now.ledger (map (λ job. job.items) b.jobs.now) b.lanes };
 
-    ghost invariant = { λ b. IsBatch (batch_of b.key.now b.ledger.now.ledger (map (λ job. job.items) b.jobs.now) b.lanes) };
+    ghost invariant = { λ b. IsBatch
+        (batch_of b.key.now b.ledger.now.ledger (map (λ job. job.items) b.jobs.now) b.lanes) };
 }
 
 /// The outcomes of one lane, in the order of its jobs, in room that was made beforehand.
@@ -55,9 +58,9 @@ impl<'a> Batch<'a> {
         jobs: &'a [Vec<u8>],
         lanes: u32,
     ) -> Batch<'a>
-        requires lanes { (0 < lanes) × (lanes ≤ 16) }
-        requires few { length jobs.now ≤ 65535 }
-        requires short { All (λ job. length job.items ≤ 1099511627776) jobs.now }
+        requires lanes { (0 < lanes) × (lanes ≤ MAX_LANES) }
+        requires few { length jobs.now ≤ MAX_JOBS }
+        requires short { All (λ job. length job.items ≤ MAX_PLAIN) jobs.now }
         ensures { result ≡ batch_of key.now ledger.now.ledger (map (λ job. job.items) jobs.now) lanes }
     {
         Batch {
@@ -71,7 +74,7 @@ impl<'a> Batch<'a> {
     // How many jobs there are.
     fn count(&self) -> usize
         ensures count { result ≡ length self.now.jobs }
-        ensures few { result ≤ 65535 }
+        ensures few { result ≤ MAX_JOBS }
     {
         self.jobs.len()
     }
@@ -79,7 +82,7 @@ impl<'a> Batch<'a> {
     // How many lanes there are.
     fn lanes(&self) -> usize
         ensures lanes { result ≡ self.now.lanes }
-        ensures few { (0 < result) × (result ≤ 16) }
+        ensures few { (0 < result) × (result ≤ MAX_LANES) }
     {
         self.lanes as usize
     }
@@ -111,7 +114,7 @@ fn sealed_job(
     seat: &mut Seat,
 ) -> Outcome
     requires ours { seat.old.ledger ≡ ledger.now.ledger }
-    requires short { length job.now ≤ 1099511627776 }
+    requires short { length job.now ≤ MAX_PLAIN }
     ensures { IsStep key.now job.now lane seat.old seat.new result }
 {
     let grant = match ledger.issue(seat) {
@@ -159,7 +162,8 @@ impl Places {
 
 /// Places for each lane, with room for so many outcomes.
 pub(crate) fn all_places(alloc: Global, room: usize, lanes: u32) -> Result<Vec<Places>, AllocError>
-    ensures { IfOk result (λ all. (vec_len all ≡ lanes) × All (λ places. (places.outcomes ≡ []) × (room ≤ places.room)) all.items) }
+    ensures { IfOk result (λ all. (vec_len all ≡ lanes)
+        × All (λ places. (places.outcomes ≡ []) × (room ≤ places.room)) all.items) }
 {
     let mut all = Vec::with_capacity(alloc, lanes as usize)?;
     for _ in 0..lanes {
@@ -259,7 +263,8 @@ fn work_both<R: Threads + Sync, G: Gate + Sync>(
         ensures { AreLanes batch.entry.now last seat.entry.now seat.exit.now place.exit.now }
     { one_lane(alloc, batch, last, gate, seat, place) };
     let mut here = ||
-        requires { IsSync R.row × IsSync G.row × (0 < last) × (last ≤ batch.now.lanes) × AreReady batch.now last seats.now places.now }
+        requires { IsSync R.row × IsSync G.row × (0 < last) × (last ≤ batch.now.lanes)
+            × AreReady batch.now last seats.now places.now }
         ensures { AreLanes batch.entry.now 0 seats.entry.now seats.exit.now places.exit.now }
     { work_lanes(rt, alloc, batch, last, gate, seats, places) };
     join_mut(rt, &mut other, &mut here);

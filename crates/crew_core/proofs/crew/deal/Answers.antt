@@ -1,5 +1,5 @@
 use Rattle.std.proofs.Common.{◌≡◌, ◌+◌, ◌*◌, ◌<◌, length, arith, ap, ◌∙◌}
-use Rattle.crew_core.specs.Pieces.{piece_of}
+use Rattle.piece_core.specs.Pieces.{piece_of}
 use Rattle.crew_core.proofs.DealLemmas.{next_number, each_more}
 use Rattle.std.proofs.lemmas.List.{length_push}
 use Rattle.crew_core.proofs.crew.deal.Goals as goal

@@ -1,6 +1,5 @@
 use Rattle.std.proofs.Common.{◌+◌, ◌<◌, length, ap, arith, ◌∙◌}
-use Rattle.crew_core.proofs.AnswerLemmas.{IsOf-stowed, Fits-made, filled-stowed}
-use Rattle.crew_core.proofs.DealLemmas.{one_round_more, is_made, filled_next}
+use Rattle.crew_core.proofs.DealLemmas.{IsOf-stowed, Fits-made, filled-stowed, one_round_more, is_made, filled_next}
 use Rattle.crew_core.proofs.crew.next_part.Goals as goal
 
 pub loop-number-init : goal.loop-number-init

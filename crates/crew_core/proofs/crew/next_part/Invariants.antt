@@ -1,5 +1,5 @@
 use Rattle.std.proofs.Common.{◌≡◌, ◌≢◌, ℕ, ◌-◌, ◌%◌, ◌<◌, ◌≤◌, length, get_or, None}
-use Rattle.crew_core.specs.Answer.{IsOf}
+use Rattle.piece_core.specs.Answer.{IsOf}
 use Rattle.crew_core.specs.Deal.{IsMultiple}
 use Rattle.crew_core.proofs.crew.next_part.Given as goal
 

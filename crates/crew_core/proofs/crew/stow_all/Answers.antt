@@ -2,9 +2,9 @@ use Rattle.std.proofs.Common.{◌≡◌, ◌++◌, List, [], ◌∷◌, All, sub
 use Rattle.std.proofs.lemmas.List.Elements.{All-contains, Contains-push}
 use Rattle.std.proofs.lemmas.List.{get_or_append_left}
 use Rattle.std.proofs.lemmas.List.Sorted.{All-permutation, Contains-permutation}
-use Rattle.crew_core.specs.Pieces.{PieceView, WorkView, piece_of}
+use Rattle.piece_core.specs.Pieces.{PieceView, WorkView, piece_of}
 use Rattle.crew_core.specs.Deal.{IsMade, IsStill}
-use Rattle.crew_core.proofs.AnswerLemmas.{IsOf-stowed, still-stowed, Fits-made}
+use Rattle.crew_core.proofs.DealLemmas.{IsOf-stowed, still-stowed, Fits-made}
 use Rattle.crew_core.proofs.crew.stow_all.Goals as goal
 
 front_made : (w : WorkView) (xs ys : List PieceView) (p : PieceView) → xs ≡ ys ++ p ∷ [] → All (IsMade w) xs → All (IsMade w) ys

@@ -1,5 +1,5 @@
 use Rattle.std.proofs.Common.{ℕ, ◌<◌, length, All, vec_len}
-use Rattle.crew_core.specs.Answer.{IsOf}
+use Rattle.piece_core.specs.Answer.{IsOf}
 use Rattle.crew_core.specs.Deal.{IsMade, IsStill}
 use Rattle.crew_core.proofs.crew.stow_all.Given as goal
 

@@ -1,6 +1,6 @@
 use Rattle.std.proofs.Common.{◌≡◌, Err, inr, refl, sym, ◌∙◌}
-use Rattle.crew_core.specs.Answer.{IsFull, shelf_whole}
-use Rattle.crew_core.proofs.AnswerLemmas.{whole_of_full}
+use Rattle.piece_core.specs.Answer.{IsFull, shelf_whole}
+use Rattle.piece_core.proofs.AnswerLemmas.{whole_of_full}
 use Rattle.crew_core.proofs.crew.work_whole.Goals as goal
 
 pub returns-in-Err-Forged-default-clause-fault : goal.returns-in-Err-Forged-default-clause-fault

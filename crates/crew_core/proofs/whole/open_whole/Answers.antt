@@ -1,8 +1,8 @@
 use Rattle.std.proofs.Common.{inl, inr, Err, ap, sym, ◌∙◌}
 use Rattle.std.proofs.lemmas.Result.{IfOk-weaker, IfErr-weaker}
-use Rattle.crew_core.specs.Answer.{named, whole_of}
-use Rattle.crew_core.proofs.AnswerLemmas.{opening-whole_of, opening-early}
-use Rattle.crew_core.proofs.EarlyLemmas.{early-no_memory}
+use Rattle.piece_core.specs.Answer.{named, whole_of}
+use Rattle.piece_core.proofs.AnswerLemmas.{opening-whole_of, opening-early}
+use Rattle.piece_core.proofs.EarlyLemmas.{early-no_memory}
 use Rattle.crew_core.proofs.whole.open_whole.Goals as goal
 
 pub returns-in-Err-clause-fault : goal.returns-in-Err-clause-fault

@@ -1,7 +1,7 @@
 use Rattle.std.proofs.Common.{◌≡◌, Ok, inl, inr, ap, ◌∙◌}
 use Rattle.container_core.specs.Container.{container}
-use Rattle.crew_core.specs.Answer.{whole_of}
-use Rattle.crew_core.proofs.AnswerLemmas.{whole_of_sealing}
+use Rattle.piece_core.specs.Answer.{whole_of}
+use Rattle.piece_core.proofs.AnswerLemmas.{whole_of_sealing}
 use Rattle.crew_core.proofs.whole.seal_whole.Goals as goal
 
 pub returns-in-Ok-clause-container : goal.returns-in-Ok-clause-container

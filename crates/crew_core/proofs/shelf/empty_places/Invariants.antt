@@ -1,6 +1,0 @@
-use Rattle.std.proofs.Common.{◌≡◌, replicate}
-use Rattle.crew_core.specs.declared.shelf.Place.TheVariants.{Empty}
-use Rattle.crew_core.proofs.shelf.empty_places.Given as goal
-
-abbrev pub invariant-loop-n : goal.invariant-loop-n
-invariant-loop-n l = l.places.items ≡ replicate l._n Empty

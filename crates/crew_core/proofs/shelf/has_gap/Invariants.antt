@@ -1,6 +1,0 @@
-use Rattle.std.proofs.Common.{◌≢◌, ℕ, ◌<◌, get_or}
-use Rattle.crew_core.specs.declared.shelf.Place.TheVariants.{Empty}
-use Rattle.crew_core.proofs.shelf.has_gap.Given as goal
-
-abbrev pub invariant-loop-n : goal.invariant-loop-n
-invariant-loop-n l = (k : ℕ) → k < l.n → get_or l.places k Empty ≢ Empty

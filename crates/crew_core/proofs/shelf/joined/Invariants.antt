@@ -1,6 +1,0 @@
-use Rattle.std.proofs.Common.{◌≡◌, ◌++◌, take}
-use Rattle.crew_core.specs.Rooms.{held_from}
-use Rattle.crew_core.proofs.shelf.joined.Given as goal
-
-abbrev pub invariant-loop-n : goal.invariant-loop-n
-invariant-loop-n l = l.bytes.items ≡ l.room.front ++ held_from 0 (take l.n l.places) l.room.parts

@@ -1,0 +1,81 @@
+-- Inside: the whole that pieces are joined to, and what a place of a shelf holds.
+use Rattle.std.specs.Prelude.{◌≡◌, ◌≢◌, ℕ, ◌+◌, ◌<◌, List, [], ◌∷◌, ◌++◌, length, Option, Some, None, slice_index_or}
+use Rattle.std.specs.Prelude.{unwrap_or}
+use Rattle.piece_core.specs.declared.work.Kind.{Kind}
+use Rattle.piece_core.specs.declared.shelf.Place.{Place}
+use Rattle.piece_core.specs.declared.shelf.Place.TheVariants.{Empty, Forged, Here, Apart}
+use Rattle.piece_core.specs.Pieces.{PieceView, ShelfView}
+use Rattle.piece_core.specs.Answer.{value_in}
+
+-- what stands before the pieces, and a part for each of them
+pub record RoomView : Type 0 where
+  pub front : List ℕ
+  pub parts : List (List ℕ)
+
+-- the parts joined
+abbrev pub all_of : List (List ℕ) → List ℕ
+all_of [] = []
+all_of (part ∷ rest) = part ++ all_of rest
+
+abbrev pub piece_at : Kind → List ℕ → ℕ → Option (List ℕ) → PieceView
+piece_at kind prefix n value = record { kind = kind; prefix = prefix; number = n; value = value }
+
+-- the piece at a place, if there is one, where this is its part of the whole
+abbrev pub shown : Kind → List ℕ → ℕ → Place → List ℕ → Option PieceView
+shown kind prefix n Empty part = None
+shown kind prefix n Forged part = Some (piece_at kind prefix n None)
+shown kind prefix n Here part = Some (piece_at kind prefix n (Some part))
+shown kind prefix n (Apart bytes) part = Some (piece_at kind prefix n (Some bytes.items))
+
+-- the pieces at all places from a number on
+unfoldable pub places_from : Kind → List ℕ → ℕ → List Place → List (List ℕ) → List (Option PieceView)
+places_from kind prefix n [] parts = []
+places_from kind prefix n (place ∷ rest) parts =
+    shown kind prefix n place (slice_index_or parts n []) ∷ places_from kind prefix (n + 1) rest parts
+
+abbrev pub shelf_of : Kind → List ℕ → List (Option PieceView) → ShelfView
+shelf_of kind header places = record { kind = kind; header = header; places = places }
+
+-- the bytes at a place, if there are any
+abbrev pub bytes_in : Option PieceView → List ℕ
+bytes_in place = unwrap_or (value_in place) []
+
+-- the bytes that a place holds, if it holds any
+abbrev pub held : Place → List ℕ → List ℕ
+held Empty part = []
+held Forged part = []
+held Here part = part
+held (Apart bytes) part = bytes.items
+
+-- the bytes of all places from a number on
+abbrev pub held_from : ℕ → List Place → List (List ℕ) → List ℕ
+held_from n [] parts = []
+held_from n (place ∷ rest) parts = held place (slice_index_or parts n []) ++ held_from (n + 1) rest parts
+
+-- no piece is there, or it doesn't check
+abbrev pub IsWithout : Place → Type 0
+IsWithout Empty = Unit {0}
+IsWithout Forged = Unit {0}
+IsWithout Here = ⊥
+IsWithout (Apart bytes) = ⊥
+
+-- every place has bytes
+abbrev pub HasAll : List Place → Type 0
+HasAll places = (n : ℕ) → n < length places → IsWithout (slice_index_or places n Empty) → ⊥
+
+-- the least place without bytes
+pub record IsFirstWithout (places : List Place) (n : ℕ) : Type 0 where
+  pub below : n < length places
+  pub without : IsWithout (slice_index_or places n Empty)
+  pub before : (k : ℕ) → k < n → IsWithout (slice_index_or places k Empty) → ⊥
+
+-- every piece of the shelf is there and checks
+abbrev pub AllCheck : ShelfView → Type 0
+AllCheck s = (n : ℕ) → n < length s.places → value_in (slice_index_or s.places n None) ≢ None
+
+-- a place shows this value, and the parts of the other places stay
+pub record Keeps (old new : List (List ℕ)) (n : ℕ) (value : Option (List ℕ)) (place : Place) : Type 0 where
+  pub shows : (kind : Kind) (prefix : List ℕ) (m : ℕ)
+      → shown kind prefix m place (slice_index_or new n []) ≡ Some (piece_at kind prefix m value)
+  pub others : (m : ℕ) → m ≢ n → slice_index_or new m [] ≡ slice_index_or old m []
+  pub count : length new ≡ length old

@@ -1,0 +1,61 @@
+//! One piece of a work: what came of one chunk, and which of the work's pieces it is.
+ghost use Rattle.std.specs.Prelude.{◌≡◌, option_map};
+
+use crate::work::Kind;
+use std::marker::Model;
+
+/// One chunk sealed, or opened; or that the chunk doesn't check. `Work::piece` makes it.
+#[derive(Drop)]
+pub struct Piece {
+    pub(crate) kind: Kind,
+    pub(crate) prefix: [u8; 7],
+    pub(crate) number: u32,
+    pub(crate) value: Option<Vec<u8>>,
+}
+
+impl Model for Piece {
+    ghost use Rattle.std.specs.Prelude.{option_map};
+    ghost use Rattle.piece_core.specs.Pieces.{PieceView};
+
+    ghost Value = { PieceView };
+
+    ghost view = { λ p. record {
+      kind = p.kind;
+      prefix = p.prefix;
+      number = p.number;
+      value = option_map (λ v. v.items) p.value;
+    } };
+}
+
+impl Piece {
+    /// Whether it is a piece of a sealing or of an opening.
+    pub fn kind(&self) -> Kind
+        ensures { result ≡ self.now.kind }
+    {
+        self.kind
+    }
+
+    /// The prefix of the work's nonces.
+    pub fn prefix(&self) -> [u8; 7]
+        ensures { result ≡ self.now.prefix }
+    {
+        self.prefix
+    }
+
+    /// The number of its chunk.
+    pub fn number(&self) -> u32
+        ensures { result ≡ self.now.number }
+    {
+        self.number
+    }
+
+    /// The chunk sealed, with its tag behind it, or the chunk opened; `None` where it doesn't check.
+    pub fn bytes(&self) -> Option<&[u8]>
+        ensures { option_map (λ b. b.now) result ≡ self.now.value }
+    {
+        match &self.value {
+            Some(bytes) => Some(bytes.as_slice()),
+            None => None,
+        }
+    }
+}

@@ -1,0 +1,176 @@
+//! The whole that the pieces of a work are joined to: one buffer, reserved once, with a part for each piece.
+ghost use Rattle.std.specs.Prelude.{◌≡◌, ℕ, ◌+◌, ◌*◌, ◌^◌, ◌<◌, ◌≤◌, ◌++◌, List, [], length, take, drop, replicate};
+ghost use Rattle.std.specs.Prelude.{slice_index_or, slice_set, None, Some, IfOk, OnOk};
+ghost use Rattle.piece_core.specs.Answer.{front_of};
+ghost use Rattle.piece_core.specs.Parts.{piece_size};
+ghost use Rattle.piece_core.specs.Rooms.{all_of};
+
+use crate::work::{Kind, Work};
+use container_core::cutting::MAX_BODY;
+use container_core::{CHUNK, HEADER, SEALED};
+use std::alloc::{AllocError, Global};
+use std::marker::Model;
+
+// What stands before the pieces, and a part for each of them.
+#[derive(Drop)]
+pub(crate) struct Room {
+    front: usize,
+    size: usize,
+    count: u32,
+    whole: Vec<u8>,
+}
+
+impl Model for Room {
+    ghost use Rattle.std.specs.Prelude.{◌≤◌, ◌+◌, ◌-◌, ◌*◌, ◌<◌, take, drop, length};
+    ghost use Rattle.container_core.specs.Chunks.{parts};
+    ghost use Rattle.piece_core.specs.Rooms.{RoomView};
+
+    ghost Value = { RoomView };
+
+    ghost view = { λ r. record {
+      front = take r.front r.whole.items;
+      parts = parts r.size (r.count - 1) (drop r.front r.whole.items);
+    } };
+
+    // Every part but the last has `size` bytes, and the last no more.
+    ghost invariant = { λ r. (0 < r.count) × (r.front + (r.count - 1) * r.size ≤ length r.whole.items)
+        × (length r.whole.items ≤ r.front + r.count * r.size) };
+}
+
+// Appends so many zeros, to be written over.
+fn append_zeros(bytes: &mut Vec<u8>, count: usize) -> Result<(), AllocError>
+    requires { length bytes.old.items + count < 2 ^ 63 }
+    ensures { OnOk result (bytes.new.items ≡ bytes.old.items ++ replicate count 0) }
+{
+    bytes.resize(bytes.len() + count, 0)
+}
+
+// Bytes of every piece but the last.
+fn size_of_piece(kind: Kind) -> usize
+    ensures { result ≡ piece_size kind }
+{
+    match kind {
+        Kind::Sealing => SEALED,
+        Kind::Opening => CHUNK,
+    }
+}
+
+// What stands before the pieces, with room for so many bytes in all.
+fn front_bytes(alloc: Global, work: &Work, bytes: usize) -> Result<Vec<u8>, AllocError>
+    requires { bytes ≤ MAX_BODY }
+    ensures front { IfOk result (λ v. v.items ≡ front_of work.now.kind work.now.header) }
+    ensures short { IfOk result (λ v. length v.items ≤ HEADER) }
+{
+    let mut front = Vec::with_capacity(alloc, HEADER + bytes)?;
+    match work.kind() {
+        Kind::Sealing => front.extend_from_slice(&work.header().bytes())?,
+        Kind::Opening => {}
+    }
+    Ok(front)
+}
+
+// Where the part of this number begins.
+fn begin_at(front: usize, size: usize, number: usize, bytes: usize) -> usize
+    requires { front + number * size ≤ bytes }
+    ensures { result ≡ front + number * size }
+{
+    front + number * size
+}
+
+// The part of so many bytes at most that begins here.
+fn cut_at(whole: &[u8], begin: usize, size: usize) -> &[u8]
+    requires { begin ≤ length whole.now }
+    ensures { result.now ≡ take size (drop begin whole.now) }
+{
+    let (_, rest) = whole.split_at(begin);
+    let (part, _) = rest.split_at(size.min(rest.len()));
+    part
+}
+
+// Writes these bytes from a place on.
+fn write_over(whole: &mut [u8], begin: usize, bytes: &[u8])
+    requires { begin + length bytes.now ≤ length whole.old }
+    ensures { whole.new ≡ take begin whole.old ++ (bytes.now ++ drop (begin + length bytes.now) whole.old) }
+{
+    let (_, rest) = whole.split_at_mut(begin);
+    let (part, _) = rest.split_at_mut(bytes.len());
+    part.copy_from_slice(bytes);
+}
+
+// The same in a vector.
+fn write_at(whole: &mut Vec<u8>, begin: usize, bytes: &[u8])
+    requires { begin + length bytes.now ≤ length whole.old.items }
+    ensures { whole.new.items ≡ take begin whole.old.items
+        ++ (bytes.now ++ drop (begin + length bytes.now) whole.old.items) }
+{
+    write_over(whole.as_mut_slice(), begin, bytes);
+}
+
+impl Room {
+    // The front of a work's whole, and a part for each piece that is as long as the piece.
+    pub(crate) fn new(alloc: Global, work: &Work) -> Result<Room, AllocError>
+        ensures front { IfOk result (λ room. room.front ≡ front_of work.now.kind work.now.header) }
+        ensures count { IfOk result (λ room. length room.parts ≡ length work.now.values) }
+        ensures sizes { IfOk result (λ room. (n : ℕ) (bytes : List ℕ)
+            → n < length work.now.values → slice_index_or work.now.values n None ≡ Some bytes
+            → length bytes ≡ length (slice_index_or room.parts n [])) }
+    {
+        let bytes = work.bytes_of_pieces();
+        let mut whole = front_bytes(alloc, work, bytes)?;
+        let front = whole.as_slice().len();
+        append_zeros(&mut whole, bytes)?;
+        Ok(Room {
+            front,
+            size: size_of_piece(work.kind()),
+            count: work.count(),
+            whole,
+        })
+    }
+
+    // What stands before the pieces.
+    pub(crate) fn front(&self) -> &[u8]
+        ensures { result.now ≡ self.now.front }
+    {
+        let (front, _) = self.whole.as_slice().split_at(self.front);
+        front
+    }
+
+    // How many bytes the part of this number has.
+    pub(crate) fn bytes_at(&self, number: usize) -> usize
+        requires { number < length self.now.parts }
+        ensures { result ≡ length (slice_index_or self.now.parts number []) }
+    {
+        let whole = self.whole.as_slice();
+        let begin = begin_at(self.front, self.size, number, whole.len());
+        self.size.min(whole.len() - begin)
+    }
+
+    // The part of this number.
+    pub(crate) fn part(&self, number: usize) -> &[u8]
+        requires { number < length self.now.parts }
+        ensures { result.now ≡ slice_index_or self.now.parts number [] }
+    {
+        let whole = self.whole.as_slice();
+        let begin = begin_at(self.front, self.size, number, whole.len());
+        cut_at(whole, begin, self.size)
+    }
+
+    // Writes the part of this number.
+    pub(crate) fn write(&mut self, number: usize, bytes: &[u8])
+        requires inside { number < length self.old.parts }
+        requires fits { length bytes.now ≡ length (slice_index_or self.old.parts number []) }
+        ensures front { self.new.front ≡ self.old.front }
+        ensures parts { self.new.parts ≡ slice_set self.old.parts number bytes.now }
+    {
+        let begin = begin_at(self.front, self.size, number, self.whole.as_slice().len());
+        write_at(&mut self.whole, begin, bytes);
+    }
+
+    // The front and all parts, one behind the other.
+    pub(crate) fn into_bytes(self) -> Vec<u8>
+        ensures { result.items ≡ self.front ++ all_of self.parts }
+    {
+        let Room { whole, .. } = self;
+        whole
+    }
+}

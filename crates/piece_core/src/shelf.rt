@@ -1,0 +1,302 @@
+//! A place for each piece of a work.
+//!
+//! A piece that has as many bytes as its place is written where it belongs in the whole, and let go. Another one, which
+//! this shelf's work did not make, is kept apart.
+ghost use Rattle.std.specs.Prelude.{◌≡◌, ◌≢◌, ℕ, ◌+◌, ◌<◌, ◌≤◌, ◌++◌, ◌↔◌, List, [], length, replicate, slice_index_or};
+ghost use Rattle.std.specs.Prelude.{option_map, None, Some, Ok, Err, IfOk, IfErr, OnOk, OnErr, IfSome, IfNone, IsTrue};
+ghost use Rattle.std.specs.Bool.{OnTrue, OnFalse};
+ghost use Rattle.piece_core.specs.Pieces.{WorkView, empty_shelf, Fits, place_of, with_piece};
+ghost use Rattle.piece_core.specs.Answer.{IsFull, IsOf, shelf_whole, whole_of};
+ghost use Rattle.piece_core.specs.Faults.{Refuses, EndsBy};
+ghost use Rattle.piece_core.specs.Rooms.{held, held_from, IsWithout, HasAll, IsFirstWithout, AllCheck, Keeps};
+
+use crate::fault::{PutFault, ShelfFault};
+use crate::piece::Piece;
+use crate::room::Room;
+use crate::work::{Kind, MAX_PIECES, Work};
+use std::alloc::{AllocError, Global};
+use std::marker::Model;
+
+// What is known of a piece's place.
+#[derive(Drop)]
+pub(crate) enum Place {
+    // No piece came yet.
+    Empty,
+    // The piece doesn't check.
+    Forged,
+    // The piece's bytes stand in the whole.
+    Here,
+    // The piece's bytes, which don't have the length of the place.
+    Apart(Vec<u8>),
+}
+
+/// A place for each piece of a work, empty or filled. Contracts see the places.
+#[derive(Drop)]
+pub struct Shelf {
+    kind: Kind,
+    header: [u8; 24],
+    prefix: [u8; 7],
+    room: Room,
+    places: Vec<Place>,
+}
+
+impl Model for Shelf {
+    ghost use Rattle.std.specs.Prelude.{◌≡◌, ◌≤◌, length, vec_len};
+    ghost use Rattle.container_core.specs.Stream.{prefix_in};
+    ghost use Rattle.piece_core.specs.Answer.{front_of};
+    ghost use Rattle.piece_core.specs.Pieces.{ShelfView};
+    ghost use Rattle.piece_core.specs.Rooms.{places_from};
+    ghost use Rattle.piece_core.specs.declared.work.TheConstants.{MAX_PIECES};
+
+    ghost Value = { ShelfView };
+
+    ghost view = { λ s. record {
+      kind = s.kind;
+      header = s.header;
+      places = places_from s.kind s.prefix 0 s.places.items s.room.parts;
+    } };
+
+    ghost invariant = { λ s. (s.prefix ≡ prefix_in s.header) × (s.room.front ≡ front_of s.kind s.header)
+        × (length s.places.items ≡ length s.room.parts) × (vec_len s.places ≤ MAX_PIECES) };
+}
+
+// So many empty places.
+fn empty_places(alloc: Global, count: u32) -> Result<Vec<Place>, AllocError>
+    ensures { IfOk result (λ v. v.items ≡ replicate count Place.Empty) }
+{
+    let mut places = Vec::with_capacity(alloc, count as usize)?;
+    for _n in 0..count {
+        places.push(Place::Empty)?;
+    }
+    Ok(places)
+}
+
+// Whether no piece came yet.
+fn is_empty(place: &Place) -> bool
+    ensures { IsTrue result ↔ (place.now ≡ Place.Empty) }
+{
+    match place {
+        Place::Empty => true,
+        _ => false,
+    }
+}
+
+// Whether no piece came yet for the place of this number.
+fn is_empty_at(places: &[Place], number: usize) -> bool
+    requires { number < length places.now }
+    ensures yes { OnTrue result (slice_index_or places.now number Place.Empty ≡ Place.Empty) }
+    ensures no { OnFalse result (slice_index_or places.now number Place.Empty ≢ Place.Empty) }
+{
+    is_empty(&places[number])
+}
+
+// Whether a place is empty.
+fn has_gap(places: &[Place]) -> bool
+    ensures gap { OnTrue result ((n : ℕ) × (n < length places.now)
+        × (slice_index_or places.now n Place.Empty ≡ Place.Empty)) }
+    ensures full { OnFalse result ((n : ℕ) → n < length places.now
+        → slice_index_or places.now n Place.Empty ≢ Place.Empty) }
+{
+    for n in 0..places.len() {
+        if is_empty(&places[n]) {
+            return true;
+        }
+    }
+    false
+}
+
+// Whether no piece is there, or it doesn't check.
+fn is_without(place: &Place) -> bool
+    ensures yes { OnTrue result (IsWithout place.now) }
+    ensures no { OnFalse result (IsWithout place.now → ⊥) }
+{
+    match place {
+        Place::Empty | Place::Forged => true,
+        Place::Here | Place::Apart(_) => false,
+    }
+}
+
+// The least place without bytes.
+fn first_without(places: &[Place]) -> Option<u32>
+    requires { length places.now ≤ MAX_PIECES }
+    ensures found { IfSome result (IsFirstWithout places.now) }
+    ensures none { IfNone result (HasAll places.now) }
+{
+    for n in 0..places.len() {
+        if is_without(&places[n]) {
+            return Some(n as u32);
+        }
+    }
+    None
+}
+
+// Whether the bytes of all pieces stand in the whole.
+fn are_here(places: &[Place]) -> bool
+    ensures yes { OnTrue result ((n : ℕ) → n < length places.now
+        → slice_index_or places.now n Place.Empty ≡ Place.Here) }
+    ensures no { OnFalse result ((n : ℕ) × (n < length places.now)
+        × (slice_index_or places.now n Place.Empty ≢ Place.Here)) }
+{
+    for n in 0..places.len() {
+        match &places[n] {
+            Place::Here => {}
+            _ => return false,
+        }
+    }
+    true
+}
+
+// Appends the bytes that a place holds.
+fn append_held(bytes: &mut Vec<u8>, place: &Place, part: &[u8]) -> Result<(), AllocError>
+    ensures { OnOk result (bytes.new.items ≡ bytes.old.items ++ held place.now part.now) }
+{
+    match place {
+        Place::Empty | Place::Forged => Ok(()),
+        Place::Here => bytes.extend_from_slice(part),
+        Place::Apart(other) => bytes.extend_from_slice(other.as_slice()),
+    }
+}
+
+// The bytes of all places, behind what stands before them.
+fn joined(alloc: Global, room: &Room, places: &[Place]) -> Result<Vec<u8>, AllocError>
+    requires { length places.now ≡ length room.now.parts }
+    ensures { IfOk result (λ v. v.items ≡ room.now.front ++ held_from 0 places.now room.now.parts) }
+{
+    let mut bytes = Vec::from_slice(alloc, room.front())?;
+    for n in 0..places.len() {
+        append_held(&mut bytes, &places[n], room.part(n))?;
+    }
+    Ok(bytes)
+}
+
+// Puts the bytes of a piece where they belong, or keeps them apart where they don't have the length of their place.
+fn keep(room: &mut Room, number: usize, value: Option<Vec<u8>>) -> Place
+    requires { number < length room.old.parts }
+    ensures front { room.new.front ≡ room.old.front }
+    ensures kept { Keeps room.old.parts room.new.parts number (option_map (λ v. v.items) value) result }
+    ensures here { IfSome value (λ v. length v.items ≡ length (slice_index_or room.old.parts number [])
+        → result ≡ Place.Here) }
+{
+    let Some(bytes) = value else {
+        return Place::Forged;
+    };
+    if bytes.as_slice().len() == room.bytes_at(number) {
+        room.write(number, bytes.as_slice());
+        Place::Here
+    } else {
+        Place::Apart(bytes)
+    }
+}
+
+impl Shelf {
+    /// A shelf for the pieces of this work, with all places empty, and room for the whole. `AllocError` where memory
+    /// was refused.
+    pub fn new(alloc: Global, work: &Work) -> Result<Shelf, AllocError>
+        ensures { IfOk result (λ s. s ≡ empty_shelf work.now) }
+    {
+        let room = Room::new(alloc, work)?;
+        let places = empty_places(alloc, work.count())?;
+        let header = work.header();
+        Ok(Shelf {
+            kind: work.kind(),
+            header: header.bytes(),
+            prefix: header.prefix(),
+            room,
+            places,
+        })
+    }
+
+    // How many places there are.
+    fn count(&self) -> usize
+        ensures { result ≡ length self.now.places }
+    {
+        self.places.as_slice().len()
+    }
+
+    // Whether the piece has a place here.
+    fn fits(&self, piece: &Piece) -> bool
+        ensures yes { OnTrue result (Fits self.now piece.now) }
+        ensures no { OnFalse result (Fits self.now piece.now → ⊥) }
+    {
+        piece.kind == self.kind
+            && piece.prefix == self.prefix
+            && (piece.number as usize) < self.count()
+    }
+
+    // Whether a piece came for this place.
+    fn is_taken(&self, number: usize) -> bool
+        requires { number < length self.now.places }
+        ensures yes { OnTrue result (slice_index_or self.now.places number None ≢ None) }
+        ensures no { OnFalse result (slice_index_or self.now.places number None ≡ None) }
+    {
+        if is_empty_at(self.places.as_slice(), number) {
+            return false;
+        }
+        true
+    }
+
+    // Why these pieces have no whole.
+    fn fault(&self) -> Option<ShelfFault>
+        ensures fault { IfSome result (λ fault. (fault ≢ ShelfFault.OutOfMemory) × EndsBy self.now fault) }
+        ensures none { IfNone result (AllCheck self.now) }
+    {
+        if has_gap(self.places.as_slice()) {
+            return Some(ShelfFault::Missing);
+        }
+        match first_without(self.places.as_slice()) {
+            Some(chunk) => Some(ShelfFault::Forged { chunk }),
+            None => None,
+        }
+    }
+
+    /// Puts a piece on its place. `Stranger` is tested first: where the piece is of another kind or prefix, or its
+    /// number isn't below the count. Else `Double` where its place is taken. At both nothing changes, and the piece is
+    /// handed back. Takes no memory.
+    pub fn put(&mut self, piece: Piece) -> Result<(), (PutFault, Piece)>
+        // The place was empty and is filled, and no other changed.
+        ensures filled { OnOk result (Fits self.old piece × (place_of self.old piece ≡ None)
+            × (self.new ≡ with_piece self.old piece)) }
+        ensures back { IfErr result (λ e. e.1 ≡ piece) }
+        ensures same { OnErr result (self.new ≡ self.old) }
+        ensures refused { IfErr result (λ e. Refuses self.old piece e.0) }
+    {
+        if !self.fits(&piece) {
+            return Err((PutFault::Stranger, piece));
+        }
+        let number = piece.number as usize;
+        if self.is_taken(number) {
+            return Err((PutFault::Double, piece));
+        }
+        let Piece { value, .. } = piece;
+        let place = keep(&mut self.room, number, value);
+        self.places[number] = place;
+        Ok(())
+    }
+
+    /// The pieces joined: of a sealing's pieces the container, of an opening's the plaintext. `Missing` where a place
+    /// is empty; else `Forged` of the least piece that doesn't check; else `OutOfMemory` where memory was refused,
+    /// which is asked for only where the shelf's work didn't make all the pieces. A fault hands the shelf back as it
+    /// was.
+    pub fn finish(self, alloc: Global) -> Result<Vec<u8>, (ShelfFault, Shelf)>
+        ensures whole { IfOk result (λ v. IsFull self × (shelf_whole self ≡ Ok v.items)) }
+        ensures back { IfErr result (λ e. e.1 ≡ self) }
+        ensures fault { IfErr result (λ e. EndsBy self e.0) }
+
+        // Of pieces that a work of this shelf made, the whole is that work's, and so is the chunk that doesn't check.
+        ensures made { IfOk result (λ v. (work : WorkView) → IsOf work self → whole_of work ≡ Ok v.items) }
+        ensures unmade { IfErr result (λ e. (work : WorkView) (chunk : ℕ) → IsOf work self
+            → e.0 ≡ ShelfFault.Forged chunk → whole_of work ≡ Err chunk) }
+    {
+        if let Some(fault) = self.fault() {
+            return Err((fault, self));
+        }
+        if are_here(self.places.as_slice()) {
+            let Shelf { room, .. } = self;
+            return Ok(room.into_bytes());
+        }
+        match joined(alloc, &self.room, self.places.as_slice()) {
+            Ok(bytes) => Ok(bytes),
+            Err(AllocError) => Err((ShelfFault::OutOfMemory, self)),
+        }
+    }
+}
