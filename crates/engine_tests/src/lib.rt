@@ -1,5 +1,11 @@
-//! Tests of the engines of `sealer_core` with any number of workers.
+//! Tests of `engine_core`: the engines with workers and those of one thread, and audits.
 #![tactic(auto)]
 
 #[cfg(test)]
+mod audits;
+#[cfg(test)]
 mod engines;
+#[cfg(test)]
+mod gates;
+#[cfg(test)]
+mod one_thread;

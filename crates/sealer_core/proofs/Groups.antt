@@ -20,18 +20,19 @@ use Rattle.ledger_core.specs.Shared.{SeatView, SpentView, Extends}
 use Rattle.crew_core.specs.declared.outcome.Outcome.{Outcome}
 use Rattle.crew_core.specs.declared.outcome.Outcome.TheVariants as job
 use Rattle.crew_core.specs.Batch.{seat_of, of_seat, issues, AreOutcomes, AreAmong, AreIssued, IsOutcome}
-use Rattle.sealer_core.specs.declared.line.FileFault.{FileFault}
-use Rattle.sealer_core.specs.declared.line.FileOutcome.{FileOutcome}
-use Rattle.sealer_core.specs.declared.line.FileOutcome.TheVariants.{Sealed, Opened, Good, Failed}
-use Rattle.sealer_core.specs.Lines.{FileLine}
-use Rattle.sealer_core.specs.Folder.{Step, stepped}
-use Rattle.sealer_core.specs.Work.{AreTold}
+use Rattle.command_core.specs.declared.line.FileFault.{FileFault}
+use Rattle.command_core.specs.declared.line.FileOutcome.{FileOutcome}
+use Rattle.command_core.specs.declared.line.FileOutcome.TheVariants.{Sealed, Opened, Good, Failed}
+use Rattle.command_core.specs.Lines.{FileLine}
+use Rattle.command_core.specs.Folder.{Step, stepped}
+use Rattle.command_core.specs.Work.{AreTold}
 use Rattle.sealer_core.specs.Group.{holds, HasEnded, IsHeld, AreHeld, IsCounted, IsEnding, AreEnded, AreEnding, IsGroup, refused_lines, name_of, IsPrepared, made_for, read_of}
 use Rattle.sealer_core.specs.declared.prepare.Prepared.{Prepared}
-use Rattle.sealer_core.specs.declared.line.FileFault.TheVariants.{OutOfMemory}
+use Rattle.command_core.specs.declared.line.FileFault.TheVariants.{OutOfMemory}
 use Rattle.sealer_core.specs.Sealing.{Accounts, AreSealed, IsOfSealing, creations_of, removals_of, line_of, operations_of, created_as, removed_as, sealed_name, seals, voids, tells_of, times_sealed, times_voided}
 use Rattle.sealer_core.proofs.Numbering.{adds_failure, told_push, sum_below_zeros, sum_below_first}
-use Rattle.sealer_core.proofs.Telling.{stepped-nil, stepped-stepped, sealed_more}
+use Rattle.command_core.proofs.Telling.{stepped-nil, stepped-stepped}
+use Rattle.sealer_core.proofs.Sealings.{sealed_more}
 
 -- ---- one seat's operation among those of all
 

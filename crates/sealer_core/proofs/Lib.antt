@@ -1,6 +1,3 @@
-pub mod EngineLemmas
 pub mod Groups
-pub mod KeyFiles
-pub mod Lives
 pub mod Numbering
-pub mod Telling
+pub mod Sealings

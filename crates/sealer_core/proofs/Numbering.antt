@@ -18,10 +18,10 @@ use Rattle.std.proofs.lemmas.Grind.{flat_map-append}
 use Rattle.ledger_core.specs.Shared.{LedgerId, LedgerView, SeatView, SpentView, GrantView, Extends, Unissued, fresh_seat, fresh_seats}
 use Rattle.ledger_core.specs.Closing.{AreAllSeats, HaveMet, IsWhole}
 use Rattle.crew_core.specs.Spending.{spent_as}
-use Rattle.sealer_core.specs.declared.line.FileFault.{FileFault}
-use Rattle.sealer_core.specs.declared.line.FileOutcome.TheVariants.{Sealed, Failed}
-use Rattle.sealer_core.specs.Lines.{FileLine}
-use Rattle.sealer_core.specs.Folder.{Step}
+use Rattle.command_core.specs.declared.line.FileFault.{FileFault}
+use Rattle.command_core.specs.declared.line.FileOutcome.TheVariants.{Sealed, Failed}
+use Rattle.command_core.specs.Lines.{FileLine}
+use Rattle.command_core.specs.Folder.{Step}
 use Rattle.sealer_core.specs.Sealing.{Accounts, AreNumbered, AreSealed, HasSealed, line_of, operations_of, seals, tells_of, times_told, voids}
 
 pub told_push : (n : ℕ) (lines : List FileLine) (line : FileLine) → times_told n (lines ++ line ∷ []) ≡ times_told n lines + cond (tells_of n line.outcome) 1 0

@@ -12,14 +12,14 @@ use Rattle.crew_core.specs.declared.outcome.Outcome.TheVariants as job
 use Rattle.crew_core.specs.Batch.{seat_of}
 use Rattle.sealer_core.specs.declared.prepare.Prepared.{Prepared}
 use Rattle.sealer_core.specs.declared.prepare.Prepared.TheVariants.{Refused, Unread, Read}
-use Rattle.sealer_core.specs.declared.line.FileOutcome.{FileOutcome}
-use Rattle.sealer_core.specs.declared.line.FileOutcome.TheVariants.{Sealed, Failed}
-use Rattle.sealer_core.specs.declared.line.FileFault.{FileFault}
-use Rattle.sealer_core.specs.declared.line.FileFault.TheVariants.{CannotOpen, OutputExists, CannotCreate, OutOfMemory, Unsealed}
-use Rattle.sealer_core.specs.Folder.{Step, Created, stepped}
-use Rattle.sealer_core.specs.Lines.{FileLine}
+use Rattle.command_core.specs.declared.line.FileOutcome.{FileOutcome}
+use Rattle.command_core.specs.declared.line.FileOutcome.TheVariants.{Sealed, Failed}
+use Rattle.command_core.specs.declared.line.FileFault.{FileFault}
+use Rattle.command_core.specs.declared.line.FileFault.TheVariants.{CannotOpen, OutputExists, CannotCreate, OutOfMemory, Unsealed}
+use Rattle.command_core.specs.Folder.{Step, Created, stepped}
+use Rattle.command_core.specs.Lines.{FileLine}
 use Rattle.sealer_core.specs.Sealing.{IsOfSealing, Accounts, unissued_as, creations_of, removals_of, group_steps, line_of, sealed_name, times_sealed, times_voided, times_told}
-use Rattle.sealer_core.specs.Work.{AreTold}
+use Rattle.command_core.specs.Work.{AreTold}
 
 -- ---- a file before the sealing
 

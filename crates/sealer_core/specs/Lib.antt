@@ -1,10 +1,2 @@
-pub mod Engine
-pub mod Folder
 pub mod Group
-pub mod KeyFile
-pub mod Life
-pub mod Lines
-pub mod Memory
 pub mod Sealing
-pub mod Status
-pub mod Work

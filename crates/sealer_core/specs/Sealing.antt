@@ -13,13 +13,13 @@ use Rattle.ledger_core.specs.Shared.{SeatView}
 use Rattle.reserve_core.specs.Reservations.{Lists, Holds, next_of, reserved}
 use Rattle.sqlite.specs.State.{State, HasCleanDisk}
 use Rattle.sqlite_trees.specs.Tree.{Trees}
-use Rattle.sealer_core.specs.declared.line.FileFault.{FileFault}
-use Rattle.sealer_core.specs.declared.line.FileFault.TheVariants.{CannotOpen, OutputExists, CannotCreate, OutOfMemory, NoNumber, Unsealed}
-use Rattle.sealer_core.specs.declared.line.FileOutcome.{FileOutcome}
-use Rattle.sealer_core.specs.declared.line.FileOutcome.TheVariants.{Sealed, Opened, Good, Failed}
-use Rattle.sealer_core.specs.Folder.{Step, Created, Removing, stepped}
-use Rattle.sealer_core.specs.Lines.{FileLine}
-use Rattle.sealer_core.specs.Work.{AreTold}
+use Rattle.command_core.specs.declared.line.FileFault.{FileFault}
+use Rattle.command_core.specs.declared.line.FileFault.TheVariants.{CannotOpen, OutputExists, CannotCreate, OutOfMemory, NoNumber, Unsealed}
+use Rattle.command_core.specs.declared.line.FileOutcome.{FileOutcome}
+use Rattle.command_core.specs.declared.line.FileOutcome.TheVariants.{Sealed, Opened, Good, Failed}
+use Rattle.command_core.specs.Folder.{Step, Created, Removing, stepped}
+use Rattle.command_core.specs.Lines.{FileLine}
+use Rattle.command_core.specs.Work.{AreTold}
 
 -- ---- one file
 

@@ -4,20 +4,18 @@ ghost use Rattle.std.specs.Prelude.{◌≡◌, ◌⊎◌, ℕ, Option, ◌<◌, 
 ghost use Rattle.journal_core.specs.declared.entry.Event.TheVariants.{Settled};
 ghost use Rattle.journal_core.specs.declared.entry.Way.TheVariants.{Sealed};
 ghost use Rattle.ledger_core.specs.Closing.{AreAllSeats};
-ghost use Rattle.sealer_core.specs.Folder.{stepped};
+ghost use Rattle.command_core.specs.Folder.{stepped};
 ghost use Rattle.sealer_core.specs.Group.{name_of, IsPrepared, made_for, IsHeld, IsCounted, IsEnding, IsPut, IsEndOf, IsEndBy, IsEndIn, left_by, AreHeld, AreEnded, IsGroup, refused_lines};
-ghost use Rattle.sealer_core.specs.Lines.{FileLine};
-ghost use Rattle.sealer_core.specs.Work.{AreTold};
+ghost use Rattle.command_core.specs.Lines.{FileLine};
+ghost use Rattle.command_core.specs.Work.{AreTold};
 ghost use Rattle.crew_core.specs.Batch.{AreOutcomes};
 ghost use Rattle.crew_core.specs.declared.outcome.Outcome.{Outcome};
 ghost use Rattle.sealer_core.specs.Sealing.{Accounts, AreSealed, IsOfNumber, IsOfSealing, line_of, operations_of, created_as, removed_as, sealed_name};
 
-use crate::commands::tell;
-use crate::folder::Folder;
 use crate::lane::{fault_of, settle_of_file};
-use crate::line::{FileFault, FileOutcome};
 use crate::prepare::{Prepared, prepare_group};
 use crate::sealing::SealOptions;
+use command_core::{FileFault, FileOutcome, Folder, tell};
 use container_core::{Key, SealFault};
 use crew_core::{Free, Outcome, seal_batch};
 use ledger_core::{Failed, Ledger, Seat, Sink, Spent, write_all};

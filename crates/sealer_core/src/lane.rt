@@ -5,18 +5,16 @@ ghost use Rattle.journal_core.specs.declared.entry.Event.TheVariants.{Granted, E
 ghost use Rattle.journal_core.specs.Range.{prefix_of};
 ghost use Rattle.journal_core.specs.Streams.{Appends};
 ghost use Rattle.ledger_core.specs.Shared.{Extends, IsSameSeat};
-ghost use Rattle.sealer_core.specs.Folder.{stepped};
-ghost use Rattle.sealer_core.specs.Lines.{FileLine};
-ghost use Rattle.sealer_core.specs.declared.line.FileOutcome.TheVariants.{Failed};
+ghost use Rattle.command_core.specs.Folder.{stepped};
+ghost use Rattle.command_core.specs.Lines.{FileLine};
+ghost use Rattle.command_core.specs.declared.line.FileOutcome.TheVariants.{Failed};
 ghost use Rattle.sealer_core.specs.Sealing.{Accounts, AreSealed, IfSealed, IsOfNumber, IsOfSealing, unissued_as, line_of, creations_of, removals_of};
 
-use crate::commands::tell;
-use crate::folder::{Folder, FolderFault};
-use crate::line::{FileFault, FileOutcome};
-use crate::run::run_seal;
 use crate::sealing::SealOptions;
+use command_core::{FileFault, FileOutcome, Folder, FolderFault, tell};
 use container_core::{Key, SealFault};
 use crew_core::Free;
+use engine_core::run_seal;
 use ledger_core::{Grant, IssueFault, Ledger, Seat, Sink, Source, Spent};
 use std::alloc::Global;
 use std::thread::Threads;

@@ -1,11 +1,10 @@
 //! Files of a group before they are sealed: of each in turn its input is opened, its output created and its input read.
 ghost use Rattle.std.specs.Prelude.{◌≡◌, ◌+◌, ◌≤◌, [], ◌∷◌, ◌++◌, length, map, All, flat_map, vec_len, IfOk, OnErr};
 ghost use Rattle.journal_core.specs.Streams.{Consumes};
-ghost use Rattle.sealer_core.specs.Folder.{stepped};
+ghost use Rattle.command_core.specs.Folder.{stepped};
 ghost use Rattle.sealer_core.specs.Group.{name_of, IsPrepared, made_for, read_of};
 
-use crate::folder::{Folder, FolderFault};
-use crate::line::FileFault;
+use command_core::{FileFault, Folder, FolderFault};
 use container_core::SealFault;
 use ledger_core::{ReadFault, Source, read_to_limit};
 use std::alloc::{AllocError, Global};

@@ -15,18 +15,20 @@ ghost use Rattle.ledger_core.specs.Shared.{fresh_seats};
 ghost use Rattle.reserve_core.specs.Reservations.{Lists, Holds, reserved};
 ghost use Rattle.sealer_core.specs.Sealing.{AreSealed, HasSealed, IsReserved, IsWritten, operations_of};
 
-use crate::commands::Outs;
 use crate::ending::end_ledger;
-use crate::folder::Folder;
 use crate::group::seal_groups;
 use crate::lane::seal_one_lane;
 use crate::trouble::{RunFault, complain};
+use command_core::{Folder, Outs};
 use container_core::Key;
 use ledger_core::{Device, Ledger, Range, Seat, Sink};
 use reserve_core::{Keeper, ReserveFault};
 use sqlite::Alter;
 use std::alloc::Global;
 use std::thread::Threads;
+
+/// The greatest number of lanes.
+pub const MAX_LANES: u32 = 16;
 
 /// The exit status where no file was touched, or the journal couldn't be written whole.
 const TROUBLE: u8 = 2;

@@ -3,8 +3,9 @@
 ghost use Rattle.std.specs.Prelude.{◌<◌, ◌≤◌, length};
 
 use container_core::{Key, seal};
+use folder_memory::{MemoryFolder, Pace};
 use ledger_core::{Schedule, ToMemory};
-use sealer_core::{MemoryFolder, OpenOptions, Outs, Pace, open_all, verify_all};
+use sealer_core::{OpenOptions, Outs, open_all, verify_all};
 use std::alloc::Global;
 use std::test::Fail;
 use std::thread::Threads;

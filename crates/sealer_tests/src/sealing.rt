@@ -4,9 +4,10 @@ ghost use Rattle.std.specs.Prelude.{◌≡◌, ◌<◌, ◌≤◌, length, IfOk}
 
 use crate::files::{COUNTING, EMPTY, SECRET, has_bytes};
 use container_core::{Key, open};
+use folder_memory::{MemoryFolder, Pace};
 use ledger_core::{Device, FromMemory, Schedule, ToMemory};
 use reserve_core::Keeper;
-use sealer_core::{MemoryFolder, Outs, Pace, SealOptions, run_audit, seal_all};
+use sealer_core::{Outs, SealOptions, run_audit, seal_all};
 use sqlite::{Connection, MemStore};
 use std::alloc::Global;
 use std::test::Fail;

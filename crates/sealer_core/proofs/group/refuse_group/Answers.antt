@@ -1,10 +1,10 @@
 use Rattle.std.proofs.Common.{ℕ, List, ◌++◌, subst, map, Bor}
 use Rattle.std.proofs.lemmas.List.{take_all}
 use Rattle.sealer_core.specs.Group.{refused_lines}
-use Rattle.sealer_core.specs.Lines.{FileLine}
-use Rattle.sealer_core.specs.Work.{AreTold}
+use Rattle.command_core.specs.Lines.{FileLine}
+use Rattle.command_core.specs.Work.{AreTold}
 use Rattle.sealer_core.proofs.Groups.{refused_more}
-use Rattle.sealer_core.proofs.Telling.{names-step}
+use Rattle.command_core.proofs.Telling.{names-step}
 use Rattle.sealer_core.proofs.group.refuse_group.Goals as goal
 
 pub loop-name-preserved : goal.loop-name-preserved

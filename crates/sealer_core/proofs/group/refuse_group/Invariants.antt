@@ -1,8 +1,8 @@
 -- The files so far have their lines.
 use Rattle.std.proofs.Common.{ℕ, List, Option, ◌++◌, map, take}
 use Rattle.sealer_core.specs.Group.{refused_lines}
-use Rattle.sealer_core.specs.Lines.{FileLine}
-use Rattle.sealer_core.specs.Work.{AreTold}
+use Rattle.command_core.specs.Lines.{FileLine}
+use Rattle.command_core.specs.Work.{AreTold}
 use Rattle.sealer_core.proofs.group.refuse_group.Given as goal
 
 abbrev pub invariant-loop-name : goal.invariant-loop-name

@@ -4,7 +4,7 @@ use Rattle.journal_core.specs.declared.entry.Entry.{Entry}
 use Rattle.sealer_core.specs.Sealing.{Accounts, AreSealed, operations_of}
 use Rattle.sealer_core.proofs.Groups.{groups_more, group_names}
 use Rattle.sealer_core.proofs.Numbering.{accounts_none}
-use Rattle.sealer_core.proofs.Telling.{nothing_sealed}
+use Rattle.sealer_core.proofs.Sealings.{nothing_sealed}
 use Rattle.sealer_core.proofs.group.seal_groups.Goals as goal
 
 pub loop-done-init : goal.loop-done-init

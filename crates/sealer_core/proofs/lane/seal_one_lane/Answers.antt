@@ -3,7 +3,8 @@ use Rattle.std.proofs.lemmas.List.{take_all}
 use Rattle.journal_core.specs.declared.entry.Entry.{Entry}
 use Rattle.sealer_core.specs.Sealing.{Accounts, AreSealed}
 use Rattle.sealer_core.proofs.Numbering.{accounts_none}
-use Rattle.sealer_core.proofs.Telling.{nothing_sealed, sealed_one, names-step}
+use Rattle.command_core.proofs.Telling.{names-step}
+use Rattle.sealer_core.proofs.Sealings.{nothing_sealed, sealed_one}
 use Rattle.sealer_core.proofs.lane.seal_one_lane.Goals as goal
 
 pub loop-name-init : goal.loop-name-init

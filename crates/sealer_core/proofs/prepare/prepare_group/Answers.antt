@@ -1,6 +1,6 @@
 use Rattle.std.proofs.Common.{arith}
 use Rattle.sealer_core.proofs.Groups.{prepared_names, prepared_steps, prepared_read, prepared_all}
-use Rattle.sealer_core.proofs.Telling.{names-step}
+use Rattle.command_core.proofs.Telling.{names-step}
 use Rattle.sealer_core.proofs.prepare.prepare_group.Goals as goal
 
 pub loop-name-preserved : goal.loop-name-preserved

@@ -1,7 +1,7 @@
 -- The files so far were prepared.
 use Rattle.std.proofs.Common.{◌≡◌, ◌≤◌, length, map, take, flat_map, All, vec_len}
 use Rattle.std.specs.VecDeque.{deque_len, deque_capacity}
-use Rattle.sealer_core.specs.Folder.{stepped}
+use Rattle.command_core.specs.Folder.{stepped}
 use Rattle.sealer_core.specs.Group.{name_of, IsPrepared, made_for, read_of}
 use Rattle.sealer_core.proofs.prepare.prepare_group.Given as goal
 

@@ -1,0 +1,2 @@
+pub mod KeyFiles
+pub mod Telling

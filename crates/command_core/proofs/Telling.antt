@@ -1,0 +1,133 @@
+-- One line more: what was told of the files so far, and what is told with the next one.
+use Rattle.std.proofs.Common.{◌≡◌, ◌≢◌, ℕ, ◌≤◌, Bool, true, false, ◌||◌, if◌then◌else◌, inl, inr, ⊎_elim, refl, sym, ap, subst, ◌∙◌, List, [], ◌∷◌, ◌++◌, map, append-nil, append_assoc, Option, None, Some, flat_map, Bor, take, length, get_or, ◌+◌, ◌<◌, add-one, arith, lit≤}
+use Rattle.std.proofs.Math.Seq.{take-suc}
+use Rattle.std.proofs.KnownBytes.{Appends-nil, Appends-trans}
+use Rattle.std.proofs.lemmas.List.{map-append}
+use Rattle.std.proofs.lemmas.List.Folds.{list_any-append}
+use Rattle.std.specs.List.{list_any}
+use Rattle.journal_core.specs.Streams.{Appends, AppendsFront, counted}
+use Rattle.journal_core.specs.Text.{ended_lines}
+use Rattle.journal_core.proofs.Texts.{ended_lines-append}
+use Rattle.command_core.specs.Lines.{FileLine, line_text, lines_text, is_failed, status_of_lines}
+use Rattle.command_core.specs.Folder.{Step, stepped}
+use Rattle.command_core.specs.Work.{AreTold, AreWorked, no_steps}
+use Rattle.command_core.specs.declared.line.FileOutcome.{FileOutcome}
+use Rattle.std.proofs.lemmas.Grind.{flat_map-append}
+use Rattle.std.proofs.lemmas.List.Elements.{All-push}
+
+-- the bytes of one line
+abbrev pub line_bytes : FileLine → List ℕ
+line_bytes line = line_text line.name line.outcome ++ 10 ∷ []
+
+pub lines_text-push : (told : List FileLine) (line : FileLine) → lines_text (told ++ line ∷ []) ≡ lines_text told ++ line_bytes line
+lines_text-push told line =
+    ap ended_lines (map-append (λ (l : FileLine). line_text l.name l.outcome) told (line ∷ []))
+    ∙ ended_lines-append (map (λ (l : FileLine). line_text l.name l.outcome) told) (line_text line.name line.outcome ∷ [])
+
+-- a front of what was written is a front of what is to be written
+begun_more : (old new : Option (List ℕ)) (text more : List ℕ) → AppendsFront old new text → AppendsFront old new (text ++ more)
+begun_more old new text more (front, (rest, split), appended) = (front, (rest ++ more, ap (λ l. l ++ more) split ∙ append_assoc front rest more), appended)
+
+-- no further line is tried
+pub untold : (status : ℕ) (told : List FileLine) (line : FileLine) (old new : Option (List ℕ)) (failures failures' : Option ℕ)
+    → AreTold status told old new failures failures' → AreTold 2 (told ++ line ∷ []) old new failures failures'
+untold status told line old new failures failures' t = record {
+  range = lit≤ tt;
+  begun = subst (AppendsFront old new) (sym (lines_text-push told line)) (begun_more old new (lines_text told) (line_bytes line) t.begun);
+  whole = λ other. absurd (other refl);
+  stopped = ⊎_elim (λ same. inl same) (λ rose. inr (refl, rose.1)) t.stopped;
+}
+
+-- the line's write failed
+pub broken : (status : ℕ) (told : List FileLine) (line : FileLine) (old mid new : Option (List ℕ)) (failures failures' failures'' : Option ℕ)
+    → status ≢ 2 → AppendsFront mid new (line_bytes line) → failures'' ≡ counted true failures'
+    → AreTold status told old mid failures failures' → AreTold 2 (told ++ line ∷ []) old new failures failures''
+broken status told line old mid new failures failures' failures'' other (front, (rest, split), appended) rose t = record {
+  range = lit≤ tt;
+  begun = subst (AppendsFront old new) (sym (lines_text-push told line))
+      (lines_text told ++ front, (rest, ap (λ l. lines_text told ++ l) split ∙ sym (append_assoc (lines_text told) front rest)), Appends-trans old mid new (lines_text told) front (t.whole other).1 appended);
+  whole = λ two. absurd (two refl);
+  stopped = ⊎_elim (λ same. inr (refl, rose ∙ ap (counted true) same)) (λ two. absurd (other two.0)) t.stopped;
+}
+
+status-push : (told : List FileLine) (line : FileLine) (status : ℕ) → status ≡ status_of_lines told
+    → (if is_failed line.outcome then 1 else status) ≡ status_of_lines (told ++ line ∷ [])
+status-push told line status is =
+    ap (status_after (is_failed line.outcome)) is ∙ joined (list_any (λ (l : FileLine). is_failed l.outcome) told) (is_failed line.outcome)
+    ∙ ap status_if (sym (list_any-append (λ (l : FileLine). is_failed l.outcome) told (line ∷ [])))
+  where
+    status_if : Bool → ℕ
+    status_if some = if some then 1 else 0
+
+    status_after : Bool → ℕ → ℕ
+    status_after some status = if some then 1 else status
+
+    joined : (before last : Bool) → status_after last (status_if before) ≡ status_if (before || (last || false))
+    joined true true = refl
+    joined true false = refl
+    joined false true = refl
+    joined false false = refl
+
+-- the line was written
+pub told_more : (status status' : ℕ) (told : List FileLine) (line : FileLine) (old mid new : Option (List ℕ)) (failures failures' failures'' : Option ℕ)
+    → status ≢ 2 → status' ≡ (if is_failed line.outcome then 1 else status) → Appends mid new (line_bytes line) → failures'' ≡ failures'
+    → AreTold status told old mid failures failures' → AreTold status' (told ++ line ∷ []) old new failures failures''
+told_more status status' told line old mid new failures failures' failures'' other is appended same t =
+    let written = Appends-trans old mid new (lines_text told) (line_bytes line) (t.whole other).1 appended in
+    let all : Appends old new (lines_text (told ++ line ∷ [])) = subst (Appends old new) (sym (lines_text-push told line)) written in
+    record {
+      range = within (is_failed line.outcome) is t.range;
+      begun = (lines_text (told ++ line ∷ []), ([], sym (append-nil (lines_text (told ++ line ∷ [])))), all);
+      whole = λ two. (is ∙ status-push told line status (t.whole other).0, all);
+      stopped = ⊎_elim (λ kept. inl (same ∙ kept)) (λ two. absurd (other two.0)) t.stopped;
+    }
+  where
+    within : (b : Bool) → status' ≡ (if b then 1 else status) → status ≤ 2 → status' ≤ 2
+    within true e h = omega arith
+    within false e h = omega arith
+
+-- of no file nothing is told
+pub nothing_told : (taken : Option (List ℕ)) (failures : Option ℕ) → AreTold 0 [] taken taken failures failures
+nothing_told taken failures = record {
+  range = lit≤ tt;
+  begun = ([], ([], refl), Appends-nil taken);
+  whole = λ other. (refl, Appends-nil taken);
+  stopped = inl refl;
+}
+
+pub stepped-nil : (steps : Option (List Step)) → steps ≡ stepped steps []
+stepped-nil None = refl
+stepped-nil (Some steps) = ap Some (sym (append-nil steps))
+
+pub stepped-stepped : (steps : Option (List Step)) (a b : List Step) → stepped (stepped steps a) b ≡ stepped steps (a ++ b)
+stepped-stepped None a b = refl
+stepped-stepped (Some steps) a b = ap Some (append_assoc steps a b)
+
+-- one file more was worked
+pub worked_more : (fits : FileOutcome → Type 0) (steps_for : FileLine → List Step) (names names' : List (List ℕ)) (line : FileLine) (status status' : ℕ)
+    (old mid new : Option (List ℕ)) (failures failures' failures'' : Option ℕ) (steps steps' steps'' : Option (List Step))
+    → (w : AreWorked fits steps_for names status old mid failures failures' steps steps') → fits line.outcome → steps'' ≡ stepped steps' (steps_for line)
+    → AreTold status' (w.lines ++ line ∷ []) old new failures failures'' → names ++ line.name ∷ [] ≡ names'
+    → AreWorked fits steps_for names' status' old new failures failures'' steps steps''
+worked_more fits steps_for names names' line status status' old mid new failures failures' failures'' steps steps' steps'' w fit stepping told longer = record {
+  lines = w.lines ++ line ∷ [];
+  named = map-append (λ (l : FileLine). l.name) w.lines (line ∷ []) ∙ ap (λ l. l ++ line.name ∷ []) w.named ∙ longer;
+  fitting = All-push (λ (l : FileLine). fits l.outcome) w.lines line w.fitting fit;
+  told = told;
+  stepwise = stepping ∙ ap (λ s. stepped s (steps_for line)) w.stepwise ∙ stepped-stepped steps (flat_map steps_for w.lines) (steps_for line)
+      ∙ ap (stepped steps) (ap (λ l. flat_map steps_for w.lines ++ l) (sym (append-nil (steps_for line))) ∙ sym (flat_map-append steps_for w.lines (line ∷ [])));
+}
+
+-- one name more
+pub names-step : (files : List (Bor (List ℕ))) (i : ℕ) (d : Bor (List ℕ)) → i < length files
+    → map (λ (f : Bor (List ℕ)). f.now) (take i files) ++ (get_or files i d).now ∷ [] ≡ map (λ (f : Bor (List ℕ)). f.now) (take (i + 1) files)
+names-step files i d h =
+    sym (ap (λ n. map (λ (f : Bor (List ℕ)). f.now) (take n files)) (add-one i) ∙ ap (map (λ (f : Bor (List ℕ)). f.now)) (take-suc files i d h) ∙ map-append (λ (f : Bor (List ℕ)). f.now) (take i files) (get_or files i d ∷ []))
+
+-- a command that makes no steps leaves them as they were
+pub no_steps_made : (steps : Option (List Step)) (lines : List FileLine) → stepped steps (flat_map no_steps lines) ≡ steps
+no_steps_made steps lines = ap (stepped steps) (none lines) ∙ sym (stepped-nil steps)
+  where
+    none : (lines : List FileLine) → flat_map no_steps lines ≡ []
+    none [] = refl
+    none (line ∷ lines) = none lines

@@ -1,0 +1,4 @@
+pub mod Folder
+pub mod KeyFile
+pub mod Lines
+pub mod Work

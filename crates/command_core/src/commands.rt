@@ -1,0 +1,284 @@
+//! The commands over a folder: each file in turn, with one line on standard output for each.
+//!
+//! A file that fails keeps no other from being worked. Where a line can't be written no further line is tried, the files are
+//! still worked, and the exit status is 2.
+ghost use Rattle.std.specs.Prelude.{◌≡◌, ℕ, ◌<◌, ◌≤◌, List, [], ◌∷◌, ◌++◌, length, map, Option, Ok, Err, IfSome, codes, if◌then◌else◌};
+ghost use Rattle.command_core.specs.Folder.{stepped};
+ghost use Rattle.command_core.specs.Lines.{FileLine, is_failed};
+ghost use Rattle.command_core.specs.Work.{output_of, IsOfOpening, IsOfVerifying, opening_steps, no_steps, IsOutcomeOf, steps_of, AreTold, AreWorked};
+
+use crate::folder::{Folder, FolderFault};
+use crate::line::{FileFault, FileOutcome, Line};
+use container_core::{Key, OpenFault};
+use crew_core::Free;
+use engine_core::{run_plain, run_verify};
+use ledger_core::{Failed, Sink, write_all};
+use std::alloc::Global;
+use std::thread::Threads;
+
+/// What a sealed file's name ends in.
+pub const SUFFIX: &str = ".stm";
+
+/// The greatest number of workers.
+pub const MAX_WORKERS: u32 = 16;
+
+/// The greatest number of plaintext bytes of a file that can be asked for: 2^40.
+pub const MAX_BYTES: u64 = 1 << 40;
+
+/// The exit status where some file failed.
+const SOME_FAILED: u8 = 1;
+
+/// The exit status where a line couldn't be written.
+const UNTOLD: u8 = 2;
+
+/// What `open_all` and `verify_all` work on.
+#[derive(Clone, Copy, Debug)]
+pub struct OpenOptions<'a> {
+    /// The names of the files: at least one.
+    pub files: &'a [&'a str],
+    /// The number of workers: 1 to 16.
+    pub workers: u32,
+    /// The greatest number of plaintext bytes of a file: at most 2^40.
+    pub max_bytes: u64,
+}
+
+/// Where a command writes to.
+#[derive(Drop)]
+pub struct Outs<L: Sink + Drop, E: Sink + Drop, J: Sink + Drop> {
+    /// Standard output: a line for each file.
+    pub lines: L,
+    /// Standard error.
+    pub faults: E,
+    /// The journal, where one was asked for.
+    pub journal: Option<J>,
+}
+
+// What is done with each file.
+#[derive(Clone, Copy)]
+enum Task {
+    Open,
+    Verify,
+}
+
+// The name of the output of a sealed file: at least one byte, before `.stm`.
+fn output_name(name: &str) -> Option<&str>
+    ensures name { IfSome result (λ output. output.now ≡ output_of name.now) }
+    ensures suffix { IfSome result (λ output. name.now ≡ output.now ++ codes ".stm") }
+{
+    let output = name.strip_suffix(SUFFIX)?;
+    if output.is_empty() {
+        None
+    } else {
+        Some(output)
+    }
+}
+
+// Checks the whole container of one file, then creates its output and writes the plaintext.
+fn open_file<T: Threads + Sync, F: Folder>(
+    rt: &T,
+    alloc: Global,
+    key: &Key,
+    folder: &mut F,
+    name: &str,
+    max_bytes: u64,
+    workers: u32,
+) -> FileOutcome
+    requires max_bytes { max_bytes ≤ 1099511627776 }
+    requires workers { (0 < workers) × (workers ≤ 16) }
+    ensures outcome { IsOfOpening result }
+    ensures steps { F.steps folder.new ≡ stepped (F.steps folder.old) (opening_steps (record { name = name.now; outcome = result })) }
+{
+    let Some(output) = output_name(name) else {
+        return FileOutcome::Failed(FileFault::NoSuffix);
+    };
+    let Ok(mut reader) = folder.open(name) else {
+        return FileOutcome::Failed(FileFault::CannotOpen);
+    };
+    let plain = match run_plain(rt, alloc, key, &mut reader, max_bytes, workers, &Free) {
+        Ok(plain) => plain,
+        Err(fault) => return FileOutcome::Failed(FileFault::Unopened(fault)),
+    };
+    let mut writer = match folder.create(output) {
+        Ok(writer) => writer,
+        Err(FolderFault::Exists) => return FileOutcome::Failed(FileFault::OutputExists),
+        Err(FolderFault::Failed) => return FileOutcome::Failed(FileFault::CannotCreate),
+    };
+    match write_all(&mut writer, plain.as_slice()) {
+        Ok(()) => FileOutcome::Opened(plain.len() as u64),
+        Err(Failed) => {
+            let _ = folder.remove(output);
+            FileOutcome::Failed(FileFault::Unopened(OpenFault::Write))
+        }
+    }
+}
+
+// Checks the whole container of one file.
+fn verify_file<T: Threads + Sync, F: Folder>(
+    rt: &T,
+    alloc: Global,
+    key: &Key,
+    folder: &mut F,
+    name: &str,
+    max_bytes: u64,
+    workers: u32,
+) -> FileOutcome
+    requires max_bytes { max_bytes ≤ 1099511627776 }
+    requires workers { (0 < workers) × (workers ≤ 16) }
+    ensures outcome { IsOfVerifying result }
+    ensures steps { F.steps folder.new ≡ F.steps folder.old }
+{
+    let Ok(mut reader) = folder.open(name) else {
+        return FileOutcome::Failed(FileFault::CannotOpen);
+    };
+    match run_verify(rt, alloc, key, &mut reader, max_bytes, workers, &Free) {
+        Ok(bytes) => FileOutcome::Good(bytes),
+        Err(fault) => FileOutcome::Failed(FileFault::Unopened(fault)),
+    }
+}
+
+// The status behind one outcome more.
+fn worse(status: u8, outcome: FileOutcome) -> u8
+    ensures { result ≡ (if is_failed outcome then SOME_FAILED else status) }
+{
+    match outcome {
+        FileOutcome::Failed(_) => SOME_FAILED,
+        FileOutcome::Sealed {
+            number: _,
+            bytes: _,
+        }
+        | FileOutcome::Opened(_)
+        | FileOutcome::Good(_) => status,
+    }
+}
+
+/// Writes a file's line, unless one before it wasn't written. The answer is the status so far. A line for which memory is
+/// refused is one that isn't written.
+pub fn tell<W: Sink>(
+    alloc: Global,
+    lines: &mut W,
+    status: u8,
+    name: &str,
+    outcome: FileOutcome,
+) -> u8
+    ensures { (told : List FileLine) (first : Option (List ℕ)) (count : Option ℕ)
+        → AreTold status told first (W.taken lines.old) count (W.failures lines.old)
+        → AreTold result (told ++ record { name = name.now; outcome = outcome } ∷ []) first (W.taken lines.new) count (W.failures lines.new) }
+{
+    if status == UNTOLD {
+        return UNTOLD;
+    }
+    let line = Line { name, outcome };
+    let Ok(text) = format!(in alloc; "{line}\n") else {
+        return UNTOLD;
+    };
+    match write_all(lines, text.as_bytes()) {
+        Ok(()) => worse(status, outcome),
+        Err(Failed) => UNTOLD,
+    }
+}
+
+fn work_file<T: Threads + Sync, F: Folder>(
+    rt: &T,
+    alloc: Global,
+    key: &Key,
+    folder: &mut F,
+    name: &str,
+    max_bytes: u64,
+    workers: u32,
+    task: Task,
+) -> FileOutcome
+    requires max_bytes { max_bytes ≤ 1099511627776 }
+    requires workers { (0 < workers) × (workers ≤ 16) }
+    ensures outcome { IsOutcomeOf task result }
+    ensures steps { F.steps folder.new ≡ stepped (F.steps folder.old) (steps_of task (record { name = name.now; outcome = result })) }
+{
+    match task {
+        Task::Open => open_file(rt, alloc, key, folder, name, max_bytes, workers),
+        Task::Verify => verify_file(rt, alloc, key, folder, name, max_bytes, workers),
+    }
+}
+
+fn work_all<T: Threads + Sync, F: Folder, W: Sink>(
+    rt: &T,
+    alloc: Global,
+    key: &Key,
+    folder: &mut F,
+    options: &OpenOptions,
+    lines: &mut W,
+    task: Task,
+) -> u8
+    requires max_bytes { options.now.max_bytes ≤ 1099511627776 }
+    requires workers { (0 < options.now.workers) × (options.now.workers ≤ 16) }
+    ensures { AreWorked (IsOutcomeOf task) (steps_of task) (map (λ name. name.now) options.now.files.now) result
+        (W.taken lines.old) (W.taken lines.new) (W.failures lines.old) (W.failures lines.new) (F.steps folder.old) (F.steps folder.new) }
+{
+    let mut status = 0;
+    for name in options.files {
+        let outcome = work_file(
+            rt,
+            alloc,
+            key,
+            folder,
+            name,
+            options.max_bytes,
+            options.workers,
+            task,
+        );
+        status = tell(alloc, lines, status, name, outcome);
+    }
+    status
+}
+
+/// Opens each file: reads its container, checks all of it, and then writes the plaintext to the name without `.stm`, which
+/// must not be there yet. The answer is the exit status: 0 where every file was opened, 1 where one failed, 2 where a line
+/// couldn't be written. An output that couldn't be written whole is removed.
+pub fn open_all<T: Threads + Sync, F: Folder, L: Sink + Drop, E: Sink + Drop, J: Sink + Drop>(
+    rt: &T,
+    alloc: Global,
+    key: &Key,
+    folder: &mut F,
+    options: &OpenOptions,
+    out: &mut Outs<L, E, J>,
+) -> u8
+    requires files { 0 < length options.now.files.now }
+    requires workers { (0 < options.now.workers) × (options.now.workers ≤ 16) }
+    requires max_bytes { options.now.max_bytes ≤ 1099511627776 }
+    ensures status { result ≤ 2 }
+    ensures files { AreWorked IsOfOpening opening_steps (map (λ name. name.now) options.now.files.now) result
+        (L.taken out.old.lines) (L.taken out.new.lines) (L.failures out.old.lines) (L.failures out.new.lines)
+        (F.steps folder.old) (F.steps folder.new) }
+    ensures others { (out.new.faults ≡ out.old.faults) × (out.new.journal ≡ out.old.journal) }
+{
+    work_all(rt, alloc, key, folder, options, &mut out.lines, Task::Open)
+}
+
+/// Checks each file's container, as `open_all` does, and makes no file. The answer is the exit status: 0 where every file is
+/// good, 1 where one failed, 2 where a line couldn't be written.
+pub fn verify_all<T: Threads + Sync, F: Folder, L: Sink + Drop, E: Sink + Drop, J: Sink + Drop>(
+    rt: &T,
+    alloc: Global,
+    key: &Key,
+    folder: &mut F,
+    options: &OpenOptions,
+    out: &mut Outs<L, E, J>,
+) -> u8
+    requires files { 0 < length options.now.files.now }
+    requires workers { (0 < options.now.workers) × (options.now.workers ≤ 16) }
+    requires max_bytes { options.now.max_bytes ≤ 1099511627776 }
+    ensures status { result ≤ 2 }
+    ensures files { AreWorked IsOfVerifying no_steps (map (λ name. name.now) options.now.files.now) result
+        (L.taken out.old.lines) (L.taken out.new.lines) (L.failures out.old.lines) (L.failures out.new.lines)
+        (F.steps folder.old) (F.steps folder.new) }
+    ensures nothing_made { F.steps folder.new ≡ F.steps folder.old }
+    ensures others { (out.new.faults ≡ out.old.faults) × (out.new.journal ≡ out.old.journal) }
+{
+    work_all(
+        rt,
+        alloc,
+        key,
+        folder,
+        options,
+        &mut out.lines,
+        Task::Verify,
+    )
+}

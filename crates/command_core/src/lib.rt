@@ -1,0 +1,15 @@
+//! What the commands share, and those that open and verify.
+//!
+//! A command works over a `Folder`, says of each file what became of it in one line, and ends with an exit status. `open_all` and
+//! `verify_all` are here; the one that seals stands on this crate. Key files are read here too.
+#![tactic(auto)]
+
+pub mod commands;
+pub mod folder;
+pub mod key_file;
+pub mod line;
+
+pub use crate::commands::{MAX_BYTES, MAX_WORKERS, OpenOptions, Outs, open_all, tell, verify_all};
+pub use crate::folder::{Folder, FolderFault};
+pub use crate::key_file::{KeyFault, read_key};
+pub use crate::line::{FileFault, FileOutcome, Line};

@@ -1,0 +1,83 @@
+//! What a command says of each file: one line on standard output.
+ghost use Rattle.std.specs.Prelude.{Some};
+ghost use Rattle.command_core.specs.Lines.{fault_text, line_text};
+
+use container_core::{OpenFault, SealFault};
+use std::fmt;
+
+/// Why a file failed.
+#[derive(Clone, Copy, PartialEq, Eq, Debug)]
+pub enum FileFault {
+    /// The file can't be opened to be read.
+    CannotOpen,
+    /// The name doesn't end in `.stm`, or nothing stands before that.
+    NoSuffix,
+    /// There is a file of the output's name already.
+    OutputExists,
+    /// The output can't be created.
+    CannotCreate,
+    /// Memory was refused before an output was created.
+    OutOfMemory,
+    /// No file number was granted.
+    NoNumber,
+    /// The container wasn't opened, or its plaintext wasn't written.
+    Unopened(OpenFault),
+    /// The file wasn't sealed, or its container wasn't written.
+    Unsealed(SealFault),
+}
+
+/// What stands behind the name in a line of a file that failed.
+impl fmt::Display for FileFault {
+    ghost output = { λ fault. Some (fault_text fault) };
+
+    fn fmt<W: fmt::Write>(&self, f: &mut fmt::Formatter<W>) -> fmt::Result {
+        match *self {
+            FileFault::CannotOpen => write!(f, "cannot open"),
+            FileFault::NoSuffix => write!(f, "name does not end in .stm"),
+            FileFault::OutputExists => write!(f, "output exists"),
+            FileFault::CannotCreate => write!(f, "cannot create"),
+            FileFault::OutOfMemory => write!(f, "out of memory"),
+            FileFault::NoNumber => write!(f, "no file number"),
+            FileFault::Unopened(fault) => write!(f, "{fault}"),
+            FileFault::Unsealed(fault) => write!(f, "{fault}"),
+        }
+    }
+}
+
+/// What became of a file.
+#[derive(Clone, Copy, PartialEq, Eq, Debug)]
+pub enum FileOutcome {
+    /// Its container was written: the file number, and how many plaintext bytes it has.
+    Sealed { number: u32, bytes: u64 },
+    /// Its plaintext of so many bytes was written.
+    Opened(u64),
+    /// Its container checks, and has so many plaintext bytes.
+    Good(u64),
+    /// It failed. An output that was created for it was removed again, or its removal was tried.
+    Failed(FileFault),
+}
+
+/// A file's line, without its line feed.
+#[derive(Clone, Copy, PartialEq, Eq, Debug)]
+pub struct Line<'a> {
+    /// The name, as it was given.
+    pub name: &'a str,
+    /// What became of the file.
+    pub outcome: FileOutcome,
+}
+
+impl fmt::Display for Line<'_> {
+    ghost output = { λ line. Some (line_text line.name.now line.outcome) };
+
+    fn fmt<W: fmt::Write>(&self, f: &mut fmt::Formatter<W>) -> fmt::Result {
+        let name = self.name;
+        match self.outcome {
+            FileOutcome::Sealed { number, bytes } => {
+                write!(f, "sealed {name} file {number} bytes {bytes}")
+            }
+            FileOutcome::Opened(bytes) => write!(f, "opened {name} bytes {bytes}"),
+            FileOutcome::Good(bytes) => write!(f, "good {name} bytes {bytes}"),
+            FileOutcome::Failed(fault) => write!(f, "failed {name}: {fault}"),
+        }
+    }
+}

@@ -1,5 +1,0 @@
-use Rattle.sealer_core.proofs.Lives.{apart}
-use Rattle.sealer_core.proofs.laws.ranges_are_apart.Goals as goal
-
-pub returns : goal.returns
-returns c = apart
