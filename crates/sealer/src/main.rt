@@ -1,17 +1,11 @@
-//! The program `sealer`: the command line, and the commands of `sealer_core` over real files and the standard streams.
+//! The program `sealer`: the commands of `sealer_core`, as the command line asks for them, over real files and the standard streams.
 //!
 //! Exit status: 0 all well; 1 some file failed, or the journal isn't legal; 2 a fault of usage, of the key file, the ledger or the
 //! journal file, or of the program's own reading and writing.
 #![tactic(auto)]
 
-mod arguments;
-mod files;
-mod ledger;
-
-use crate::arguments::{command, max_bytes, seal_request, workers};
-use crate::files::{SystemFiles, new_journal, open_unbuffered, stand_ins};
-use crate::ledger::keeper_of;
 use clap::{ArgMatches, Error};
+use command_line::{command, max_bytes, seal_request, workers};
 use container_core::Key;
 use ledger_core::{FromRead, ToWrite};
 use sealer_core::{
@@ -24,6 +18,7 @@ use std::io::{Read, Write};
 use std::process::ExitCode;
 use std::rt::{Env, Files};
 use std::thread::Threads;
+use system_files::{SystemFiles, keeper_of, new_journal, open_unbuffered, stand_ins};
 
 /// The status of a fault of usage, of the key file, or of the program's own reading and writing.
 const FAULT: u8 = 2;

@@ -3,7 +3,7 @@ ghost use Rattle.std.specs.Prelude.{◌<◌, ◌≤◌, ◌≡◌, IfOk, length}
 
 use clap::{Arg, ArgAction, ArgMatches, Command, Error, value_parser};
 use ledger_core::Device;
-use sealer_core::{MAX_BYTES, MAX_LANES, MAX_WORKERS};
+use command_core::{MAX_BYTES, MAX_LANES, MAX_WORKERS};
 use std::alloc::Global;
 use thiserror::Error as ThisError;
 

@@ -1,0 +1,8 @@
+//! The file system as `sealer` uses it: its files as a `Folder`, the journal's file, and the ledger file.
+#![tactic(auto)]
+
+pub mod files;
+pub mod ledger;
+
+pub use crate::files::{JournalFault, SystemFiles, new_journal, open_unbuffered, stand_ins};
+pub use crate::ledger::{LedgerFault, keeper_of};
