@@ -2,8 +2,9 @@
 ghost use Rattle.std.specs.Prelude.{◌<◌, ◌≤◌, ◌≡◌, IfOk, length};
 
 use clap::{Arg, ArgAction, ArgMatches, Command, Error, value_parser};
+use container_core::MAX_PLAIN;
+use crew_core::{MAX_LANES, MAX_WORKERS};
 use ledger_core::Device;
-use command_core::{MAX_BYTES, MAX_LANES, MAX_WORKERS};
 use std::alloc::Global;
 use thiserror::Error as ThisError;
 
@@ -73,7 +74,7 @@ fn file_command<'a>(alloc: Global, name: &'a str, about: &'a str) -> Result<Comm
     let max_bytes = Arg::new(alloc, "max-bytes")
         .long("max-bytes")
         .value_name("N")
-        .value_parser(value_parser!(u64).range(0..=MAX_BYTES as i64))
+        .value_parser(value_parser!(u64).range(0..=MAX_PLAIN as i64))
         .default_value("1073741824")
         .help("A FILE of more plaintext bytes is refused, 0 to 1099511627776");
     let files = Arg::new(alloc, "FILE")
@@ -92,7 +93,7 @@ fn file_command<'a>(alloc: Global, name: &'a str, about: &'a str) -> Result<Comm
 
 /// The number of workers, which the command line has tested.
 pub fn workers(matches: &ArgMatches<'_>) -> u32
-    ensures { (0 < result) × (result ≤ 16) }
+    ensures { (0 < result) × (result ≤ MAX_WORKERS) }
 {
     matches
         .get_one::<u32>("workers")
@@ -103,12 +104,12 @@ pub fn workers(matches: &ArgMatches<'_>) -> u32
 
 /// The greatest number of plaintext bytes, which the command line has tested.
 pub fn max_bytes(matches: &ArgMatches<'_>) -> u64
-    ensures { result ≤ 1099511627776 }
+    ensures { result ≤ MAX_PLAIN }
 {
     matches
         .get_one::<u64>("max-bytes")
         .unwrap_or(DEFAULT_MAX_BYTES)
-        .min(MAX_BYTES)
+        .min(MAX_PLAIN)
 }
 
 fn seal_command<'a>(alloc: Global) -> Result<Command<'a>, Error> {
@@ -168,9 +169,9 @@ pub enum SealUsage {
 /// What `seal` is asked for, of words that its parser took.
 pub fn seal_request<'m, 'a>(matches: &'m ArgMatches<'a>) -> Result<SealRequest<'m, 'a>, SealUsage>
     ensures files { IfOk result (λ request. 0 < length request.files.now) }
-    ensures workers { IfOk result (λ request. (0 < request.workers) × (request.workers ≤ 16)) }
-    ensures lanes { IfOk result (λ request. (0 < request.lanes) × (request.lanes ≤ 16)) }
-    ensures max_bytes { IfOk result (λ request. request.max_bytes ≤ 1099511627776) }
+    ensures workers { IfOk result (λ request. (0 < request.workers) × (request.workers ≤ MAX_WORKERS)) }
+    ensures lanes { IfOk result (λ request. (0 < request.lanes) × (request.lanes ≤ MAX_LANES)) }
+    ensures max_bytes { IfOk result (λ request. request.max_bytes ≤ MAX_PLAIN) }
 {
     let (Some(key), Some(ledger)) = (matches.get_str("key"), matches.get_str("ledger")) else {
         return Err(SealUsage::Missing);
@@ -204,7 +205,7 @@ pub fn seal_request<'m, 'a>(matches: &'m ArgMatches<'a>) -> Result<SealRequest<'
 
 // The number of lanes, which the command line has tested.
 fn lanes(matches: &ArgMatches<'_>) -> u32
-    ensures { (0 < result) × (result ≤ 16) }
+    ensures { (0 < result) × (result ≤ MAX_LANES) }
 {
     matches
         .get_one::<u32>("lanes")
