@@ -1,19 +1,21 @@
 //! A seat of a shared ledger: what one caller has seen and done.
 //!
-//! The seat's own log has its operations in order. Record j of it has entry j of them and the place where that entry stands in
-//! what the seat has seen: the counts in the word that the step found add up to it.
-ghost use Rattle.std.specs.Prelude.{◌≡◌, ℕ, ◌+◌, ◌/◌, ◌%◌, ◌^◌, ◌<◌, ◌≤◌, ◌↔◌, min, false, IsTrue, length, vec_len, vec_capacity, [], ◌∷◌, ◌++◌, ◌||◌};
+//! The seat's own log has its operations in order. Record j of it has entry j of them and the place where that entry
+//! stands in what the seat has seen: the counts in the word that the step found add up to it.
+ghost use Rattle.std.specs.Prelude.{◌≡◌, ℕ, ◌+◌, ◌/◌, ◌%◌, ◌^◌, ◌<◌, ◌≤◌, ◌↔◌, min, false, IsTrue, length, vec_len};
+ghost use Rattle.std.specs.Prelude.{vec_capacity, [], ◌∷◌, ◌++◌, ◌||◌};
 ghost use Rattle.std.specs.List.{slice_index_or};
 ghost use Rattle.std.specs.Option.{IfSome};
 ghost use Rattle.journal_core.specs.declared.entry.Event.TheVariants.{Granted, Exhausted, Settled};
 ghost use Rattle.journal_core.specs.History.{Begins, IsLawful, calls_of, entry, is_exhausted};
 ghost use Rattle.ledger_core.specs.Rule.{issue_reply, knower, packed, IsHeld};
-ghost use Rattle.ledger_core.specs.Logs.{EndsByGranting, HasMark, IsMarked, IsSeat, Steps, event_of, held_after, place_of_word};
-ghost use Rattle.ledger_core.specs.Shared.{Holds, IsClosedSeat, Knows, Sees, fresh_seat};
+ghost use Rattle.ledger_core.specs.Logs.{EndsByGranting, HasMark, IsMarked, IsSeat, Steps, event_of, held_after};
+ghost use Rattle.ledger_core.specs.Logs.{place_of_word};
+ghost use Rattle.ledger_core.specs.Shared.{Holds, IsClosedSeat, Knows, fresh_seat};
 
 use crate::counts::counts_in;
 use crate::grant::Spent;
-use crate::steps::{adopt_step, hear_step, issue_step, look_step, settle_step, write_step};
+use crate::steps::{issue_step, look_step, settle_step};
 use crate::table::{Opening, Own, Record, Token, Word};
 use journal_core::{Entry, Event, Tally};
 use std::marker::Model;
@@ -70,7 +72,8 @@ impl Seat {
         self.own.closed
     }
 
-    /// Whether this number is open at this seat: it is of the seat's device, was granted to the seat, and isn't settled.
+    /// Whether this number is open at this seat: it is of the seat's device, was granted to the seat, and isn't
+    /// settled.
     pub fn holds(&self, spent: &Spent) -> bool
         ensures { IsTrue result ↔ Holds self.now spent.now }
     {
@@ -222,56 +225,6 @@ pub(crate) fn look_in(
     ensures word { result ≡ packed token.new.me.0.seen }
 {
     look_step(word, token)
-}
-
-// A note of what the seat has seen.
-pub(crate) fn show(word: &Word, seat: &mut Seat) -> Token
-    requires table { (seat.old.ledger ≡ word.now.shared.table_id) × (word.now.shared.table_id.words ≡ 1) }
-    ensures same { seat.new ≡ seat.old }
-    ensures known { Knows seat.old }
-    ensures note { (result.table_id ≡ word.now.shared.table_id) × (result.me.1 ≡ []) }
-    ensures shown { result.me.0.seen ≡ seat.old.seen }
-{
-    write_step(word, &mut seat.token)
-}
-
-// The seat sees what a note shows, and the history so far.
-pub(crate) fn learn(word: &Word, seat: &mut Seat, note: Token)
-    requires table { (seat.old.ledger ≡ word.now.shared.table_id) × (word.now.shared.table_id.words ≡ 1) }
-    requires note { (note.table_id ≡ word.now.shared.table_id) × (note.me.1 ≡ []) }
-    ensures sees { Sees seat.old seat.new }
-    ensures told { Begins note.me.0.seen seat.new.seen }
-    ensures known { Knows seat.old }
-    ensures knows { Knows seat.new }
-{
-    hear_step(word, &mut seat.token, note);
-    look_in(word, &seat.opening, seat.number, &seat.own, &mut seat.token);
-}
-
-// What the seat was told, which goes on from what it has seen, is what it has seen.
-fn adopt_in(word: &Word, opening: &Opening, seat: u32, own: &Own, token: &mut Token)
-    requires table { (token.old.table_id ≡ word.now.shared.table_id) × (word.now.shared.table_id.words ≡ 1) }
-    requires seat { IsSeat opening.now seat own.now.closed own.now.log.items own.now.held.items token.old.me }
-    requires further { Begins token.old.me.0.seen token.old.me.0.told }
-    ensures table { token.new.table_id ≡ token.old.table_id }
-    ensures seat { IsSeat opening.now seat own.now.closed own.now.log.items own.now.held.items token.new.me }
-    ensures seen { (token.new.me.0.seen ≡ token.old.me.0.told) × (token.new.me.0.mine ≡ token.old.me.0.mine) }
-{
-    adopt_step(word, token);
-}
-
-// The seat sees what a note shows, which goes on from what it has seen.
-pub(crate) fn adopt(word: &Word, seat: &mut Seat, note: Token)
-    requires table { (seat.old.ledger ≡ word.now.shared.table_id) × (word.now.shared.table_id.words ≡ 1) }
-    requires note { (note.table_id ≡ word.now.shared.table_id) × (note.me.1 ≡ []) }
-    requires further { Begins seat.old.seen note.me.0.seen }
-    ensures sees { Sees seat.old seat.new }
-    ensures shown { seat.new.seen ≡ note.me.0.seen }
-    ensures known { Knows seat.old }
-    ensures knows { Knows seat.new }
-{
-    hear_step(word, &mut seat.token, note);
-    adopt_in(word, &seat.opening, seat.number, &seat.own, &mut seat.token);
 }
 
 // The counts that a word tells. Of the issues, as many were granted as the range has numbers.

@@ -1,6 +1,6 @@
 use Rattle.std.proofs.Common.{◌∙◌, List, ap}
 use Rattle.ledger_core.specs.declared.table.Record.{Record}
-use Rattle.ledger_core.specs.Closing.{written}
+use Rattle.ledger_core.specs.Placing.{written}
 use Rattle.ledger_core.proofs.Closing.{placed_next, placed_all}
 use Rattle.ledger_core.proofs.close.fill_all.Goals as goal
 
