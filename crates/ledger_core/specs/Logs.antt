@@ -5,6 +5,7 @@ use Rattle.std.specs.List.{slice_index_or}
 use Rattle.journal_core.specs.declared.entry.Event.{Event}
 use Rattle.journal_core.specs.declared.entry.Event.TheVariants.{Granted, Exhausted, Settled}
 use Rattle.journal_core.specs.declared.entry.Entry.{Entry}
+use Rattle.ledger_core.specs.declared.table.Fields.{Fields}
 use Rattle.ledger_core.specs.declared.table.Record.{Record}
 use Rattle.ledger_core.specs.declared.table.View.{View}
 use Rattle.journal_core.specs.History.{Terms, IsLawful, Legal, calls_of, refused, times_granted, times_settled}
@@ -70,6 +71,15 @@ pub record IsSeat (opened : Terms) (seat : ℕ) (closed : Bool) (log : List Reco
   pub closed_is : closed ≡ nat_lt 0 (refused me.0.mine)
   pub all_held : length held ≡ opened.range.size
   pub held_is : (k : ℕ) → k < opened.range.size → slice_index_or held k false ≡ is_held (opened.range.lo + k) me.0.mine
+
+abbrev pub AreFields : Fields → Type 0
+AreFields f = IsSeat f.opening f.number f.own.closed f.own.log.items f.own.held.items f.token.me
+
+-- the fields are of the same seat of the same ledger
+pub record AreSameSeat (old new : Fields) : Type 0 where
+  pub opening : new.opening ≡ old.opening
+  pub number : new.number ≡ old.number
+  pub ledger : new.token.table_id ≡ old.token.table_id
 
 -- what a seat has seen goes on from before and ends with this entry, and so do its own operations
 abbrev pub Steps : View → Entry → View → Type 0

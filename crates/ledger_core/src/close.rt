@@ -29,7 +29,7 @@ fn fill_all(entries: &mut Vec<Entry>, seats: &[Seat])
     ensures placed { ArePlaced seats.now entries.new.items }
 {
     for seat in seats {
-        fill(entries, seat.own.log.as_slice());
+        fill(entries, seat.fields.own.log.as_slice());
     }
 }
 

@@ -81,21 +81,19 @@ impl Ledger {
         ensures same { IsSameSeat seat.old seat.new }
         ensures knows { Knows seat.new }
     {
-        if seat.own.closed {
+        if seat.fields.own.closed {
             return Err(IssueFault::SeatClosed);
         }
-        if seat.own.log.reserve(1).is_err() {
+        if seat.fields.own.log.reserve(1).is_err() {
             return Err(IssueFault::OutOfMemory);
         }
-        let number = issue_in(
-            &self.word,
-            &seat.opening,
-            seat.number,
-            &mut seat.own,
-            &mut seat.token,
-        );
+        let number = issue_in(&self.word, &mut seat.fields);
         match number {
-            Some(number) => Ok(Grant::of(seat.opening.range().device(), number, &seat.own)),
+            Some(number) => Ok(Grant::of(
+                seat.fields.opening.range().device(),
+                number,
+                &seat.fields.own,
+            )),
             None => Err(IssueFault::Exhausted),
         }
     }
@@ -114,17 +112,10 @@ impl Ledger {
         if !seat.holds(&spent) {
             return Err((SettleFault::NotOpen, spent));
         }
-        if seat.own.log.reserve(1).is_err() {
+        if seat.fields.own.log.reserve(1).is_err() {
             return Err((SettleFault::OutOfMemory, spent));
         }
-        settle_in(
-            &self.word,
-            &seat.opening,
-            seat.number,
-            &mut seat.own,
-            &mut seat.token,
-            &spent,
-        );
+        settle_in(&self.word, &mut seat.fields, &spent);
         Ok(())
     }
 
@@ -135,14 +126,8 @@ impl Ledger {
         ensures counts { result ≡ tally_of seat.new.seen }
         ensures knows { Knows seat.new }
     {
-        let found = look_in(
-            &self.word,
-            &seat.opening,
-            seat.number,
-            &seat.own,
-            &mut seat.token,
-        );
-        tally_of_word(&seat.opening, found)
+        let found = look_in(&self.word, &mut seat.fields);
+        tally_of_word(&seat.fields.opening, found)
     }
 
     /// A note of what the seat has seen so far, for one other seat to hear. It waits for nobody, and takes no memory.

@@ -6,13 +6,13 @@
 ghost use Rattle.std.specs.Prelude.{◌≡◌, ℕ, List, ◌<◌, [], length, slice_get, Some};
 ghost use Rattle.journal_core.specs.History.{Begins};
 ghost use Rattle.ledger_core.specs.Closing.{HaveMet};
-ghost use Rattle.ledger_core.specs.Logs.{IsSeat};
+ghost use Rattle.ledger_core.specs.Logs.{AreFields, AreSameSeat};
 ghost use Rattle.ledger_core.specs.Meeting.{ArePassed, IsPassed};
 ghost use Rattle.ledger_core.specs.Shared.{Knows, SeatView, Sees};
 
 use crate::seat::{Seat, look_in};
 use crate::steps::{adopt_step, hear_step, write_step};
-use crate::table::{Opening, Own, Token, Word};
+use crate::table::{Fields, Token, Word};
 use journal_core::Entry;
 
 // A note of what the seat has seen.
@@ -23,7 +23,7 @@ pub fn show(word: &Word, seat: &mut Seat) -> Token
     ensures note { (result.table_id ≡ word.now.shared.table_id) × (result.me.1 ≡ []) }
     ensures shown { result.me.0.seen ≡ seat.old.seen }
 {
-    write_step(word, &mut seat.token)
+    write_step(word, &mut seat.fields.token)
 }
 
 // The seat sees what a note shows, and the history so far.
@@ -35,20 +35,22 @@ pub fn learn(word: &Word, seat: &mut Seat, note: Token)
     ensures known { Knows seat.old }
     ensures knows { Knows seat.new }
 {
-    hear_step(word, &mut seat.token, note);
-    look_in(word, &seat.opening, seat.number, &seat.own, &mut seat.token);
+    hear_step(word, &mut seat.fields.token, note);
+    look_in(word, &mut seat.fields);
 }
 
 // What the seat was told, which goes on from what it has seen, is what it has seen.
-fn adopt_in(word: &Word, opening: &Opening, seat: u32, own: &Own, token: &mut Token)
-    requires table { (token.old.table_id ≡ word.now.shared.table_id) × (word.now.shared.table_id.words ≡ 1) }
-    requires seat { IsSeat opening.now seat own.now.closed own.now.log.items own.now.held.items token.old.me }
-    requires further { Begins token.old.me.0.seen token.old.me.0.told }
-    ensures table { token.new.table_id ≡ token.old.table_id }
-    ensures seat { IsSeat opening.now seat own.now.closed own.now.log.items own.now.held.items token.new.me }
-    ensures seen { (token.new.me.0.seen ≡ token.old.me.0.told) × (token.new.me.0.mine ≡ token.old.me.0.mine) }
+fn adopt_in(word: &Word, fields: &mut Fields)
+    requires table { fields.old.token.table_id ≡ word.now.shared.table_id }
+    requires word { word.now.shared.table_id.words ≡ 1 }
+    requires seat { AreFields fields.old }
+    requires further { Begins fields.old.token.me.0.seen fields.old.token.me.0.told }
+    ensures same { AreSameSeat fields.old fields.new }
+    ensures seat { AreFields fields.new }
+    ensures seen { fields.new.token.me.0.seen ≡ fields.old.token.me.0.told }
+    ensures mine { fields.new.token.me.0.mine ≡ fields.old.token.me.0.mine }
 {
-    adopt_step(word, token);
+    adopt_step(word, &mut fields.token);
 }
 
 // The seat sees what a note shows, which goes on from what it has seen.
@@ -61,8 +63,8 @@ pub fn adopt(word: &Word, seat: &mut Seat, note: Token)
     ensures known { Knows seat.old }
     ensures knows { Knows seat.new }
 {
-    hear_step(word, &mut seat.token, note);
-    adopt_in(word, &seat.opening, seat.number, &seat.own, &mut seat.token);
+    hear_step(word, &mut seat.fields.token, note);
+    adopt_in(word, &mut seat.fields);
 }
 
 // The seat sees what the note shows, and writes a note of what it has seen.

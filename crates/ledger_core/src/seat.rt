@@ -9,35 +9,33 @@ ghost use Rattle.std.specs.Option.{IfSome};
 ghost use Rattle.journal_core.specs.declared.entry.Event.TheVariants.{Granted, Exhausted, Settled};
 ghost use Rattle.journal_core.specs.History.{Begins, IsLawful, calls_of, entry, is_exhausted};
 ghost use Rattle.ledger_core.specs.Rule.{issue_reply, knower, packed, IsHeld};
-ghost use Rattle.ledger_core.specs.Logs.{EndsByGranting, HasMark, IsMarked, IsSeat, Steps, event_of, held_after};
-ghost use Rattle.ledger_core.specs.Logs.{place_of_word};
+ghost use Rattle.ledger_core.specs.Logs.{AreFields, AreSameSeat, EndsByGranting, HasMark, IsMarked, Steps};
+ghost use Rattle.ledger_core.specs.Logs.{event_of, held_after, place_of_word};
 ghost use Rattle.ledger_core.specs.Shared.{Holds, IsClosedSeat, Knows, fresh_seat};
 
 use crate::counts::counts_in;
 use crate::grant::Spent;
 use crate::steps::{issue_step, look_step, settle_step};
-use crate::table::{Opening, Own, Record, Token, Word};
+use crate::table::{Fields, Opening, Own, Record, Token, Word};
 use journal_core::{Entry, Event, Tally};
 use std::marker::Model;
 
 /// A seat of a shared ledger.
 #[derive(Drop)]
 pub struct Seat {
-    pub(crate) opening: Opening,
-    pub(crate) number: u32,
-    pub(crate) own: Own,
-    pub(crate) token: Token,
+    pub(crate) fields: Fields,
 }
 
 impl Model for Seat {
-    ghost use Rattle.ledger_core.specs.Logs.{IsSeat};
+    ghost use Rattle.ledger_core.specs.Logs.{AreFields};
     ghost use Rattle.ledger_core.specs.Shared.{SeatView, seat_view};
 
     ghost Value = { SeatView };
 
-    ghost view = { λ s. seat_view s.token.table_id s.opening s.number s.token.me.0.seen s.token.me.0.mine };
+    ghost view = { λ s. seat_view s.fields.token.table_id s.fields.opening s.fields.number
+        s.fields.token.me.0.seen s.fields.token.me.0.mine };
 
-    ghost invariant = { λ s. IsSeat s.opening s.number s.own.closed s.own.log.items s.own.held.items s.token.me };
+    ghost invariant = { λ s. AreFields s.fields };
 }
 
 impl Seat {
@@ -50,10 +48,12 @@ impl Seat {
         ensures { result ≡ fresh_seat token.table_id opening number }
     {
         Seat {
-            opening,
-            number,
-            own,
-            token,
+            fields: Fields {
+                opening,
+                number,
+                own,
+                token,
+            },
         }
     }
 
@@ -62,14 +62,14 @@ impl Seat {
         ensures number { result ≡ self.now.number }
         ensures knows { Knows self.now }
     {
-        self.number
+        self.fields.number
     }
 
     /// Whether the seat has met the end of the range, and issues no more.
     pub fn closed(&self) -> bool
         ensures { IsTrue result ↔ IsClosedSeat self.now }
     {
-        self.own.closed
+        self.fields.own.closed
     }
 
     /// Whether this number is open at this seat: it is of the seat's device, was granted to the seat, and isn't
@@ -77,8 +77,8 @@ impl Seat {
     pub fn holds(&self, spent: &Spent) -> bool
         ensures { IsTrue result ↔ Holds self.now spent.now }
     {
-        spent.device() == self.opening.range().device()
-            && is_marked(&self.opening, &self.own, spent.number())
+        spent.device() == self.fields.opening.range().device()
+            && is_marked(&self.fields.opening, &self.fields.own, spent.number())
     }
 
     // How many operations the seat has made.
@@ -86,7 +86,7 @@ impl Seat {
         ensures count { result ≡ length self.now.mine }
         ensures few { result < 2 ^ 20 }
     {
-        self.own.log.len()
+        self.fields.own.log.len()
     }
 }
 
@@ -153,78 +153,72 @@ fn keep(own: &mut Own, lo: u32, kept: Record)
     }
 }
 
-// The fields of a seat after an issue, and the number granted.
-pub(crate) fn issue_in(
-    word: &Word,
-    opening: &Opening,
-    seat: u32,
-    own: &mut Own,
-    token: &mut Token,
-) -> Option<u32>
-    requires table { (token.old.table_id ≡ word.now.shared.table_id) × (word.now.shared.table_id.words ≡ 1) }
-    requires seat { IsSeat opening.now seat own.old.closed own.old.log.items own.old.held.items token.old.me }
-    requires clear { own.old.closed ≡ false }
-    requires room { vec_len own.old.log < vec_capacity own.old.log }
-    ensures table { token.new.table_id ≡ token.old.table_id }
-    ensures seat { IsSeat opening.now seat own.new.closed own.new.log.items own.new.held.items token.new.me }
-    ensures step { Steps token.old.me.0 (entry seat (event_of result)) token.new.me.0 }
-    ensures granted { IfSome result (λ number. EndsByGranting number own.new.log.items) }
+// What an issue makes of a seat's fields, and the number granted.
+pub(crate) fn issue_in(word: &Word, fields: &mut Fields) -> Option<u32>
+    requires table { fields.old.token.table_id ≡ word.now.shared.table_id }
+    requires word { word.now.shared.table_id.words ≡ 1 }
+    requires seat { AreFields fields.old }
+    requires clear { fields.old.own.closed ≡ false }
+    requires room { vec_len fields.old.own.log < vec_capacity fields.old.own.log }
+    ensures same { AreSameSeat fields.old fields.new }
+    ensures seat { AreFields fields.new }
+    ensures step { Steps fields.old.token.me.0 (entry fields.old.number (event_of result)) fields.new.token.me.0 }
+    ensures granted { IfSome result (λ number. EndsByGranting number fields.new.own.log.items) }
 {
-    let found = issue_step(word, token);
-    let granted = reply(opening, found);
+    let found = issue_step(word, &mut fields.token);
+    let granted = reply(&fields.opening, found);
     let entry = Entry {
-        seat,
+        seat: fields.number,
         event: event_of(granted),
     };
     let place = place(found);
-    keep(own, opening.range().lo(), Record { entry, place });
+    keep(
+        &mut fields.own,
+        fields.opening.range().lo(),
+        Record { entry, place },
+    );
     granted
 }
 
-// The fields of a seat after a settlement of a number that it holds.
-pub(crate) fn settle_in(
-    word: &Word,
-    opening: &Opening,
-    seat: u32,
-    own: &mut Own,
-    token: &mut Token,
-    spent: &Spent,
-)
-    requires table { (token.old.table_id ≡ word.now.shared.table_id) × (word.now.shared.table_id.words ≡ 1) }
-    requires seat { IsSeat opening.now seat own.old.closed own.old.log.items own.old.held.items token.old.me }
-    requires held { IsHeld spent.now.number token.old.me.0.mine }
-    requires room { vec_len own.old.log < vec_capacity own.old.log }
-    ensures table { token.new.table_id ≡ token.old.table_id }
-    ensures seat { IsSeat opening.now seat own.new.closed own.new.log.items own.new.held.items token.new.me }
-    ensures step { Steps token.old.me.0 (entry seat (Settled spent.now.number spent.now.way)) token.new.me.0 }
+// What the settlement of a number that a seat holds makes of its fields.
+pub(crate) fn settle_in(word: &Word, fields: &mut Fields, spent: &Spent)
+    requires table { fields.old.token.table_id ≡ word.now.shared.table_id }
+    requires word { word.now.shared.table_id.words ≡ 1 }
+    requires seat { AreFields fields.old }
+    requires held { IsHeld spent.now.number fields.old.token.me.0.mine }
+    requires room { vec_len fields.old.own.log < vec_capacity fields.old.own.log }
+    ensures same { AreSameSeat fields.old fields.new }
+    ensures seat { AreFields fields.new }
+    ensures step { Steps fields.old.token.me.0 (entry fields.old.number (Settled spent.now.number spent.now.way))
+        fields.new.token.me.0 }
 {
     let (settled, way) = (spent.number(), spent.way());
-    let found = settle_step(word, token, settled, way);
+    let found = settle_step(word, &mut fields.token, settled, way);
     let entry = Entry {
-        seat,
+        seat: fields.number,
         event: Event::Settled(settled, way),
     };
     let place = place(found);
-    keep(own, opening.range().lo(), Record { entry, place });
+    keep(
+        &mut fields.own,
+        fields.opening.range().lo(),
+        Record { entry, place },
+    );
 }
 
 // The word as the seat sees it now.
-pub(crate) fn look_in(
-    word: &Word,
-    opening: &Opening,
-    seat: u32,
-    own: &Own,
-    token: &mut Token,
-) -> u64
-    requires table { (token.old.table_id ≡ word.now.shared.table_id) × (word.now.shared.table_id.words ≡ 1) }
-    requires seat { IsSeat opening.now seat own.now.closed own.now.log.items own.now.held.items token.old.me }
-    ensures table { token.new.table_id ≡ token.old.table_id }
-    ensures seat { IsSeat opening.now seat own.now.closed own.now.log.items own.now.held.items token.new.me }
-    ensures seen { Begins token.old.me.0.seen token.new.me.0.seen × (token.new.me.0.mine ≡ token.old.me.0.mine) }
-    ensures told { Begins token.old.me.0.told token.new.me.0.seen }
-    ensures word { result ≡ packed token.new.me.0.seen }
+pub(crate) fn look_in(word: &Word, fields: &mut Fields) -> u64
+    requires table { fields.old.token.table_id ≡ word.now.shared.table_id }
+    requires word { word.now.shared.table_id.words ≡ 1 }
+    requires seat { AreFields fields.old }
+    ensures same { AreSameSeat fields.old fields.new }
+    ensures seat { AreFields fields.new }
+    ensures seen { Begins fields.old.token.me.0.seen fields.new.token.me.0.seen }
+    ensures mine { fields.new.token.me.0.mine ≡ fields.old.token.me.0.mine }
+    ensures told { Begins fields.old.token.me.0.told fields.new.token.me.0.seen }
+    ensures found { result ≡ packed fields.new.token.me.0.seen }
 {
-    look_step(word, token)
+    look_step(word, &mut fields.token)
 }
 
 // The counts that a word tells. Of the issues, as many were granted as the range has numbers.

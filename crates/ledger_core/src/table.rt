@@ -67,6 +67,16 @@ pub struct Own {
     pub held: Vec<bool>,
 }
 
+/// The fields of a seat. Between a step and its record they are no seat, so they have no invariant of their own.
+#[derive(Drop)]
+pub struct Fields {
+    pub opening: Opening,
+    /// The seat's number.
+    pub number: u32,
+    pub own: Own,
+    pub token: Token,
+}
+
 /// What a token knows. It stands for `width` seats from `seat` on: one for a seat of a ledger, none for a note.
 /// No value of it is made.
 pub struct View {
