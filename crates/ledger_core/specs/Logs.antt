@@ -9,7 +9,7 @@ use Rattle.ledger_core.specs.declared.table.Fields.{Fields}
 use Rattle.ledger_core.specs.declared.table.Record.{Record}
 use Rattle.ledger_core.specs.declared.table.View.{View}
 use Rattle.journal_core.specs.History.{Terms, IsLawful, Legal, calls_of, refused, times_granted, times_settled}
-use Rattle.ledger_core.specs.Rule.{Mine}
+use Rattle.ledger_core.specs.Rule.{Mine, issues_of, sealed_of, void_of}
 
 -- the places of the entries of a seat, where the list begins at place n
 abbrev pub places_from : ℕ → ℕ → List Entry → List ℕ
@@ -25,7 +25,7 @@ place_in r = r.place
 
 -- the place of the entry that was added to a history with this word: its three counts added up
 abbrev pub place_of_word : ℕ → ℕ
-place_of_word n = n % 1048576 + (n / 1048576) % 1048576 + n / 1099511627776
+place_of_word n = issues_of n + sealed_of n + void_of n
 
 -- the number is open among these operations
 abbrev pub is_held : ℕ → List Entry → Bool

@@ -1,6 +1,6 @@
 -- The rule of the ledger's word: what always holds of the word and of what the seats know, and what each atomic step
 -- tells. There is one legal history. Each seat has seen a beginning of it, and the word has its three counts.
-use Rattle.std.specs.Prelude.{◌≡◌, ℕ, ◌+◌, ◌-◌, ◌*◌, ◌<◌, ◌≤◌, List, [], ◌∷◌, ◌++◌, nat_lt, if◌then◌else◌}
+use Rattle.std.specs.Prelude.{◌≡◌, ℕ, ◌+◌, ◌-◌, ◌*◌, ◌/◌, ◌%◌, ◌<◌, ◌≤◌, List, [], ◌∷◌, ◌++◌, nat_lt, if◌then◌else◌}
 use mathlib.Core.Option.{some}
 use lib.ListN.{get_elem?}
 use Rattle.atomic_table.specs.Table.{State, Me, Step}
@@ -14,9 +14,26 @@ use Rattle.journal_core.specs.Range.{range_of}
 use Rattle.journal_core.specs.History.{Terms, IsLawful, Legal, Begins, calls_of, granted, refused, sealed, voided}
 use Rattle.journal_core.specs.History.{times_granted, times_settled, entry}
 
--- the three counts of a history in one word: issues from bit 0, sealed from bit 20, void from bit 40
+-- what a number that is settled as sealed adds to the word, and one as void: 2^20 and 2^40. An issue adds 1
+abbrev pub sealed_unit : ℕ
+sealed_unit = 1048576
+
+abbrev pub void_unit : ℕ
+void_unit = 1099511627776
+
+-- the three counts of a word
+abbrev pub issues_of : ℕ → ℕ
+issues_of word = word % sealed_unit
+
+abbrev pub sealed_of : ℕ → ℕ
+sealed_of word = (word / sealed_unit) % sealed_unit
+
+abbrev pub void_of : ℕ → ℕ
+void_of word = word / void_unit
+
+-- the three counts of a history in one word
 abbrev pub packed : List Entry → ℕ
-packed history = (granted history + refused history) + 1048576 * sealed history + 1099511627776 * voided history
+packed history = (granted history + refused history) + sealed_unit * sealed history + void_unit * voided history
 
 -- the view stands for this seat
 abbrev pub StandsFor : View → ℕ → Type 0

@@ -8,7 +8,7 @@ ghost use Rattle.std.specs.List.{slice_index_or};
 ghost use Rattle.std.specs.Option.{IfSome};
 ghost use Rattle.journal_core.specs.declared.entry.Event.TheVariants.{Granted, Exhausted, Settled};
 ghost use Rattle.journal_core.specs.History.{Begins, IsLawful, calls_of, entry, is_exhausted};
-ghost use Rattle.ledger_core.specs.Rule.{issue_reply, knower, packed, IsHeld};
+ghost use Rattle.ledger_core.specs.Rule.{IsHeld, issue_reply, issues_of, knower, packed, sealed_of, void_of};
 ghost use Rattle.ledger_core.specs.Logs.{AreFields, AreSameSeat, EndsByGranting, HasMark, IsMarked, Steps};
 ghost use Rattle.ledger_core.specs.Logs.{event_of, held_after, place_of_word};
 ghost use Rattle.ledger_core.specs.Shared.{Holds, IsClosedSeat, Knows, fresh_seat};
@@ -118,7 +118,7 @@ fn place(found: u64) -> u32
 fn reply(opening: &Opening, found: u64) -> Option<u32>
     requires numbers { opening.now.range.lo + opening.now.range.size ≤ 2 ^ 32 }
     requires word { found < 2 ^ 60 }
-    ensures { event_of result ≡ issue_reply opening.now (found % 1048576) }
+    ensures { event_of result ≡ issue_reply opening.now (issues_of found) }
 {
     let issues = counts_in(found).issues;
     if issues < opening.range().size() {
@@ -224,9 +224,9 @@ pub(crate) fn look_in(word: &Word, fields: &mut Fields) -> u64
 // The counts that a word tells. Of the issues, as many were granted as the range has numbers.
 pub(crate) fn tally_of_word(opening: &Opening, found: u64) -> Tally
     requires { found < 2 ^ 60 }
-    ensures issues { result.granted + result.refused ≡ found % 1048576 }
-    ensures granted { result.granted ≡ min (found % 1048576) opening.now.range.size }
-    ensures settled { (result.sealed ≡ (found / 1048576) % 1048576) × (result.void ≡ found / 1099511627776) }
+    ensures issues { result.granted + result.refused ≡ issues_of found }
+    ensures granted { result.granted ≡ min (issues_of found) opening.now.range.size }
+    ensures settled { (result.sealed ≡ sealed_of found) × (result.void ≡ void_of found) }
 {
     let counts = counts_in(found);
     let granted = counts.issues.min(opening.range().size());
