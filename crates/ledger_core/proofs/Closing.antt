@@ -14,7 +14,8 @@ use Rattle.journal_core.specs.History.{Terms, IsLawful, Legal, calls_of}
 use Rattle.ledger_core.specs.Rule.{Mine}
 use Rattle.ledger_core.specs.Logs.{places_from, recorded, place_in, IsSeat}
 use Rattle.ledger_core.specs.Shared.{LedgerId, LedgerView, SeatView, seat_view, Sees}
-use Rattle.ledger_core.specs.Closing.{AreAllSeats, HasSeat, IsWhole, HaveMet, written, PlacesSeat, PlacesEach, HasNumber, ArePlaced, operations_in}
+use Rattle.ledger_core.specs.Closing.{AreAllSeats, HasSeat, IsWhole, HaveMet}
+use Rattle.ledger_core.specs.Placing.{written, PlacesSeat, PlacesEach, HasNumber, ArePlaced, operations_in}
 use Rattle.journal_core.proofs.Histories.{legal_front}
 use Rattle.ledger_core.proofs.Seats.{places_kept}
 use Rattle.ledger_core.proofs.Meetings.{get-set_here, get-set_else, some_at, same_at}

@@ -8,10 +8,11 @@ use Rattle.std.specs.Prelude.{Some, slice_get}
 use Rattle.std.proofs.lemmas.List.{length-set, set-get_or}
 use Rattle.std.proofs.lemmas.Option.{slice_get_within, slice_get-get_or}
 use Rattle.journal_core.specs.declared.entry.Entry.{Entry}
-use Rattle.journal_core.specs.History.{Begins, calls_of}
-use Rattle.ledger_core.specs.Shared.{LedgerId, SeatView, Agree, Knows, Sees}
-use Rattle.ledger_core.specs.Closing.{HasSeat, IsPassed, ArePassed, HaveMet}
-use Rattle.journal_core.proofs.Histories.{begins_refl, begins_trans}
+use Rattle.journal_core.specs.History.{Terms, Legal, Begins, calls_of}
+use Rattle.ledger_core.specs.Shared.{LedgerId, LedgerView, SeatView, Agree, Knows, Sees}
+use Rattle.ledger_core.specs.Closing.{AreAllSeats, HasSeat, IsWhole, HaveMet}
+use Rattle.ledger_core.specs.Meeting.{IsPassed, ArePassed}
+use Rattle.journal_core.proofs.Histories.{begins_refl, begins_trans, legal_front, legal_none}
 use Rattle.ledger_core.proofs.Seats.{calls_both, same_between}
 
 -- places of a list
@@ -164,3 +165,17 @@ have_met from history to old mid new first second = record {
 -- a seat that is as it was
 pub unchanged : (seats : List SeatView) (at : ℕ) (d v : SeatView) → v ≡ get_or seats at d → set seats at v ≡ seats
 unchanged seats at d v is = ap (set seats at) is ∙ set-get_or seats at d
+
+-- all seats of a ledger that have met have one whole history
+pub whole_of_met : (ledger : LedgerView) (old new : List SeatView) (history : List Entry) → AreAllSeats ledger old → HaveMet old new history
+    → (whole : List Entry) × IsWhole ledger.terms old whole
+whole_of_met ledger [] new history all met = ([], record { legal = legal_none ledger.terms; each = λ i v at. absurd (cc) })
+whole_of_met ledger (v ∷ vs) new history all met =
+    let its = met.after 0 v refl in
+    let terms : its.0.terms ≡ ledger.terms = ap (λ (z : SeatView). z.terms) its.2.1 ∙ (all.each 0 v refl).1 in (
+      history,
+      record {
+        legal = legal_front ledger.terms history its.4.0 (subst (Legal ledger.terms) its.4.1 (subst (λ (z : Terms). Legal z its.0.seen) terms its.3.legal));
+        each = met.before;
+      },
+    )

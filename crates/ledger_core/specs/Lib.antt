@@ -1,5 +1,7 @@
 pub mod Closing
 pub mod Logs
+pub mod Meeting
+pub mod Placing
 pub mod Rule
 pub mod Shared
 pub use Rattle.journal_core.specs.Audit

@@ -1,18 +1,21 @@
 -- What the fields of a seat say: its own log has its own operations in order, each with the place where it stands.
-use Rattle.std.specs.Prelude.{◌≡◌, ℕ, ◌+◌, ◌-◌, ◌/◌, ◌%◌, ◌<◌, ◌≤◌, Bool, true, false, ◌&&◌, if◌then◌else◌, nat_eq, nat_lt, List, [], ◌∷◌, ◌++◌, length, map, slice_set, ⊤, Option, Some, None}
+use Rattle.std.specs.Prelude.{◌≡◌, ℕ, ◌+◌, ◌-◌, ◌/◌, ◌%◌, ◌<◌, ◌≤◌, Bool, true, false, ◌&&◌, if◌then◌else◌, nat_eq}
+use Rattle.std.specs.Prelude.{nat_lt, List, [], ◌∷◌, ◌++◌, length, map, slice_set, ⊤, Option, Some, None}
 use Rattle.std.specs.List.{slice_index_or}
 use Rattle.journal_core.specs.declared.entry.Event.{Event}
 use Rattle.journal_core.specs.declared.entry.Event.TheVariants.{Granted, Exhausted, Settled}
 use Rattle.journal_core.specs.declared.entry.Entry.{Entry}
+use Rattle.ledger_core.specs.declared.table.Fields.{Fields}
 use Rattle.ledger_core.specs.declared.table.Record.{Record}
 use Rattle.ledger_core.specs.declared.table.View.{View}
 use Rattle.journal_core.specs.History.{Terms, IsLawful, Legal, calls_of, refused, times_granted, times_settled}
-use Rattle.ledger_core.specs.Rule.{Mine}
+use Rattle.ledger_core.specs.Rule.{Mine, issues_of, sealed_of, void_of}
 
 -- the places of the entries of a seat, where the list begins at place n
 abbrev pub places_from : ℕ → ℕ → List Entry → List ℕ
 places_from n seat [] = []
-places_from n seat (e ∷ es) = if nat_eq e.seat seat then n ∷ places_from (n + 1) seat es else places_from (n + 1) seat es
+places_from n seat (e ∷ es) =
+    if nat_eq e.seat seat then n ∷ places_from (n + 1) seat es else places_from (n + 1) seat es
 
 abbrev pub recorded : Record → Entry
 recorded r = r.entry
@@ -22,7 +25,7 @@ place_in r = r.place
 
 -- the place of the entry that was added to a history with this word: its three counts added up
 abbrev pub place_of_word : ℕ → ℕ
-place_of_word n = n % 1048576 + (n / 1048576) % 1048576 + n / 1099511627776
+place_of_word n = issues_of n + sealed_of n + void_of n
 
 -- the number is open among these operations
 abbrev pub is_held : ℕ → List Entry → Bool
@@ -30,7 +33,9 @@ is_held number mine = nat_lt 0 (times_granted number mine) && nat_eq (times_sett
 
 -- the number is one of the range, and marked as held
 abbrev pub IsMarked : Terms → List Bool → ℕ → Type 0
-IsMarked terms held number = (terms.range.lo ≤ number) × (number - terms.range.lo < length held) × (slice_index_or held (number - terms.range.lo) false ≡ true)
+IsMarked terms held number =
+    (terms.range.lo ≤ number) × (number - terms.range.lo < length held)
+    × (slice_index_or held (number - terms.range.lo) false ≡ true)
 
 -- the marks after an operation
 abbrev pub held_after : ℕ → List Bool → Event → List Bool
@@ -46,10 +51,13 @@ HasMark lo held (Settled n way) = (lo ≤ n) × (n - lo < length held)
 
 -- the last operation in the log granted this number
 abbrev pub EndsByGranting : ℕ → List Record → Type 0
-EndsByGranting number log = (before : List Record) × (last : Record) × (log ≡ before ++ last ∷ []) × (last.entry.event ≡ Granted number)
+EndsByGranting number log =
+    (before : List Record) × (last : Record) × (log ≡ before ++ last ∷ []) × (last.entry.event ≡ Granted number)
 
--- the fields of a seat: record j of its log has entry j of its own operations, and the place where that stands in what it has seen
-pub record IsSeat (opened : Terms) (seat : ℕ) (closed : Bool) (log : List Record) (held : List Bool) (me : Mine) : Type 0 where
+-- the fields of a seat: record j of its log has entry j of its own operations, and the place where that stands in
+-- what it has seen
+pub record IsSeat (opened : Terms) (seat : ℕ) (closed : Bool) (log : List Record) (held : List Bool) (me : Mine)
+    : Type 0 where
   pub one_seat : me.0.width ≡ 1
   pub no_slots : me.1 ≡ []
   pub terms : me.0.terms ≡ opened
@@ -64,9 +72,19 @@ pub record IsSeat (opened : Terms) (seat : ℕ) (closed : Bool) (log : List Reco
   pub all_held : length held ≡ opened.range.size
   pub held_is : (k : ℕ) → k < opened.range.size → slice_index_or held k false ≡ is_held (opened.range.lo + k) me.0.mine
 
+abbrev pub AreFields : Fields → Type 0
+AreFields f = IsSeat f.opening f.number f.own.closed f.own.log.items f.own.held.items f.token.me
+
+-- the fields are of the same seat of the same ledger
+pub record AreSameSeat (old new : Fields) : Type 0 where
+  pub opening : new.opening ≡ old.opening
+  pub number : new.number ≡ old.number
+  pub ledger : new.token.table_id ≡ old.token.table_id
+
 -- what a seat has seen goes on from before and ends with this entry, and so do its own operations
 abbrev pub Steps : View → Entry → View → Type 0
-Steps view e after = (between : List Entry) × (after.seen ≡ (view.seen ++ between) ++ e ∷ []) × (after.mine ≡ view.mine ++ e ∷ [])
+Steps view e after =
+    (between : List Entry) × (after.seen ≡ (view.seen ++ between) ++ e ∷ []) × (after.mine ≡ view.mine ++ e ∷ [])
 
 -- the reply to an issue that grants this number
 abbrev pub event_of : Option ℕ → Event
@@ -75,4 +93,5 @@ event_of None = Exhausted
 
 -- what is left of a new ledger's seats, from this one on
 abbrev pub from_seat : Terms → ℕ → View
-from_seat terms seat = record { terms = terms; seat = seat; width = terms.seats - seat; seen = []; mine = []; told = [] }
+from_seat terms seat =
+    record { terms = terms; seat = seat; width = terms.seats - seat; seen = []; mine = []; told = [] }

@@ -1,6 +1,6 @@
--- The rule of the ledger's word: what always holds of the word and of what the seats know, and what each atomic step tells.
--- There is one legal history. Each seat has seen a beginning of it, and the word has its three counts.
-use Rattle.std.specs.Prelude.{◌≡◌, ℕ, ◌+◌, ◌-◌, ◌*◌, ◌<◌, ◌≤◌, List, [], ◌∷◌, ◌++◌, nat_lt, if◌then◌else◌}
+-- The rule of the ledger's word: what always holds of the word and of what the seats know, and what each atomic step
+-- tells. There is one legal history. Each seat has seen a beginning of it, and the word has its three counts.
+use Rattle.std.specs.Prelude.{◌≡◌, ℕ, ◌+◌, ◌-◌, ◌*◌, ◌/◌, ◌%◌, ◌<◌, ◌≤◌, List, [], ◌∷◌, ◌++◌, nat_lt, if◌then◌else◌}
 use mathlib.Core.Option.{some}
 use lib.ListN.{get_elem?}
 use Rattle.atomic_table.specs.Table.{State, Me, Step}
@@ -11,11 +11,29 @@ use Rattle.journal_core.specs.declared.entry.Event.TheVariants.{Granted, Exhaust
 use Rattle.journal_core.specs.declared.entry.Entry.{Entry}
 use Rattle.ledger_core.specs.declared.table.View.{View}
 use Rattle.journal_core.specs.Range.{range_of}
-use Rattle.journal_core.specs.History.{Terms, IsLawful, Legal, Begins, calls_of, granted, refused, sealed, voided, times_granted, times_settled, entry}
+use Rattle.journal_core.specs.History.{Terms, IsLawful, Legal, Begins, calls_of, granted, refused, sealed, voided}
+use Rattle.journal_core.specs.History.{times_granted, times_settled, entry}
 
--- the three counts of a history in one word: issues from bit 0, sealed from bit 20, void from bit 40
+-- what a number that is settled as sealed adds to the word, and one as void: 2^20 and 2^40. An issue adds 1
+abbrev pub sealed_unit : ℕ
+sealed_unit = 1048576
+
+abbrev pub void_unit : ℕ
+void_unit = 1099511627776
+
+-- the three counts of a word
+abbrev pub issues_of : ℕ → ℕ
+issues_of word = word % sealed_unit
+
+abbrev pub sealed_of : ℕ → ℕ
+sealed_of word = (word / sealed_unit) % sealed_unit
+
+abbrev pub void_of : ℕ → ℕ
+void_of word = word / void_unit
+
+-- the three counts of a history in one word
 abbrev pub packed : List Entry → ℕ
-packed history = (granted history + refused history) + 1048576 * sealed history + 1099511627776 * voided history
+packed history = (granted history + refused history) + sealed_unit * sealed history + void_unit * voided history
 
 -- the view stands for this seat
 abbrev pub StandsFor : View → ℕ → Type 0
@@ -32,7 +50,9 @@ pub record Fits (opened : Terms) (history : List Entry) (view : View) : Type 0 w
 
 -- no two views stand for one seat
 abbrev pub Apart : List View → Type 0
-Apart views = (i j seat : ℕ) (v w : View) → get_elem? views i ≡ some v → get_elem? views j ≡ some w → StandsFor v seat → StandsFor w seat → i ≡ j
+Apart views =
+    (i j seat : ℕ) (v w : View) → get_elem? views i ≡ some v → get_elem? views j ≡ some w
+    → StandsFor v seat → StandsFor w seat → i ≡ j
 
 -- the table has this history
 pub record HasHistory (opened : Terms) (history : List Entry) (table : State (Unit {0}) View) : Type 0 where
@@ -47,7 +67,8 @@ IsKept opened table = (history : List Entry) × HasHistory opened history table
 
 -- the view of a seat that has seen this, and made these operations
 abbrev pub knower : Terms → ℕ → List Entry → List Entry → List Entry → View
-knower terms seat seen mine told = record { terms = terms; seat = seat; width = 1; seen = seen; mine = mine; told = told }
+knower terms seat seen mine told =
+    record { terms = terms; seat = seat; width = 1; seen = seen; mine = mine; told = told }
 
 -- the first view stands for all seats
 abbrev pub newcomer : Terms → View
@@ -68,7 +89,8 @@ pub record Finds (view : View) (word : ℕ) (history : List Entry) : Type 0 wher
 
 -- the seat added the entry to the history that it found, and has seen all of that
 abbrev pub Adds : View → ℕ → List Entry → Entry → View → Type 0
-Adds view found history e after = Finds view found history × Legal view.terms (history ++ e ∷ []) × (after ≡ added view history e)
+Adds view found history e after =
+    Finds view found history × Legal view.terms (history ++ e ∷ []) × (after ≡ added view history e)
 
 -- the reply to an issue where so many were granted
 abbrev pub issue_reply : Terms → ℕ → Event
@@ -79,11 +101,14 @@ Mine = Me (Unit {0}) View
 
 -- an issue that found this word
 abbrev pub Issues : View → ℕ → View → Type 0
-Issues view found after = (history : List Entry) × Adds view found history (entry view.seat (issue_reply view.terms (granted history))) after
+Issues view found after =
+    (history : List Entry)
+    × Adds view found history (entry view.seat (issue_reply view.terms (granted history))) after
 
 -- the seat settled this number so
 abbrev pub Settles : ℕ → Way → View → ℕ → View → Type 0
-Settles number way view found after = (history : List Entry) × Adds view found history (entry view.seat (Settled number way)) after
+Settles number way view found after =
+    (history : List Entry) × Adds view found history (entry view.seat (Settled number way)) after
 
 -- the seat has seen the history so far
 abbrev pub Looks : View → ℕ → View → Type 0
@@ -135,4 +160,11 @@ hears view note = record view { told = note.seen }
 
 -- what is left of a note
 abbrev pub nobody : View
-nobody = record { terms = record { range = range_of 0 0 0; seats = 0 }; seat = 0; width = 0; seen = []; mine = []; told = [] }
+nobody = record {
+  terms = record { range = range_of 0 0 0; seats = 0 };
+  seat = 0;
+  width = 0;
+  seen = [];
+  mine = [];
+  told = [];
+}

@@ -1,4 +1,5 @@
--- The shared ledger as its callers see it: of each seat its ledger, range, number, what it has seen, and its own operations.
+-- The shared ledger as its callers see it: of each seat its ledger, range, number, what it has seen, and its own
+-- operations.
 use Rattle.std.specs.Prelude.{◌≡◌, ◌⊎◌, ℕ, zero, suc, ◌<◌, List, [], ◌∷◌, ◌++◌}
 use Rattle.atomic_table.specs.Seated.{TableId}
 use Rattle.journal_core.specs.declared.entry.Way.{Way}
@@ -8,12 +9,15 @@ use Rattle.journal_core.specs.declared.entry.Entry.{Entry}
 use Rattle.ledger_core.specs.declared.fault.OpenLedgerFault.{OpenLedgerFault}
 use Rattle.ledger_core.specs.declared.fault.OpenLedgerFault.TheVariants.{BadSeats, OutOfMemory as NotOpened}
 use Rattle.ledger_core.specs.declared.fault.IssueFault.{IssueFault}
-use Rattle.ledger_core.specs.declared.fault.IssueFault.TheVariants.{SeatClosed, OutOfMemory as NotIssued, Exhausted as NoNumber}
+use Rattle.ledger_core.specs.declared.fault.IssueFault.TheVariants.{SeatClosed, OutOfMemory as NotIssued}
+use Rattle.ledger_core.specs.declared.fault.IssueFault.TheVariants.{Exhausted as NoNumber}
 use Rattle.ledger_core.specs.declared.fault.SettleFault.{SettleFault}
 use Rattle.ledger_core.specs.declared.fault.SettleFault.TheVariants.{NotOpen, OutOfMemory as NotSettled}
-use Rattle.journal_core.specs.History.{Terms, IsLawful, Legal, entry, calls_of, refused, times_granted, times_settled, Begins}
+use Rattle.journal_core.specs.History.{Terms, IsLawful, Legal, entry, calls_of, refused, times_granted, times_settled}
+use Rattle.journal_core.specs.History.{Begins}
 
--- which ledger it is. Clauses only compare it: a seat goes with the ledger that has its id. No clause says that two ledgers differ in it.
+-- which ledger it is. Clauses only compare it: a seat goes with the ledger that has its id. No clause says that two
+-- ledgers differ in it.
 abbrev pub LedgerId : Type 0
 LedgerId = TableId
 
@@ -30,7 +34,8 @@ pub record SeatView : Type 0 where
   pub mine : List Entry
 
 abbrev pub seat_view : LedgerId → Terms → ℕ → List Entry → List Entry → SeatView
-seat_view ledger terms number seen mine = record { ledger = ledger; terms = terms; number = number; seen = seen; mine = mine }
+seat_view ledger terms number seen mine =
+    record { ledger = ledger; terms = terms; number = number; seen = seen; mine = mine }
 
 -- a note: what a seat of this ledger had seen
 pub record NoteView : Type 0 where
@@ -64,16 +69,22 @@ pub record Knows (seat : SeatView) : Type 0 where
   pub legal : Legal seat.terms seat.seen
   pub own : calls_of seat.number seat.seen ≡ seat.mine
 
--- one operation: what the seat has seen goes on from before and ends with the new entry, which its own operations get at their end
+-- one operation: what the seat has seen goes on from before and ends with the new entry, which its own operations get
+-- at their end
 abbrev pub Extends : SeatView → Event → SeatView → Type 0
 Extends old event new =
-    (between : List Entry) × (new ≡ record old { seen = (old.seen ++ between) ++ entry old.number event ∷ []; mine = old.mine ++ entry old.number event ∷ [] })
+    (between : List Entry)
+    × (new ≡ record old {
+      seen = (old.seen ++ between) ++ entry old.number event ∷ [];
+      mine = old.mine ++ entry old.number event ∷ [];
+    })
 
 -- a look: what the seat has seen goes on from before, and its own operations stay
 abbrev pub Sees : SeatView → SeatView → Type 0
 Sees old new = (between : List Entry) × (new ≡ record old { seen = old.seen ++ between })
 
--- any two seats of a ledger: of what they have seen one begins the other, and what the one has seen of the other are the other's own operations, from the first on
+-- any two seats of a ledger: of what they have seen one begins the other, and what the one has seen of the other are
+-- the other's own operations, from the first on
 pub record Agree (one other : SeatView) : Type 0 where
   pub history : Begins one.seen other.seen ⊎ Begins other.seen one.seen
   pub of_other : Begins (calls_of other.number one.seen) other.mine
@@ -85,7 +96,9 @@ IsClosedSeat seat = 0 < refused seat.mine
 
 -- the number is of the seat's device, and among the seat's own operations it was granted and not settled
 abbrev pub Holds : SeatView → SpentView → Type 0
-Holds seat spent = (spent.device ≡ seat.terms.range.device) × (0 < times_granted spent.number seat.mine) × (times_settled spent.number seat.mine ≡ 0)
+Holds seat spent =
+    (spent.device ≡ seat.terms.range.device)
+    × (0 < times_granted spent.number seat.mine) × (times_settled spent.number seat.mine ≡ 0)
 
 -- why an issue gave no number
 abbrev pub Unissued : IssueFault → SeatView → SeatView → Type 0

@@ -1,58 +1,17 @@
-//! The end of a shared ledger: the seats meet, and their logs are put together into the one history.
-//!
-//! A note goes twice round the seats in the order of their numbers. What the note shows after the first round has all that
-//! any seat had done, and each seat has seen it in the second, so it has of each seat no more than that seat's own operations.
-//! Each record of a seat's log then goes to its place.
-ghost use Rattle.std.specs.Prelude.{◌≡◌, ℕ, List, ◌<◌, ◌≤◌, [], IfOk, length, slice_get, Some};
-ghost use Rattle.ledger_core.specs.Shared.{SeatView};
-ghost use Rattle.ledger_core.specs.Closing.{AreAllSeats, ArePassed, ArePlaced, HaveMet, IsPassed, IsWhole, operations_in, written};
+//! The end of a shared ledger: the seats meet, and each record of a seat's log goes to its place in the one history.
+ghost use Rattle.std.specs.Prelude.{◌≡◌, ◌≤◌, IfOk, length};
+ghost use Rattle.ledger_core.specs.Closing.{AreAllSeats, IsWhole};
+ghost use Rattle.ledger_core.specs.Placing.{ArePlaced, operations_in, written};
 
 use crate::ledger::Ledger;
-use crate::seat::{Seat, learn, show};
-use crate::table::{Record, Token, Word};
+use crate::meeting::meet_all;
+use crate::seat::Seat;
+use crate::table::Record;
 use journal_core::{Entry, Event};
 use std::alloc::{AllocError, Global};
 
-// The seat sees what the note shows, and writes a note of what it has seen.
-fn pass(word: &Word, seat: &mut Seat, note: Token) -> Token
-    requires word { word.now.shared.table_id.words ≡ 1 }
-    requires ours { seat.old.ledger ≡ word.now.shared.table_id }
-    requires note { (note.table_id ≡ word.now.shared.table_id) × (note.me.1 ≡ []) }
-    ensures note { (result.table_id ≡ word.now.shared.table_id) × (result.me.1 ≡ []) }
-    ensures on { IsPassed note.me.0.seen result.me.0.seen seat.old seat.new }
-{
-    learn(word, seat, note);
-    show(word, seat)
-}
-
-// The note goes from seat to seat.
-fn round(word: &Word, seats: &mut [Seat], mut note: Token) -> Token
-    requires word { word.now.shared.table_id.words ≡ 1 }
-    requires ours { (i : ℕ) (v : SeatView) → slice_get seats.old i ≡ Some v → v.ledger ≡ word.now.shared.table_id }
-    requires note { (note.table_id ≡ word.now.shared.table_id) × (note.me.1 ≡ []) }
-    ensures note { (result.table_id ≡ word.now.shared.table_id) × (result.me.1 ≡ []) }
-    ensures on { ArePassed note.me.0.seen result.me.0.seen seats.old seats.new }
-{
-    for seat in seats.iter_mut() {
-        note = pass(word, seat, note);
-    }
-    note
-}
-
-/// The seats meet in their order, twice round.
-pub fn meet_all(word: &Word, seats: &mut [Seat])
-    requires word { word.now.shared.table_id.words ≡ 1 }
-    requires ours { (i : ℕ) (v : SeatView) → slice_get seats.old i ≡ Some v → v.ledger ≡ word.now.shared.table_id }
-    requires some { 0 < length seats.old }
-    ensures { (history : List Entry) × HaveMet seats.old seats.new history }
-{
-    let first = &mut seats[0];
-    let note = show(word, first);
-    let note = round(word, seats, note);
-    round(word, seats, note);
-}
-
-// Writes each record's entry at its place.
+// Writes each record's entry at its place. Of the seats of one ledger each place is below the number of entries: that
+// shows only once all logs are written, so this function tests it.
 fn fill(entries: &mut Vec<Entry>, log: &[Record])
     ensures { entries.new.items ≡ written log.now entries.old.items }
 {
@@ -70,7 +29,7 @@ fn fill_all(entries: &mut Vec<Entry>, seats: &[Seat])
     ensures placed { ArePlaced seats.now entries.new.items }
 {
     for seat in seats {
-        fill(entries, seat.own.log.as_slice());
+        fill(entries, seat.fields.own.log.as_slice());
     }
 }
 

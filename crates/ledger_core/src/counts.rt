@@ -1,5 +1,6 @@
 //! The layout of the ledger's word: three counts of 20 bits. A step adds 1 to one of them.
-ghost use Rattle.std.specs.Prelude.{◌≡◌, ◌/◌, ◌%◌, ◌^◌, ◌<◌};
+ghost use Rattle.std.specs.Prelude.{◌≡◌, ◌^◌, ◌<◌};
+ghost use Rattle.ledger_core.specs.Rule.{issues_of, sealed_of, void_of};
 
 /// What an issue adds to the word: 1, in the count from bit 0.
 pub const ISSUED: u64 = 1;
@@ -22,9 +23,9 @@ pub struct Counts {
 /// The counts in this word.
 pub fn counts_in(word: u64) -> Counts
     requires { word < 2 ^ 60 }
-    ensures issues { result.issues ≡ word % 1048576 }
-    ensures sealed { result.sealed ≡ (word / 1048576) % 1048576 }
-    ensures void { result.void ≡ word / 1099511627776 }
+    ensures issues { result.issues ≡ issues_of word }
+    ensures sealed { result.sealed ≡ sealed_of word }
+    ensures void { result.void ≡ void_of word }
 {
     Counts {
         issues: (word % SEALED) as u32,

@@ -1,7 +1,7 @@
 //! A number that was granted, and a number that was used or given up.
 //!
-//! A grant can't be copied, and is spent once. Its prefix can be read any number of times, so that one sealing alone uses it is
-//! the caller's care. A grant or a spent number that is dropped leaves its number granted and open.
+//! A grant can't be copied, and is spent once. Its prefix can be read any number of times, so that one sealing alone
+//! uses it is the caller's care. A grant or a spent number that is dropped leaves its number granted and open.
 ghost use Rattle.std.specs.Prelude.{◌≡◌};
 ghost use Rattle.journal_core.specs.declared.entry.Way.TheVariants.{Sealed, Void};
 ghost use Rattle.journal_core.specs.Range.{prefix_of};

@@ -3,10 +3,11 @@ ghost use Rattle.std.specs.Prelude.{◌≡◌, ◌≤◌, ◌++◌, ◌∷◌, �
 ghost use Rattle.journal_core.specs.declared.entry.Entry.{Entry};
 ghost use Rattle.journal_core.specs.declared.entry.Event.{Event};
 ghost use Rattle.journal_core.specs.declared.entry.Event.TheVariants.{Granted, Exhausted};
-ghost use Rattle.journal_core.specs.History.{Begins, MayFollow, Terms, entry, granted, refused, sealed, times_granted, voided};
+ghost use Rattle.journal_core.specs.History.{Begins, MayFollow, Terms, entry, granted, refused, sealed};
+ghost use Rattle.journal_core.specs.History.{times_granted, voided};
 ghost use Rattle.journal_core.specs.Prefixes.{GrantsOnce};
-ghost use Rattle.ledger_core.specs.Closing.{IsWhole};
-ghost use Rattle.ledger_core.specs.Shared.{Agree, Extends, Knows, SeatView};
+ghost use Rattle.ledger_core.specs.Closing.{AreAllSeats, HaveMet, IsWhole};
+ghost use Rattle.ledger_core.specs.Shared.{Agree, Extends, Knows, LedgerView, SeatView};
 
 use crate::seat::Seat;
 pub use journal_core::laws::{
@@ -21,11 +22,18 @@ pub fn grants_seen(seat: &Seat)
     let _knows = seat.number();
 }
 
-/// Any two seats of one whole history agree: of what they have seen one begins the other, and what the one has seen of the other are
-/// the other's own operations, from the first on.
+/// Any two seats of one whole history agree: of what they have seen one begins the other, and what the one has seen
+/// of the other are the other's own operations, from the first on.
 pub fn seats_agree()
     ensures { (terms : Terms) (seats : List SeatView) (history : List Entry) (i j : ℕ) (one other : SeatView)
-        → IsWhole terms seats history → slice_get seats i ≡ Some one → slice_get seats j ≡ Some other → Agree one other }
+        → IsWhole terms seats history → slice_get seats i ≡ Some one → slice_get seats j ≡ Some other
+        → Agree one other }
+{}
+
+/// All seats of a ledger that have met have one whole history.
+pub fn seats_that_met_have_one_history()
+    ensures { (ledger : LedgerView) (old new : List SeatView) (history : List Entry)
+        → AreAllSeats ledger old → HaveMet old new history → (whole : List Entry) × IsWhole ledger.terms old whole }
 {}
 
 /// The history so far fixes what an issue is answered: one number, or that none is left.
@@ -42,7 +50,8 @@ pub fn heard_stands_before()
         → (between : List Entry) × (new.seen ≡ (shown ++ between) ++ entry old.number event ∷ []) }
 {}
 
-/// A number that a seat has heard of as granted is not granted to it, whoever granted it and whatever became of that seat.
+/// A number that a seat has heard of as granted is not granted to it, whoever granted it and whatever became of that
+/// seat.
 pub fn heard_numbers_are_not_granted_again()
     ensures { (shown : List Entry) (old new : SeatView) (number : ℕ) → Begins shown old.seen
         → Extends old (Granted number) new → Knows new → times_granted number shown ≡ 0 }

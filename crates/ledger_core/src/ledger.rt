@@ -1,8 +1,8 @@
 //! The shared ledger: callers in any threads issue and settle numbers of one range, each with a seat of its own.
 //!
-//! An operation is one addition to one atomic word, and a tally is one load. Nobody waits: there is no lock, and no step is
-//! tried again. Whatever the schedule, the operations of all seats are one legal history, each once, and what each seat has
-//! seen is a beginning of it.
+//! An operation is one addition to one atomic word, and a tally is one load. Nobody waits: there is no lock, and no
+//! step is tried again. Whatever the schedule, the operations of all seats are one legal history, each once, and what
+//! each seat has seen is a beginning of it.
 ghost use Rattle.std.specs.Prelude.{◌≡◌, ◌<◌, ◌↔◌, ◌⊎◌, ℕ, List, [], Some, IfOk, IfErr, slice_get, replicate, false};
 ghost use Rattle.journal_core.specs.declared.entry.Entry.{Entry};
 ghost use Rattle.journal_core.specs.declared.entry.Event.TheVariants.{Granted, Settled};
@@ -10,13 +10,15 @@ ghost use Rattle.ledger_core.specs.declared.fault.IssueFault.TheVariants.{SeatCl
 ghost use Rattle.ledger_core.specs.Closing.{AreAllSeats, HaveMet, IsWhole};
 ghost use Rattle.journal_core.specs.History.{Begins, IsLawful, tally_of};
 ghost use Rattle.journal_core.specs.Journal.{terms_of};
-ghost use Rattle.ledger_core.specs.Shared.{Agree, Extends, Holds, IsClosedSeat, IsSameSeat, Knows, SeatView, Sees, Unissued, Unsettled, fresh_seats};
+ghost use Rattle.ledger_core.specs.Shared.{Agree, Extends, Holds, IsClosedSeat, IsSameSeat, Knows, SeatView, Sees};
+ghost use Rattle.ledger_core.specs.Shared.{Unissued, Unsettled, fresh_seats};
 
-use crate::close::{meet_all, operations_of, put_together, room};
+use crate::close::{operations_of, put_together, room};
 use crate::fault::{IssueFault, OpenLedgerFault, SettleFault};
 use crate::grant::{Grant, Spent};
+use crate::meeting::{adopt, learn, meet_all, show};
 use crate::note::Note;
-use crate::seat::{Seat, adopt, issue_in, learn, look_in, settle_in, show, tally_of_word};
+use crate::seat::{Seat, issue_in, look_in, settle_in, tally_of_word};
 use crate::steps::{deal_step, open_word};
 use crate::table::{Opening, Own, Word};
 use journal_core::{Journal, MAX_SEATS, Range, Tally};
@@ -44,7 +46,8 @@ impl Model for Ledger {
 }
 
 impl Ledger {
-    /// A ledger over this range with so many seats, numbered from 0. `BadSeats` comes exactly where they are 0 or over 64.
+    /// A ledger over this range with so many seats, numbered from 0. `BadSeats` comes exactly where they are 0 or
+    /// over 64.
     pub fn open(
         alloc: Global,
         range: Range,
@@ -67,7 +70,8 @@ impl Ledger {
 
     /// Grants the next number of the range to the seat. It waits for nobody.
     ///
-    /// `SeatClosed` and `OutOfMemory` leave everything as it was. `Exhausted` is an operation, and closes the seat for issue.
+    /// `SeatClosed` and `OutOfMemory` leave everything as it was. `Exhausted` is an operation, and closes the seat
+    /// for issue.
     pub fn issue(&self, seat: &mut Seat) -> Result<Grant, IssueFault>
         requires ours { seat.old.ledger ≡ self.now.ledger }
         ensures granted { IfOk result (λ grant. Extends seat.old (Granted grant.number) seat.new) }
@@ -77,30 +81,29 @@ impl Ledger {
         ensures same { IsSameSeat seat.old seat.new }
         ensures knows { Knows seat.new }
     {
-        if seat.own.closed {
+        if seat.fields.own.closed {
             return Err(IssueFault::SeatClosed);
         }
-        if seat.own.log.reserve(1).is_err() {
+        if seat.fields.own.log.reserve(1).is_err() {
             return Err(IssueFault::OutOfMemory);
         }
-        let number = issue_in(
-            &self.word,
-            &seat.opening,
-            seat.number,
-            &mut seat.own,
-            &mut seat.token,
-        );
+        let number = issue_in(&self.word, &mut seat.fields);
         match number {
-            Some(number) => Ok(Grant::of(seat.opening.range().device(), number, &seat.own)),
+            Some(number) => Ok(Grant::of(
+                seat.fields.opening.range().device(),
+                number,
+                &seat.fields.own,
+            )),
             None => Err(IssueFault::Exhausted),
         }
     }
 
-    /// Records how a number ended that is open at the seat. It waits for nobody. A refusal changes nothing, and hands back what
-    /// was to be settled.
+    /// Records how a number ended that is open at the seat. It waits for nobody. A refusal changes nothing, and hands
+    /// back what was to be settled.
     pub fn settle(&self, seat: &mut Seat, spent: Spent) -> Result<(), (SettleFault, Spent)>
         requires ours { seat.old.ledger ≡ self.now.ledger }
-        ensures settled { IfOk result (λ _. Holds seat.old spent × Extends seat.old (Settled spent.number spent.way) seat.new) }
+        ensures settled { IfOk result (λ _. Holds seat.old spent
+            × Extends seat.old (Settled spent.number spent.way) seat.new) }
         ensures refused { IfErr result (λ f. Unsettled f.0 seat.old spent) }
         ensures unchanged { IfErr result (λ f. (f.1 ≡ spent) × (seat.new ≡ seat.old)) }
         ensures same { IsSameSeat seat.old seat.new }
@@ -109,17 +112,10 @@ impl Ledger {
         if !seat.holds(&spent) {
             return Err((SettleFault::NotOpen, spent));
         }
-        if seat.own.log.reserve(1).is_err() {
+        if seat.fields.own.log.reserve(1).is_err() {
             return Err((SettleFault::OutOfMemory, spent));
         }
-        settle_in(
-            &self.word,
-            &seat.opening,
-            seat.number,
-            &mut seat.own,
-            &mut seat.token,
-            &spent,
-        );
+        settle_in(&self.word, &mut seat.fields, &spent);
         Ok(())
     }
 
@@ -130,14 +126,8 @@ impl Ledger {
         ensures counts { result ≡ tally_of seat.new.seen }
         ensures knows { Knows seat.new }
     {
-        let found = look_in(
-            &self.word,
-            &seat.opening,
-            seat.number,
-            &seat.own,
-            &mut seat.token,
-        );
-        tally_of_word(&seat.opening, found)
+        let found = look_in(&self.word, &mut seat.fields);
+        tally_of_word(&seat.fields.opening, found)
     }
 
     /// A note of what the seat has seen so far, for one other seat to hear. It waits for nobody, and takes no memory.
@@ -153,8 +143,8 @@ impl Ledger {
         }
     }
 
-    /// The seat hears what a note shows: all of that stands before whatever the seat does from now on, also where the seat that
-    /// wrote the note is gone. It waits for nobody, and takes no memory.
+    /// The seat hears what a note shows: all of that stands before whatever the seat does from now on, also where the
+    /// seat that wrote the note is gone. It waits for nobody, and takes no memory.
     pub fn hear(&self, seat: &mut Seat, note: Note)
         requires ours { seat.old.ledger ≡ self.now.ledger }
         requires note { note.ledger ≡ self.now.ledger }
@@ -185,8 +175,8 @@ impl Ledger {
         adopt(&self.word, second, both);
     }
 
-    /// Lets seats meet, twice round in their order: each then sees one history with all that any of them has seen and done. It
-    /// waits for nobody, and takes no memory.
+    /// Lets seats meet, twice round in their order: each then sees one history with all that any of them has seen and
+    /// done. It waits for nobody, and takes no memory.
     pub fn meet_all(&self, seats: &mut [Seat])
         requires ours { (i : ℕ) (seat : SeatView) → slice_get seats.old i ≡ Some seat → seat.ledger ≡ self.now.ledger }
         ensures { (history : List Entry) × HaveMet seats.old seats.new history }
@@ -198,8 +188,8 @@ impl Ledger {
 
     /// The journal of the whole history. The seats are all that `open` gave, in the order of their numbers.
     ///
-    /// Every seat's history begins the journal, whose entries of each seat are that seat's own operations, in order; it has no
-    /// others. Where memory is refused, everything is handed back unchanged.
+    /// Every seat's history begins the journal, whose entries of each seat are that seat's own operations, in order;
+    /// it has no others. Where memory is refused, everything is handed back unchanged.
     pub fn close(self, mut seats: Vec<Seat>) -> Result<Journal, (AllocError, Ledger, Vec<Seat>)>
         requires all { AreAllSeats self seats.items }
         ensures terms { IfOk result (λ journal. journal.terms ≡ self.terms) }

@@ -1,7 +1,7 @@
 //! The ledger of file numbers for many threads: one atomic word, a seat for each caller, one legal history.
 //!
-//! What a history, a journal and its audit are stands in `journal_core`, whose names this crate passes on: who issues numbers
-//! needs this crate alone.
+//! What a history, a journal and its audit are stands in `journal_core`, whose names this crate passes on: who issues
+//! numbers needs this crate alone.
 #![tactic(auto)]
 
 mod close;
@@ -10,6 +10,7 @@ pub mod fault;
 pub mod grant;
 pub mod laws;
 pub mod ledger;
+mod meeting;
 pub mod note;
 mod once;
 pub mod seat;

@@ -1,5 +1,5 @@
-//! A note: what one seat had seen, for another to hear. Order in time goes by notes: what a note shows stands before whatever a seat
-//! does that has heard it.
+//! A note: what one seat had seen, for another to hear. Order in time goes by notes: what a note shows stands before
+//! whatever a seat does that has heard it.
 
 use crate::table::Token;
 use std::marker::Model;

@@ -1,41 +1,41 @@
 //! A seat of a shared ledger: what one caller has seen and done.
 //!
-//! The seat's own log has its operations in order. Record j of it has entry j of them and the place where that entry stands in
-//! what the seat has seen: the counts in the word that the step found add up to it.
-ghost use Rattle.std.specs.Prelude.{◌≡◌, ℕ, ◌+◌, ◌/◌, ◌%◌, ◌^◌, ◌<◌, ◌≤◌, ◌↔◌, min, false, IsTrue, length, vec_len, vec_capacity, [], ◌∷◌, ◌++◌, ◌||◌};
+//! The seat's own log has its operations in order. Record j of it has entry j of them and the place where that entry
+//! stands in what the seat has seen: the counts in the word that the step found add up to it.
+ghost use Rattle.std.specs.Prelude.{◌≡◌, ℕ, ◌+◌, ◌/◌, ◌%◌, ◌^◌, ◌<◌, ◌≤◌, ◌↔◌, min, false, IsTrue, length, vec_len};
+ghost use Rattle.std.specs.Prelude.{vec_capacity, [], ◌∷◌, ◌++◌, ◌||◌};
 ghost use Rattle.std.specs.List.{slice_index_or};
 ghost use Rattle.std.specs.Option.{IfSome};
 ghost use Rattle.journal_core.specs.declared.entry.Event.TheVariants.{Granted, Exhausted, Settled};
 ghost use Rattle.journal_core.specs.History.{Begins, IsLawful, calls_of, entry, is_exhausted};
-ghost use Rattle.ledger_core.specs.Rule.{issue_reply, knower, packed, IsHeld};
-ghost use Rattle.ledger_core.specs.Logs.{EndsByGranting, HasMark, IsMarked, IsSeat, Steps, event_of, held_after, place_of_word};
-ghost use Rattle.ledger_core.specs.Shared.{Holds, IsClosedSeat, Knows, Sees, fresh_seat};
+ghost use Rattle.ledger_core.specs.Rule.{IsHeld, issue_reply, issues_of, knower, packed, sealed_of, void_of};
+ghost use Rattle.ledger_core.specs.Logs.{AreFields, AreSameSeat, EndsByGranting, HasMark, IsMarked, Steps};
+ghost use Rattle.ledger_core.specs.Logs.{event_of, held_after, place_of_word};
+ghost use Rattle.ledger_core.specs.Shared.{Holds, IsClosedSeat, Knows, fresh_seat};
 
 use crate::counts::counts_in;
 use crate::grant::Spent;
-use crate::steps::{adopt_step, hear_step, issue_step, look_step, settle_step, write_step};
-use crate::table::{Opening, Own, Record, Token, Word};
+use crate::steps::{issue_step, look_step, settle_step};
+use crate::table::{Fields, Opening, Own, Record, Token, Word};
 use journal_core::{Entry, Event, Tally};
 use std::marker::Model;
 
 /// A seat of a shared ledger.
 #[derive(Drop)]
 pub struct Seat {
-    pub(crate) opening: Opening,
-    pub(crate) number: u32,
-    pub(crate) own: Own,
-    pub(crate) token: Token,
+    pub(crate) fields: Fields,
 }
 
 impl Model for Seat {
-    ghost use Rattle.ledger_core.specs.Logs.{IsSeat};
+    ghost use Rattle.ledger_core.specs.Logs.{AreFields};
     ghost use Rattle.ledger_core.specs.Shared.{SeatView, seat_view};
 
     ghost Value = { SeatView };
 
-    ghost view = { λ s. seat_view s.token.table_id s.opening s.number s.token.me.0.seen s.token.me.0.mine };
+    ghost view = { λ s. seat_view s.fields.token.table_id s.fields.opening s.fields.number
+        s.fields.token.me.0.seen s.fields.token.me.0.mine };
 
-    ghost invariant = { λ s. IsSeat s.opening s.number s.own.closed s.own.log.items s.own.held.items s.token.me };
+    ghost invariant = { λ s. AreFields s.fields };
 }
 
 impl Seat {
@@ -48,10 +48,12 @@ impl Seat {
         ensures { result ≡ fresh_seat token.table_id opening number }
     {
         Seat {
-            opening,
-            number,
-            own,
-            token,
+            fields: Fields {
+                opening,
+                number,
+                own,
+                token,
+            },
         }
     }
 
@@ -60,22 +62,23 @@ impl Seat {
         ensures number { result ≡ self.now.number }
         ensures knows { Knows self.now }
     {
-        self.number
+        self.fields.number
     }
 
     /// Whether the seat has met the end of the range, and issues no more.
     pub fn closed(&self) -> bool
         ensures { IsTrue result ↔ IsClosedSeat self.now }
     {
-        self.own.closed
+        self.fields.own.closed
     }
 
-    /// Whether this number is open at this seat: it is of the seat's device, was granted to the seat, and isn't settled.
+    /// Whether this number is open at this seat: it is of the seat's device, was granted to the seat, and isn't
+    /// settled.
     pub fn holds(&self, spent: &Spent) -> bool
         ensures { IsTrue result ↔ Holds self.now spent.now }
     {
-        spent.device() == self.opening.range().device()
-            && is_marked(&self.opening, &self.own, spent.number())
+        spent.device() == self.fields.opening.range().device()
+            && is_marked(&self.fields.opening, &self.fields.own, spent.number())
     }
 
     // How many operations the seat has made.
@@ -83,7 +86,7 @@ impl Seat {
         ensures count { result ≡ length self.now.mine }
         ensures few { result < 2 ^ 20 }
     {
-        self.own.log.len()
+        self.fields.own.log.len()
     }
 }
 
@@ -115,7 +118,7 @@ fn place(found: u64) -> u32
 fn reply(opening: &Opening, found: u64) -> Option<u32>
     requires numbers { opening.now.range.lo + opening.now.range.size ≤ 2 ^ 32 }
     requires word { found < 2 ^ 60 }
-    ensures { event_of result ≡ issue_reply opening.now (found % 1048576) }
+    ensures { event_of result ≡ issue_reply opening.now (issues_of found) }
 {
     let issues = counts_in(found).issues;
     if issues < opening.range().size() {
@@ -150,136 +153,80 @@ fn keep(own: &mut Own, lo: u32, kept: Record)
     }
 }
 
-// The fields of a seat after an issue, and the number granted.
-pub(crate) fn issue_in(
-    word: &Word,
-    opening: &Opening,
-    seat: u32,
-    own: &mut Own,
-    token: &mut Token,
-) -> Option<u32>
-    requires table { (token.old.table_id ≡ word.now.shared.table_id) × (word.now.shared.table_id.words ≡ 1) }
-    requires seat { IsSeat opening.now seat own.old.closed own.old.log.items own.old.held.items token.old.me }
-    requires clear { own.old.closed ≡ false }
-    requires room { vec_len own.old.log < vec_capacity own.old.log }
-    ensures table { token.new.table_id ≡ token.old.table_id }
-    ensures seat { IsSeat opening.now seat own.new.closed own.new.log.items own.new.held.items token.new.me }
-    ensures step { Steps token.old.me.0 (entry seat (event_of result)) token.new.me.0 }
-    ensures granted { IfSome result (λ number. EndsByGranting number own.new.log.items) }
+// What an issue makes of a seat's fields, and the number granted.
+pub(crate) fn issue_in(word: &Word, fields: &mut Fields) -> Option<u32>
+    requires table { fields.old.token.table_id ≡ word.now.shared.table_id }
+    requires word { word.now.shared.table_id.words ≡ 1 }
+    requires seat { AreFields fields.old }
+    requires clear { fields.old.own.closed ≡ false }
+    requires room { vec_len fields.old.own.log < vec_capacity fields.old.own.log }
+    ensures same { AreSameSeat fields.old fields.new }
+    ensures seat { AreFields fields.new }
+    ensures step { Steps fields.old.token.me.0 (entry fields.old.number (event_of result)) fields.new.token.me.0 }
+    ensures granted { IfSome result (λ number. EndsByGranting number fields.new.own.log.items) }
 {
-    let found = issue_step(word, token);
-    let granted = reply(opening, found);
+    let found = issue_step(word, &mut fields.token);
+    let granted = reply(&fields.opening, found);
     let entry = Entry {
-        seat,
+        seat: fields.number,
         event: event_of(granted),
     };
     let place = place(found);
-    keep(own, opening.range().lo(), Record { entry, place });
+    keep(
+        &mut fields.own,
+        fields.opening.range().lo(),
+        Record { entry, place },
+    );
     granted
 }
 
-// The fields of a seat after a settlement of a number that it holds.
-pub(crate) fn settle_in(
-    word: &Word,
-    opening: &Opening,
-    seat: u32,
-    own: &mut Own,
-    token: &mut Token,
-    spent: &Spent,
-)
-    requires table { (token.old.table_id ≡ word.now.shared.table_id) × (word.now.shared.table_id.words ≡ 1) }
-    requires seat { IsSeat opening.now seat own.old.closed own.old.log.items own.old.held.items token.old.me }
-    requires held { IsHeld spent.now.number token.old.me.0.mine }
-    requires room { vec_len own.old.log < vec_capacity own.old.log }
-    ensures table { token.new.table_id ≡ token.old.table_id }
-    ensures seat { IsSeat opening.now seat own.new.closed own.new.log.items own.new.held.items token.new.me }
-    ensures step { Steps token.old.me.0 (entry seat (Settled spent.now.number spent.now.way)) token.new.me.0 }
+// What the settlement of a number that a seat holds makes of its fields.
+pub(crate) fn settle_in(word: &Word, fields: &mut Fields, spent: &Spent)
+    requires table { fields.old.token.table_id ≡ word.now.shared.table_id }
+    requires word { word.now.shared.table_id.words ≡ 1 }
+    requires seat { AreFields fields.old }
+    requires held { IsHeld spent.now.number fields.old.token.me.0.mine }
+    requires room { vec_len fields.old.own.log < vec_capacity fields.old.own.log }
+    ensures same { AreSameSeat fields.old fields.new }
+    ensures seat { AreFields fields.new }
+    ensures step { Steps fields.old.token.me.0 (entry fields.old.number (Settled spent.now.number spent.now.way))
+        fields.new.token.me.0 }
 {
     let (settled, way) = (spent.number(), spent.way());
-    let found = settle_step(word, token, settled, way);
+    let found = settle_step(word, &mut fields.token, settled, way);
     let entry = Entry {
-        seat,
+        seat: fields.number,
         event: Event::Settled(settled, way),
     };
     let place = place(found);
-    keep(own, opening.range().lo(), Record { entry, place });
+    keep(
+        &mut fields.own,
+        fields.opening.range().lo(),
+        Record { entry, place },
+    );
 }
 
 // The word as the seat sees it now.
-pub(crate) fn look_in(
-    word: &Word,
-    opening: &Opening,
-    seat: u32,
-    own: &Own,
-    token: &mut Token,
-) -> u64
-    requires table { (token.old.table_id ≡ word.now.shared.table_id) × (word.now.shared.table_id.words ≡ 1) }
-    requires seat { IsSeat opening.now seat own.now.closed own.now.log.items own.now.held.items token.old.me }
-    ensures table { token.new.table_id ≡ token.old.table_id }
-    ensures seat { IsSeat opening.now seat own.now.closed own.now.log.items own.now.held.items token.new.me }
-    ensures seen { Begins token.old.me.0.seen token.new.me.0.seen × (token.new.me.0.mine ≡ token.old.me.0.mine) }
-    ensures told { Begins token.old.me.0.told token.new.me.0.seen }
-    ensures word { result ≡ packed token.new.me.0.seen }
+pub(crate) fn look_in(word: &Word, fields: &mut Fields) -> u64
+    requires table { fields.old.token.table_id ≡ word.now.shared.table_id }
+    requires word { word.now.shared.table_id.words ≡ 1 }
+    requires seat { AreFields fields.old }
+    ensures same { AreSameSeat fields.old fields.new }
+    ensures seat { AreFields fields.new }
+    ensures seen { Begins fields.old.token.me.0.seen fields.new.token.me.0.seen }
+    ensures mine { fields.new.token.me.0.mine ≡ fields.old.token.me.0.mine }
+    ensures told { Begins fields.old.token.me.0.told fields.new.token.me.0.seen }
+    ensures found { result ≡ packed fields.new.token.me.0.seen }
 {
-    look_step(word, token)
-}
-
-// A note of what the seat has seen.
-pub(crate) fn show(word: &Word, seat: &mut Seat) -> Token
-    requires table { (seat.old.ledger ≡ word.now.shared.table_id) × (word.now.shared.table_id.words ≡ 1) }
-    ensures same { seat.new ≡ seat.old }
-    ensures known { Knows seat.old }
-    ensures note { (result.table_id ≡ word.now.shared.table_id) × (result.me.1 ≡ []) }
-    ensures shown { result.me.0.seen ≡ seat.old.seen }
-{
-    write_step(word, &mut seat.token)
-}
-
-// The seat sees what a note shows, and the history so far.
-pub(crate) fn learn(word: &Word, seat: &mut Seat, note: Token)
-    requires table { (seat.old.ledger ≡ word.now.shared.table_id) × (word.now.shared.table_id.words ≡ 1) }
-    requires note { (note.table_id ≡ word.now.shared.table_id) × (note.me.1 ≡ []) }
-    ensures sees { Sees seat.old seat.new }
-    ensures told { Begins note.me.0.seen seat.new.seen }
-    ensures known { Knows seat.old }
-    ensures knows { Knows seat.new }
-{
-    hear_step(word, &mut seat.token, note);
-    look_in(word, &seat.opening, seat.number, &seat.own, &mut seat.token);
-}
-
-// What the seat was told, which goes on from what it has seen, is what it has seen.
-fn adopt_in(word: &Word, opening: &Opening, seat: u32, own: &Own, token: &mut Token)
-    requires table { (token.old.table_id ≡ word.now.shared.table_id) × (word.now.shared.table_id.words ≡ 1) }
-    requires seat { IsSeat opening.now seat own.now.closed own.now.log.items own.now.held.items token.old.me }
-    requires further { Begins token.old.me.0.seen token.old.me.0.told }
-    ensures table { token.new.table_id ≡ token.old.table_id }
-    ensures seat { IsSeat opening.now seat own.now.closed own.now.log.items own.now.held.items token.new.me }
-    ensures seen { (token.new.me.0.seen ≡ token.old.me.0.told) × (token.new.me.0.mine ≡ token.old.me.0.mine) }
-{
-    adopt_step(word, token);
-}
-
-// The seat sees what a note shows, which goes on from what it has seen.
-pub(crate) fn adopt(word: &Word, seat: &mut Seat, note: Token)
-    requires table { (seat.old.ledger ≡ word.now.shared.table_id) × (word.now.shared.table_id.words ≡ 1) }
-    requires note { (note.table_id ≡ word.now.shared.table_id) × (note.me.1 ≡ []) }
-    requires further { Begins seat.old.seen note.me.0.seen }
-    ensures sees { Sees seat.old seat.new }
-    ensures shown { seat.new.seen ≡ note.me.0.seen }
-    ensures known { Knows seat.old }
-    ensures knows { Knows seat.new }
-{
-    hear_step(word, &mut seat.token, note);
-    adopt_in(word, &seat.opening, seat.number, &seat.own, &mut seat.token);
+    look_step(word, &mut fields.token)
 }
 
 // The counts that a word tells. Of the issues, as many were granted as the range has numbers.
 pub(crate) fn tally_of_word(opening: &Opening, found: u64) -> Tally
     requires { found < 2 ^ 60 }
-    ensures issues { result.granted + result.refused ≡ found % 1048576 }
-    ensures granted { result.granted ≡ min (found % 1048576) opening.now.range.size }
-    ensures settled { (result.sealed ≡ (found / 1048576) % 1048576) × (result.void ≡ found / 1099511627776) }
+    ensures issues { result.granted + result.refused ≡ issues_of found }
+    ensures granted { result.granted ≡ min (issues_of found) opening.now.range.size }
+    ensures settled { (result.sealed ≡ sealed_of found) × (result.void ≡ void_of found) }
 {
     let counts = counts_in(found);
     let granted = counts.issues.min(opening.range().size());

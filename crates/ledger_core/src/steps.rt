@@ -2,7 +2,8 @@
 ghost use Rattle.std.specs.Prelude.{◌≡◌, ◌<◌, [], IfOk};
 ghost use Rattle.journal_core.specs.declared.entry.Way.TheVariants.{Sealed, Void};
 ghost use Rattle.journal_core.specs.History.{IsLawful, refused};
-ghost use Rattle.ledger_core.specs.Rule.{newcomer, MayStep, IsHeld, Adopts, Issues, Settles, Looks, note_of, hears, first_seat, other_seats};
+ghost use Rattle.ledger_core.specs.Rule.{newcomer, MayStep, IsHeld, Adopts, Issues, Settles, Looks, note_of, hears};
+ghost use Rattle.ledger_core.specs.Rule.{first_seat, other_seats};
 
 use crate::counts::{ISSUED, SEALED, VOID};
 use crate::table::{
@@ -16,7 +17,8 @@ use std::marker::Brand;
 // A word with all counts at 0, and a token that stands for all seats.
 pub fn open_word(alloc: Global, opening: &Opening) -> Result<(Word, Token), AllocError>
     requires { IsLawful opening.now }
-    ensures { IfOk result (λ t. (t.0.shared.table_id.words ≡ 1) × (t.1.table_id ≡ t.0.shared.table_id) × (t.1.me ≡ (newcomer opening.now, []))) }
+    ensures { IfOk result (λ t. (t.0.shared.table_id.words ≡ 1) × (t.1.table_id ≡ t.0.shared.table_id)
+        × (t.1.me ≡ (newcomer opening.now, []))) }
 {
     Table::of_words(alloc, &[0], opening)
 }
@@ -102,7 +104,8 @@ pub fn hear_step(word: &Word, token: &mut Token, note: Token)
 pub fn deal_step(word: &Word, token: &mut Token) -> Token
     requires table { (token.old.table_id ≡ word.now.shared.table_id) × (word.now.shared.table_id.words ≡ 1) }
     requires new { (1 < token.old.me.0.width) × (token.old.me.0.mine ≡ []) }
-    ensures same { (token.new.table_id ≡ token.old.table_id) × (token.new.me ≡ (first_seat token.old.me.0, token.old.me.1)) }
+    ensures same { (token.new.table_id ≡ token.old.table_id)
+        × (token.new.me ≡ (first_seat token.old.me.0, token.old.me.1)) }
     ensures given { (result.table_id ≡ token.old.table_id) × (result.me ≡ (other_seats token.old.me.0, [])) }
 {
     word.shared.split_seat::<Deal>(token)

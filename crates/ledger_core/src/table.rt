@@ -1,7 +1,8 @@
 //! The ledger's word as a table of one word: what each seat knows of the history, and the kinds of step.
 //!
-//! The history stands in no memory. The rule says that there is one, that it is legal, that the word has its three counts,
-//! and that each seat has seen a beginning of it in which the seat's own operations are all that there is of that seat.
+//! The history stands in no memory. The rule says that there is one, that it is legal, that the word has its three
+//! counts, and that each seat has seen a beginning of it in which the seat's own operations are all that there is of
+//! that seat.
 ghost use Rattle.std.specs.Prelude.{◌≡◌};
 ghost use Rattle.journal_core.specs.Journal.{terms_of};
 
@@ -66,6 +67,16 @@ pub struct Own {
     pub held: Vec<bool>,
 }
 
+/// The fields of a seat. Between a step and its record they are no seat, so they have no invariant of their own.
+#[derive(Drop)]
+pub struct Fields {
+    pub opening: Opening,
+    /// The seat's number.
+    pub number: u32,
+    pub own: Own,
+    pub token: Token,
+}
+
 /// What a token knows. It stands for `width` seats from `seat` on: one for a seat of a ledger, none for a note.
 /// No value of it is made.
 pub struct View {
@@ -96,13 +107,15 @@ impl Play<(), View> for Issue {
     ghost then = { issued };
 }
 
-/// Names the number that a step settles. Each call picks it.
+/// Names the number that a step settles. A kind of step is a type, which can't hold a number: it has a parameter of
+/// this trait.
 pub trait Naming {
     ghost use Rattle.std.specs.Prelude.{ℕ};
 
     ghost number: { ℕ };
 }
 
+// `Brand` stands for the number of one call: the check takes its ghost members as whatever the call needs.
 impl Naming for Brand {
     ghost number = { 0 };
 }

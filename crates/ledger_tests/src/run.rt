@@ -165,7 +165,7 @@ fn spend(ledger: &Ledger, seat: &mut Seat)
     requires { seat.old.ledger ≡ ledger.now.ledger }
     ensures { IsSameSeat seat.old seat.new }
 {
-    for _ in 0..=65_535 {
+    for _ in 0..=Range::MAX_SIZE {
         let Ok(grant) = ledger.issue(seat) else {
             return;
         };

@@ -1,5 +1,5 @@
 use Rattle.std.proofs.Common.{◌≡◌, take}
-use Rattle.ledger_core.specs.Closing.{written}
+use Rattle.ledger_core.specs.Placing.{written}
 use Rattle.ledger_core.proofs.close.fill.Given as goal
 
 abbrev pub invariant-loop-record : goal.invariant-loop-record

@@ -1,5 +1,5 @@
 use Rattle.std.proofs.Common.{◌≡◌, take, length}
-use Rattle.ledger_core.specs.Closing.{ArePlaced}
+use Rattle.ledger_core.specs.Placing.{ArePlaced}
 use Rattle.ledger_core.proofs.close.fill_all.Given as goal
 
 abbrev pub invariant-loop-seat : goal.invariant-loop-seat

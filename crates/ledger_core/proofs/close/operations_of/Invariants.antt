@@ -1,5 +1,5 @@
 use Rattle.std.proofs.Common.{◌≡◌, ◌≤◌, ◌*◌, take}
-use Rattle.ledger_core.specs.Closing.{operations_in}
+use Rattle.ledger_core.specs.Placing.{operations_in}
 use Rattle.ledger_core.proofs.close.operations_of.Given as goal
 
 abbrev pub invariant-loop-seat : goal.invariant-loop-seat

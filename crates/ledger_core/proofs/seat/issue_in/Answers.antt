@@ -13,7 +13,7 @@ place-place-requires c = let a = c.issue_step-found.ensures.step in found_small 
 pub keep-requires-clause-mark : goal.keep-requires-clause-mark
 keep-requires-clause-mark c =
     let lo = c.lo.ensures ∙ ap (λ (r : Numbers). r.lo) c.range.ensures in
-    subst (HasMark c.lo.result c.args.own.now.held.items) (sym (c.event_of.ensures ∙ c.reply-granted.ensures)) (reply_marked c.args.opening.now _ _ _ lo c.requires.seat.all_held)
+    subst (HasMark c.lo.result c.args.fields.now.own.held.items) (sym (c.event_of.ensures ∙ c.reply-granted.ensures)) (reply_marked c.args.fields.now.opening _ _ _ lo c.requires.seat.all_held)
 
 pub returns-clause-seat : goal.returns-clause-seat
 returns-clause-seat c =
@@ -21,7 +21,7 @@ returns-clause-seat c =
     let k = c.keep.ensures in
     let lo = c.lo.ensures ∙ ap (λ (r : Numbers). r.lo) c.range.ensures in
     seat_issues _ _ _ _ _ _ _ _ _ _ _ _ c.event_of.result c.requires.seat s.step s.table.1 (c.event_of.ensures ∙ c.reply-granted.ensures) c.place-place.ensures
-    k.closed k.log (k.held ∙ ap (λ z. held_after z c.args.own.now.held.items c.event_of.result) lo)
+    k.closed k.log (k.held ∙ ap (λ z. held_after z c.args.fields.now.own.held.items c.event_of.result) lo)
 
 pub returns-clause-step : goal.returns-clause-step
 returns-clause-step c =

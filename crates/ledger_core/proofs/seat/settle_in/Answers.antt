@@ -24,4 +24,4 @@ returns-clause-seat c =
     let k = c.keep.ensures in
     let lo = c.lo.ensures ∙ ap (λ (r : Numbers). r.lo) c.range.ensures in
     seat_settles _ _ c.number-settled.result c.way-way.result _ _ _ _ _ _ _ _ _ _ c.requires.seat s.step s.table.1 c.place-place.ensures
-    k.closed k.log (k.held ∙ ap (λ z. held_after z c.args.own.now.held.items (Settled c.number-settled.result c.way-way.result)) lo)
+    k.closed k.log (k.held ∙ ap (λ z. held_after z c.args.fields.now.own.held.items (Settled c.number-settled.result c.way-way.result)) lo)

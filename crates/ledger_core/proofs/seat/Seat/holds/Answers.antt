@@ -14,7 +14,7 @@ returns-then-eq c =
     let mine = ap (λ (v : SeatView). v.mine) c.self.view_is in
     let device = sym c.device.ensures ∙ eqb-true _ _ (sym c.eq.ensures ∙ c.if-eq.true) ∙ c.device-2.ensures ∙ ap (λ (r : Numbers). r.device) c.range.ensures ∙ ap (λ (v : SeatView). v.terms.range.device) c.self.view_is in
     let marked = marked_iff _ _ c.args.spent.now.number _ _ _ _ c.self.invariant in
-    let Marked : ℕ → Type 0 = λ n. IsMarked c.self.inside.opening c.self.inside.own.held.items n in
+    let Marked : ℕ → Type 0 = λ n. IsMarked c.self.inside.fields.opening c.self.inside.fields.own.held.items n in
     let Held : List Entry → Type 0 = λ l. IsHeld c.args.spent.now.number l in (
       (λ yes. let held = subst Held mine (marked.0 (subst Marked number (c.is_marked.ensures.0 yes))) in (device, held.granted, held.unsettled)),
       (λ holds. c.is_marked.ensures.1 (subst Marked (sym number) (marked.1 (subst Held (sym mine) record { granted = holds.1; unsettled = holds.2 })))),

@@ -1,8 +1,8 @@
 use Rattle.std.proofs.Common.{List, subst}
 use Rattle.ledger_core.specs.Shared.{SeatView}
-use Rattle.ledger_core.specs.Closing.{ArePassed}
+use Rattle.ledger_core.specs.Meeting.{ArePassed}
 use Rattle.ledger_core.proofs.Meetings.{still_ours, have_met, unchanged}
-use Rattle.ledger_core.proofs.close.meet_all.Goals as goal
+use Rattle.ledger_core.proofs.meeting.meet_all.Goals as goal
 
 pub round-requires-clause-ours : goal.round-requires-clause-ours
 round-requires-clause-ours c =

@@ -1,8 +1,8 @@
 use Rattle.std.proofs.Common.{◌<◌, ◌∙◌, sym, subst, length, arith}
 use Rattle.ledger_core.specs.Shared.{SeatView}
-use Rattle.ledger_core.specs.Closing.{IsPassed}
+use Rattle.ledger_core.specs.Meeting.{IsPassed}
 use Rattle.ledger_core.proofs.Meetings.{goes_on, arrives}
-use Rattle.ledger_core.proofs.close.round.Goals as goal
+use Rattle.ledger_core.proofs.meeting.round.Goals as goal
 
 pub loop-seat-preserved : goal.loop-seat-preserved
 loop-seat-preserved c =

@@ -1,8 +1,9 @@
-//! Measures the shared ledger: operations a second of 1, 2 and 4 threads that issue and settle, beside the same three counts under a
-//! `Mutex`.
+//! Measures the shared ledger: operations a second of 1, 2 and 4 threads that issue and settle, beside the same three
+//! counts under a `Mutex`.
 //!
-//! Without an argument each spends a short range once and prints its counts. With the argument `measure` it prints the speed of the
-//! middle and of the best round over the greatest range. A round's time has the start and the end of its threads in it.
+//! Without an argument each spends a short range once and prints its counts. With the argument `measure` it prints
+//! the speed of the middle and of the best round over the greatest range. A round's time has the start and the end of
+//! its threads in it.
 #![tactic(auto)]
 
 use anyhow::Result;
@@ -78,7 +79,7 @@ fn ledger_round<R: Clock + Threads + Sync>(
 
 // Issues until no number is left, and settles each.
 fn spend_counts<R: Wait>(rt: &R, counts: &Mutex<Counts>, size: u32) {
-    for _ in 0..=65_535 {
+    for _ in 0..=Range::MAX_SIZE {
         let Some(number) = counts.lock(rt).issue(size) else {
             return;
         };
