@@ -1,7 +1,7 @@
 -- What a call leaves of the connection that it was given: `old` is the connection before it, `new` after it.
 --
 -- A disk may fall at any call. What a connection shows is known where the disk is clean and the connection open.
-use Rattle.std.specs.Prelude.{◌≡◌, IsTrue, true, ℕ, List}
+use Rattle.std.specs.Prelude.{◌≡◌, IsTrue, true, List}
 use Rattle.sqlite_trees.specs.declared.store.Store.{Ghosts}
 use Rattle.sqlite.specs.Order.{Row}
 use Rattle.sqlite.specs.Held.{Held, state}

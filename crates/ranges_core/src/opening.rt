@@ -15,7 +15,10 @@ use crate::schema::{are_readable, is_blank, is_ledger};
 use crate::tables::make_tables;
 use sqlite::{Alter, Connection};
 
-/// Both tables made or checked. A refusal changes nothing.
+/// Makes both tables in an empty database, and else tests that they are a ledger file's and that their rows are lists.
+///
+/// `BadStore` comes where something is there and one of the two can't be read, or where the rows are no lists; `Store`
+/// for every other cause. A refusal changes nothing.
 pub fn open_tables<S: Alter>(conn: &mut Connection<S>) -> Result<(), ReserveFault>
     ensures settled { OnOk result (conn.new.in_transaction ≡ false) }
     ensures ready { WhileOpen S.Store conn.new (OnOk result (IsReady (state S.Store conn.new))) }

@@ -16,7 +16,7 @@ use crate::rows::{do_ids_rise, hold_lists, number_at};
 use crate::schema::is_ledger;
 use sqlite::{Alter, Connection, Error, Row, Transaction, params};
 
-/// The rows that hold the mark of a key id and device.
+// The rows that hold the mark of a key id and device.
 fn pick<S: Alter>(tx: &mut Transaction<'_, S>, key: &[u8], device: u32) -> Result<Vec<Row>, Error>
     ensures same_reference { tx.new.conn.ghost_name ≡ tx.old.conn.ghost_name }
     ensures open { HasCleanDisk (state S.Store tx.new.conn.now)
@@ -34,7 +34,7 @@ fn pick<S: Alter>(tx: &mut Transaction<'_, S>, key: &[u8], device: u32) -> Resul
     )
 }
 
-/// It reads in a transaction that it takes back, so that it commits nothing, whatever the schema is.
+// It reads in a transaction that it takes back, so that it commits nothing, whatever the schema is.
 fn next_rows<S: Alter>(conn: &mut Connection<S>, key: &[u8], device: u32) -> Result<Vec<Row>, Error>
     requires settled { conn.old.in_transaction ≡ false }
     ensures settled { conn.new.in_transaction ≡ false }
@@ -52,7 +52,7 @@ fn next_rows<S: Alter>(conn: &mut Connection<S>, key: &[u8], device: u32) -> Res
     Ok(rows)
 }
 
-/// The mark that the rows hold, if there is one. Two rows are no lawful table.
+// The mark that the rows hold, if there is one. Two rows are no lawful table.
 fn mark_in(rows: &[Row]) -> Result<Option<u64>, ReserveFault>
     ensures none { rows.now ≡ [] → result ≡ Ok None }
     ensures one { (n : _) → n ≤ NUMBERS → rows.now ≡ (Int (pos n) ∷ []) ∷ [] → result ≡ Ok (Some n) }
@@ -70,7 +70,7 @@ fn mark_in(rows: &[Row]) -> Result<Option<u64>, ReserveFault>
 }
 
 /// The mark of a key id and device: the number at which its next range begins. There is none where nothing was
-/// reserved.
+/// reserved. A refusal is `Store`; `BadStore` comes only over a disk that failed. Nothing changes.
 pub fn mark_of<S: Alter>(
     conn: &mut Connection<S>,
     key: &[u8],
@@ -95,7 +95,7 @@ pub fn mark_of<S: Alter>(
     }
 }
 
-/// The rows of `mark` in the order of their keys.
+// The rows of `mark` in the order of their keys.
 fn pick_marks<S: Alter>(tx: &mut Transaction<'_, S>) -> Result<Vec<Row>, Error>
     ensures same_reference { tx.new.conn.ghost_name ≡ tx.old.conn.ghost_name }
     ensures open { HasCleanDisk (state S.Store tx.new.conn.now)
@@ -117,7 +117,7 @@ fn pick_marks<S: Alter>(tx: &mut Transaction<'_, S>) -> Result<Vec<Row>, Error>
     )
 }
 
-/// The rows of `taken` in the order of their keys.
+// The rows of `taken` in the order of their keys.
 fn pick_takings<S: Alter>(tx: &mut Transaction<'_, S>) -> Result<Vec<Row>, Error>
     ensures same_reference { tx.new.conn.ghost_name ≡ tx.old.conn.ghost_name }
     ensures open { HasCleanDisk (state S.Store tx.new.conn.now)
@@ -139,14 +139,14 @@ fn pick_takings<S: Alter>(tx: &mut Transaction<'_, S>) -> Result<Vec<Row>, Error
     )
 }
 
-/// The rows of both tables, in the order of their keys.
+// The rows of both tables, in the order of their keys.
 #[derive(Drop)]
 struct BothTables {
     marks: Vec<Row>,
     taken: Vec<Row>,
 }
 
-/// It reads in a transaction that it takes back, as `next_rows`.
+// It reads in a transaction that it takes back, as `next_rows`.
 fn read_all<S: Alter>(conn: &mut Connection<S>) -> Result<BothTables, Error>
     requires settled { conn.old.in_transaction ≡ false }
     ensures settled { conn.new.in_transaction ≡ false }
@@ -166,7 +166,7 @@ fn read_all<S: Alter>(conn: &mut Connection<S>) -> Result<BothTables, Error>
     Ok(BothTables { marks, taken })
 }
 
-/// The rowids of `mark` in their order, of a ledger file.
+// The rowids of `mark` in their order, of a ledger file.
 fn read_ids<S: Alter>(conn: &mut Connection<S>) -> Result<Vec<Row>, Error>
     requires { IsLedger (state S.Store conn.old).now.schema }
     ensures settled { conn.old.in_transaction ≡ false → conn.new.in_transaction ≡ false }
@@ -181,8 +181,8 @@ fn read_ids<S: Alter>(conn: &mut Connection<S>) -> Result<Vec<Row>, Error>
     conn.query_all("SELECT rowid FROM mark ORDER BY rowid", &[])
 }
 
-/// Whether no two rows of `mark` have one rowid. It reads outside a transaction: what it answers comes from a database
-/// that is open and stays so.
+// Whether no two rows of `mark` have one rowid. It reads outside a transaction: what it answers comes from a database
+// that is open and stays so.
 fn check_rowids<S: Alter>(conn: &mut Connection<S>) -> Result<(), ReserveFault>
     ensures settled { conn.old.in_transaction ≡ false → conn.new.in_transaction ≡ false }
     ensures was_open { WasOpen S.Store conn.old conn.new }
@@ -235,7 +235,7 @@ pub(crate) fn check_rows<S: Alter>(conn: &mut Connection<S>) -> Result<(), Reser
     check_rowids(conn)
 }
 
-/// The rows that hold the ranges of a key id and device.
+// The rows that hold the ranges of a key id and device.
 fn pick_ranges<S: Alter>(
     tx: &mut Transaction<'_, S>,
     key: &[u8],
@@ -257,7 +257,7 @@ fn pick_ranges<S: Alter>(
     )
 }
 
-/// It reads in a transaction that it takes back, as `next_rows`.
+// It reads in a transaction that it takes back, as `next_rows`.
 fn range_rows<S: Alter>(
     conn: &mut Connection<S>,
     key: &[u8],
@@ -279,7 +279,7 @@ fn range_rows<S: Alter>(
     Ok(rows)
 }
 
-/// The ranges that the rows hold, which are adjacent from 0.
+// The ranges that the rows hold, which are adjacent from 0.
 fn ranges_in(rows: &Vec<Row>) -> Result<Vec<(u32, u64)>, ReserveFault>
     ensures ranges { IfOk result (λ ranges. ranges_of_pairs ranges.items ≡ map answered_range rows.now.items) }
     ensures adjacent { IfOk result (λ ranges. Adjacent 0 (ranges_of_pairs ranges.items)) }
@@ -306,7 +306,8 @@ fn ranges_in(rows: &Vec<Row>) -> Result<Vec<(u32, u64)>, ReserveFault>
     Ok(ranges)
 }
 
-/// The ranges of a key id and device, in order.
+/// The ranges of a key id and device, as (`lo`, `size`), in order of `lo`. A refusal is `Store`; `BadStore` comes only
+/// over a disk that failed. Nothing changes.
 pub fn ranges_of<S: Alter>(
     conn: &mut Connection<S>,
     key: &[u8],

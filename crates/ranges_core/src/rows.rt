@@ -27,7 +27,7 @@ pub(crate) fn number_at(row: &Row, at: usize) -> Option<u64>
     }
 }
 
-/// Whether a whole number from 0 to `most` is there.
+// Whether a whole number from 0 to `most` is there.
 fn is_within(row: &Row, at: usize, most: u64) -> bool
     ensures { result ≡ is_within most (column row.now at) }
 {
@@ -37,7 +37,7 @@ fn is_within(row: &Row, at: usize, most: u64) -> bool
     }
 }
 
-/// Whether a blob of 32 bytes is there.
+// Whether a blob of 32 bytes is there.
 fn is_key(row: &Row, at: usize) -> bool
     ensures { result ≡ is_key (column row.now at) }
 {
@@ -47,14 +47,14 @@ fn is_key(row: &Row, at: usize) -> bool
     }
 }
 
-/// Whether a whole number is there.
+// Whether a whole number is there.
 fn is_rowid(row: &Row, at: usize) -> bool
     ensures { result ≡ is_rowid (column row.now at) }
 {
     matches!(row.get_ref(at), Ok(ValueRef::Int(_)))
 }
 
-/// Whether it has the form of a row of `mark`: rowid, key id, device, next.
+// Whether it has the form of a row of `mark`: rowid, key id, device, next.
 fn is_mark_row(row: &Row) -> bool
     ensures { result ≡ is_mark_row row.now }
 {
@@ -63,7 +63,7 @@ fn is_mark_row(row: &Row) -> bool
         && is_within(row, 3, NUMBERS)
 }
 
-/// Whether it has the form of a row of `taken`: rowid, key id, device, lo, size.
+// Whether it has the form of a row of `taken`: rowid, key id, device, lo, size.
 fn is_taken_row(row: &Row) -> bool
     ensures { result ≡ is_taken_row row.now }
 {
@@ -72,7 +72,7 @@ fn is_taken_row(row: &Row) -> bool
         && number_at(row, 4).is_some()
 }
 
-/// Whether each row has the form of a row of `mark`.
+// Whether each row has the form of a row of `mark`.
 fn are_mark_rows(rows: &[Row]) -> bool
     ensures { result ≡ list_all is_mark_row rows.now }
 {
@@ -86,7 +86,7 @@ fn are_mark_rows(rows: &[Row]) -> bool
     true
 }
 
-/// Whether each row has the form of a row of `taken`.
+// Whether each row has the form of a row of `taken`.
 fn are_taken_rows(rows: &[Row]) -> bool
     ensures { result ≡ list_all is_taken_row rows.now }
 {
@@ -100,7 +100,7 @@ fn are_taken_rows(rows: &[Row]) -> bool
     true
 }
 
-/// The value at a place, NULL where there is none.
+// The value at a place, NULL where there is none.
 fn value_at(row: &Row, at: usize) -> ValueRef<'_>
     ensures { owned result ≡ column row.now at }
 {
@@ -110,14 +110,14 @@ fn value_at(row: &Row, at: usize) -> ValueRef<'_>
     }
 }
 
-/// The order of the key ids of two rows, and then of their devices.
+// The order of the key ids of two rows, and then of their devices.
 fn compare_owners(a: &Row, b: &Row) -> Ordering
     ensures { result ≡ owner_cmp a.now b.now }
 {
     compare(value_at(a, 1), value_at(b, 1)).then(compare(value_at(a, 2), value_at(b, 2)))
 }
 
-/// Whether no two rows are of one key id and device, and they ascend by these.
+// Whether no two rows are of one key id and device, and they ascend by these.
 fn are_ordered(rows: &[Row]) -> bool
     ensures { IsTrue result → Chain IsBefore rows.now }
 {
@@ -149,7 +149,7 @@ pub(crate) fn do_ids_rise(rows: &[Row]) -> bool
     true
 }
 
-/// The key id, if a blob is in its place.
+// The key id, if a blob is in its place.
 fn key_of(row: &Row) -> Option<&[u8]>
     ensures { IfSome result (λ key. column row.now 1 ≡ Blob key.now) }
 {
@@ -159,7 +159,7 @@ fn key_of(row: &Row) -> Option<&[u8]>
     }
 }
 
-/// Whether this is the key id.
+// Whether this is the key id.
 fn has_key(row: &Row, key: &[u8]) -> bool
     ensures { result ≡ is_blob key.now (column row.now 1) }
 {
@@ -169,7 +169,7 @@ fn has_key(row: &Row, key: &[u8]) -> bool
     }
 }
 
-/// Whether this is the device.
+// Whether this is the device.
 fn has_device(row: &Row, device: u64) -> bool
     ensures { result ≡ is_number device (column row.now 2) }
 {
@@ -179,14 +179,14 @@ fn has_device(row: &Row, device: u64) -> bool
     }
 }
 
-/// Whether the row is of the key id and device.
+// Whether the row is of the key id and device.
 fn is_for(row: &Row, key: &[u8], device: u64) -> bool
     ensures { result ≡ is_for key.now device row.now }
 {
     has_key(row, key) && has_device(row, device)
 }
 
-/// Where the range of the row ends, if it begins at `end` and has a number, and no number over 2^32 - 1.
+// Where the range of the row ends, if it begins at `end` and has a number, and no number over 2^32 - 1.
 fn end_after(row: &Row, end: u64) -> Option<u64>
     requires { end ≤ NUMBERS }
     ensures some { IfSome result (λ n. ((range_in row.now).lo ≡ end) × (1 ≤ (range_in row.now).size)
@@ -202,7 +202,7 @@ fn end_after(row: &Row, end: u64) -> Option<u64>
     Some(end + size)
 }
 
-/// What follows the ranges of the row of `mark`, where they are adjacent from 0 up to its `next`.
+// What follows the ranges of the row of `mark`, where they are adjacent from 0 up to its `next`.
 fn rest_after<'a>(mark: &Row, taken: &'a [Row]) -> Option<&'a [Row]>
     ensures { IfSome result (λ rest. (run : _) × (taken.now ≡ run ++ rest.now) × OwnRun mark.now run) }
 {
@@ -221,8 +221,8 @@ fn rest_after<'a>(mark: &Row, taken: &'a [Row]) -> Option<&'a [Row]>
     if end == next { Some(rest) } else { None }
 }
 
-/// What is left of both at the first row of `mark` whose ranges are not adjacent from 0 up to its `next`. Nothing is
-/// left of a ledger.
+// What is left of both at the first row of `mark` whose ranges are not adjacent from 0 up to its `next`. Nothing is
+// left of a ledger.
 fn first_misfit<'a>(marks: &'a [Row], taken: &'a [Row]) -> (&'a [Row], &'a [Row])
     ensures { result.0.now ≡ [] → result.1.now ≡ [] → Runs marks.now taken.now }
 {
@@ -238,7 +238,7 @@ fn first_misfit<'a>(marks: &'a [Row], taken: &'a [Row]) -> (&'a [Row], &'a [Row]
     (marks, taken)
 }
 
-/// Whether the ranges of the key id and device ascend.
+// Whether the ranges of the key id and device ascend.
 fn do_ranges_rise(taken: &[Row], key: &[u8], device: u64) -> bool
     ensures { list_all is_taken_row taken.now ≡ true → IsTrue result
         → RisesFrom None (map range_in (filter (is_for key.now device) taken.now)) }
@@ -260,7 +260,7 @@ fn do_ranges_rise(taken: &[Row], key: &[u8], device: u64) -> bool
     true
 }
 
-/// Where the ranges of the key id and device end, if they are adjacent from 0.
+// Where the ranges of the key id and device end, if they are adjacent from 0.
 fn end_for(taken: &[Row], key: &[u8], device: u64) -> Option<u64>
     ensures { list_all is_taken_row taken.now ≡ true
         → Adjacent 0 (map range_in (filter (is_for key.now device) taken.now))
@@ -278,7 +278,7 @@ fn end_for(taken: &[Row], key: &[u8], device: u64) -> Option<u64>
     Some(end)
 }
 
-/// The `next` of the key id and device, if one row or none is of them.
+// The `next` of the key id and device, if one row or none is of them.
 fn next_for(marks: &[Row], key: &[u8], device: u64) -> Option<u64>
     ensures { list_all is_mark_row marks.now ≡ true → (n : _) → IsNext (filter (is_for key.now device) marks.now) n
         → result ≡ Some n }
@@ -293,7 +293,7 @@ fn next_for(marks: &[Row], key: &[u8], device: u64) -> Option<u64>
     Some(0)
 }
 
-/// Whether the rows of the key id and device of this row hold no list.
+// Whether the rows of the key id and device of this row hold no list.
 fn is_bad_owner(marks: &[Row], taken: &[Row], row: &Row) -> bool
     ensures { list_all is_mark_row marks.now ≡ true → list_all is_taken_row taken.now ≡ true → IsTrue result
         → (lists : Lists) → HoldLists marks.now taken.now lists → ⊥ }
@@ -310,7 +310,7 @@ fn is_bad_owner(marks: &[Row], taken: &[Row], row: &Row) -> bool
     }
 }
 
-/// Whether the rows of the key id and device of the first of these rows hold no list.
+// Whether the rows of the key id and device of the first of these rows hold no list.
 fn is_first_owner_bad(marks: &[Row], taken: &[Row], rest: &[Row]) -> bool
     ensures { list_all is_mark_row marks.now ≡ true → list_all is_taken_row taken.now ≡ true → IsTrue result
         → (lists : Lists) → HoldLists marks.now taken.now lists → ⊥ }

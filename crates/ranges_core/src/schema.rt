@@ -9,7 +9,7 @@ use sqlite_schema::schema::{Column, Index, Kind, Schema, Table};
 use sqlite_value::keys::{Collation, Order};
 use sqlite_value::value::Value;
 
-/// Whether it has this name and kind, is NOT NULL, without a default, and compares by bytes.
+// Whether it has this name and kind, is NOT NULL, without a default, and compares by bytes.
 fn is_column(column: &Column, name: &[u8], kind: Kind) -> bool
     ensures { IsTrue result → column.now ≡ required name.now kind }
 {
@@ -21,14 +21,14 @@ fn is_column(column: &Column, name: &[u8], kind: Kind) -> bool
         && column.collation == Collation::Binary
 }
 
-/// Whether these are the places of columns.
+// Whether these are the places of columns.
 fn are_places(items: &Items<usize>, places: &[usize]) -> bool
     ensures { IsTrue result → items.now ≡ places.now }
 {
     items.as_slice() == places
 }
 
-/// Whether there is one key, over these places.
+// Whether there is one key, over these places.
 fn is_one_key(uniques: &Items<Items<usize>>, places: &[usize]) -> bool
     ensures { IsTrue result → uniques.now ≡ places.now ∷ [] }
 {
@@ -38,7 +38,7 @@ fn is_one_key(uniques: &Items<Items<usize>>, places: &[usize]) -> bool
     }
 }
 
-/// Whether there is one order of keys, the plain one.
+// Whether there is one order of keys, the plain one.
 fn is_one_order(orders: &Items<Order>) -> bool
     ensures { IsTrue result → orders.now ≡ plain ∷ [] }
 {
@@ -48,7 +48,7 @@ fn is_one_order(orders: &Items<Order>) -> bool
     }
 }
 
-/// Whether it has nothing beside its columns, keys and CHECKs.
+// Whether it has nothing beside its columns, keys and CHECKs.
 fn is_bare(table: &Table) -> bool
     ensures references { IsTrue result → (table.now.key ≡ None) × (table.now.references ≡ []) }
     ensures computed { IsTrue result → (table.now.computed ≡ []) × (table.now.is_counted ≡ false) }
@@ -65,7 +65,7 @@ fn is_bare(table: &Table) -> bool
         && table.stamps.formats.len() == 0
 }
 
-/// Whether it has this name, tree and primary key and nothing beside its columns and CHECKs.
+// Whether it has this name, tree and primary key and nothing beside its columns and CHECKs.
 fn is_keyed(table: &Table, name: &[u8], tree: u32, places: &[usize]) -> bool
     ensures { IsTrue result → table.now ≡ keyed_table name.now tree table.now.columns places.now table.now.checks }
 {
@@ -77,7 +77,7 @@ fn is_keyed(table: &Table, name: &[u8], tree: u32, places: &[usize]) -> bool
         && is_bare(table)
 }
 
-/// Whether it is `mark` as the keeper makes it, with whatever CHECKs.
+// Whether it is `mark` as the keeper makes it, with whatever CHECKs.
 fn is_mark_table(table: &Table) -> bool
     ensures { IsTrue result → table.now ≡ mark_table table.now.checks 0 }
 {
@@ -90,7 +90,7 @@ fn is_mark_table(table: &Table) -> bool
         && is_keyed(table, b"mark", 0, &[1, 2])
 }
 
-/// Whether it is `taken` as the keeper makes it, with whatever CHECKs.
+// Whether it is `taken` as the keeper makes it, with whatever CHECKs.
 fn is_taken_table(table: &Table) -> bool
     ensures { IsTrue result → table.now ≡ taken_table table.now.checks 2 }
 {
@@ -104,7 +104,7 @@ fn is_taken_table(table: &Table) -> bool
         && is_keyed(table, b"taken", 2, &[1, 2, 3])
 }
 
-/// Whether it has this name, tree, table and columns, in ascending order, and lets no two rows be equal.
+// Whether it has this name, tree, table and columns, in ascending order, and lets no two rows be equal.
 fn is_index(index: &Index, name: &[u8], tree: u32, table: u32, places: &[usize]) -> bool
     ensures { IsTrue result → index.now ≡ index_for name.now tree table places.now }
 {
@@ -124,7 +124,7 @@ pub(crate) fn is_blank(schema: &Schema) -> bool
     schema.tables.len() == 0 && schema.indexes.len() == 0 && schema.views.len() == 0
 }
 
-/// Whether the tables are these two, in this order.
+// Whether the tables are these two, in this order.
 fn are_tables(tables: &[Table]) -> bool
     ensures { IsTrue result → (c : _) × (d : _) × (tables.now ≡ mark_table c 0 ∷ taken_table d 2 ∷ []) }
 {
@@ -134,7 +134,7 @@ fn are_tables(tables: &[Table]) -> bool
     }
 }
 
-/// Whether the indexes are those of the two primary keys.
+// Whether the indexes are those of the two primary keys.
 fn are_indexes(indexes: &[Index]) -> bool
     ensures { IsTrue result → indexes.now ≡ mark_index ∷ taken_index ∷ [] }
 {
@@ -157,14 +157,14 @@ pub(crate) fn is_ledger(schema: &Schema) -> bool
     are_tables(schema.tables.as_slice())
 }
 
-/// The table of this name, in whatever case.
+// The table of this name, in whatever case.
 fn table_at<'a>(schema: &'a Schema, name: &[u8]) -> Option<&'a Table>
     ensures { option_copied result ≡ table_at schema.now name.now }
 {
     schema.tables.get(schema.table_named(name)?)
 }
 
-/// Whether it can be read by the column names of `mark`.
+// Whether it can be read by the column names of `mark`.
 fn has_mark_columns(table: &Table) -> bool
     ensures { result ≡ has_columns mark_names table.now }
 {
@@ -173,7 +173,7 @@ fn has_mark_columns(table: &Table) -> bool
         && table.column_named(b"next").is_some()
 }
 
-/// Whether it can be read by the column names of `taken`.
+// Whether it can be read by the column names of `taken`.
 fn has_taken_columns(table: &Table) -> bool
     ensures { result ≡ has_columns taken_names table.now }
 {

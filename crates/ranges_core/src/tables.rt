@@ -8,7 +8,7 @@ ghost use Rattle.ranges_core.specs.Writes.{IsBlank, IsEmptyLedger};
 
 use sqlite::{Alter, Connection, Error, Transaction};
 
-/// The first table, without a row.
+// The first table, without a row.
 fn make_mark<S: Alter>(tx: &mut Transaction<'_, S>) -> Result<usize, Error>
     ensures same_reference { tx.new.conn.ghost_name ≡ tx.old.conn.ghost_name }
     ensures made { HasCleanDisk (state S.Store tx.new.conn.now)
@@ -26,7 +26,7 @@ fn make_mark<S: Alter>(tx: &mut Transaction<'_, S>) -> Result<usize, Error>
     )
 }
 
-/// The second table, without a row.
+// The second table, without a row.
 fn make_taken<S: Alter>(tx: &mut Transaction<'_, S>) -> Result<usize, Error>
     ensures same_reference { tx.new.conn.ghost_name ≡ tx.old.conn.ghost_name }
     ensures made { HasCleanDisk (state S.Store tx.new.conn.now)

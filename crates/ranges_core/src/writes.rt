@@ -16,7 +16,7 @@ ghost use Rattle.ranges_core.specs.Writes.{Appends, Entered, IsMarkOf, IsReady, 
 use crate::NUMBERS;
 use sqlite::{Alter, Connection, Error, Transaction, params};
 
-/// The number as SQL has it.
+// The number as SQL has it.
 fn signed(n: u64) -> i64
     requires { n ≤ NUMBERS }
     ensures { result ≡ pos n }
@@ -24,7 +24,7 @@ fn signed(n: u64) -> i64
     n as i64
 }
 
-/// Where a range ends.
+// Where a range ends.
 fn end_of(lo: u64, size: u32) -> u64
     requires { lo ≤ NUMBERS }
     ensures { result ≡ lo + size }
@@ -32,7 +32,7 @@ fn end_of(lo: u64, size: u32) -> u64
     lo + u64::from(size)
 }
 
-/// Puts in the first row of the key id and device.
+// Puts in the first row of the key id and device.
 fn enter_mark<S: Alter>(
     tx: &mut Transaction<'_, S>,
     key: &[u8],
@@ -57,7 +57,7 @@ fn enter_mark<S: Alter>(
     )
 }
 
-/// Moves the mark in the one row of the key id and device.
+// Moves the mark in the one row of the key id and device.
 fn move_mark<S: Alter>(
     tx: &mut Transaction<'_, S>,
     key: &[u8],
@@ -84,7 +84,7 @@ fn move_mark<S: Alter>(
     )
 }
 
-/// Writes the mark of the key id and device, for which `mark` is what was read.
+// Writes the mark of the key id and device, for which `mark` is what was read.
 fn write_mark<S: Alter>(
     tx: &mut Transaction<'_, S>,
     key: &[u8],
@@ -111,7 +111,7 @@ fn write_mark<S: Alter>(
     }
 }
 
-/// Takes the range of `size` numbers from `lo`.
+// Takes the range of `size` numbers from `lo`.
 fn take_range<S: Alter>(
     tx: &mut Transaction<'_, S>,
     key: &[u8],
@@ -137,7 +137,7 @@ fn take_range<S: Alter>(
     )
 }
 
-/// Appends a range of `size` numbers where the mark stands: both rows or neither, over a crash too.
+// Appends a range of `size` numbers where the mark stands: both rows or neither, over a crash too.
 fn append<S: Alter>(
     conn: &mut Connection<S>,
     key: &[u8],
@@ -172,8 +172,8 @@ fn append<S: Alter>(
     Ok(())
 }
 
-/// The same in the words of lists: the range is appended to the list of the key id and device, and each other list is
-/// as it was.
+/// Appends a range of `size` numbers to the list of the key id and device, where `mark` is what `mark_of` answered.
+/// Each other list is as it was. Both rows are written or neither, over a crash too.
 pub fn append_range<S: Alter>(
     conn: &mut Connection<S>,
     key: &[u8],

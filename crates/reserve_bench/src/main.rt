@@ -16,7 +16,7 @@ use sqlite::{Alter, Connection, FileFrom, FileStore, Start, Wary};
 use std::env;
 use std::io::Print;
 
-/// The key id of every range that this program reserves.
+// The key id of every range that this program reserves.
 const KEY_ID: [u8; 32] = [
     0, 1, 2, 3, 4, 5, 6, 7, 8, 9, 10, 11, 12, 13, 14, 15, 16, 17, 18, 19, 20, 21, 22, 23, 24, 25,
     26, 27, 28, 29, 30, 31,

@@ -10,13 +10,13 @@ use sqlite::{Alter, Connection, Transaction, Wary, params};
 use std::io;
 use std::time::{Clock, Instant};
 
-/// How often a range is reserved, after the first one, which is timed apart.
+// How often a range is reserved, after the first one, which is timed apart.
 const SAMPLES: u32 = 20;
 
-/// The device that reserves.
+// The device that reserves.
 const DEVICE: u32 = 1;
 
-/// Whose ranges fill the file, each of one number.
+// Whose ranges fill the file, each of one number.
 #[derive(Clone, Copy)]
 enum Filling {
     OneOther,

@@ -48,7 +48,7 @@ impl<S: Alter> Keeper<S> {
     /// names, or where the rows hold no lists; `Store` where the database refuses a statement, memory is refused, the
     /// tables are other than the keeper makes them or not alone, or the connection is in a transaction. A refusal
     /// changes nothing and hands the connection back. Where a fault of the disk shut it, the files are as after a
-    /// crash: as they could be before, or both tables without a row.
+    /// crash: as they could be before, or, where the database was empty, both tables with empty lists.
     pub fn open(connection: Connection<S>) -> Result<Keeper<S>, (ReserveFault, Connection<S>)>
         ensures opened { IfOk result (λ k. HasCleanDisk (state S.Store k)
             → Opened (state S.Store connection).now (state S.Store k).now) }
