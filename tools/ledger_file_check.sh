@@ -1,6 +1,6 @@
 #!/bin/bash
-# Reads a ledger file of ours with the stock sqlite3, and opens one of sqlite3's with ours. LEDGER_FILE names the built program, which
-# `rt run` builds in crates/ledger_file where it isn't there or is older than its source. Where sqlite3 isn't there it ends well, and
+# Reads a ledger file of ours with the stock sqlite3, and opens one of sqlite3's with ours. RESERVE_BENCH names the built program, which
+# `rt run` builds in crates/reserve_bench where it isn't there or is older than its source. Where sqlite3 isn't there it ends well, and
 # under CI it fails.
 set -eu
 cd "$(dirname "$0")/.."
@@ -10,10 +10,10 @@ if ! command -v sqlite3 >/dev/null; then
 fi
 folder=$(mktemp -d)
 trap 'rm -rf "$folder"' EXIT
-program=${LEDGER_FILE:-$PWD/crates/ledger_file/out/ledger_file}
-is_old() { [ ! -x "$program" ] || [ -n "$(find crates/{ledger_file,reserve_core,ledger_core,journal_core}/src -newer "$program" -print -quit)" ]; }
-if [ -z "${LEDGER_FILE:-}" ] && is_old; then
-    (cd crates/ledger_file && rt run) >"$folder/log" 2>&1 || { cat "$folder/log"; exit 1; }
+program=${RESERVE_BENCH:-$PWD/crates/reserve_bench/out/reserve_bench}
+is_old() { [ ! -x "$program" ] || [ -n "$(find crates/{reserve_bench,reserve_core,ranges_core,journal_core}/src -newer "$program" -print -quit)" ]; }
+if [ -z "${RESERVE_BENCH:-}" ] && is_old; then
+    (cd crates/reserve_bench && rt run) >"$folder/log" 2>&1 || { cat "$folder/log"; exit 1; }
 fi
 ours() { # what it prints, and its status where that isn't 0
     local status=0

@@ -1,7 +1,6 @@
-pub mod Faults
-pub mod Lasting
-pub mod Reads
+pub use Rattle.ranges_core.specs.Calls
+pub use Rattle.ranges_core.specs.Faults
+pub use Rattle.ranges_core.specs.Lasting
+pub use Rattle.ranges_core.specs.Tables
+pub use Rattle.ranges_core.specs.Writes
 pub mod Reservations
-pub mod Runs
-pub mod Tables
-pub mod Writes

@@ -1,39 +1,33 @@
 //! The keeper of a ledger file.
-ghost use Rattle.std.specs.Prelude.{◌≡◌, ◌≢◌, ◌↔◌, ◌+◌, ◌-◌, ◌^◌, ◌<◌, ◌≤◌, IsTrue, IfOk, IfErr, OnOk, OnErr, Err, MatchResult, ◌⊎◌};
+ghost use Rattle.std.specs.Prelude.{◌≡◌, ◌≢◌, ◌↔◌, ◌+◌, ◌-◌, ◌<◌, ◌≤◌, IsTrue, false, IfOk, IfErr, OnOk, OnErr, Err, MatchResult, ◌⊎◌};
 ghost use Rattle.sqlite.specs.Held.{state};
 ghost use Rattle.sqlite.specs.State.{HasCleanDisk, Survives};
-ghost use Rattle.reserve_core.specs.Faults.{IsBad};
-ghost use Rattle.reserve_core.specs.Lasting.{Last};
-ghost use Rattle.reserve_core.specs.Reservations.{Lists, Holds, Opened, next_of, no_lists, reserved, spans_of};
+ghost use Rattle.ranges_core.specs.Calls.{CommitsNothing, Unchanged, WasOpen, WhileOpen};
+ghost use Rattle.ranges_core.specs.Faults.{IsBad};
+ghost use Rattle.ranges_core.specs.Lasting.{LeavesOnlyThis, StillLast};
+ghost use Rattle.ranges_core.specs.Reservations.{Lists, Holds, Opened, next_of, no_lists, ranges_of_pairs, with_range};
+ghost use Rattle.ranges_core.specs.Tables.{no_schema};
 
-use crate::fault::ReserveFault;
-use crate::opening::open_tables;
-use crate::reads::{mark_of, ranges_of};
-use crate::rows::FIELD;
-use crate::writes::append_range;
-use ledger_core::{Device, Range};
+use journal_core::{Device, Range};
+use ranges_core::{NUMBERS, ReserveFault, append_range, mark_of, open_tables, ranges_of};
 use sqlite::{Alter, Connection};
 use std::marker::Model;
 
 /// The ranges that were ever reserved, in a database that nobody else writes.
 ///
-/// It stands over a connection. At the end of a run `release` it and close the connection: until then what was committed to a file
-/// stands in the log beside the file (FILE-wal), and the two are one ledger, of which the file alone is not.
+/// It stands over a connection. At the end of a run `release` it and close the connection: until then what was
+/// committed to a file stands in the log beside the file (FILE-wal), and the two are one ledger, of which the file
+/// alone is not.
+#[derive(Drop)]
 pub struct Keeper<S: Alter> {
     conn: Connection<S>,
 }
 
-impl<S: Alter + Drop> Drop for Keeper<S> {
-    fn drop(self) {
-        let Keeper { conn: _ } = self;
-    }
-}
-
 impl<S: Alter> Model for Keeper<S> {
-    ghost use Rattle.std.specs.Prelude.{◌≡◌, false, IsTrue};
-    ghost use Rattle.sqlite.specs.State.{HasCleanDisk};
+    ghost use Rattle.std.specs.Prelude.{◌≡◌, false};
     ghost use Rattle.sqlite.specs.Held.{Held, held_code, state};
-    ghost use Rattle.reserve_core.specs.Writes.{IsReady};
+    ghost use Rattle.ranges_core.specs.Calls.{WhileOpen};
+    ghost use Rattle.ranges_core.specs.Writes.{IsReady};
 
     ghost Value = { Held S };
 
@@ -41,31 +35,44 @@ impl<S: Alter> Model for Keeper<S> {
 
     ghost view = { λ k. k.conn };
 
-    ghost invariant = { λ k. (k.conn.in_transaction ≡ false) × (HasCleanDisk (state S.Store k.conn) → IsTrue (state S.Store k.conn).is_open → IsReady (state S.Store k.conn)) };
+    ghost invariant = { λ k. (k.conn.in_transaction ≡ false)
+        × WhileOpen S.Store k.conn (IsReady (state S.Store k.conn)) };
 }
 
 impl<S: Alter> Keeper<S> {
-    /// Makes both tables in an empty database, and checks them else: their schema, and that their rows are lists of adjacent ranges,
-    /// in one pass over all rows of both, which it holds in memory for that time. Nobody else may write the database from now on.
+    /// Makes both tables in an empty database, and checks them else: their schema, and that their rows are lists of
+    /// adjacent ranges, in one pass over all rows of both, which it holds in memory for that time. Nobody else may
+    /// write the database from now on.
     ///
-    /// `BadStore` comes where something is in the database and one of the two tables cannot be read by its column names, or where the
-    /// rows hold no lists; `Store` where the database refuses a statement, memory is refused, the tables are other than the keeper
-    /// makes them or not alone, or the connection is in a transaction. A refusal changes nothing and hands the connection back. Where a
-    /// fault of the disk shut it, the files are as after a crash: as they could be before, or both tables without a row.
+    /// `BadStore` comes where something is in the database and one of the two tables cannot be read by its column
+    /// names, or where the rows hold no lists; `Store` where the database refuses a statement, memory is refused, the
+    /// tables are other than the keeper makes them or not alone, or the connection is in a transaction. A refusal
+    /// changes nothing and hands the connection back. Where a fault of the disk shut it, the files are as after a
+    /// crash: as they could be before, or, where the database was empty, both tables with empty lists.
     pub fn open(connection: Connection<S>) -> Result<Keeper<S>, (ReserveFault, Connection<S>)>
-        ensures opened { IfOk result (λ k. HasCleanDisk (state S.Store k) → Opened (state S.Store connection).now (state S.Store k).now) }
-        ensures live { IfOk result (λ k. HasCleanDisk (state S.Store k) → IsTrue (state S.Store connection).is_open × IsTrue (state S.Store k).is_open) }
+        ensures opened { IfOk result (λ k. HasCleanDisk (state S.Store k)
+            → Opened (state S.Store connection).now (state S.Store k).now) }
+        ensures live { IfOk result (λ k. HasCleanDisk (state S.Store k) → IsTrue (state S.Store connection).is_open
+            × IsTrue (state S.Store k).is_open) }
         ensures never { IfOk result (λ k. HasCleanDisk (state S.Store k) → IsBad (state S.Store connection).now → ⊥) }
-        ensures bad { IfErr result (λ e. HasCleanDisk (state S.Store e.1) → e.0 ≡ ReserveFault.BadStore → IsBad (state S.Store connection).now) }
+        ensures bad { IfErr result (λ e. HasCleanDisk (state S.Store e.1) → e.0 ≡ ReserveFault.BadStore
+            → IsBad (state S.Store connection).now) }
         ensures named { IfErr result (λ e. (e.0 ≡ ReserveFault.Store) ⊎ (e.0 ≡ ReserveFault.BadStore)) }
-        ensures same { IfErr result (λ e. HasCleanDisk (state S.Store e.1) → IsTrue (state S.Store e.1).is_open
-            → ((state S.Store e.1).now ≡ (state S.Store connection).now) × ((state S.Store e.1).committed ≡ (state S.Store connection).committed)) }
-        ensures crash { MatchResult result (λ k. Survives (state S.Store connection) (state S.Store k) (λ trees. (db : _) × Holds db no_lists × (trees ≡ db.trees)))
-            (λ e. Survives (state S.Store connection) (state S.Store e.1) (λ trees. (db : _) × Holds db no_lists × (trees ≡ db.trees))) }
-        ensures lasts { IfOk result (λ k. HasCleanDisk (state S.Store k) → (trees : _) → (state S.Store k).may_leave trees → trees ≡ (state S.Store k).now.trees) }
+        ensures same { IfErr result (λ e. WhileOpen S.Store e.1 (Unchanged S.Store connection e.1)) }
+        ensures crash { MatchResult result
+            (λ k. Survives (state S.Store connection) (state S.Store k) (λ trees. (db : _) × Holds db no_lists
+            × (trees ≡ db.trees)))
+            (λ e. Survives (state S.Store connection) (state S.Store e.1) (λ trees. (db : _) × Holds db no_lists
+            × (trees ≡ db.trees))) }
+        ensures lasts { IfOk result (λ k. HasCleanDisk (state S.Store k) → LeavesOnlyThis S.Store k) }
         ensures kept { MatchResult result
-            (λ k. HasCleanDisk (state S.Store k) → (before : Lists) → Last (state S.Store connection) before → Last (state S.Store k) before)
-            (λ e. HasCleanDisk (state S.Store e.1) → (before : Lists) → Last (state S.Store connection) before → Last (state S.Store e.1) before) }
+            (λ k. StillLast S.Store connection k)
+            (λ e. StillLast S.Store connection e.1) }
+        ensures found { (state S.Store connection).now.schema ≢ no_schema
+            → MatchResult result (λ k. CommitsNothing S.Store connection k)
+            (λ e. CommitsNothing S.Store connection e.1) }
+        ensures settled { IfOk result (λ k. k.in_transaction ≡ false) }
+        ensures mode { IfErr result (λ e. e.1.in_transaction ≡ connection.in_transaction) }
     {
         let mut conn = connection;
         match open_tables(&mut conn) {
@@ -76,10 +83,10 @@ impl<S: Alter> Keeper<S> {
 
     /// Reserves the next `count` file numbers of the key and device: 1 to 65,535 of them, each below 2^32.
     ///
-    /// Once it answers `Ok` they are reserved for good, over crashes too. A crash during the call leaves the lists from before, or
-    /// those with the new range. Every refusal changes nothing, and names the first that holds of: no number, over 65,535 numbers,
-    /// fewer left than asked for. `Store` comes where the database refuses a statement or memory is refused. Where a fault of the disk
-    /// shut the connection, the files are as after a crash.
+    /// Once it answers `Ok` they are reserved for good, over crashes too. A crash during the call leaves the lists from
+    /// before, or those with the new range. Every refusal changes nothing, and names the first that holds of: no
+    /// number, over 65,535 numbers, fewer left than asked for. `Store` comes where the database refuses a statement or
+    /// memory is refused. Where a fault of the disk shut the connection, the files are as after a crash.
     pub fn reserve(
         &mut self,
         key_id: &[u8; 32],
@@ -87,21 +94,29 @@ impl<S: Alter> Keeper<S> {
         count: u32,
     ) -> Result<Range, ReserveFault>
         ensures zero { (result ≡ Err ReserveFault.ZeroCount) ↔ (count ≡ 0) }
-        ensures many { (result ≡ Err ReserveFault.TooMany) ↔ (65535 < count) }
-        ensures spent { HasCleanDisk (state S.Store self.new) → (lists : Lists) → Holds (state S.Store self.old).now lists
-            → IfErr result (λ e. (left : _) → e ≡ ReserveFault.FieldSpent left → (2 ^ 32 < next_of (lists key_id.now device) + count) × (left ≡ 2 ^ 32 - next_of (lists key_id.now device))) }
+        ensures many { (result ≡ Err ReserveFault.TooMany) ↔ (Range.MAX_SIZE < count) }
+        ensures spent { HasCleanDisk (state S.Store self.new) → (lists : Lists)
+            → Holds (state S.Store self.old).now lists
+            → let next = next_of (lists key_id.now device) in IfErr result (λ e. (left : _)
+            → e ≡ ReserveFault.FieldSpent left
+            → (NUMBERS < next + count) × (left ≡ NUMBERS - next)) }
         ensures sound { HasCleanDisk (state S.Store self.new) → result ≢ Err ReserveFault.BadStore }
-        ensures appends { HasCleanDisk (state S.Store self.new) → (lists : Lists) → Holds (state S.Store self.old).now lists
-            → IfOk result (λ r. (r.device ≡ device) × (r.lo ≡ next_of (lists key_id.now device)) × (r.size ≡ count) × (r.lo + count ≤ 2 ^ 32)
-            × Holds (state S.Store self.new).now (reserved lists key_id.now device count)) }
-        ensures live { HasCleanDisk (state S.Store self.new) → OnOk result (IsTrue (state S.Store self.old).is_open × IsTrue (state S.Store self.new).is_open) }
-        ensures was_open { HasCleanDisk (state S.Store self.new) → IsTrue (state S.Store self.new).is_open → IsTrue (state S.Store self.old).is_open }
-        ensures same { HasCleanDisk (state S.Store self.new) → IsTrue (state S.Store self.new).is_open
-            → OnErr result (((state S.Store self.new).now ≡ (state S.Store self.old).now) × ((state S.Store self.new).committed ≡ (state S.Store self.old).committed)) }
-        ensures crash { Survives (state S.Store self.old) (state S.Store self.new) (λ trees. (lists : Lists) → Holds (state S.Store self.old).now lists
-            → (db : _) × Holds db (reserved lists key_id.now device count) × (trees ≡ db.trees)) }
-        ensures lasts { HasCleanDisk (state S.Store self.new) → OnOk result ((trees : _) → (state S.Store self.new).may_leave trees → trees ≡ (state S.Store self.new).now.trees) }
-        ensures kept { HasCleanDisk (state S.Store self.new) → (before : Lists) → Last (state S.Store self.old) before → Last (state S.Store self.new) before }
+        ensures appends { HasCleanDisk (state S.Store self.new) → (lists : Lists)
+            → Holds (state S.Store self.old).now lists
+            → IfOk result (λ r. (r.device ≡ device) × (r.lo ≡ next_of (lists key_id.now device)) × (r.size ≡ count)
+            × (r.lo + count ≤ NUMBERS)
+            × Holds (state S.Store self.new).now (with_range lists key_id.now device count)) }
+        ensures live { HasCleanDisk (state S.Store self.new)
+            → OnOk result (IsTrue (state S.Store self.old).is_open × IsTrue (state S.Store self.new).is_open) }
+        ensures was_open { WasOpen S.Store self.old self.new }
+        ensures same { WhileOpen S.Store self.new (OnErr result (Unchanged S.Store self.old self.new)) }
+        ensures crash { Survives (state S.Store self.old) (state S.Store self.new) (λ trees. (lists : Lists)
+            → Holds (state S.Store self.old).now lists
+            → (db : _) × Holds db (with_range lists key_id.now device count) × (trees ≡ db.trees)) }
+        ensures lasts { HasCleanDisk (state S.Store self.new) → OnOk result (LeavesOnlyThis S.Store self.new) }
+        ensures kept { StillLast S.Store self.old self.new }
+        ensures shut { (state S.Store self.old).is_open ≡ false → CommitsNothing S.Store self.old self.new }
+        ensures settled { self.old.in_transaction ≡ false → self.new.in_transaction ≡ false }
     {
         if count == 0 {
             return Err(ReserveFault::ZeroCount);
@@ -112,8 +127,8 @@ impl<S: Alter> Keeper<S> {
         let number = device.number();
         let mark = mark_of(&mut self.conn, key_id.as_slice(), number)?;
         let next = mark.unwrap_or(0);
-        if next + u64::from(count) > FIELD {
-            let left = FIELD - next;
+        if next + u64::from(count) > NUMBERS {
+            let left = NUMBERS - next;
             return Err(ReserveFault::FieldSpent { left });
         }
         // Never: a range of 1 to 65,535 numbers that ends by 2^32 is lawful.
@@ -126,23 +141,24 @@ impl<S: Alter> Keeper<S> {
         }
     }
 
-    /// The ranges of the key and device, as (`lo`, `size`), in order of `lo`. A refusal is `Store`; `BadStore` comes only where
-    /// somebody else wrote the database or its disk returned other bytes. Nothing changes.
+    /// The ranges of the key and device, as (`lo`, `size`), in order of `lo`. A refusal is `Store`; `BadStore` comes
+    /// only where somebody else wrote the database or its disk returned other bytes. Nothing changes.
     pub fn taken(
         &mut self,
         key_id: &[u8; 32],
         device: Device,
     ) -> Result<Vec<(u32, u64)>, ReserveFault>
-        ensures lists { HasCleanDisk (state S.Store self.new) → (lists : Lists) → Holds (state S.Store self.old).now lists
-            → IfOk result (λ ranges. spans_of ranges.items ≡ lists key_id.now device) }
+        ensures lists { HasCleanDisk (state S.Store self.new) → (lists : Lists)
+            → Holds (state S.Store self.old).now lists
+            → IfOk result (λ ranges. ranges_of_pairs ranges.items ≡ lists key_id.now device) }
         ensures named { IfErr result (λ e. (e ≡ ReserveFault.Store) ⊎ (e ≡ ReserveFault.BadStore)) }
         ensures sound { HasCleanDisk (state S.Store self.new) → result ≢ Err ReserveFault.BadStore }
         ensures live { HasCleanDisk (state S.Store self.new) → OnOk result (IsTrue (state S.Store self.old).is_open) }
-        ensures was_open { HasCleanDisk (state S.Store self.new) → IsTrue (state S.Store self.new).is_open → IsTrue (state S.Store self.old).is_open }
-        ensures same { HasCleanDisk (state S.Store self.new) → IsTrue (state S.Store self.new).is_open
-            → ((state S.Store self.new).now ≡ (state S.Store self.old).now) × ((state S.Store self.new).committed ≡ (state S.Store self.old).committed) }
-        ensures crash { Survives (state S.Store self.old) (state S.Store self.new) (λ _. ⊥) }
-        ensures kept { HasCleanDisk (state S.Store self.new) → (before : Lists) → Last (state S.Store self.old) before → Last (state S.Store self.new) before }
+        ensures was_open { WasOpen S.Store self.old self.new }
+        ensures same { WhileOpen S.Store self.new (Unchanged S.Store self.old self.new) }
+        ensures crash { CommitsNothing S.Store self.old self.new }
+        ensures kept { StillLast S.Store self.old self.new }
+        ensures settled { self.old.in_transaction ≡ false → self.new.in_transaction ≡ false }
     {
         ranges_of(&mut self.conn, key_id.as_slice(), device.number())
     }

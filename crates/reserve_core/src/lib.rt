@@ -1,19 +1,14 @@
-//! Which file numbers of a key and device were ever reserved: ranges in two tables of an SQLite database, the ledger file.
+//! Which file numbers of a key and device were ever reserved: ranges in two tables of an SQLite database, the ledger
+//! file.
 //!
-//! For each key id and device the ranges are adjacent from 0, so no number is in two of them. A range is reserved for good once
-//! `Keeper::reserve` answers, over crashes too, as long as nobody else writes the database and its disk returns what was written and
-//! keeps what was synced. One transaction moves the mark and takes the range.
+//! For each key id and device the ranges are adjacent from 0, so no number is in two of them. A range is reserved for
+//! good once `Keeper::reserve` answers, over crashes too, as long as nobody else writes the database and its disk
+//! returns what was written and keeps what was synced. One transaction moves the mark and takes the range. Tables and
+//! statements are `ranges_core`'s.
 #![tactic(auto)]
 
-pub mod fault;
 pub mod keeper;
 pub mod laws;
-mod opening;
-mod reads;
-mod rows;
-mod schema;
-mod tables;
-mod writes;
 
-pub use crate::fault::ReserveFault;
 pub use crate::keeper::Keeper;
+pub use ranges_core::{NUMBERS, ReserveFault};

@@ -1,5 +1,5 @@
 //! Databases for the tests.
-use ledger_core::Device;
+use journal_core::Device;
 use reserve_core::{Keeper, ReserveFault};
 use sqlite::{Alter, Connection, MemStore, params};
 use std::alloc::Global;
@@ -53,6 +53,20 @@ pub fn put_rows(conn: &mut Connection<MemStore>, marks: &[Mark], taken: &[Taken]
 pub fn ledger(alloc: Global, marks: &[Mark], taken: &[Taken]) -> Option<Connection<MemStore>> {
     let mut conn = database(alloc, &[TABLES])?;
     put_rows(&mut conn, marks, taken)?;
+    Some(conn)
+}
+
+/// A ledger in memory in which device 1 has so many ranges, each of one number.
+pub fn ledger_of_many(alloc: Global, ranges: u32) -> Option<Connection<MemStore>> {
+    let mut conn = database(alloc, &[TABLES, "BEGIN"])?;
+    let id = ID.as_slice();
+    for lo in 0..ranges {
+        conn.execute("INSERT INTO taken VALUES (?1, 1, ?2, 1)", params![id, lo])
+            .ok()?;
+    }
+    conn.execute("INSERT INTO mark VALUES (?1, 1, ?2)", params![id, ranges])
+        .ok()?;
+    conn.execute_batch("COMMIT").ok()?;
     Some(conn)
 }
 

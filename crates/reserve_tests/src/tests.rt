@@ -1,5 +1,6 @@
 //! Reservations, one after the other.
-use crate::store::{ID, database, has_taken, keeper, ledger, reserve};
+use crate::store::{ID, database, has_taken, keeper, ledger, ledger_of_many, reserve};
+use journal_core::Device;
 use reserve_core::{Keeper, ReserveFault};
 use std::test::*;
 
@@ -93,6 +94,25 @@ fn a_long_range_goes_on(rt: HostRuntime) -> Result<(), Fail> {
     )?)?;
     assert_eq!(rt; reserve(&mut keeper, &ID, 1, 2), Ok((70_000, 2)));
     assert!(rt; has_taken(&mut keeper, &ID, 1, &[(0, 70_000), (70_000, 2)]));
+    Ok(())
+}
+
+#[test]
+fn device_0_has_ranges_as_any(rt: HostRuntime) -> Result<(), Fail> {
+    let mut first = keeper(database(rt.alloc(), &[]).ok_or("database")?)?;
+    assert_eq!(rt; reserve(&mut first, &ID, 0, 3), Ok((0, 3)));
+    let mut second = keeper(first.release())?;
+    assert_eq!(rt; reserve(&mut second, &ID, 0, 1), Ok((3, 1)));
+    assert!(rt; has_taken(&mut second, &ID, 0, &[(0, 3), (3, 1)]));
+    Ok(())
+}
+
+#[test]
+fn a_ledger_of_25000_ranges_goes_on(rt: HostRuntime) -> Result<(), Fail> {
+    let mut keeper = keeper(ledger_of_many(rt.alloc(), 25_000).ok_or("database")?)?;
+    assert_eq!(rt; reserve(&mut keeper, &ID, 1, 2), Ok((25_000, 2)));
+    let device = Device::new(1).ok_or("device")?;
+    assert_eq!(rt; keeper.taken(&ID, device)?.len(), 25_001);
     Ok(())
 }
 

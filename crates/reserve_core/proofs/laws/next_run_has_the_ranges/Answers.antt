@@ -1,5 +1,5 @@
 use Rattle.sqlite.specs.Held.{state}
-use Rattle.reserve_core.proofs.Lasting.{next_run}
+use Rattle.ranges_core.proofs.Lasting.{next_run}
 use Rattle.reserve_core.proofs.laws.next_run_has_the_ranges.Goals as goal
 
 pub returns : goal.returns

@@ -1,4 +1,4 @@
-use Rattle.reserve_core.proofs.Runs.{adjacent_apart}
+use Rattle.ranges_core.proofs.Runs.{adjacent_apart}
 use Rattle.reserve_core.proofs.laws.ranges_are_apart.Goals as goal
 
 pub returns : goal.returns

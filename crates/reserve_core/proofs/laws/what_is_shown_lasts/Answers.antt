@@ -1,5 +1,5 @@
 use Rattle.sqlite.specs.Held.{state}
-use Rattle.reserve_core.proofs.Lasting.{last_of}
+use Rattle.ranges_core.proofs.Lasting.{last_of}
 use Rattle.reserve_core.proofs.laws.what_is_shown_lasts.Goals as goal
 
 pub returns : goal.returns

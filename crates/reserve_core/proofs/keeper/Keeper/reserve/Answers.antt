@@ -3,8 +3,8 @@ use Rattle.sqlite.specs.State.{HasCleanDisk}
 use Rattle.sqlite.specs.Held.{state}
 use Rattle.sqlite.specs.Effect.{Database}
 use Rattle.sqlite.proofs.StateLemmas.{survives_then}
-use Rattle.reserve_core.specs.Reservations.{Holds}
-use Rattle.reserve_core.proofs.Lasting.{last_still}
+use Rattle.ranges_core.specs.Reservations.{Holds}
+use Rattle.ranges_core.proofs.Lasting.{last_still}
 use Rattle.reserve_core.proofs.keeper.Keeper.reserve.Goals as goal
 
 pub returns-clause-crash : goal.returns-clause-crash
@@ -19,3 +19,10 @@ returns-clause-kept g c =
     rw (← c.self.view_is) (λ clean before last.
     let at_mid : HasCleanDisk (state g.S.Store c.mark_of.new.conn) = omega (arith, c.append_range.ensures.crash.clean) in
     c.append_range.ensures.kept clean before (last_still (state g.S.Store c.self.inside.conn) (state g.S.Store c.mark_of.new.conn) before c.mark_of.ensures.crash at_mid last))
+
+pub returns-clause-shut : goal.returns-clause-shut
+returns-clause-shut g c =
+    rw (← c.self.view_is) (λ shut.
+    survives_then (state g.S.Store c.self.inside.conn) (state g.S.Store c.mark_of.new.conn) (state g.S.Store c.append_range.new.conn) (λ _. ⊥) _ (λ _. ⊥) (λ _ db none. none) (λ clean trees it.
+    let at_mid : HasCleanDisk (state g.S.Store c.mark_of.new.conn) = omega (arith, c.append_range.ensures.crash.clean) in
+    absurd (let was = rw shut at (c.mark_of.ensures.was_open at_mid it.0) in cc)) c.mark_of.ensures.crash c.append_range.ensures.crash)

@@ -1,0 +1,13 @@
+mod Asks
+mod Effects
+pub mod Lasting
+mod Makes
+mod Moves
+mod Opens
+mod Owners
+mod Picks
+mod Ready
+mod Reserve
+pub mod Runs
+mod Shown
+mod Texts
