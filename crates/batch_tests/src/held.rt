@@ -2,8 +2,8 @@
 use crew_core::Gate;
 use std::sync::atomic::{AtomicU64, Ordering};
 
-/// Holds the pass with one job until the pass with another has come, and gives up after so many turns. It counts the passes with
-/// each of the jobs 0 to 15, in four bits each.
+/// Holds the pass with one job until the pass with another has come, and gives up after so many turns. It counts the
+/// passes with each of the jobs 0 to 15, in four bits each.
 #[derive(Drop)]
 pub struct Held {
     job: u32,

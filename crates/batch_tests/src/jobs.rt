@@ -1,12 +1,13 @@
 //! The texts of batches.
 ghost use Rattle.std.specs.Prelude.{◌≡◌, ◌<◌, ◌≤◌, length, All, IfOk};
 
+use container_core::MAX_PLAIN;
 use std::alloc::{AllocError, Global};
 
 /// So many jobs: job n has n bytes, each of them n.
 pub fn jobs_of(alloc: Global, count: u8) -> Result<Vec<Vec<u8>>, AllocError>
     ensures count { IfOk result (λ jobs. length jobs.items ≡ count) }
-    ensures short { IfOk result (λ jobs. All (λ job. length job.items ≤ 1099511627776) jobs.items) }
+    ensures short { IfOk result (λ jobs. All (λ job. length job.items ≤ MAX_PLAIN) jobs.items) }
 {
     let mut jobs = Vec::new(alloc);
     for n in 0..count {
@@ -18,7 +19,7 @@ pub fn jobs_of(alloc: Global, count: u8) -> Result<Vec<Vec<u8>>, AllocError>
 /// These jobs, of at most 255 bytes each.
 pub fn texts(alloc: Global, from: &[&[u8]]) -> Result<Vec<Vec<u8>>, AllocError>
     ensures count { IfOk result (λ jobs. length jobs.items ≡ length from.now) }
-    ensures short { IfOk result (λ jobs. All (λ job. length job.items ≤ 1099511627776) jobs.items) }
+    ensures short { IfOk result (λ jobs. All (λ job. length job.items ≤ MAX_PLAIN) jobs.items) }
 {
     let mut jobs = Vec::new(alloc);
     for text in from {

@@ -3,8 +3,8 @@ ghost use Rattle.std.specs.Prelude.{◌≡◌, ◌<◌, ◌≤◌, length, All, 
 ghost use Rattle.ledger_core.specs.Closing.{AreAllSeats};
 ghost use Rattle.ledger_core.specs.Journal.{terms_of};
 
-use container_core::Key;
-use crew_core::{Gate, Outcome, seal_batch};
+use container_core::{Key, MAX_PLAIN};
+use crew_core::{Gate, MAX_JOBS, MAX_LANES, Outcome, seal_batch};
 use ledger_core::{Journal, Ledger, OpenLedgerFault, Range, Seat, Spent, Tally};
 use std::alloc::{AllocError, Global};
 use std::marker::Model;
@@ -47,9 +47,9 @@ impl Run {
         lanes: u32,
         gate: &G,
     ) -> Result<Vec<Outcome>, AllocError>
-        requires lanes { (0 < lanes) × (lanes ≤ 16) × (lanes ≤ self.old.terms.seats) }
-        requires few { length jobs.now ≤ 65535 }
-        requires short { All (λ job. length job.items ≤ 1099511627776) jobs.now }
+        requires lanes { (0 < lanes) × (lanes ≤ MAX_LANES) × (lanes ≤ self.old.terms.seats) }
+        requires few { length jobs.now ≤ MAX_JOBS }
+        requires short { All (λ job. length job.items ≤ MAX_PLAIN) jobs.now }
         ensures same { self.new ≡ self.old }
         ensures count { IfOk result (λ outcomes. length outcomes.items ≡ length jobs.now) }
     {
@@ -100,9 +100,9 @@ fn seal_in<R: Threads + Sync, G: Gate + Sync>(
     gate: &G,
 ) -> Result<Vec<Outcome>, AllocError>
     requires all { AreAllSeats ledger.now seats.old }
-    requires lanes { (0 < lanes) × (lanes ≤ 16) × (lanes ≤ ledger.now.terms.seats) }
-    requires few { length jobs.now ≤ 65535 }
-    requires short { All (λ job. length job.items ≤ 1099511627776) jobs.now }
+    requires lanes { (0 < lanes) × (lanes ≤ MAX_LANES) × (lanes ≤ ledger.now.terms.seats) }
+    requires few { length jobs.now ≤ MAX_JOBS }
+    requires short { All (λ job. length job.items ≤ MAX_PLAIN) jobs.now }
     ensures all { AreAllSeats ledger.now seats.new }
     ensures count { IfOk result (λ outcomes. length outcomes.items ≡ length jobs.now) }
 {

@@ -22,7 +22,8 @@ const COUNTING: [u8; 32] = [
     26, 27, 28, 29, 30, 31,
 ];
 
-// The containers of no bytes, `a` and `bc` under that key, of device 1 and files 7, 8 and 9, by Python's `cryptography`.
+// The containers of no bytes, `a` and `bc` under that key, of device 1 and files 7, 8 and 9, by Python's
+// `cryptography`.
 const SEVEN: [u8; 40] = [
     0x53, 0x54, 0x52, 0x4d, 0x53, 0x45, 0x41, 0x4c, 0x01, 0x10, 0x00, 0x00, 0x01, 0x00, 0x00, 0x00,
     0x07, 0x63, 0x0d, 0xcd, 0x29, 0x66, 0xc4, 0x33, 0x47, 0x44, 0xc4, 0xde, 0x8d, 0x8c, 0x35, 0xb3,
@@ -192,8 +193,8 @@ fn one_lane_meets_nobody(rt: HostRuntime) -> Result<(), Fail> {
     Ok(())
 }
 
-// Job 0 is held at the gate until the other lane comes with its fourth job, which by then has three numbers: one that was issued
-// before the gate would be among the first.
+// Job 0 is held at the gate until the other lane comes with its fourth job, which by then has three numbers: one that
+// was issued before the gate would be among the first.
 #[test]
 fn the_gate_comes_before_the_issue(rt: HostRuntime) -> Result<(), Fail> {
     let alloc = rt.alloc();
@@ -229,7 +230,8 @@ fn numbers(outcomes: &[Outcome]) -> usize {
         .count()
 }
 
-// The range ends within the batch: one lane gets the number. A lane that finds none is answered so once, and is closed from then on.
+// The range ends within the batch: one lane gets the number. A lane that finds none is answered so once, and is closed
+// from then on.
 #[test]
 fn a_range_too_small(rt: HostRuntime) -> Result<(), Fail> {
     let alloc = rt.alloc();
@@ -315,8 +317,8 @@ fn sixteen_lanes_and_their_journal(rt: HostRuntime) -> Result<(), Fail> {
     Ok(())
 }
 
-// Three jobs on two lanes. Run it with each allocation refused in turn: either the batch was refused and nothing was issued, or
-// each job has an outcome, and the ledger has granted as many numbers as outcomes have one.
+// Three jobs on two lanes. Run it with each allocation refused in turn: either the batch was refused and nothing was
+// issued, or each job has an outcome, and the ledger has granted as many numbers as outcomes have one.
 #[test]
 fn a_refused_growth_loses_no_number(rt: HostRuntime) -> Result<(), Fail> {
     let alloc = rt.alloc();

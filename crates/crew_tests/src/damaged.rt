@@ -3,21 +3,32 @@ ghost use Rattle.std.specs.Prelude.{◌<◌, ◌≤◌};
 
 use crate::sealed::sealed;
 use crate::{COUNTING, flip, pattern};
-use container_core::{Key, OpenFault};
-use crew_core::{Free, open_whole};
+use container_core::{CHUNK, HEADER, Key, OpenFault, SEALED};
+use crew_core::{Free, MAX_WORKERS, open_whole};
 use std::alloc::Global;
 use std::test::Fail;
 use std::thread::Threads;
 
-// A container of eight chunks with one bit changed in the ciphertext of chunk 5, and one in that of chunk 2.
-fn damaged<R: Threads + Sync>(rt: &R, alloc: Global) -> Result<Vec<u8>, Fail> {
-    let plain = pattern(alloc, 524_288)?;
+// A container of so many full chunks, with one bit changed in the ciphertext of each of two chunks.
+fn damaged<R: Threads + Sync>(
+    rt: &R,
+    alloc: Global,
+    chunks: u8,
+    bad: u8,
+    other: u8,
+) -> Result<Vec<u8>, Fail> {
+    let plain = pattern(alloc, CHUNK * chunks as usize)?;
     let mut bytes = sealed(rt, alloc, 0, plain.as_slice(), 2, &Free)?;
-    if bytes.len() != 524_440 {
+    if bytes.len() != HEADER + SEALED * chunks as usize {
         return Err("another length".into());
     }
-    flip(bytes.as_mut_slice(), 24 + 5 * 65_552 + 1_000, 4);
-    flip(bytes.as_mut_slice(), 24 + 2 * 65_552 + 1_000, 4);
+    for chunk in [bad, other] {
+        flip(
+            bytes.as_mut_slice(),
+            HEADER + SEALED * chunk as usize + 1_000,
+            4,
+        );
+    }
     Ok(bytes)
 }
 
@@ -28,7 +39,7 @@ fn fault_of<R: Threads + Sync>(
     bytes: &[u8],
     workers: u32,
 ) -> Option<OpenFault>
-    requires { (0 < workers) × (workers ≤ 16) }
+    requires { (0 < workers) × (workers ≤ MAX_WORKERS) }
 {
     let key = Key::new(COUNTING);
     open_whole(rt, alloc, &key, bytes, workers, &Free).err()
@@ -36,11 +47,25 @@ fn fault_of<R: Threads + Sync>(
 
 #[test]
 fn the_least_bad_chunk_is_named(rt: HostRuntime) -> Result<(), Fail> {
-    let bytes = damaged(&rt, rt.alloc())?;
+    let bytes = damaged(&rt, rt.alloc(), 8, 5, 2)?;
     for workers in [1, 4, 16] {
         let fault = fault_of(&rt, rt.alloc(), bytes.as_slice(), workers);
         assert!(rt;
             fault == Some(OpenFault::Forged { chunk: 2 }),
+            "{workers} workers"
+        );
+    }
+    Ok(())
+}
+
+// In the last round of several: no fault stands in its place, `OutOfMemory` among them.
+#[test]
+fn a_late_bad_chunk_is_named(rt: HostRuntime) -> Result<(), Fail> {
+    let bytes = damaged(&rt, rt.alloc(), 100, 99, 97)?;
+    for workers in 1..5 {
+        let fault = fault_of(&rt, rt.alloc(), bytes.as_slice(), workers);
+        assert!(rt;
+            fault == Some(OpenFault::Forged { chunk: 97 }),
             "{workers} workers"
         );
     }

@@ -3,8 +3,8 @@ ghost use Rattle.std.specs.Prelude.{◌<◌, ◌≤◌, length};
 
 use crate::sealed::{ZEROS, opens_to, sealed};
 use crate::{COUNTING, Meeting, Recorder, pattern, zeros};
-use container_core::Key;
-use crew_core::{Gate, Shelf, Work, open_whole};
+use container_core::{Key, MAX_PLAIN};
+use crew_core::{Gate, MAX_WORKERS, Shelf, Work};
 use sha2::{Digest, Sha256};
 use std::alloc::Global;
 use std::test::Fail;
@@ -31,21 +31,42 @@ fn alone<G: Gate>(alloc: Global, work: &Work, workers: u32, gate: &G) -> Result<
     }
 }
 
+// Seals a plaintext by so many workers and opens the container by as many, each at a gate that holds all passes until
+// so many have come as are wanted, which is how many there are. Answers the container, and whether both gates or
+// neither gave up.
+fn held<R: Threads + Sync>(
+    rt: &R,
+    alloc: Global,
+    plain: &[u8],
+    workers: u32,
+    wanted: u64,
+    turns: u64,
+) -> Result<(Vec<u8>, bool), Fail>
+    requires plain { length plain.now ≤ MAX_PLAIN }
+    requires workers { (0 < workers) × (workers ≤ MAX_WORKERS) }
+{
+    let sealing = Meeting::new(wanted, turns);
+    let bytes = sealed(rt, alloc, 0, plain, workers, &sealing)?;
+    let opening = Meeting::new(wanted, turns);
+    if !opens_to(rt, alloc, bytes.as_slice(), plain, workers, &opening)? {
+        return Err("another plaintext".into());
+    }
+    if (sealing.passes(), opening.passes()) != (wanted, wanted) {
+        return Err("not a pass for each chunk".into());
+    }
+    if sealing.gave_up() != opening.gave_up() {
+        return Err("one of the gates gave up".into());
+    }
+    Ok((bytes, sealing.gave_up()))
+}
+
 #[test]
 fn two_workers_meet(rt: HostRuntime) -> Result<(), Fail> {
     let plain = zeros(rt.alloc(), 65_537)?;
-    let gate = Meeting::new(2, TURNS);
-    let bytes = sealed(&rt, rt.alloc(), 0, plain.as_slice(), 2, &gate)?;
-    assert!(rt; !gate.gave_up());
-    assert_eq!(rt; gate.passes(), 2);
+    let (bytes, gave_up) = held(&rt, rt.alloc(), plain.as_slice(), 2, 2, TURNS)?;
+    assert!(rt; !gave_up);
     assert_eq!(rt; bytes.len(), 65_593);
     assert_eq!(rt; Sha256::digest(bytes.as_slice()), ZEROS);
-    let key = Key::new(COUNTING);
-    let gate = Meeting::new(2, TURNS);
-    let back = open_whole(&rt, rt.alloc(), &key, bytes.as_slice(), 2, &gate)?;
-    assert!(rt; !gate.gave_up());
-    assert_eq!(rt; gate.passes(), 2);
-    assert!(rt; back.as_slice() == plain.as_slice());
     Ok(())
 }
 
@@ -53,22 +74,9 @@ fn two_workers_meet(rt: HostRuntime) -> Result<(), Fail> {
 #[test]
 fn one_worker_meets_nobody(rt: HostRuntime) -> Result<(), Fail> {
     let plain = zeros(rt.alloc(), 65_537)?;
-    let gate = Meeting::new(2, 1000);
-    let bytes = sealed(&rt, rt.alloc(), 0, plain.as_slice(), 1, &gate)?;
-    assert!(rt; gate.gave_up());
-    assert_eq!(rt; gate.passes(), 2);
+    let (bytes, gave_up) = held(&rt, rt.alloc(), plain.as_slice(), 1, 2, 1000)?;
+    assert!(rt; gave_up);
     assert_eq!(rt; Sha256::digest(bytes.as_slice()), ZEROS);
-    let gate = Meeting::new(2, 1000);
-    let opens = opens_to(
-        &rt,
-        rt.alloc(),
-        bytes.as_slice(),
-        plain.as_slice(),
-        1,
-        &gate,
-    )?;
-    assert!(rt; opens);
-    assert!(rt; gate.gave_up());
     Ok(())
 }
 
@@ -95,16 +103,8 @@ fn one_thread_meets_nobody(rt: HostRuntime) -> Result<(), Fail> {
 #[test]
 fn four_workers_meet(rt: HostRuntime) -> Result<(), Fail> {
     let plain = zeros(rt.alloc(), 3 * 65_536 + 1)?;
-    let gate = Meeting::new(4, TURNS);
-    let bytes = sealed(&rt, rt.alloc(), 0, plain.as_slice(), 4, &gate)?;
-    assert!(rt; !gate.gave_up());
-    assert_eq!(rt; gate.passes(), 4);
-    let key = Key::new(COUNTING);
-    let gate = Meeting::new(4, TURNS);
-    let back = open_whole(&rt, rt.alloc(), &key, bytes.as_slice(), 4, &gate)?;
-    assert!(rt; !gate.gave_up());
-    assert_eq!(rt; gate.passes(), 4);
-    assert!(rt; back.as_slice() == plain.as_slice());
+    let (_, gave_up) = held(&rt, rt.alloc(), plain.as_slice(), 4, 4, TURNS)?;
+    assert!(rt; !gave_up);
     Ok(())
 }
 
@@ -112,21 +112,8 @@ fn four_workers_meet(rt: HostRuntime) -> Result<(), Fail> {
 #[test]
 fn three_workers_are_no_four(rt: HostRuntime) -> Result<(), Fail> {
     let plain = zeros(rt.alloc(), 3 * 65_536 + 1)?;
-    let gate = Meeting::new(4, 1000);
-    let bytes = sealed(&rt, rt.alloc(), 0, plain.as_slice(), 3, &gate)?;
-    assert!(rt; gate.gave_up());
-    assert_eq!(rt; gate.passes(), 4);
-    let gate = Meeting::new(4, 1000);
-    let opens = opens_to(
-        &rt,
-        rt.alloc(),
-        bytes.as_slice(),
-        plain.as_slice(),
-        3,
-        &gate,
-    )?;
-    assert!(rt; opens);
-    assert!(rt; gate.gave_up());
+    let (_, gave_up) = held(&rt, rt.alloc(), plain.as_slice(), 3, 4, 1000)?;
+    assert!(rt; gave_up);
     Ok(())
 }
 
@@ -138,8 +125,8 @@ fn are_dealt<R: Threads + Sync>(
     chunks: u32,
     workers: u32,
 ) -> Result<bool, Fail>
-    requires plain { length plain.now ≤ 1099511627776 }
-    requires workers { (0 < workers) × (workers ≤ 16) }
+    requires plain { length plain.now ≤ MAX_PLAIN }
+    requires workers { (0 < workers) × (workers ≤ MAX_WORKERS) }
 {
     let sealing = Recorder::new(alloc, chunks)?;
     let bytes = sealed(rt, alloc, 0, plain, workers, &sealing)?;

@@ -9,7 +9,8 @@ fn first_of(alloc: Global, number: u32) -> Option<Grant> {
     ledger.issue(seat).ok()
 }
 
-/// The grant of this number of device 1, or `None` where memory was refused. A refusal that was asked for is tried again.
+/// The grant of this number of device 1, or `None` where memory was refused. A refusal that was asked for is tried
+/// again.
 pub fn grant_of(alloc: Global, number: u32) -> Option<Grant> {
     match first_of(alloc, number) {
         None => first_of(alloc, number),

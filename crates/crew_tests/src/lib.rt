@@ -1,5 +1,5 @@
-//! The tests of `crew_core`, and what they share: grants, a plaintext, a gate that two workers must meet, and one that keeps who
-//! passed with what.
+//! The tests of `crew_core`, and what they share: grants, a plaintext, a gate that two workers must meet, and one that
+//! keeps who passed with what.
 #![tactic(auto)]
 
 #[cfg(test)]

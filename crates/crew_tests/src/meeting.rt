@@ -2,8 +2,8 @@
 use crew_core::Gate;
 use std::sync::atomic::{AtomicU64, Ordering};
 
-/// Holds the passes until so many have come as are wanted, and gives up after so many turns. Where fewer threads do the work, the
-/// one that is wanted last doesn't come while the others are held.
+/// Holds the passes until so many have come as are wanted, and gives up after so many turns. Where fewer threads do the
+/// work, the one that is wanted last doesn't come while the others are held.
 #[derive(Drop)]
 pub struct Meeting {
     wanted: u64,

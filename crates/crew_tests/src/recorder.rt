@@ -6,8 +6,8 @@ use std::sync::atomic::{AtomicU64, Ordering};
 // What one pass adds to its piece's word, besides the worker's number.
 const PASS: u64 = 1000;
 
-/// Lets all pass, and keeps a word for each piece: 1000 for each pass with it, and the number of each worker that passed. So a
-/// word of 1000 + w says that the piece was passed once, by worker w, of at most 16.
+/// Lets all pass, and keeps a word for each piece: 1000 for each pass with it, and the number of each worker that
+/// passed. So a word of 1000 + w says that the piece was passed once, by worker w, of at most 16.
 #[derive(Drop)]
 pub struct Recorder {
     words: Vec<AtomicU64>,
@@ -27,8 +27,8 @@ impl Recorder {
         })
     }
 
-    /// Whether each piece was passed once, by the worker with the remainder of its number by the number of workers, and no other
-    /// piece was.
+    /// Whether each piece was passed once, by the worker with the remainder of its number by the number of workers, and
+    /// no other piece was.
     pub fn is_deal_of(&self, workers: u64) -> bool {
         for (piece, word) in self.words.iter().enumerate() {
             let worker = (piece as u64).checked_rem(workers).unwrap_or(0);

@@ -1,9 +1,10 @@
-//! Containers and plaintexts by any number of workers. The expected digests are those of Python's `cryptography` and `hashlib`.
+//! Containers and plaintexts by any number of workers. The expected digests are those of Python's `cryptography` and
+//! `hashlib`.
 ghost use Rattle.std.specs.Prelude.{◌<◌, ◌≤◌, length};
 
 use crate::{COUNTING, grant_of, pattern, zeros};
-use container_core::{Key, OpenFault};
-use crew_core::{Free, Gate, open_whole, seal_whole};
+use container_core::{Key, MAX_PLAIN, OpenFault};
+use crew_core::{Free, Gate, MAX_WORKERS, open_whole, seal_whole};
 use ledger_core::Way;
 use sha2::{Digest, Sha256};
 use std::alloc::{AllocError, Global};
@@ -34,7 +35,8 @@ const EIGHTEEN: [u8; 32] = [
     0x15, 0x9d, 0x2d, 0x11, 0x54, 0x18, 0x75, 0x4c, 0xbb, 0xb1, 0x3f, 0xc3, 0x97, 0x62, 0x97, 0x0a,
 ];
 
-// The container of a plaintext under a grant of this number; a refusal that was asked for leaves a void number, and is tried again.
+// The container of a plaintext under a grant of this number; a refusal that was asked for leaves a void number, and is
+// tried again.
 pub fn sealed<R: Threads + Sync, G: Gate + Sync>(
     rt: &R,
     alloc: Global,
@@ -43,8 +45,8 @@ pub fn sealed<R: Threads + Sync, G: Gate + Sync>(
     workers: u32,
     gate: &G,
 ) -> Result<Vec<u8>, Fail>
-    requires plain { length plain.now ≤ 1099511627776 }
-    requires workers { (0 < workers) × (workers ≤ 16) }
+    requires plain { length plain.now ≤ MAX_PLAIN }
+    requires workers { (0 < workers) × (workers ≤ MAX_WORKERS) }
 {
     let key = Key::new(COUNTING);
     for _try in 0..2 {
@@ -79,7 +81,7 @@ pub fn opens_to<R: Threads + Sync, G: Gate + Sync>(
     workers: u32,
     gate: &G,
 ) -> Result<bool, Fail>
-    requires { (0 < workers) × (workers ≤ 16) }
+    requires { (0 < workers) × (workers ≤ MAX_WORKERS) }
 {
     let key = Key::new(COUNTING);
     let back = match open_whole(rt, alloc, &key, bytes, workers, gate) {
@@ -113,17 +115,30 @@ fn any_number_of_workers_gives_eighteen_chunks(rt: HostRuntime) -> Result<(), Fa
     Ok(())
 }
 
+// Whether so many workers seal a plaintext to so many bytes with this digest, and so many open them to it.
+fn is_made<R: Threads + Sync>(
+    rt: &R,
+    alloc: Global,
+    number: u32,
+    plain: &[u8],
+    sealing: u32,
+    opening: u32,
+    made: (usize, [u8; 32]),
+) -> Result<bool, Fail>
+    requires plain { length plain.now ≤ MAX_PLAIN }
+    requires sealing { (0 < sealing) × (sealing ≤ MAX_WORKERS) }
+    requires opening { (0 < opening) × (opening ≤ MAX_WORKERS) }
+{
+    let bytes = sealed(rt, alloc, number, plain, sealing, &Free)?;
+    let same = (bytes.len(), Sha256::digest(bytes.as_slice())) == made;
+    Ok(same && opens_to(rt, alloc, bytes.as_slice(), plain, opening, &Free)?)
+}
+
 #[test]
 fn no_byte_is_one_chunk(rt: HostRuntime) -> Result<(), Fail> {
     for workers in [1, 2, 16] {
-        let bytes = sealed(&rt, rt.alloc(), 0, b"", workers, &Free)?;
-        assert_eq!(rt; bytes.len(), 40);
-        assert_eq!(rt;
-            Sha256::digest(bytes.as_slice()),
-            EMPTY,
-            "{workers} workers"
-        );
-        assert!(rt; opens_to(&rt, rt.alloc(), bytes.as_slice(), b"", workers, &Free)?);
+        let made = is_made(&rt, rt.alloc(), 0, b"", workers, workers, (40, EMPTY))?;
+        assert!(rt; made, "{workers} workers");
     }
     Ok(())
 }
@@ -131,17 +146,15 @@ fn no_byte_is_one_chunk(rt: HostRuntime) -> Result<(), Fail> {
 #[test]
 fn eight_full_chunks(rt: HostRuntime) -> Result<(), Fail> {
     let plain = pattern(rt.alloc(), 524_288)?;
-    let bytes = sealed(&rt, rt.alloc(), 0, plain.as_slice(), 3, &Free)?;
-    assert_eq!(rt; bytes.len(), 524_440);
-    assert_eq!(rt; Sha256::digest(bytes.as_slice()), EIGHT);
     assert!(rt;
-        opens_to(
+        is_made(
             &rt,
             rt.alloc(),
-            bytes.as_slice(),
+            0,
             plain.as_slice(),
+            3,
             16,
-            &Free
+            (524_440, EIGHT)
         )?
     );
     Ok(())
@@ -150,17 +163,15 @@ fn eight_full_chunks(rt: HostRuntime) -> Result<(), Fail> {
 #[test]
 fn eighteen_chunks_under_another_number(rt: HostRuntime) -> Result<(), Fail> {
     let plain = pattern(rt.alloc(), 1_114_113)?;
-    let bytes = sealed(&rt, rt.alloc(), 258, plain.as_slice(), 16, &Free)?;
-    assert_eq!(rt; bytes.len(), 1_114_425);
-    assert_eq!(rt; Sha256::digest(bytes.as_slice()), EIGHTEEN);
     assert!(rt;
-        opens_to(
+        is_made(
             &rt,
             rt.alloc(),
-            bytes.as_slice(),
+            258,
             plain.as_slice(),
+            16,
             4,
-            &Free
+            (1_114_425, EIGHTEEN)
         )?
     );
     Ok(())
@@ -169,7 +180,8 @@ fn eighteen_chunks_under_another_number(rt: HostRuntime) -> Result<(), Fail> {
 // 65,537 zero bytes that no allocation is asked for.
 static ZERO_BYTES: [u8; 65_537] = [0; 65_537];
 
-// Where a growth is refused, to the caller or to a worker, the helpers see OutOfMemory, and that the number is void; they call again.
+// Where a growth is refused, to the caller or to a worker, the helpers see OutOfMemory, and that the number is void;
+// they call again.
 #[test]
 fn a_refused_growth_is_out_of_memory(rt: HostRuntime) -> Result<(), Fail> {
     let bytes = sealed(&rt, rt.alloc(), 0, &ZERO_BYTES, 2, &Free)?;

@@ -4,7 +4,7 @@ ghost use Rattle.std.specs.Prelude.{◌≡◌, ◌≤◌, ◌<◌, length};
 use crate::{COUNTING, prefix_of};
 use anyhow::{Result, ensure};
 use container_core::{HEADER, Key, OpenFault, SEALED, seal};
-use crew_core::{Free, open_whole};
+use crew_core::{Free, MAX_WORKERS, open_whole};
 use std::alloc::{AllocError, Global};
 use std::io::{self, Print};
 use std::thread::Threads;
@@ -17,7 +17,7 @@ fn fault_of<R: Threads + Sync>(
     bytes: &[u8],
     workers: u32,
 ) -> Option<OpenFault>
-    requires { (0 < workers) × (workers ≤ 16) }
+    requires { (0 < workers) × (workers ≤ MAX_WORKERS) }
 {
     match open_whole(rt, alloc, key, bytes, workers, &Free) {
         Ok(_plain) => None,
@@ -54,7 +54,7 @@ fn cut_to<R: Print + Threads + Sync>(
     to: usize,
     workers: u32,
 ) -> Result<()>
-    requires workers { (0 < workers) × (workers ≤ 16) }
+    requires workers { (0 < workers) × (workers ≤ MAX_WORKERS) }
     requires order { from ≤ to }
     requires within { to ≤ length bytes.now }
 {
@@ -88,7 +88,7 @@ fn alter_header<R: Print + Threads + Sync>(
     bytes: &[u8],
     workers: u32,
 ) -> Result<()>
-    requires { (0 < workers) × (workers ≤ 16) }
+    requires { (0 < workers) × (workers ≤ MAX_WORKERS) }
 {
     let mut begin = 0;
     let mut last = None;
@@ -122,7 +122,7 @@ fn alter_chunks<R: Print + Threads + Sync>(
     other: &[u8],
     workers: u32,
 ) -> Result<()>
-    requires workers { (0 < workers) × (workers ≤ 16) }
+    requires workers { (0 < workers) × (workers ≤ MAX_WORKERS) }
     requires three { length bytes.now ≡ 131145 }
     requires also { length other.now ≡ 131145 }
 {
@@ -166,7 +166,7 @@ fn alter_chunks<R: Print + Threads + Sync>(
 
 /// Prints what each cut and each alteration answers by so many workers.
 pub fn print<R: Print + Threads + Sync>(rt: &R, alloc: Global, workers: u32) -> Result<()>
-    requires { (0 < workers) × (workers ≤ 16) }
+    requires { (0 < workers) × (workers ≤ MAX_WORKERS) }
 {
     let key = Key::new(COUNTING);
     let plain = vec![in alloc; 0; 131_073]?;

@@ -1,10 +1,11 @@
-//! Sealing and opening 64 MiB in memory by 1, 2 and 4 workers, beside `container_core`'s `seal` and `open` on one thread.
+//! Sealing and opening 64 MiB in memory by 1, 2 and 4 workers, beside `container_core`'s `seal` and `open` on one
+//! thread.
 ghost use Rattle.std.specs.Prelude.{◌<◌, ◌≤◌, length};
 
 use crate::{COUNTING, prefix_of};
 use anyhow::{Result, bail};
-use container_core::{Key, open, seal};
-use crew_core::{Free, open_whole, seal_whole};
+use container_core::{Key, MAX_PLAIN, open, seal};
+use crew_core::{Free, MAX_WORKERS, open_whole, seal_whole};
 use ledger_core::{Device, Grant, Ledger, Range};
 use std::alloc::Global;
 use std::io::Print;
@@ -41,8 +42,8 @@ fn time_of_sealing<R: Clock + Threads + Sync>(
     plain: &[u8],
     workers: u32,
 ) -> Result<u64>
-    requires plain { length plain.now ≤ 1099511627776 }
-    requires workers { (0 < workers) × (workers ≤ 16) }
+    requires plain { length plain.now ≤ MAX_PLAIN }
+    requires workers { (0 < workers) × (workers ≤ MAX_WORKERS) }
 {
     let Some(grant) = grant(alloc) else {
         bail!("no grant")
@@ -62,7 +63,7 @@ fn time_of_opening<R: Clock + Threads + Sync>(
     bytes: &[u8],
     workers: u32,
 ) -> Result<u64>
-    requires { (0 < workers) × (workers ≤ 16) }
+    requires { (0 < workers) × (workers ≤ MAX_WORKERS) }
 {
     let start = Instant::now(rt)?;
     let plain = open_whole(rt, alloc, key, bytes, workers, &Free);

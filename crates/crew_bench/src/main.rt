@@ -35,5 +35,5 @@ fn main(rt: HostRuntime) -> Result<()> {
     if words.len() == 2 && words[1].as_str() == "measure" {
         return speed::measure(&rt, rt.alloc());
     }
-    bail!("crew_speed, or with `measure`")
+    bail!("crew_bench, or with `measure`")
 }
