@@ -1,5 +1,5 @@
 -- What the fields of a seat say: its own log has its own operations in order, each with the place where it stands.
-use Rattle.std.specs.Prelude.{◌≡◌, ℕ, ◌+◌, ◌-◌, ◌/◌, ◌%◌, ◌<◌, ◌≤◌, Bool, true, false, ◌&&◌, if◌then◌else◌, nat_eq}
+use Rattle.std.specs.Prelude.{◌≡◌, ℕ, ◌+◌, ◌-◌, ◌<◌, ◌≤◌, Bool, true, false, ◌&&◌, if◌then◌else◌, nat_eq}
 use Rattle.std.specs.Prelude.{nat_lt, List, [], ◌∷◌, ◌++◌, length, map, slice_set, ⊤, Option, Some, None}
 use Rattle.std.specs.List.{slice_index_or}
 use Rattle.journal_core.specs.declared.entry.Event.{Event}

@@ -115,7 +115,7 @@ pub trait Naming {
     ghost number: { ℕ };
 }
 
-// `Brand` stands for the number of one call: the check takes its ghost members as whatever the call needs.
+// A call that passes `Brand` picks the number for itself, as `settle_step` does in its proof. This 0 is nobody's.
 impl Naming for Brand {
     ghost number = { 0 };
 }

@@ -1,6 +1,5 @@
 use Rattle.std.proofs.Common.{[], ◌∙◌, sym, append-nil}
-use Rattle.journal_core.proofs.Histories.{begins_refl}
-use Rattle.ledger_core.proofs.Meetings.{agree_met, agree_after}
+use Rattle.ledger_core.proofs.Meetings.{agree_met}
 use Rattle.ledger_core.proofs.ledger.Ledger.meet.Goals as goal
 
 pub returns-clause-agreed : goal.returns-clause-agreed
