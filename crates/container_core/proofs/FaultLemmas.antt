@@ -1,8 +1,11 @@
--- Which fault opening answers, by where it shows.
-use Rattle.std.proofs.Common.{◌≡◌, ℕ, ◌+◌, ◌<◌, ◌≤◌, ◌⊎◌, inl, inr, Bool, true, false, List, length, take, drop, Option, Some, None, Result, Err, not, if◌then◌else◌, ap, sym, ◌∙◌, arith}
+-- Which fault shows before any chunk is opened, and what opening answers by it.
+use Rattle.std.proofs.Common.{◌≡◌, ℕ, ◌+◌, ◌<◌, ◌≤◌, Bool, true, false, List, length, take, drop, Option, Some, None, Err, not, if◌then◌else◌, ap, sym, ◌∙◌, arith}
 use Rattle.std.proofs.lemmas.Bool.{false_from_ne_true}
 use Rattle.std.proofs.lemmas.Bool.Decides.{nat_tests}
-use Rattle.std.specs.Prelude.{nat_lt}
+use Rattle.std.proofs.lemmas.Option.{none-some}
+use Rattle.std.specs.Prelude.{nat_lt, ◌==◌, slice_index}
+use Rattle.std.specs.Str.{bytes_eq}
+use Rattle.container_core.specs.Container.{magic, hint_of}
 use Rattle.container_core.specs.declared.fault.OpenFault.{OpenFault}
 use Rattle.container_core.specs.declared.fault.OpenFault.TheVariants.{TooLong, ShortHeader, BadMagic, BadVersion, BadExponent, KeyMismatch, BadLength, Forged, OutOfMemory, Read, Write}
 use Rattle.container_core.specs.Chunks.{sealed_chunks, container_length, has_plaintext}
@@ -15,76 +18,104 @@ use Rattle.container_core.proofs.OpeningLemmas.{no_early_fault}
 below : (m n : ℕ) → m < n → nat_lt m n ≡ true
 below m n e = grind (arith, nat_tests)
 
--- what is longer than the container of any plaintext allowed
-pub opening-too_long : (key : List ℕ) (most : ℕ) (bytes : List ℕ) → container_length most < length bytes
-    → opening key most bytes ≡ Err TooLong
-unfolding opening early_fault
-opening-too_long key most bytes long =
-    ap (λ (b : Bool). unless (first_fault (if b then Some TooLong else None)
+pub early-too_long : (key : List ℕ) (most : ℕ) (bytes : List ℕ) → container_length most < length bytes → early_fault key most bytes ≡ Some TooLong
+unfolding early_fault
+early-too_long key most bytes long =
+    ap (λ (b : Bool). first_fault (if b then Some TooLong else None)
     (first_fault (header_fault key bytes) (if not (has_plaintext most (length bytes)) then Some BadLength else None)))
-    (unsealed key (take 24 bytes) 0 (sealed_chunks (drop 24 bytes)))) (below (container_length most) (length bytes) long)
+    (below (container_length most) (length bytes) long)
 
--- else the header's fault
-pub opening-header_fault : (key : List ℕ) (most : ℕ) (bytes : List ℕ) (fault : OpenFault) → length bytes ≤ container_length most
-    → header_fault key bytes ≡ Some fault → opening key most bytes ≡ Err fault
-unfolding opening early_fault
-opening-header_fault key most bytes fault within bad =
+pub early-header_fault : (key : List ℕ) (most : ℕ) (bytes : List ℕ) (fault : OpenFault) → length bytes ≤ container_length most
+    → header_fault key bytes ≡ Some fault → early_fault key most bytes ≡ Some fault
+unfolding early_fault
+early-header_fault key most bytes fault within bad =
     let last : Option OpenFault = if not (has_plaintext most (length bytes)) then Some BadLength else None in
-    let answer = unsealed key (take 24 bytes) 0 (sealed_chunks (drop 24 bytes)) in
-    ap (λ (b : Bool). unless (first_fault (if b then Some TooLong else None) (first_fault (header_fault key bytes) last)) answer)
+    ap (λ (b : Bool). first_fault (if b then Some TooLong else None) (first_fault (header_fault key bytes) last))
     (not_below (container_length most) (length bytes) within)
-    ∙ ap (λ (f : Option OpenFault). unless (first_fault f last) answer) bad
+    ∙ ap (λ (f : Option OpenFault). first_fault f last) bad
 
--- else the length's
-pub opening-bad_length : (key : List ℕ) (most : ℕ) (bytes : List ℕ) → length bytes ≤ container_length most
+early-bad_length : (key : List ℕ) (most : ℕ) (bytes : List ℕ) → length bytes ≤ container_length most
     → header_fault key bytes ≡ None → ((n : ℕ) → n ≤ most → length bytes ≡ container_length n → ⊥)
-    → opening key most bytes ≡ Err BadLength
-unfolding opening early_fault
-opening-bad_length key most bytes within good none =
+    → early_fault key most bytes ≡ Some BadLength
+unfolding early_fault
+early-bad_length key most bytes within good none =
     let has = has_plaintext most (length bytes) in
     let hasn't : has ≡ false = false_from_ne_true has (λ (e : has ≡ true). let (n, few, long) = plaintext_of-has most (length bytes) e in none n few long) in
-    let answer = unsealed key (take 24 bytes) 0 (sealed_chunks (drop 24 bytes)) in
-    ap (λ (b : Bool). unless (first_fault (if b then Some TooLong else None) (first_fault (header_fault key bytes) (if not has then Some BadLength else None))) answer)
+    ap (λ (b : Bool). first_fault (if b then Some TooLong else None) (first_fault (header_fault key bytes) (if not has then Some BadLength else None)))
     (not_below (container_length most) (length bytes) within)
-    ∙ ap (λ (f : Option OpenFault). unless (first_fault f (if not has then Some BadLength else None)) answer) good
-    ∙ ap (λ (b : Bool). unless (if not b then Some BadLength else None) answer) hasn't
+    ∙ ap (λ (f : Option OpenFault). first_fault f (if not has then Some BadLength else None)) good
+    ∙ ap (λ (b : Bool). if not b then Some BadLength else None) hasn't
 
--- else what the chunks give
-pub opening-body : (key : List ℕ) (most : ℕ) (bytes : List ℕ) (n : ℕ) → n ≤ most → length bytes ≡ container_length n
-    → header_fault key bytes ≡ None
-    → opening key most bytes ≡ unsealed key (take 24 bytes) 0 (sealed_chunks (drop 24 bytes))
-unfolding opening
-opening-body key most bytes n few long good =
-    let within : length bytes ≤ container_length most = grows n most few long in
-    ap (λ (f : Option OpenFault). unless f (unsealed key (take 24 bytes) 0 (sealed_chunks (drop 24 bytes))))
-    (no_early_fault key most bytes within good (has_plaintext-of most (length bytes) n few long))
+pub early-none : (key : List ℕ) (most : ℕ) (bytes : List ℕ) (n : ℕ) → n ≤ most → length bytes ≡ container_length n
+    → header_fault key bytes ≡ None → early_fault key most bytes ≡ None
+early-none key most bytes n few long good =
+    no_early_fault key most bytes (grows n most few long) good (has_plaintext-of most (length bytes) n few long)
   where
     grows : (i m : ℕ) → i ≤ m → length bytes ≡ container_length i → length bytes ≤ container_length m
     grows i m small e = omega arith
 
 -- what refuses the cutting of what stands behind the header
-pub opening-refused : (key bytes : List ℕ) (most : ℕ) (body : ℕ) (fault : OpenFault) → length bytes ≡ 24 + body
-    → most ≤ 1099511627776 → length bytes ≤ container_length most → header_fault key bytes ≡ None → RefusesCut body fault
-    → opening key most bytes ≡ Err fault
-opening-refused key bytes most body TooLong long low within good refused = absurd (over most low within)
-  where
-    over : (m : ℕ) → m ≤ 1099511627776 → length bytes ≤ container_length m → ⊥
-    over m small e = omega arith
-opening-refused key bytes most body ShortHeader long low within good refused = absurd refused
-opening-refused key bytes most body BadMagic long low within good refused = absurd refused
-opening-refused key bytes most body BadVersion long low within good refused = absurd refused
-opening-refused key bytes most body BadExponent long low within good refused = absurd refused
-opening-refused key bytes most body KeyMismatch long low within good refused = absurd refused
-opening-refused key bytes most body BadLength long low within good refused =
-    opening-bad_length key most bytes within good (λ n few e. refused.1 n (omega arith))
-opening-refused key bytes most body (Forged chunk) long low within good refused = absurd refused
-opening-refused key bytes most body OutOfMemory long low within good refused = absurd refused
-opening-refused key bytes most body Read long low within good refused = absurd refused
-opening-refused key bytes most body Write long low within good refused = absurd refused
+pub early-refused : (key bytes : List ℕ) (body : ℕ) (fault : OpenFault) → length bytes ≡ 24 + body
+    → length bytes ≤ container_length 1099511627776 → header_fault key bytes ≡ None → RefusesCut body fault
+    → early_fault key 1099511627776 bytes ≡ Some fault
+early-refused key bytes body TooLong long within good refused = absurd (omega arith)
+early-refused key bytes body ShortHeader long within good refused = absurd refused
+early-refused key bytes body BadMagic long within good refused = absurd refused
+early-refused key bytes body BadVersion long within good refused = absurd refused
+early-refused key bytes body BadExponent long within good refused = absurd refused
+early-refused key bytes body KeyMismatch long within good refused = absurd refused
+early-refused key bytes body BadLength long within good refused =
+    early-bad_length key 1099511627776 bytes within good (λ n few e. refused.1 n (omega arith))
+early-refused key bytes body (Forged chunk) long within good refused = absurd refused
+early-refused key bytes body OutOfMemory long within good refused = absurd refused
+early-refused key bytes body Read long within good refused = absurd refused
+early-refused key bytes body Write long within good refused = absurd refused
 
--- a chunk that wasn't appended is the first that doesn't check, or memory was refused
-pub refused_by : {P : Type 0} (fault : OpenFault) (number : ℕ) (whole : Result (List ℕ) OpenFault)
-    → (fault ≡ OutOfMemory) ⊎ ((fault ≡ Forged number) × P) → (P → whole ≡ Err (Forged number))
-    → (fault ≡ OutOfMemory) ⊎ (whole ≡ Err fault)
-refused_by fault number whole (inl memory) forged = inl memory
-refused_by fault number whole (inr (same, fails)) forged = inr (forged fails ∙ ap (λ (f : OpenFault). Err f) (sym same))
+-- the fault that the tests of a container name, from its length to its cutting
+abbrev named_by : (long short alien version exponent hint cut : Bool) → Option OpenFault
+named_by long short alien version exponent hint cut =
+    first_fault (if long then Some TooLong else None)
+    (first_fault (if short then Some ShortHeader else
+    (if alien then Some BadMagic else
+    (if version then Some BadVersion else
+    (if exponent then Some BadExponent else
+    (if hint then Some KeyMismatch else None)))))
+    (if cut then Some BadLength else None))
+
+never_memory : (long short alien version exponent hint cut : Bool) → named_by long short alien version exponent hint cut ≡ Some OutOfMemory → ⊥
+never_memory true short alien version exponent hint cut e = absurd (cc e)
+never_memory false true alien version exponent hint cut e = absurd (cc e)
+never_memory false false true version exponent hint cut e = absurd (cc e)
+never_memory false false false true exponent hint cut e = absurd (cc e)
+never_memory false false false false true hint cut e = absurd (cc e)
+never_memory false false false false false true cut e = absurd (cc e)
+never_memory false false false false false false true e = absurd (cc e)
+never_memory false false false false false false false e = none-some OutOfMemory e
+
+-- want of memory is no fault that shows before any chunk is opened
+pub early-no_memory : (key bytes : List ℕ) (most : ℕ) (fault : OpenFault) → early_fault key most bytes ≡ Some fault → fault ≡ OutOfMemory → ⊥
+unfolding header_fault early_fault
+early-no_memory key bytes most fault e memory =
+    never_memory (nat_lt (container_length most) (length bytes)) (nat_lt (length bytes) 24) (not (bytes_eq (take 8 bytes) magic))
+    (not (slice_index bytes 8 == 1)) (not (slice_index bytes 9 == 16)) (not (bytes_eq (take 7 (drop 17 bytes)) (hint_of key)))
+    (not (has_plaintext most (length bytes))) (e ∙ ap (λ (f : OpenFault). Some f) memory)
+
+-- a fault that shows early is what opening answers
+pub opening-early : (key : List ℕ) (most : ℕ) (bytes : List ℕ) (fault : OpenFault) → early_fault key most bytes ≡ Some fault
+    → opening key most bytes ≡ Err fault
+unfolding opening
+opening-early key most bytes fault e =
+    ap (λ (f : Option OpenFault). unless f (unsealed key (take 24 bytes) 0 (sealed_chunks (drop 24 bytes)))) e
+
+-- else it answers what the chunks give
+pub opening-unsealed : (key : List ℕ) (most : ℕ) (bytes header body : List ℕ) → early_fault key most bytes ≡ None
+    → header ≡ take 24 bytes → body ≡ drop 24 bytes → opening key most bytes ≡ unsealed key header 0 (sealed_chunks body)
+unfolding opening
+opening-unsealed key most bytes header body e front back =
+    ap (λ (f : Option OpenFault). unless f (unsealed key (take 24 bytes) 0 (sealed_chunks (drop 24 bytes)))) e
+    ∙ ap (λ (h : List ℕ). unsealed key h 0 (sealed_chunks (drop 24 bytes))) (sym front)
+    ∙ ap (λ (b : List ℕ). unsealed key header 0 (sealed_chunks b)) (sym back)
+
+pub opening-too_long : (key : List ℕ) (most : ℕ) (bytes : List ℕ) → container_length most < length bytes
+    → opening key most bytes ≡ Err TooLong
+opening-too_long key most bytes long = opening-early key most bytes TooLong (early-too_long key most bytes long)

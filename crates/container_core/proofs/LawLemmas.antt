@@ -1,13 +1,13 @@
 -- The laws over the definitions.
-use Rattle.std.proofs.Common.{◌≡◌, ℕ, ◌+◌, ◌^◌, ◌<◌, ◌≤◌, ◌↔◌, ◌⊎◌, inl, inr, Bool, true, false, eqb, not, List, [], ◌∷◌, ◌++◌, length, length-append, get_or, take, drop, Option, Some, None, Result, Ok, Err, if◌then◌else◌, refl, ap, sym, ◌∙◌, arith}
+use Rattle.std.proofs.Common.{◌≡◌, ℕ, ◌+◌, ◌^◌, ◌<◌, ◌≤◌, ◌↔◌, Bool, true, false, eqb, not, List, [], ◌∷◌, ◌++◌, length, length-append, get_or, take, drop, Option, Some, None, Result, Ok, Err, if◌then◌else◌, refl, ap, sym, ◌∙◌, arith}
 use Rattle.std.proofs.lemmas.List.{take_at, drop_at, same_from_push}
 use Rattle.std.proofs.lemmas.Nat.{from_be_bytes-to_be_bytes_4}
 use Rattle.std.proofs.lemmas.Result.{IfErr-at_err}
-use Rattle.std.specs.Prelude.{codes, nat_lt, IfSome, IfOk, IfErr, MatchResult}
+use Rattle.std.specs.Prelude.{codes, nat_lt, IfSome, IfErr}
 use Rattle.std.specs.Str.{bytes_eq}
 use Rattle.std.specs.Int.{w32, to_be_bytes, from_be_bytes}
 use Rattle.container_core.specs.declared.fault.OpenFault.{OpenFault}
-use Rattle.container_core.specs.declared.fault.OpenFault.TheVariants.{TooLong, ShortHeader, BadMagic, BadVersion, BadExponent, KeyMismatch, BadLength, Forged, OutOfMemory}
+use Rattle.container_core.specs.declared.fault.OpenFault.TheVariants.{TooLong, ShortHeader, BadMagic, BadVersion, BadExponent, KeyMismatch, BadLength, Forged}
 use Rattle.container_core.specs.Chunks.{chunks, sealed_chunks, container_length, has_plaintext}
 use Rattle.container_core.specs.Stream.{nonce_of, prefix_in, is_nil, stream, opened_chunk}
 use Rattle.container_core.specs.Container.{hint_of, header_of, container}
@@ -159,14 +159,13 @@ opening-limits key most more bytes few within =
 same_answer : (plain : List ℕ) (fault : OpenFault) (answer : Result (List ℕ) OpenFault) → answer ≡ Err fault → answer ≡ Ok plain → ⊥
 same_answer plain fault answer e f = cc
 
--- a call that answers what opening does, or want of memory, answers the plaintext of which the bytes are the container
-pub exact_answer : {A : Type 0} (items : A → List ℕ) (key bytes : List ℕ) (most : ℕ) (result : Result A OpenFault)
-    → IfOk result (λ out. opening key most bytes ≡ Ok (items out))
-    → IfErr result (λ fault. (fault ≡ OutOfMemory) ⊎ (opening key most bytes ≡ Err fault))
-    → (plain : List ℕ) → length plain ≤ most → bytes ≡ container key (prefix_in bytes) plain
-    → MatchResult result (λ out. items out ≡ plain) (λ fault. fault ≡ OutOfMemory)
-exact_answer items key bytes most (Ok out) opens fails plain few same =
-    same_ok (items out) plain (opening key most bytes) opens ((opens_exactly key bytes plain most).1 (few, same))
-exact_answer items key bytes most (Err fault) opens (inl memory) plain few same = memory
-exact_answer items key bytes most (Err fault) opens (inr e) plain few same =
-    absurd (same_answer plain fault (opening key most bytes) e ((opens_exactly key bytes plain most).1 (few, same)))
+-- what opens is the plaintext of which the bytes are the container, and such bytes have no fault
+pub opened_plaintext : (key bytes out plain : List ℕ) (most : ℕ) → opening key most bytes ≡ Ok out
+    → length plain ≤ most → bytes ≡ container key (prefix_in bytes) plain → out ≡ plain
+opened_plaintext key bytes out plain most opens few same =
+    same_ok out plain (opening key most bytes) opens ((opens_exactly key bytes plain most).1 (few, same))
+
+pub no_fault : (key bytes plain : List ℕ) (most : ℕ) (fault : OpenFault) → opening key most bytes ≡ Err fault
+    → length plain ≤ most → bytes ≡ container key (prefix_in bytes) plain → ⊥
+no_fault key bytes plain most fault e few same =
+    same_answer plain fault (opening key most bytes) e ((opens_exactly key bytes plain most).1 (few, same))

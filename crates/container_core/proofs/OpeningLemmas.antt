@@ -1,53 +1,78 @@
 -- Opening is the other way round of sealing: it gives a plaintext exactly for that plaintext's container.
-use Rattle.std.proofs.Common.{◌≡◌, ℕ, ◌+◌, ◌-◌, ◌/◌, ◌<◌, ◌≤◌, Bool, true, false, List, [], ◌++◌, length, take, drop, Option, Some, None, Result, Ok, Err, not, if◌then◌else◌, refl, ap, sym, ◌∙◌, arith, append_assoc, length-append}
-use Rattle.std.proofs.lemmas.List.{append-nil, length-drop, take_at, drop_at}
+use Rattle.std.proofs.Common.{◌≡◌, ℕ, ◌+◌, ◌-◌, ◌/◌, ◌<◌, ◌≤◌, Bool, true, false, eqb, List, [], ◌∷◌, ◌++◌, length, get_or, take, drop, Option, Some, None, Result, Ok, Err, not, if◌then◌else◌, refl, ap, sym, ◌∙◌, arith, append_assoc, length-append}
+use Rattle.std.proofs.lemmas.List.{append-nil, length-drop, take_at, drop_at, drop_more, drop_all}
+use Rattle.std.proofs.lemmas.Bool.{false_from_ne_true}
+use Rattle.std.proofs.lemmas.Bool.Decides.{Decides-eqb}
 use Rattle.std.specs.Prelude.{nat_lt}
 use Rattle.container_core.specs.declared.fault.OpenFault.{OpenFault}
 use Rattle.container_core.specs.declared.fault.OpenFault.TheVariants.{TooLong, BadLength, Forged}
 use Rattle.container_core.specs.Chunks.{parts, cut_every, chunks, sealed_chunks, body_length, container_length, has_plaintext}
-use Rattle.container_core.specs.Stream.{prefix_in, sealed_chunk, opened_chunk, stream}
+use Rattle.container_core.specs.Stream.{prefix_in, is_nil, sealed_chunk, opened_chunk, stream}
 use Rattle.container_core.specs.Container.{header_of, container}
 use Rattle.container_core.specs.Opening.{header_fault, first_fault, early_fault, unsealed, unless, opening, joined}
-use Rattle.container_core.proofs.PartsLemmas.{chunks-short, chunks-long, sealed_chunks-short, sealed_chunks-long, is_nil-chunks, is_nil-sealed_chunks, body_count, has_plaintext-of, plaintext_of-has}
-use Rattle.container_core.proofs.StreamLemmas.{length-stream, unsealed-stream, stream-unsealed}
+use Rattle.container_core.proofs.PartsLemmas.{body_count, has_plaintext-of, plaintext_of-has}
+use Rattle.container_core.proofs.StreamLemmas.{length-sealed_chunk, length-stream, unsealed-stream, stream-unsealed}
 use Rattle.container_core.proofs.HeaderLemmas.{length-header_of, good_header, header_fault-good, header-drop, header-faultless, good_header-of, not_below, at_most}
 
--- STREAM of what is left: one chunk and the rest, or the last chunk
-pub stream-long : (key header : List ℕ) (number : ℕ) (rest : List ℕ) → 65536 < length rest
-    → stream key header number (chunks rest)
-    ≡ sealed_chunk key header number false (take 65536 rest) ++ stream key header (number + 1) (chunks (drop 65536 rest))
+-- whether a chunk is the last one, by its number
+last_by_number : (number : ℕ) (cs : List (List ℕ)) → number < length cs → is_nil (drop (number + 1) cs) ≡ eqb (number + 1) (length cs)
+last_by_number number cs below = by_rest (drop (number + 1) cs) (length-drop (number + 1) cs)
+  where
+    by_rest : (rest : List (List ℕ)) → length rest ≡ length cs - (number + 1) → is_nil rest ≡ eqb (number + 1) (length cs)
+    by_rest [] none = sym ((Decides-eqb (number + 1) (length cs)).1 (omega arith))
+    by_rest (c ∷ rest) some = sym (false_from_ne_true (eqb (number + 1) (length cs))
+        (λ (e : eqb (number + 1) (length cs) ≡ true). let same = (Decides-eqb (number + 1) (length cs)).0 e in absurd (omega arith)))
+
+-- STREAM from the chunk of a number on: this chunk, and STREAM from the next one on
+stream-from : (key header : List ℕ) (number : ℕ) (cs : List (List ℕ)) → number < length cs
+    → stream key header number (drop number cs)
+    ≡ sealed_chunk key header number (eqb (number + 1) (length cs)) (get_or cs number []) ++ stream key header (number + 1) (drop (number + 1) cs)
 unfolding stream
-stream-long key header number rest long =
-    ap (λ (cs : List (List ℕ)). stream key header number cs) (chunks-long rest long)
-    ∙ ap (λ (b : Bool). sealed_chunk key header number b (take 65536 rest) ++ stream key header (number + 1) (chunks (drop 65536 rest))) (is_nil-chunks (drop 65536 rest))
+stream-from key header number cs below =
+    ap (λ (l : List (List ℕ)). stream key header number l) (drop_more cs number [] below)
+    ∙ ap (λ (b : Bool). sealed_chunk key header number b (get_or cs number []) ++ stream key header (number + 1) (drop (number + 1) cs)) (last_by_number number cs below)
 
-pub stream-short : (key header : List ℕ) (number : ℕ) (rest : List ℕ) → length rest ≤ 65536
-    → stream key header number (chunks rest) ≡ sealed_chunk key header number true rest
+stream-nil : (key header : List ℕ) (number : ℕ) → stream key header number [] ≡ []
 unfolding stream
-stream-short key header number rest short =
-    ap (λ (cs : List (List ℕ)). stream key header number cs) (chunks-short rest short)
-    ∙ append-nil (sealed_chunk key header number true rest)
+stream-nil key header number = refl
 
--- one more chunk was sealed, or the last one
-pub sealed_more : (key header : List ℕ) (number : ℕ) (out rest whole : List ℕ) → 65536 < length rest
-    → out ++ stream key header number (chunks rest) ≡ whole
-    → (out ++ sealed_chunk key header number false (take 65536 rest)) ++ stream key header (number + 1) (chunks (drop 65536 rest)) ≡ whole
-sealed_more key header number out rest whole long e =
-    append_assoc out (sealed_chunk key header number false (take 65536 rest)) (stream key header (number + 1) (chunks (drop 65536 rest)))
-    ∙ ap (λ (s : List ℕ). out ++ s) (sym (stream-long key header number rest long)) ∙ e
+-- behind what is out there is still room for the next chunk sealed
+pub room_for_sealed : (key header : List ℕ) (number : ℕ) (cs : List (List ℕ)) (out whole : List ℕ) → number < length cs
+    → out ++ stream key header number (drop number cs) ≡ whole
+    → length out + (length (get_or cs number []) + 16) ≤ length whole
+room_for_sealed key header number cs out whole below e =
+    let sealed = sealed_chunk key header number (eqb (number + 1) (length cs)) (get_or cs number []) in
+    let more = stream key header (number + 1) (drop (number + 1) cs) in
+    let all : length (out ++ (sealed ++ more)) ≡ length whole =
+    ap (λ (l : List ℕ). length (out ++ l)) (sym (stream-from key header number cs below)) ∙ ap (λ (l : List ℕ). length l) e in
+    let one = length-sealed_chunk key header number (eqb (number + 1) (length cs)) (get_or cs number []) in
+    let front = length-append out (sealed ++ more) in
+    let back = length-append sealed more in
+    omega arith
 
-pub sealed_last : (key header : List ℕ) (number : ℕ) (out rest whole : List ℕ) → length rest ≤ 65536
-    → out ++ stream key header number (chunks rest) ≡ whole → out ++ sealed_chunk key header number true rest ≡ whole
-sealed_last key header number out rest whole short e =
-    ap (λ (s : List ℕ). out ++ s) (sym (stream-short key header number rest short)) ∙ e
+-- one more chunk was sealed
+pub sealed_more : (key header : List ℕ) (number : ℕ) (cs : List (List ℕ)) (out whole : List ℕ) → number < length cs
+    → out ++ stream key header number (drop number cs) ≡ whole
+    → (out ++ sealed_chunk key header number (eqb (number + 1) (length cs)) (get_or cs number [])) ++ stream key header (number + 1) (drop (number + 1) cs) ≡ whole
+sealed_more key header number cs out whole below e =
+    append_assoc out (sealed_chunk key header number (eqb (number + 1) (length cs)) (get_or cs number [])) (stream key header (number + 1) (drop (number + 1) cs))
+    ∙ ap (λ (s : List ℕ). out ++ s) (sym (stream-from key header number cs below)) ∙ e
+
+-- all of them were
+pub sealed_all : (key header : List ℕ) (number : ℕ) (cs : List (List ℕ)) (out whole : List ℕ) → length cs ≤ number
+    → out ++ stream key header number (drop number cs) ≡ whole → out ≡ whole
+sealed_all key header number cs out whole over e =
+    sym (append-nil out) ∙ ap (λ (s : List ℕ). out ++ s) (sym (stream-nil key header number))
+    ∙ ap (λ (l : List (List ℕ)). out ++ stream key header number l) (sym (drop_all number cs over)) ∙ e
 
 -- the header is what a container begins with
-pub container-header : (key prefix plain header out : List ℕ) → header ≡ header_of key prefix → out ≡ header
-    → out ++ stream key header 0 (chunks plain) ≡ container key prefix plain
+pub container-header : (key prefix plain header out front : List ℕ) → header ≡ header_of key prefix → out ≡ front ++ header
+    → out ++ stream key header 0 (chunks plain) ≡ front ++ container key prefix plain
 unfolding container
-container-header key prefix plain header out named begun =
+container-header key prefix plain header out front named begun =
     ap (λ (o : List ℕ). o ++ stream key header 0 (chunks plain)) begun
-    ∙ ap (λ (h : List ℕ). h ++ stream key h 0 (chunks plain)) named
+    ∙ append_assoc front header (stream key header 0 (chunks plain))
+    ∙ ap (λ (h : List ℕ). front ++ (h ++ stream key h 0 (chunks plain))) named
 
 -- these bytes go before all else
 abbrev pub after : List ℕ → Result (List ℕ) OpenFault → Result (List ℕ) OpenFault
@@ -66,54 +91,47 @@ joined-some : (forged : OpenFault) (plain : List ℕ) (r : Result (List ℕ) Ope
 joined-some forged plain (Ok rest) = refl
 joined-some forged plain (Err fault) = refl
 
--- opening what is left: one chunk and the rest, or the last chunk
-unsealed-long : (key header : List ℕ) (number : ℕ) (rest : List ℕ) → 65552 < length rest
-    → unsealed key header number (sealed_chunks rest)
-    ≡ joined (Forged number) (opened_chunk key header number false (take 65552 rest)) (unsealed key header (number + 1) (sealed_chunks (drop 65552 rest)))
+-- opening from the chunk of a number on
+unsealed-from : (key header : List ℕ) (number : ℕ) (cs : List (List ℕ)) → number < length cs
+    → unsealed key header number (drop number cs)
+    ≡ joined (Forged number) (opened_chunk key header number (eqb (number + 1) (length cs)) (get_or cs number [])) (unsealed key header (number + 1) (drop (number + 1) cs))
 unfolding unsealed
-unsealed-long key header number rest long =
-    ap (λ (cs : List (List ℕ)). unsealed key header number cs) (sealed_chunks-long rest long)
-    ∙ ap (λ (b : Bool). joined (Forged number) (opened_chunk key header number b (take 65552 rest)) (unsealed key header (number + 1) (sealed_chunks (drop 65552 rest)))) (is_nil-sealed_chunks (drop 65552 rest))
+unsealed-from key header number cs below =
+    ap (λ (l : List (List ℕ)). unsealed key header number l) (drop_more cs number [] below)
+    ∙ ap (λ (b : Bool). joined (Forged number) (opened_chunk key header number b (get_or cs number [])) (unsealed key header (number + 1) (drop (number + 1) cs))) (last_by_number number cs below)
 
-unsealed-short : (key header : List ℕ) (number : ℕ) (rest : List ℕ) → length rest ≤ 65552
-    → unsealed key header number (sealed_chunks rest) ≡ joined (Forged number) (opened_chunk key header number true rest) (Ok [])
+unsealed-nil : (key header : List ℕ) (number : ℕ) → unsealed key header number [] ≡ Ok []
 unfolding unsealed
-unsealed-short key header number rest short = ap (λ (cs : List (List ℕ)). unsealed key header number cs) (sealed_chunks-short rest short)
+unsealed-nil key header number = refl
 
--- one more chunk was opened, or it doesn't check; and the same of the last one
-pub opened_more : (key header : List ℕ) (number : ℕ) (out rest plain : List ℕ) (whole : Result (List ℕ) OpenFault) → 65552 < length rest
-    → after out (unsealed key header number (sealed_chunks rest)) ≡ whole
-    → opened_chunk key header number false (take 65552 rest) ≡ Some plain
-    → after (out ++ plain) (unsealed key header (number + 1) (sealed_chunks (drop 65552 rest))) ≡ whole
-opened_more key header number out rest plain whole long e opens =
-    let more = unsealed key header (number + 1) (sealed_chunks (drop 65552 rest)) in
-    let step : unsealed key header number (sealed_chunks rest) ≡ after plain more =
-    unsealed-long key header number rest long
+-- one more chunk was opened
+pub opened_more : (key header : List ℕ) (number : ℕ) (cs : List (List ℕ)) (out plain : List ℕ) (whole : Result (List ℕ) OpenFault) → number < length cs
+    → after out (unsealed key header number (drop number cs)) ≡ whole
+    → opened_chunk key header number (eqb (number + 1) (length cs)) (get_or cs number []) ≡ Some plain
+    → after (out ++ plain) (unsealed key header (number + 1) (drop (number + 1) cs)) ≡ whole
+opened_more key header number cs out plain whole below e opens =
+    let more = unsealed key header (number + 1) (drop (number + 1) cs) in
+    let step : unsealed key header number (drop number cs) ≡ after plain more =
+    unsealed-from key header number cs below
     ∙ ap (λ (o : Option (List ℕ)). joined (Forged number) o more) opens ∙ joined-some (Forged number) plain more in
     sym (after-after out plain more) ∙ ap (λ (r : Result (List ℕ) OpenFault). after out r) (sym step) ∙ e
 
-pub forged_more : (key header : List ℕ) (number : ℕ) (out rest : List ℕ) (whole : Result (List ℕ) OpenFault) → 65552 < length rest
-    → after out (unsealed key header number (sealed_chunks rest)) ≡ whole
-    → opened_chunk key header number false (take 65552 rest) ≡ None → whole ≡ Err (Forged number)
-forged_more key header number out rest whole long e fails =
-    let more = unsealed key header (number + 1) (sealed_chunks (drop 65552 rest)) in
+-- it doesn't check
+pub forged_more : (key header : List ℕ) (number : ℕ) (cs : List (List ℕ)) (out : List ℕ) (whole : Result (List ℕ) OpenFault) → number < length cs
+    → after out (unsealed key header number (drop number cs)) ≡ whole
+    → opened_chunk key header number (eqb (number + 1) (length cs)) (get_or cs number []) ≡ None → whole ≡ Err (Forged number)
+forged_more key header number cs out whole below e fails =
     sym e ∙ ap (λ (r : Result (List ℕ) OpenFault). after out r)
-    (unsealed-long key header number rest long ∙ ap (λ (o : Option (List ℕ)). joined (Forged number) o more) fails)
+    (unsealed-from key header number cs below
+    ∙ ap (λ (o : Option (List ℕ)). joined (Forged number) o (unsealed key header (number + 1) (drop (number + 1) cs))) fails)
 
-pub opened_last : (key header : List ℕ) (number : ℕ) (out rest plain : List ℕ) (whole : Result (List ℕ) OpenFault) → length rest ≤ 65552
-    → after out (unsealed key header number (sealed_chunks rest)) ≡ whole
-    → opened_chunk key header number true rest ≡ Some plain → whole ≡ Ok (out ++ plain)
-opened_last key header number out rest plain whole short e opens =
-    sym e ∙ ap (λ (r : Result (List ℕ) OpenFault). after out r)
-    (unsealed-short key header number rest short ∙ ap (λ (o : Option (List ℕ)). joined (Forged number) o (Ok [])) opens)
-    ∙ ap (λ (p : List ℕ). Ok (out ++ p)) (append-nil plain)
-
-pub forged_last : (key header : List ℕ) (number : ℕ) (out rest : List ℕ) (whole : Result (List ℕ) OpenFault) → length rest ≤ 65552
-    → after out (unsealed key header number (sealed_chunks rest)) ≡ whole
-    → opened_chunk key header number true rest ≡ None → whole ≡ Err (Forged number)
-forged_last key header number out rest whole short e fails =
-    sym e ∙ ap (λ (r : Result (List ℕ) OpenFault). after out r)
-    (unsealed-short key header number rest short ∙ ap (λ (o : Option (List ℕ)). joined (Forged number) o (Ok [])) fails)
+-- all of them were opened
+pub opened_all : (key header : List ℕ) (number : ℕ) (cs : List (List ℕ)) (out : List ℕ) (whole : Result (List ℕ) OpenFault) → length cs ≤ number
+    → after out (unsealed key header number (drop number cs)) ≡ whole → whole ≡ Ok out
+opened_all key header number cs out whole over e =
+    sym e ∙ ap (λ (l : List (List ℕ)). after out (unsealed key header number l)) (drop_all number cs over)
+    ∙ ap (λ (r : Result (List ℕ) OpenFault). after out r) (unsealed-nil key header number)
+    ∙ ap (λ (l : List ℕ). Ok l) (append-nil out)
 
 -- how many bytes stand behind the header
 pub length-body : (key header plain : List ℕ) → length (stream key header 0 (chunks plain)) ≡ body_length (length plain)

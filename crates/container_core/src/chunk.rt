@@ -1,11 +1,16 @@
-//! One chunk of STREAM: sealed and opened in place, under the nonce that encodes the header's prefix, the chunk's number and
-//! whether it is the last, with the header as associated data.
-ghost use Rattle.std.specs.Prelude.{◌≡◌, ◌++◌, ◌≤◌, length, IsTrue, Some, None, false, if◌then◌else◌};
+//! One chunk of STREAM: sealed and opened in place, or into room that the caller made, under the nonce that encodes the
+//! header's prefix, the chunk's number and whether it is the last, with the header as associated data.
+//!
+//! Nothing here takes memory, so no answer about a chunk is one about memory.
+ghost use Rattle.std.specs.Prelude.{◌≡◌, ℕ, ◌++◌, ◌+◌, ◌-◌, ◌≤◌, List, length, vec_len, vec_capacity, IsTrue, Some, None, false, if◌then◌else◌};
+ghost use Rattle.std.specs.Bool.{OnTrue, OnFalse};
 ghost use Rattle.container_core.specs.Stream.{nonce_of, sealed_chunk, opened_chunk};
 
 use crate::header::Header;
 use crate::key::Key;
+use crate::{CHUNK, SEALED, TAG};
 use aead_core::{open_in_place, seal_in_place};
+use std::alloc::AllocError;
 
 /// The nonce of a chunk: the prefix, the number in 4 big-endian bytes, and 1 for the last chunk, else 0.
 #[tactic(auto, unfolding(crate::specs::Stream::nonce_of))]
@@ -44,4 +49,69 @@ pub fn open_chunk(
 {
     let nonce = nonce(header.prefix(), number, last);
     open_in_place(key.bytes(), &nonce, header.as_bytes(), text, tag)
+}
+
+// Appends bytes for which there is room.
+pub(crate) fn append(out: &mut Vec<u8>, bytes: &[u8])
+    requires { vec_len out.old + length bytes.now ≤ vec_capacity out.old }
+    ensures items { out.new.items ≡ out.old.items ++ bytes.now }
+    ensures len { vec_len out.new ≡ vec_len out.old + length bytes.now }
+    ensures room { vec_capacity out.old ≤ vec_capacity out.new }
+{
+    match out.extend_from_slice(bytes) {
+        Ok(()) => {}
+        Err(AllocError) => unreachable!(),
+    }
+}
+
+/// Appends a chunk of at most 65,536 bytes sealed, its tag behind it, where there is room for both.
+pub fn append_sealed(
+    out: &mut Vec<u8>,
+    key: &Key,
+    header: &Header,
+    number: u32,
+    last: bool,
+    chunk: &[u8],
+)
+    requires small { length chunk.now ≤ CHUNK }
+    requires room { vec_len out.old + (length chunk.now + TAG) ≤ vec_capacity out.old }
+    ensures sealed { out.new.items ≡ out.old.items ++ sealed_chunk key.now header.now number last chunk.now }
+    ensures capacity { vec_capacity out.old ≤ vec_capacity out.new }
+{
+    let begin = out.len();
+    append(out, chunk);
+    let tag = seal_chunk(key, header, number, last, &mut out[begin..]);
+    append(out, &tag);
+}
+
+/// Appends a sealed chunk opened, where there is room for its plaintext, and answers whether its tag, the last 16 bytes, is
+/// the right one. Where it isn't, nothing is appended.
+pub fn append_opened(
+    out: &mut Vec<u8>,
+    key: &Key,
+    header: &Header,
+    number: u32,
+    last: bool,
+    sealed: &[u8],
+) -> bool
+    requires tag { TAG ≤ length sealed.now }
+    requires small { length sealed.now ≤ SEALED }
+    requires room { vec_len out.old + (length sealed.now - TAG) ≤ vec_capacity out.old }
+    ensures opened { OnTrue result ((plain : List ℕ) × (opened_chunk key.now header.now number last sealed.now ≡ Some plain)
+        × (out.new.items ≡ out.old.items ++ plain)) }
+    ensures refused { OnFalse result (opened_chunk key.now header.now number last sealed.now ≡ None) }
+    ensures unchanged { OnFalse result (out.new.items ≡ out.old.items) }
+    ensures capacity { vec_capacity out.old ≤ vec_capacity out.new }
+{
+    let (text, end) = sealed.split_at(sealed.len() - TAG);
+    let mut tag = [0; TAG];
+    tag.copy_from_slice(end);
+    let begin = out.len();
+    append(out, text);
+    if open_chunk(key, header, number, last, &mut out[begin..], &tag) {
+        true
+    } else {
+        out.truncate(begin);
+        false
+    }
 }

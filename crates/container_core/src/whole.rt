@@ -1,141 +1,29 @@
-//! A whole container in memory: one buffer, reserved once, in which the chunks are sealed and opened in place.
-ghost use Rattle.std.specs.Prelude.{◌≡◌, ℕ, ◌+◌, ◌<◌, ◌≤◌, ◌++◌, ◌⊎◌, ◌↔◌, List, length, Ok, Err, Some, None, IfOk, IfErr, OnOk, MatchResult};
+//! A whole container in memory. `begin` reads the header and the cut of any bytes, or names their first fault; `seal_into` and
+//! `open_into` seal and open the chunks into room that the caller made; `seal` and `open` make this room, and call them.
+//!
+//! The room for the whole is the only memory that is asked for, and it is there before the first chunk is touched: what the
+//! chunks answer can't be that memory was refused.
+ghost use Rattle.std.specs.Prelude.{◌≡◌, ℕ, ◌+◌, ◌<◌, ◌≤◌, ◌++◌, ◌⊎◌, ◌↔◌, List, length, take, vec_len, vec_capacity, Ok, Err, Some, None, IfOk, IfErr, OnOk, OnErr, MatchResult};
 ghost use Rattle.container_core.specs.Container.{container};
-ghost use Rattle.container_core.specs.Chunks.{body_length, sealed_chunks};
+ghost use Rattle.container_core.specs.Chunks.{body_length, container_length, sealed_chunks};
 ghost use Rattle.container_core.specs.Opening.{early_fault, opening, unsealed};
-ghost use Rattle.container_core.specs.Stream.{sealed_chunk, opened_chunk, prefix_in};
+ghost use Rattle.container_core.specs.Stream.{prefix_in};
 
-use crate::chunk::{open_chunk, seal_chunk};
-use crate::cutting::{MAX_BODY, cut};
+use crate::chunk::{append, append_opened, append_sealed};
+use crate::cutting::{Cut, container_bytes};
 use crate::fault::{OpenFault, SealFault};
 use crate::header::{Header, read_header};
 use crate::key::Key;
-use crate::places::{Cut, container_bytes};
-use crate::{CHUNK, HEADER, MAX_PLAIN, SEALED, TAG};
-use std::alloc::{AllocError, Global};
+use crate::{HEADER, MAX_CONTAINER, MAX_PLAIN};
+use std::alloc::Global;
 
-const MAX_CONTAINER: u64 = HEADER as u64 + MAX_BODY;
-
-// Appends a chunk sealed.
-fn append_sealed(
-    out: &mut Vec<u8>,
-    key: &Key,
-    header: &Header,
-    number: u32,
-    last: bool,
-    chunk: &[u8],
-) -> Result<(), AllocError>
-    requires { length chunk.now ≤ 65536 }
-    ensures { OnOk result (out.new.items ≡ out.old.items ++ sealed_chunk key.now header.now number last chunk.now) }
-{
-    let begin = out.len();
-    out.extend_from_slice(chunk)?;
-    let tag = seal_chunk(key, header, number, last, &mut out[begin..]);
-    out.extend_from_slice(&tag)
-}
-
-// The container of at most 2^40 plaintext bytes.
-fn sealed(alloc: Global, key: &Key, prefix: [u8; 7], plain: &[u8]) -> Result<Vec<u8>, AllocError>
-    requires { length plain.now ≤ 1099511627776 }
-    ensures { IfOk result (λ out. out.items ≡ container key.now prefix plain.now) }
-{
-    let header = Header::of(key, prefix);
-    let mut out = Vec::with_capacity(alloc, container_bytes(plain.len() as u64) as usize)?;
-    out.extend_from_slice(&header.bytes())?;
-    let mut rest = plain;
-    let mut number = 0;
-    while rest.len() > CHUNK {
-        let (chunk, more) = rest.split_at(CHUNK);
-        append_sealed(&mut out, key, &header, number, false, chunk)?;
-        rest = more;
-        number += 1;
-    }
-    append_sealed(&mut out, key, &header, number, true, rest)?;
-    Ok(out)
-}
-
-/// The container of a plaintext under a key and a prefix. `TooLong` over 2^40 bytes, `OutOfMemory` where memory was refused.
-pub fn seal(alloc: Global, key: &Key, prefix: [u8; 7], plain: &[u8]) -> Result<Vec<u8>, SealFault>
-    ensures container { IfOk result (λ out. out.items ≡ container key.now prefix plain.now) }
-    ensures too_long { (result ≡ Err SealFault.TooLong) ↔ (1099511627776 < length plain.now) }
-    ensures faults { IfErr result (λ fault. (fault ≡ SealFault.TooLong) ⊎ (fault ≡ SealFault.OutOfMemory)) }
-{
-    if plain.len() as u64 > MAX_PLAIN {
-        return Err(SealFault::TooLong);
-    }
-    match sealed(alloc, key, prefix, plain) {
-        Ok(out) => Ok(out),
-        Err(AllocError) => Err(SealFault::OutOfMemory),
-    }
-}
-
-// Appends a chunk opened, where its tag is the right one.
-fn append_opened(
-    out: &mut Vec<u8>,
-    key: &Key,
-    header: &Header,
-    number: u32,
-    last: bool,
-    chunk: &[u8],
-) -> Result<(), OpenFault>
-    requires tag { 16 ≤ length chunk.now }
-    requires small { length chunk.now ≤ 65552 }
-    ensures opened { OnOk result ((plain : List ℕ) × (opened_chunk key.now header.now number last chunk.now ≡ Some plain)
-        × (out.new.items ≡ out.old.items ++ plain)) }
-    ensures refused { IfErr result (λ fault. (fault ≡ OpenFault.OutOfMemory)
-        ⊎ ((fault ≡ OpenFault.Forged number) × (opened_chunk key.now header.now number last chunk.now ≡ None))) }
-{
-    let (text, end) = chunk.split_at(chunk.len() - TAG);
-    let mut tag = [0; TAG];
-    tag.copy_from_slice(end);
-    let begin = out.len();
-    if out.extend_from_slice(text).is_err() {
-        return Err(OpenFault::OutOfMemory);
-    }
-    if open_chunk(key, header, number, last, &mut out[begin..], &tag) {
-        Ok(())
-    } else {
-        Err(OpenFault::Forged { chunk: number })
-    }
-}
-
-// The chunks behind a header opened and joined.
-fn opened(
-    alloc: Global,
-    key: &Key,
-    header: &Header,
-    body: &[u8],
-    cut: Cut,
-) -> Result<Vec<u8>, OpenFault>
-    requires { length body.now ≡ body_length cut }
-    ensures plaintext { IfOk result (λ out. unsealed key.now header.now 0 (sealed_chunks body.now) ≡ Ok out.items) }
-    ensures refused { IfErr result (λ fault. (fault ≡ OpenFault.OutOfMemory)
-        ⊎ (unsealed key.now header.now 0 (sealed_chunks body.now) ≡ Err fault)) }
-{
-    let Ok(mut out) = Vec::with_capacity(alloc, cut.plain() as usize) else {
-        return Err(OpenFault::OutOfMemory);
-    };
-    let mut rest = body;
-    let mut number = 0;
-    while rest.len() > SEALED {
-        let (chunk, more) = rest.split_at(SEALED);
-        if let Err(fault) = append_opened(&mut out, key, header, number, false, chunk) {
-            return Err(fault);
-        }
-        rest = more;
-        number += 1;
-    }
-    match append_opened(&mut out, key, header, number, true, rest) {
-        Ok(()) => Ok(out),
-        Err(fault) => Err(fault),
-    }
-}
-
-// What opening these bytes answers.
-fn answer(alloc: Global, key: &Key, bytes: &[u8]) -> Result<Vec<u8>, OpenFault>
-    ensures plaintext { IfOk result (λ out. opening key.now 1099511627776 bytes.now ≡ Ok out.items) }
-    ensures fault { IfErr result (λ fault. (fault ≡ OpenFault.OutOfMemory) ⊎ (opening key.now 1099511627776 bytes.now ≡ Err fault)) }
-    ensures memory { result ≡ Err OpenFault.OutOfMemory → early_fault key.now 1099511627776 bytes.now ≡ None }
+/// The header and the cut of a container under a key, of at most 2^40 plaintext bytes, or the first fault that shows before
+/// any chunk is opened: those of `OpenFault` from `TooLong` to `BadLength`, in this order. Takes no memory.
+pub fn begin(key: &Key, bytes: &[u8]) -> Result<(Header, Cut), OpenFault>
+    ensures header { IfOk result (λ begun. begun.0 ≡ take 24 bytes.now) }
+    ensures cut { IfOk result (λ begun. length bytes.now ≡ container_length begun.1) }
+    ensures faultless { OnOk result (early_fault key.now MAX_PLAIN bytes.now ≡ None) }
+    ensures fault { IfErr result (λ fault. early_fault key.now MAX_PLAIN bytes.now ≡ Some fault) }
 {
     if bytes.len() as u64 > MAX_CONTAINER {
         return Err(OpenFault::TooLong);
@@ -144,26 +32,99 @@ fn answer(alloc: Global, key: &Key, bytes: &[u8]) -> Result<Vec<u8>, OpenFault>
         Ok(header) => header,
         Err(fault) => return Err(fault),
     };
-    let (_, body) = bytes.split_at(HEADER);
-    match cut(body.len() as u64) {
-        Ok(cut) => opened(alloc, key, &header, body, cut),
+    match Cut::of_body((bytes.len() - HEADER) as u64) {
+        Ok(cut) => Ok((header, cut)),
         Err(fault) => Err(fault),
     }
 }
 
+/// Appends the container of a plaintext of at most 2^40 bytes under a key and a prefix, where there is room for it: for
+/// `container_bytes` of the plaintext's length. Takes no memory.
+pub fn seal_into(out: &mut Vec<u8>, key: &Key, prefix: [u8; 7], plain: &[u8])
+    requires plain { length plain.now ≤ MAX_PLAIN }
+    requires room { vec_len out.old + container_length (length plain.now) ≤ vec_capacity out.old }
+    ensures { out.new.items ≡ out.old.items ++ container key.now prefix plain.now }
+{
+    let header = Header::of(key, prefix);
+    let cut = Cut::of(plain.len() as u64);
+    let count = cut.count();
+    append(out, &header.bytes());
+    for number in 0..count {
+        let chunk = cut.chunk_of(plain, number);
+        append_sealed(out, key, &header, number, number + 1 == count, chunk);
+    }
+}
+
+/// The container of a plaintext under a key and a prefix. `TooLong` over 2^40 bytes, `OutOfMemory` where memory was refused.
+pub fn seal(alloc: Global, key: &Key, prefix: [u8; 7], plain: &[u8]) -> Result<Vec<u8>, SealFault>
+    ensures container { IfOk result (λ out. out.items ≡ container key.now prefix plain.now) }
+    ensures too_long { (result ≡ Err SealFault.TooLong) ↔ (MAX_PLAIN < length plain.now) }
+    ensures faults { IfErr result (λ fault. (fault ≡ SealFault.TooLong) ⊎ (fault ≡ SealFault.OutOfMemory)) }
+{
+    let bytes = plain.len() as u64;
+    if bytes > MAX_PLAIN {
+        return Err(SealFault::TooLong);
+    }
+    let Ok(mut out) = Vec::with_capacity(alloc, container_bytes(bytes) as usize) else {
+        return Err(SealFault::OutOfMemory);
+    };
+    seal_into(&mut out, key, prefix, plain);
+    Ok(out)
+}
+
+/// Appends the plaintext of the chunks behind a header, where there is room for it: for `cut.plain()` bytes. Or names the least
+/// chunk that doesn't check, and then appends nothing. Takes no memory, so `Forged` is the only fault.
+pub fn open_into(
+    out: &mut Vec<u8>,
+    key: &Key,
+    header: &Header,
+    cut: Cut,
+    body: &[u8],
+) -> Result<(), OpenFault>
+    requires body { length body.now ≡ body_length cut }
+    requires room { vec_len out.old + cut ≤ vec_capacity out.old }
+    ensures plaintext { OnOk result ((plain : List ℕ) × (unsealed key.now header.now 0 (sealed_chunks body.now) ≡ Ok plain)
+        × (out.new.items ≡ out.old.items ++ plain)) }
+    ensures forged { IfErr result (λ fault. unsealed key.now header.now 0 (sealed_chunks body.now) ≡ Err fault) }
+    ensures unchanged { OnErr result (out.new.items ≡ out.old.items) }
+{
+    let before = out.len();
+    let count = cut.count();
+    for number in 0..count {
+        let sealed = cut.sealed_of(body, number);
+        if !append_opened(out, key, header, number, number + 1 == count, sealed) {
+            out.truncate(before);
+            return Err(OpenFault::Forged { chunk: number });
+        }
+    }
+    Ok(())
+}
+
 /// The plaintext of a container under a key, of at most 2^40 bytes, or the first fault that applies of those of `OpenFault`
-/// from `TooLong` to `Forged`. `OutOfMemory` where memory was refused, which is asked for only once all but the tags was tested.
+/// from `TooLong` to `Forged`. `OutOfMemory` where the room for the plaintext was refused, which is asked for once all but the
+/// tags was tested, and before any of these is.
 pub fn open(alloc: Global, key: &Key, bytes: &[u8]) -> Result<Vec<u8>, OpenFault>
-    ensures plaintext { IfOk result (λ out. opening key.now 1099511627776 bytes.now ≡ Ok out.items) }
-    ensures fault { IfErr result (λ fault. (fault ≡ OpenFault.OutOfMemory) ⊎ (opening key.now 1099511627776 bytes.now ≡ Err fault)) }
+    ensures plaintext { IfOk result (λ out. opening key.now MAX_PLAIN bytes.now ≡ Ok out.items) }
+    ensures fault { IfErr result (λ fault. (fault ≡ OpenFault.OutOfMemory) ⊎ (opening key.now MAX_PLAIN bytes.now ≡ Err fault)) }
 
     // Memory is taken only where neither the length nor the header has a fault.
-    ensures memory { result ≡ Err OpenFault.OutOfMemory → early_fault key.now 1099511627776 bytes.now ≡ None }
+    ensures memory { result ≡ Err OpenFault.OutOfMemory → early_fault key.now MAX_PLAIN bytes.now ≡ None }
 
     // What opens is the container of its plaintext under the prefix that its header names, and such a container opens.
     ensures sealed { IfOk result (λ out. bytes.now ≡ container key.now (prefix_in bytes.now) out.items) }
-    ensures opens { (plain : List ℕ) → length plain ≤ 1099511627776 → bytes.now ≡ container key.now (prefix_in bytes.now) plain
+    ensures opens { (plain : List ℕ) → length plain ≤ MAX_PLAIN → bytes.now ≡ container key.now (prefix_in bytes.now) plain
         → MatchResult result (λ out. out.items ≡ plain) (λ fault. fault ≡ OpenFault.OutOfMemory) }
 {
-    answer(alloc, key, bytes)
+    let (header, cut) = match begin(key, bytes) {
+        Ok(begun) => begun,
+        Err(fault) => return Err(fault),
+    };
+    let Ok(mut out) = Vec::with_capacity(alloc, cut.plain() as usize) else {
+        return Err(OpenFault::OutOfMemory);
+    };
+    let (_, body) = bytes.split_at(HEADER);
+    match open_into(&mut out, key, &header, cut, body) {
+        Ok(()) => Ok(out),
+        Err(fault) => Err(fault),
+    }
 }

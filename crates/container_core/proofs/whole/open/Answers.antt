@@ -1,13 +1,51 @@
-use Rattle.std.proofs.Common.{sym}
-use Rattle.std.proofs.lemmas.Result.{IfOk-weaker}
+use Rattle.std.proofs.Common.{◌≡◌, ℕ, List, ◌++◌, inr, Result, Ok, Err, refl, ap, sym, ◌∙◌}
+use Rattle.container_core.specs.declared.fault.OpenFault.{OpenFault}
+use Rattle.container_core.specs.declared.fault.OpenFault.TheVariants.{OutOfMemory}
+use Rattle.container_core.proofs.FaultLemmas.{early-no_memory, opening-early, opening-unsealed}
 use Rattle.container_core.proofs.OpeningLemmas.{container-opening}
-use Rattle.container_core.proofs.LawLemmas.{exact_answer}
+use Rattle.container_core.proofs.LawLemmas.{opened_plaintext, no_fault}
 use Rattle.container_core.proofs.whole.open.Goals as goal
 
-pub returns-clause-sealed : goal.returns-clause-sealed
-returns-clause-sealed c =
-    IfOk-weaker c.answer.result _ _ (λ out e. sym (container-opening c.args.key.now c.args.bytes.now out.items 1099511627776 e).1) c.answer.ensures.plaintext
+same_fault : {A : Type 0} (result : Result A OpenFault) (x y : OpenFault) → result ≡ Err x → result ≡ Err y → x ≡ y
+same_fault result x y e f = cc
 
-pub returns-clause-opens : goal.returns-clause-opens
-returns-clause-opens c = λ plain few same.
-    exact_answer (λ out. out.items) c.args.key.now c.args.bytes.now 1099511627776 c.answer.result c.answer.ensures.plaintext c.answer.ensures.fault plain few same
+-- a fault that shows early
+pub returns-in-Err-clause-fault : goal.returns-in-Err-clause-fault
+returns-in-Err-clause-fault c = inr (opening-early c.args.key.now 1099511627776 c.args.bytes.now c.in-Err.fault c.in-Err.ensures.fault)
+
+pub returns-in-Err-clause-memory : goal.returns-in-Err-clause-memory
+returns-in-Err-clause-memory c = λ memory.
+    absurd (early-no_memory c.args.key.now c.args.bytes.now 1099511627776 c.in-Err.fault c.in-Err.ensures.fault (same_fault _ c.in-Err.fault OutOfMemory refl memory))
+
+pub returns-in-Err-clause-opens : goal.returns-in-Err-clause-opens
+returns-in-Err-clause-opens c = λ plain few same.
+    absurd (no_fault c.args.key.now c.args.bytes.now plain 1099511627776 c.in-Err.fault
+    (opening-early c.args.key.now 1099511627776 c.args.bytes.now c.in-Err.fault c.in-Err.ensures.fault) few same)
+
+-- the chunks open
+pub returns-in-Ok-open_into-clause-plaintext : goal.returns-in-Ok-open_into-clause-plaintext
+returns-in-Ok-open_into-clause-plaintext c =
+    let (plain, opens, grown) = c.in-Ok-open_into.ensures.plaintext in
+    let items : c.open_into.new.out.items ≡ plain = grown ∙ ap (λ (o : List ℕ). o ++ plain) c.in-Ok-with_capacity.ensures.items in
+    opening-unsealed c.args.key.now 1099511627776 c.args.bytes.now c.in-Ok.begun.0 c.split_at.result.1.now
+    c.in-Ok.ensures.faultless c.in-Ok.ensures.header c.split_at.ensures.back ∙ opens ∙ ap (λ (o : List ℕ). Ok o) (sym items)
+
+pub returns-in-Ok-open_into-clause-sealed : goal.returns-in-Ok-open_into-clause-sealed
+returns-in-Ok-open_into-clause-sealed c =
+    sym (container-opening c.args.key.now c.args.bytes.now c.open_into.new.out.items 1099511627776 (returns-in-Ok-open_into-clause-plaintext c)).1
+
+pub returns-in-Ok-open_into-clause-opens : goal.returns-in-Ok-open_into-clause-opens
+returns-in-Ok-open_into-clause-opens c = λ plain few same.
+    opened_plaintext c.args.key.now c.args.bytes.now c.open_into.new.out.items plain 1099511627776 (returns-in-Ok-open_into-clause-plaintext c) few same
+
+-- a chunk doesn't check
+pub returns-in-Err-open_into-clause-fault : goal.returns-in-Err-open_into-clause-fault
+returns-in-Err-open_into-clause-fault c =
+    inr (opening-unsealed c.args.key.now 1099511627776 c.args.bytes.now c.in-Ok.begun.0 c.split_at.result.1.now
+    c.in-Ok.ensures.faultless c.in-Ok.ensures.header c.split_at.ensures.back ∙ c.in-Err-open_into.ensures.forged)
+
+pub returns-in-Err-open_into-clause-opens : goal.returns-in-Err-open_into-clause-opens
+returns-in-Err-open_into-clause-opens c = λ plain few same.
+    absurd (no_fault c.args.key.now c.args.bytes.now plain 1099511627776 c.in-Err-open_into.fault
+    (opening-unsealed c.args.key.now 1099511627776 c.args.bytes.now c.in-Ok.begun.0 c.split_at.result.1.now
+    c.in-Ok.ensures.faultless c.in-Ok.ensures.header c.split_at.ensures.back ∙ c.in-Err-open_into.ensures.forged) few same)

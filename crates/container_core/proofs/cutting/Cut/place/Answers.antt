@@ -1,7 +1,7 @@
 use Rattle.std.proofs.Common.{◌≡◌, ℕ, ◌+◌, ◌-◌, ◌*◌, take, drop, min, ap, sym, ◌∙◌, arith}
 use Rattle.std.proofs.lemmas.Grind.{common_steps}
 use Rattle.container_core.proofs.PartsLemmas.{place-sealed_chunks}
-use Rattle.container_core.proofs.places.Cut.place.Goals as goal
+use Rattle.container_core.proofs.cutting.Cut.place.Goals as goal
 
 pub returns-clause-chunk : goal.returns-clause-chunk
 returns-clause-chunk c = λ body long.
