@@ -11,9 +11,11 @@ ghost use Rattle.ledger_core.specs.Range.{prefix_of};
 use crate::MAX_WORKERS;
 use crate::crew::work_whole;
 use crate::gate::Gate;
+use container_core::laws::opening_faults;
 use container_core::{Key, MAX_PLAIN, OpenFault};
 use ledger_core::{Grant, Spent};
 use piece_core::Work;
+use piece_core::laws::wholes_of_works;
 use std::alloc::{AllocError, Global};
 use std::thread::Threads;
 
@@ -47,6 +49,8 @@ pub fn seal_whole<R: Threads + Sync, G: Gate + Sync>(
     ensures sealed { OnOk result.0 (result.1 ≡ spent_as grant Sealed) }
     ensures void { OnErr result.0 (result.1 ≡ spent_as grant Void) }
 {
+    // The whole of the work is the container.
+    wholes_of_works();
     let work = Work::sealing(key, grant.prefix(), plain);
     match work_whole(rt, alloc, &work, workers, gate) {
         Ok(bytes) => (Ok(bytes), grant.used()),
@@ -80,6 +84,9 @@ pub fn open_whole<R: Threads + Sync, G: Gate + Sync>(
     // Memory is taken only where neither the length nor the header has a fault.
     ensures memory { result ≡ Err OpenFault.OutOfMemory → early_fault key.now MAX_PLAIN container.now ≡ None }
 {
+    // No early fault is one of memory, and the whole of the work is what opening answers.
+    opening_faults();
+    wholes_of_works();
     let work = match Work::opening(key, container) {
         Ok(work) => work,
         Err(fault) => return Err(fault),

@@ -1,5 +1,5 @@
 -- What a shelf answers, and what a work does.
-use Rattle.std.proofs.Common.{◌≡◌, ◌≢◌, ℕ, ◌+◌, ◌<◌, List, [], ◌∷◌, ◌++◌, length, get_or, take, drop, map, refl, ap, arith, Option, Some, None, Result, Ok, Err, suc, zero, sym, ◌∙◌, unwrap_or, replicate, length-set, subst, ◌⊎◌, inl, inr, add-zero}
+use Rattle.std.proofs.Common.{◌≡◌, ◌≢◌, ℕ, ◌+◌, ◌<◌, List, [], ◌∷◌, length, get_or, take, drop, map, refl, ap, arith, Option, Some, None, Result, Ok, Err, suc, zero, sym, ◌∙◌, unwrap_or, replicate, length-set, inl, inr, add-zero}
 use Rattle.std.specs.List.{flat_map}
 use Rattle.std.proofs.lemmas.Bool.{cases_eq}
 use Rattle.std.proofs.lemmas.List.{ext_get_or, get_or-map, length-map, length-replicate, get_or-set_same, get_or-set_other}

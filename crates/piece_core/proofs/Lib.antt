@@ -1,5 +1,4 @@
 pub mod ValueLemmas
 pub mod AnswerLemmas
-pub mod EarlyLemmas
 pub mod RoomLemmas
 pub mod ShelfLemmas

@@ -1,9 +1,19 @@
--- Inside: how the body of a work is cut.
-use Rattle.std.specs.Prelude.{◌≡◌, ℕ, ◌+◌, ◌-◌, ◌*◌, ◌≤◌, List, length}
+-- Inside: the parts of a work's body, and how many bytes its pieces have.
+use Rattle.std.specs.Prelude.{◌≡◌, ℕ, ◌+◌, ◌-◌, ◌≤◌, List, length}
 use Rattle.container_core.specs.declared.TheConstants.{CHUNK, MAX_PLAIN, SEALED, TAG}
-use Rattle.container_core.specs.Chunks.{chunk_count, body_length}
+use Rattle.container_core.specs.Chunks.{body_length}
 use Rattle.piece_core.specs.declared.work.Kind.{Kind}
 use Rattle.piece_core.specs.declared.work.Kind.TheVariants.{Sealing, Opening}
+
+-- how many bytes the body has, of a plaintext of so many: the plaintext, or what stands behind the header of its container
+abbrev pub body_bytes : Kind → ℕ → ℕ
+body_bytes Sealing plain = plain
+body_bytes Opening plain = body_length plain
+
+-- the body is cut as a plaintext of so many bytes is, or its container
+pub record IsCut (kind : Kind) (plain : ℕ) (body : List ℕ) : Type 0 where
+  pub few : plain ≤ MAX_PLAIN
+  pub bytes : length body ≡ body_bytes kind plain
 
 -- how many bytes every part of a body has but the last
 abbrev pub part_size : Kind → ℕ
@@ -15,17 +25,17 @@ abbrev pub least_part : Kind → ℕ
 least_part Sealing = 0
 least_part Opening = TAG
 
--- a plaintext has so many chunks, or it is the body of a plaintext with so many
-abbrev pub IsCut : Kind → ℕ → List ℕ → Type 0
-IsCut Sealing count plain = (length plain ≤ MAX_PLAIN) × (count ≡ chunk_count (length plain))
-IsCut Opening count body = (n : ℕ) × (n ≤ MAX_PLAIN) × (length body ≡ body_length n) × (count ≡ chunk_count n)
-
 -- how many bytes every piece has but the last
 abbrev pub piece_size : Kind → ℕ
 piece_size Sealing = SEALED
 piece_size Opening = CHUNK
 
--- how many bytes all pieces of a body have together: each has 16 more than its chunk, or 16 fewer
-abbrev pub pieces_sum : Kind → ℕ → ℕ → ℕ
-pieces_sum Sealing count bytes = bytes + TAG * count
-pieces_sum Opening count bytes = bytes - TAG * count
+-- how many bytes the piece of a part of so many has: its tag more, or less
+abbrev pub piece_bytes : Kind → ℕ → ℕ
+piece_bytes Sealing part = part + TAG
+piece_bytes Opening part = part - TAG
+
+-- how many bytes all pieces have together
+abbrev pub pieces_sum : Kind → ℕ → ℕ
+pieces_sum Sealing plain = body_length plain
+pieces_sum Opening plain = plain

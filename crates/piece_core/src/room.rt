@@ -6,8 +6,7 @@ ghost use Rattle.piece_core.specs.Parts.{piece_size};
 ghost use Rattle.piece_core.specs.Rooms.{all_of};
 
 use crate::work::{Kind, Work};
-use container_core::cutting::MAX_BODY;
-use container_core::{CHUNK, HEADER, SEALED};
+use container_core::{CHUNK, HEADER, MAX_BODY, SEALED};
 use std::alloc::{AllocError, Global};
 use std::marker::Model;
 

@@ -1,18 +1,16 @@
 //! One sealing or opening, cut into pieces that can be made one by one, in any order.
-ghost use Rattle.std.specs.Prelude.{◌≡◌, ℕ, ◌+◌, ◌-◌, ◌*◌, ◌<◌, ◌≤◌, List, length, take, drop, min, slice_index_or};
-ghost use Rattle.std.specs.Prelude.{None, Some, IfOk, IfErr, OnOk, option_map};
+ghost use Rattle.std.specs.Prelude.{◌≡◌, ℕ, ◌+◌, ◌-◌, ◌*◌, ◌<◌, ◌≤◌, List, [], length, min, slice_index_or, None, Some};
+ghost use Rattle.std.specs.Prelude.{IfOk, IfErr, OnOk, option_map};
 ghost use Rattle.container_core.specs.Chunks.{chunk_count};
 ghost use Rattle.container_core.specs.Opening.{early_fault};
-ghost use Rattle.container_core.specs.Stream.{sealed_chunk, opened_chunk};
 ghost use Rattle.piece_core.specs.Pieces.{piece_of};
-ghost use Rattle.piece_core.specs.Values.{value_at, sealing_of, opening_of};
-ghost use Rattle.piece_core.specs.Parts.{part_size, least_part, piece_size, pieces_sum};
+ghost use Rattle.piece_core.specs.Values.{parts_of, value_at, sealing_of, opening_of};
+ghost use Rattle.piece_core.specs.Parts.{body_bytes, part_size, least_part, piece_size, pieces_sum};
 
 use crate::piece::Piece;
-use container_core::cutting::MAX_BODY;
 use container_core::{
-    CHUNK, HEADER, Header, Key, MAX_PLAIN, OpenFault, SEALED, TAG, container_bytes, cut,
-    open_chunk, read_header, seal_chunk,
+    Cut, HEADER, Header, Key, MAX_BODY, MAX_PLAIN, OpenFault, TAG, append_opened, append_sealed,
+    begin, container_bytes,
 };
 use std::alloc::{AllocError, Global};
 use std::marker::Model;
@@ -35,7 +33,7 @@ pub struct Work<'a> {
     kind: Kind,
     key: &'a Key,
     header: Header,
-    count: u32,
+    cut: Cut,
     body: &'a [u8],
 }
 
@@ -52,78 +50,21 @@ impl<'a> Model for Work<'a> {
       values = values_of w.kind w.key.now w.header w.body.now;
     } };
 
-    ghost invariant = { λ w. IsCut w.kind w.count w.body.now };
+    ghost invariant = { λ w. IsCut w.kind w.cut w.body.now };
 }
 
-// Bytes of every part of a body but the last.
-fn size_of_part(kind: Kind) -> usize
-    ensures { result ≡ part_size kind }
+// The part of a body that the piece of this number is made of.
+fn part_at(kind: Kind, cut: Cut, body: &[u8], number: u32) -> &[u8]
+    requires number { number < chunk_count cut }
+    requires cut { length body.now ≡ body_bytes kind cut }
+    ensures part { result.now ≡ slice_index_or (parts_of kind body.now) number [] }
+    ensures enough { least_part kind ≤ length result.now }
+    ensures small { length result.now ≤ part_size kind }
 {
     match kind {
-        Kind::Sealing => CHUNK,
-        Kind::Opening => SEALED,
+        Kind::Sealing => cut.chunk_of(body, number),
+        Kind::Opening => cut.sealed_of(body, number),
     }
-}
-
-// How many chunks a plaintext has.
-fn count_of_chunks(bytes: usize) -> u32
-    requires { bytes ≤ MAX_PLAIN }
-    ensures { result ≡ chunk_count bytes }
-{
-    (bytes.saturating_sub(1) / CHUNK + 1) as u32
-}
-
-// A chunk sealed, with its tag behind it.
-fn sealed_copy(
-    alloc: Global,
-    key: &Key,
-    header: &Header,
-    number: u32,
-    last: bool,
-    chunk: &[u8],
-) -> Result<Vec<u8>, AllocError>
-    requires { length chunk.now ≤ CHUNK }
-    ensures { IfOk result (λ v. v.items ≡ sealed_chunk key.now header.now number last chunk.now) }
-{
-    let mut bytes = Vec::with_capacity(alloc, chunk.len() + TAG)?;
-    bytes.extend_from_slice(chunk)?;
-    let tag = seal_chunk(key, header, number, last, bytes.as_mut_slice());
-    bytes.extend_from_slice(&tag)?;
-    Ok(bytes)
-}
-
-// A sealed chunk opened, where its tag is the right one.
-fn opened_copy(
-    alloc: Global,
-    key: &Key,
-    header: &Header,
-    number: u32,
-    last: bool,
-    sealed: &[u8],
-) -> Result<Option<Vec<u8>>, AllocError>
-    requires tag { TAG ≤ length sealed.now }
-    requires small { length sealed.now ≤ SEALED }
-    ensures { IfOk result (λ o. option_map (λ v. v.items) o ≡ opened_chunk key.now header.now number last sealed.now) }
-{
-    let (text, end) = sealed.split_at(sealed.len() - TAG);
-    let mut tag = [0; TAG];
-    tag.copy_from_slice(end);
-    let mut bytes = Vec::from_slice(alloc, text)?;
-    if open_chunk(key, header, number, last, bytes.as_mut_slice(), &tag) {
-        Ok(Some(bytes))
-    } else {
-        Ok(None)
-    }
-}
-
-// The part of a body that begins behind so many others.
-fn part_at(body: &[u8], size: usize, number: usize) -> &[u8]
-    requires { number * size ≤ length body.now }
-    ensures { result.now ≡ take size (drop (number * size) body.now) }
-{
-    let (_, rest) = body.split_at(number * size);
-    let (part, _) = rest.split_at(size.min(rest.len()));
-    part
 }
 
 // What comes of one part.
@@ -141,20 +82,30 @@ fn value_of(
     ensures { IfOk result (λ o. option_map (λ v. v.items) o ≡ value_at kind key.now header.now number last part.now) }
 {
     match kind {
-        Kind::Sealing => Ok(Some(sealed_copy(alloc, key, header, number, last, part)?)),
-        Kind::Opening => opened_copy(alloc, key, header, number, last, part),
+        Kind::Sealing => {
+            let mut bytes = Vec::with_capacity(alloc, part.len() + TAG)?;
+            append_sealed(&mut bytes, key, header, number, last, part);
+            Ok(Some(bytes))
+        }
+        Kind::Opening => {
+            let mut bytes = Vec::with_capacity(alloc, part.len() - TAG)?;
+            if append_opened(&mut bytes, key, header, number, last, part) {
+                Ok(Some(bytes))
+            } else {
+                Ok(None)
+            }
+        }
     }
 }
 
-// Bytes of all pieces of a body.
-fn sum_of_pieces(kind: Kind, count: u32, bytes: usize) -> usize
-    requires { (count ≤ MAX_PIECES) × (bytes ≤ MAX_BODY) }
-    ensures { result ≡ pieces_sum kind count bytes }
+// Bytes of all pieces of a body that is cut so.
+fn sum_of_pieces(kind: Kind, cut: Cut) -> usize
+    requires { cut ≤ MAX_PLAIN }
+    ensures { result ≡ pieces_sum kind cut }
 {
-    let tags = TAG * count as usize;
     match kind {
-        Kind::Sealing => bytes + tags,
-        Kind::Opening => bytes.saturating_sub(tags),
+        Kind::Sealing => container_bytes(cut.plain()) as usize - HEADER,
+        Kind::Opening => cut.plain() as usize,
     }
 }
 
@@ -168,7 +119,7 @@ impl<'a> Work<'a> {
             kind: Kind::Sealing,
             key,
             header: Header::of(key, prefix),
-            count: count_of_chunks(plain.len()),
+            cut: Cut::of(plain.len() as u64),
             body: plain,
         }
     }
@@ -181,22 +132,17 @@ impl<'a> Work<'a> {
         ensures faultless { OnOk result (early_fault key.now MAX_PLAIN container.now ≡ None) }
         ensures fault { IfErr result (λ fault. early_fault key.now MAX_PLAIN container.now ≡ Some fault) }
     {
-        if container.len() as u64 > container_bytes(MAX_PLAIN) {
-            return Err(OpenFault::TooLong);
-        }
-        let header = match read_header(key, container) {
-            Ok(header) => header,
-            Err(fault) => return Err(fault),
-        };
-        let (_, body) = container.split_at(HEADER);
-        match cut(body.len() as u64) {
-            Ok(cut) => Ok(Work {
-                kind: Kind::Opening,
-                key,
-                header,
-                count: cut.count(),
-                body,
-            }),
+        match begin(key, container) {
+            Ok((header, cut)) => {
+                let (_, body) = container.split_at(HEADER);
+                Ok(Work {
+                    kind: Kind::Opening,
+                    key,
+                    header,
+                    cut,
+                    body,
+                })
+            }
             Err(fault) => Err(fault),
         }
     }
@@ -207,7 +153,7 @@ impl<'a> Work<'a> {
         ensures some { 0 < result }
         ensures few { result ≤ MAX_PIECES }
     {
-        self.count
+        self.cut.count()
     }
 
     /// The piece of this number, counted from 0: its chunk sealed, or opened, or that it doesn't check. The same number
@@ -216,8 +162,8 @@ impl<'a> Work<'a> {
         requires { number < length self.now.values }
         ensures { IfOk result (λ p. p ≡ piece_of self.now number) }
     {
-        let part = part_at(self.body, size_of_part(self.kind), number as usize);
-        let last = number == self.count - 1;
+        let part = part_at(self.kind, self.cut, self.body, number);
+        let last = number + 1 == self.cut.count();
         let value = value_of(alloc, self.kind, self.key, &self.header, number, last, part)?;
         Ok(Piece {
             kind: self.kind,
@@ -239,7 +185,7 @@ impl<'a> Work<'a> {
             → n < length self.now.values → slice_index_or self.now.values n None ≡ Some bytes
             → length bytes ≡ min (piece_size self.now.kind) (result - n * piece_size self.now.kind) }
     {
-        sum_of_pieces(self.kind, self.count, self.body.len())
+        sum_of_pieces(self.kind, self.cut)
     }
 
     // The kind of all pieces.

@@ -5,10 +5,11 @@ use Rattle.piece_core.proofs.work.Work.count.Goals as goal
 pub returns-clause-count : goal.returns-clause-count
 returns-clause-count c =
     let w = c.self.inside in
-    sym (length-values_of w.kind w.key.now w.header w.count w.body.now c.self.invariant) ∙ ap (λ v. length v.values) c.self.view_is
+    c.count.ensures ∙ sym (length-values_of w.kind w.key.now w.header w.cut w.body.now c.self.invariant)
+    ∙ ap (λ v. length v.values) c.self.view_is
 
 pub returns-clause-some : goal.returns-clause-some
-returns-clause-some c = let w = c.self.inside in (some_few w.kind w.count w.body.now c.self.invariant).0
+returns-clause-some c = let w = c.self.inside in rw c.count.ensures (some_few w.cut c.self.invariant.few).0
 
 pub returns-clause-few : goal.returns-clause-few
-returns-clause-few c = let w = c.self.inside in (some_few w.kind w.count w.body.now c.self.invariant).1
+returns-clause-few c = let w = c.self.inside in rw c.count.ensures (some_few w.cut c.self.invariant.few).1
