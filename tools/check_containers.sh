@@ -10,7 +10,7 @@ if ! python3 -c 'import cryptography' 2>/dev/null; then
     echo "check_containers: skipped, Python's package cryptography isn't there"
     [ -z "${CI:-}" ] && exit 0 || exit 1
 fi
-(cd crates/container_tables && "${RT:-rt}" run -- make "$folder") >"$folder/log" 2>&1 || { cat "$folder/log"; exit 1; }
+(cd crates/container_bench && "${RT:-rt}" run -- make "$folder") >"$folder/log" 2>&1 || { cat "$folder/log"; exit 1; }
 python3 -c 'print(bytes(range(32)).hex())' >"$folder/key"
 count=0
 for sealed in "$folder"/*.stm; do

@@ -1,9 +1,10 @@
-//! Sealing and opening 64 MiB in memory, against the AEAD alone over the same chunks: in place, and into a fresh vector.
+//! Sealing and opening 64 MiB in memory, against the AEAD alone over the same chunks: in place, and into a fresh
+//! vector.
 
-use crate::{COUNTING, prefix_of};
 use aead_core::{open_in_place, seal_in_place};
 use anyhow::{Result, ensure};
 use container_core::{CHUNK, HEADER, Header, Key, SEALED, TAG, nonce, open, seal};
+use container_tests::{COUNTING, prefix_of};
 use std::alloc::Global;
 use std::io::Print;
 use std::time::{Clock, Instant};
@@ -46,8 +47,8 @@ fn open_in_chunks(header: &[u8; 24], text: &mut [u8], tags: &[[u8; 16]]) -> Resu
     Ok(())
 }
 
-// The AEAD alone, as any call that gives a fresh vector has to use it: room reserved once, each chunk copied in and sealed
-// there, its tag behind it.
+// The AEAD alone, as any call that gives a fresh vector has to use it: room reserved once, each chunk copied in and
+// sealed there, its tag behind it.
 fn seal_into_fresh(alloc: Global, header: &[u8; 24], text: &[u8]) -> Result<Vec<u8>> {
     let mut out = Vec::with_capacity(alloc, TEXT + TAG * COUNT)?;
     for (number, chunk) in text.chunks(CHUNK).enumerate() {

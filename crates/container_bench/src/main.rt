@@ -6,24 +6,28 @@
 #![tactic(auto)]
 
 mod speed;
-mod tables;
 
 use anyhow::{Result, bail};
-use container_core::{Key, seal};
+use container_core::{Key, OpenFault, open, seal};
+use container_tests::{COUNTING, LENGTH, Opener, prefix_of, print_table};
 use std::alloc::{AllocError, Global};
 use std::io::Print;
 use std::rt::{Env, Files};
 use std::{env, fs};
 
-/// 00 01 .. 1f.
-const COUNTING: [u8; 32] = [
-    0, 1, 2, 3, 4, 5, 6, 7, 8, 9, 10, 11, 12, 13, 14, 15, 16, 17, 18, 19, 20, 21, 22, 23, 24, 25,
-    26, 27, 28, 29, 30, 31,
-];
+// Opening in the caller's thread.
+#[derive(Drop)]
+struct OneThread {
+    alloc: Global,
+}
 
-/// Device 1; the number of the file follows.
-fn prefix_of(file: u8) -> [u8; 7] {
-    [0, 0, 1, 0, 0, 0, file]
+impl Opener for OneThread {
+    fn fault_of(&self, key: &Key, bytes: &[u8]) -> Option<OpenFault> {
+        match open(self.alloc, key, bytes) {
+            Ok(_plain) => None,
+            Err(fault) => Some(fault),
+        }
+    }
 }
 
 // So many bytes that don't repeat at a chunk's length.
@@ -54,7 +58,8 @@ fn make<R: Files + AllocGlobal>(rt: &R, folder: &str) -> Result<()> {
 fn main(rt: HostRuntime) -> Result<()> {
     let words: Vec<String> = env::args(&rt)?.collect(rt.alloc())?;
     if words.len() < 2 {
-        return tables::print(&rt, rt.alloc());
+        let opener = OneThread { alloc: rt.alloc() };
+        return print_table(&rt, rt.alloc(), &opener, &[(0, LENGTH - 1)]);
     }
     if words.len() == 2 && words[1].as_str() == "measure" {
         return speed::measure(&rt, rt.alloc());
@@ -62,5 +67,5 @@ fn main(rt: HostRuntime) -> Result<()> {
     if words.len() == 3 && words[1].as_str() == "make" {
         return make(&rt, words[2].as_str());
     }
-    bail!("container_tables, or with `make FOLDER` or `measure`")
+    bail!("container_bench, or with `make FOLDER` or `measure`")
 }
