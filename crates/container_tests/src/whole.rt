@@ -195,7 +195,7 @@ fn whole_in_given_room(rt: HostRuntime) -> Result<(), Fail> {
     assert!(rt; bytes.len() + EMPTY.len() <= bytes.capacity());
     seal_into(&mut bytes, &key, prefix_of(0), b"");
     assert!(rt; bytes.len() == 43);
-    assert_eq!(rt; &bytes[..3], b"abc");
+    assert_eq!(rt; &bytes[..3], b"abc".as_slice());
     assert_eq!(rt; &bytes[3..], EMPTY.as_slice());
     let (header, cut) = begin(&key, &EMPTY)?;
     assert!(rt; cut.plain() == 0);
@@ -210,7 +210,7 @@ fn whole_in_given_room(rt: HostRuntime) -> Result<(), Fail> {
             open_into(&mut out, &key, &header, cut, &container[24..]).err(),
             *fault
         );
-        assert_eq!(rt; out.as_slice(), b"before");
+        assert_eq!(rt; out.as_slice(), b"before".as_slice());
     }
     Ok(())
 }
