@@ -1,17 +1,17 @@
--- What the contracts of readers and writers cite.
--- The words on known bytes are std's, which a `Read` and a `Write` have too, so that an adapter says what the inner one says.
+-- What the contracts of readers and writers cite. The words on known bytes are std's, which a `Read` and a `Write`
+-- have too, so that an adapter says what the inner one says.
 pub use Rattle.std.specs.Io.KnownBytes.{Keeps, Appends, Consumes, IsAtEnd, ReadConsumes, WriteAppends}
 use Rattle.std.specs.Prelude.{◌≡◌, ℕ, ◌+◌, Bool, true, false, nat_lt, if◌then◌else◌, List, ◌++◌, Option, None, Some, IfSome}
 
 -- the greatest number of 64 bits: 2^64 - 1
-abbrev pub MOST : ℕ
-MOST = 18446744073709551615
+abbrev pub most_count : ℕ
+most_count = 18446744073709551615
 
 -- the count of failures after a call, which raises it by one where it failed; past 64 bits it is no longer told
 abbrev pub counted : Bool → Option ℕ → Option ℕ
 counted false count = count
 counted true None = None
-counted true (Some count) = if nat_lt count MOST then Some (count + 1) else None
+counted true (Some count) = if nat_lt count most_count then Some (count + 1) else None
 
 -- the list begins with this front
 abbrev pub IsFront : List ℕ → List ℕ → Type 0

@@ -1,7 +1,7 @@
 //! The readers and writers of `std` as a `Source` and a `Sink`.
 //!
-//! A call that a signal interrupts is made again until it isn't interrupted, at most 2^64 - 1 times; any other error is a
-//! failure. No contract says so, since the errors of std's readers and writers are not in their contracts.
+//! A call that a signal interrupts is made again until it isn't interrupted, at most 2^64 - 1 times; any other error
+//! is a failure. No contract says so, since the errors of std's readers and writers are not in their contracts.
 ghost use Rattle.std.specs.Prelude.{◌≡◌};
 
 use crate::stream::{Failed, Sink, Source};
@@ -37,7 +37,8 @@ pub struct ToWrite<W: Drop>(pub W);
 impl<W: Write + Drop> Sink for ToWrite<W> {
     ghost taken = { λ s. W.contents s.0 };
 
-    // A write that a signal interrupts is made again; the count gives the loop an end. One that takes none of some bytes failed.
+    // A write that a signal interrupts is made again; the count gives the loop an end. One that takes none of some
+    // bytes failed.
     fn write(&mut self, bytes: &[u8]) -> Result<usize, Failed> {
         for _ in 0..u64::MAX {
             match self.0.write(bytes) {

@@ -20,7 +20,8 @@ pub enum ReadFault {
     Read,
 }
 
-/// Reads until the buffer is full or the end is met, and answers how many bytes were read. A failure leaves room in the buffer.
+/// Reads until the buffer is full or the end is met, and answers how many bytes were read. A failure leaves room in
+/// the buffer.
 pub fn fill<R: Source>(source: &mut R, buffer: &mut [u8]) -> Result<usize, Failed>
     ensures bound { ReadsAtMost result buffer.new }
     ensures bytes { IfOk result (λ n. Consumes (R.left source.old) (R.left source.new) (take n buffer.new)) }

@@ -1,7 +1,8 @@
 //! Readers and writers whose contracts see the bytes and count the failures.
 //!
-//! Each may know its bytes, or its failures, or neither: what it knows is an option. Contracts over a reader and a writer
-//! speak of what they know, so a proof over those that tell their bytes is a proof about the bytes that go in and out.
+//! Each may know its bytes, or its failures, or neither: what it knows is an option. Contracts over a reader and a
+//! writer speak of what they know, so a proof over those that tell their bytes is a proof about the bytes that go in
+//! and out.
 ghost use Rattle.std.specs.Prelude.{◌≡◌, ℕ, ◌<◌, List, length, None, Option, IfOk, is_err};
 ghost use Rattle.std.specs.Io.{ReadsAtMost, WritesAtMost};
 ghost use Rattle.io_core.specs.Streams.{ReadConsumes, WriteAppends, counted};
@@ -21,9 +22,9 @@ pub trait Source {
     // How many calls failed so far, where that is known.
     ghost failures: { Self → Option ℕ } = { λ _. None };
 
-    /// Reads into the front of `buffer`, and answers how many bytes. A read of 0 into a buffer that isn't empty is the end.
-    /// A failed read leaves the bytes that are left as they were, and raises the count of failures by one (past 2^64 - 1
-    /// the count is no longer told).
+    /// Reads into the front of `buffer`, and answers how many bytes. A read of 0 into a buffer that isn't empty is
+    /// the end. A failed read leaves the bytes that are left as they were, and raises the count of failures by one
+    /// (past 2^64 - 1 the count is no longer told).
     fn read(&mut self, buffer: &mut [u8]) -> Result<usize, Failed>
         ensures bound { ReadsAtMost result buffer.new }
         ensures bytes { ReadConsumes (left self.old) (left self.new) result buffer.new }

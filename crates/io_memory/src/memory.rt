@@ -129,7 +129,8 @@ impl Model for ToMemory {
 }
 
 impl ToMemory {
-    /// A writer with room for `room` bytes, which takes at most `most` (0 is taken as 1) a call and fails by the schedule.
+    /// A writer with room for `room` bytes, which takes at most `most` (0 is taken as 1) a call and fails by the
+    /// schedule.
     pub fn new(
         alloc: Global,
         room: usize,

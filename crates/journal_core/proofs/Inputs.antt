@@ -1,8 +1,11 @@
 -- What a reader had left, where it tells its bytes.
-use Rattle.std.proofs.Common.{◌≡◌, ℕ, ◌<◌, ◌≤◌, List, [], ◌++◌, length, take, Option, None, Some, IfSome, ap, ◌∙◌, subst, arith, append-nil, length-append}
+use Rattle.std.proofs.Common.{◌≡◌, ℕ, ◌<◌, ◌≤◌, List, [], ◌∷◌, ◌++◌, length, take, Option, None, Some, IfSome, ap, ◌∙◌, subst, arith, append-nil, length-append}
 use Rattle.std.proofs.KnownBytes.{Consumes-trans, Consumes-whole}
 use Rattle.std.proofs.Math.Seq.{take_at}
-use Rattle.io_core.specs.Streams.{Consumes, IsAtEnd}
+use Rattle.io_core.specs.Streams.{Consumes, IsAtEnd, LacksSome}
+use Rattle.journal_core.specs.declared.verdict.Verdict.{Verdict}
+use Rattle.journal_core.specs.Verdict.{IsVerdict, verdict_text}
+use Rattle.journal_core.proofs.Unique.{same_verdict}
 
 -- a fact that holds anyway
 pub holds_anyway : (a : Option (List ℕ)) (n : ℕ) (P : Type 0) → P → IfSome a (λ input. length input < n → P)
@@ -23,3 +26,10 @@ all_read a b c done last P before then none end is =
 -- a front of what was read into a buffer that is all of a block
 pub front_of : (n len : ℕ) (buffer rest : List ℕ) → n ≤ length buffer → length buffer ≡ len → take n (take len (buffer ++ rest)) ≡ take n buffer
 front_of n len buffer rest within all = ap (take n) (take_at buffer rest len all)
+
+-- a verdict's line of which some was not written lacks some, whichever verdict is the right one
+pub not_whole : (left old new : Option (List ℕ)) (v : Verdict) → IfSome left (λ input. IsVerdict input v)
+    → LacksSome old new (verdict_text v ++ 10 ∷ [])
+    → IfSome left (λ input. (w : Verdict) → IsVerdict input w → LacksSome old new (verdict_text w ++ 10 ∷ []))
+not_whole None old new v is lacks = tt
+not_whole (Some input) old new v is lacks = λ w also. subst (λ u. LacksSome old new (verdict_text u ++ 10 ∷ [])) (same_verdict input v w is also) lacks

@@ -116,7 +116,7 @@ sound_first s terms whole lawful is start =
 
 -- a later line
 
-journal_push : (terms : Terms) (history : List Entry) (e : Entry) → journal_lines terms (history ++ e ∷ []) ≡ journal_lines terms history ++ entry_text e ∷ []
+pub journal_push : (terms : Terms) (history : List Entry) (e : Entry) → journal_lines terms (history ++ e ∷ []) ≡ journal_lines terms history ++ entry_text e ∷ []
 journal_push terms history e = ap (λ l. terms_text terms ∷ l) (map-append entry_text history (e ∷ []))
 
 length_lines : (terms : Terms) (history : List Entry) → length (journal_lines terms history) ≡ length history + 1

@@ -9,7 +9,9 @@ pub mod Numbers
 pub mod Owners
 pub mod Prefixes
 pub mod Reading
+pub mod Replies
 pub mod Separators
 pub mod Texts
 pub mod Tracking
 pub mod Unique
+pub mod Verdicts

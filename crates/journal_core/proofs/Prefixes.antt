@@ -1,12 +1,12 @@
 -- No prefix is granted twice: the numbers granted rise along a legal history, and a prefix tells its number.
-use Rattle.std.proofs.Common.{◌≡◌, ◌⊎◌, ℕ, zero, suc, ◌+◌, ◌/◌, ◌%◌, ◌<◌, ◌≤◌, cond, List, [], ◌∷◌, ◌++◌, length, refl, ap, subst, inl, inr, ⊎_elim, arith}
+use Rattle.std.proofs.Common.{◌≡◌, ◌≢◌, ◌⊎◌, ℕ, zero, suc, ◌+◌, ◌/◌, ◌%◌, ◌<◌, ◌≤◌, cond, List, [], ◌∷◌, ◌++◌, length, refl, ap, subst, inl, inr, ⊎_elim, arith}
 use mathlib.Core.Logic.{dite}
 use native.Mathlib.Decide.{dec_le}
 use Rattle.std.specs.Prelude.{Some, slice_get}
 use Rattle.journal_core.specs.declared.entry.Event.TheVariants.{Granted}
 use Rattle.journal_core.specs.declared.entry.Entry.{Entry}
-use Rattle.journal_core.specs.Range.{prefix_of}
-use Rattle.journal_core.specs.History.{Terms, entry, is_granted, granted, MayFollow, Legal}
+use Rattle.journal_core.specs.Range.{most_device, number_limit, prefix_of}
+use Rattle.journal_core.specs.History.{Terms, IsLawful, entry, is_granted, granted, MayFollow, Legal}
 use Rattle.journal_core.specs.Prefixes.{GrantsOnce}
 use Rattle.journal_core.proofs.Histories.{count_push, induct, reply_of}
 use Rattle.journal_core.proofs.Bounds.{within}
@@ -55,24 +55,47 @@ grow_rising terms history e may p = record {
 are_rising : (terms : Terms) (history : List Entry) → Legal terms history → AreRising terms history
 are_rising terms = induct terms (AreRising terms) record { below = λ i n s at. absurd (cc); rising = λ i j m n s t less ati atj. absurd (cc) } (grow_rising terms)
 
--- a prefix tells its number
-pub prefix_tells : (device m n : ℕ) → prefix_of device m ≡ prefix_of device n → m ≡ n
-prefix_tells device m n same =
-    let a : m / 16777216 ≡ n / 16777216 = cc in
-    let b : m / 65536 % 256 ≡ n / 65536 % 256 = cc in
-    let c : m / 256 % 256 ≡ n / 256 % 256 = cc in
-    let d : m % 256 ≡ n % 256 = cc in
-    omega arith
+-- a prefix tells its device and its number
+pub prefix_tells : (device number other another : ℕ) → device ≤ most_device → number < number_limit
+    → other ≤ most_device → another < number_limit
+    → prefix_of device number ≡ prefix_of other another → (device ≡ other) × (number ≡ another)
+prefix_tells device number other another d n e m same =
+    let high : device / 65536 % 256 ≡ other / 65536 % 256 = cc in
+    let middle : device / 256 % 256 ≡ other / 256 % 256 = cc in
+    let low : device % 256 ≡ other % 256 = cc in
+    let first : number / 16777216 % 256 ≡ another / 16777216 % 256 = cc in
+    let second : number / 65536 % 256 ≡ another / 65536 % 256 = cc in
+    let third : number / 256 % 256 ≡ another / 256 % 256 = cc in
+    let last : number % 256 ≡ another % 256 = cc in
+    (omega arith, omega arith)
 
-pub grants_once : (terms : Terms) (history : List Entry) → Legal terms history → GrantsOnce terms history
-grants_once terms history legal =
+-- all numbers granted lie in the range, and none is granted twice
+pub record NumbersOnce (terms : Terms) (history : List Entry) : Type 0 where
+  pub inside : (i number seat : ℕ) → slice_get history i ≡ Some (entry seat (Granted number))
+      → (terms.range.lo ≤ number) × (number < terms.range.lo + terms.range.size)
+  pub once : (i j m n s t : ℕ) → i ≢ j → slice_get history i ≡ Some (entry s (Granted m))
+      → slice_get history j ≡ Some (entry t (Granted n)) → m ≢ n
+
+pub numbers_once : (terms : Terms) (history : List Entry) → Legal terms history → NumbersOnce terms history
+numbers_once terms history legal =
     let r = are_rising terms history legal in
     let w = (within terms history legal).0 in
     record {
       inside = λ i n s at. let b = r.below i n s at in let lo = b.0 in let hi = b.1 in (lo, omega arith);
-      once = λ i j m n s t apart ati atj same.
-          let number = prefix_tells terms.range.device m n same in
+      once = λ i j m n s t apart ati atj number.
           dite (dec_le i j)
           (λ le. let less = r.rising i j m n s t (omega arith) ati atj in omega arith)
           (λ gt. let less = r.rising j i n m t s (omega arith) atj ati in omega arith);
+    }
+
+pub grants_once : (terms : Terms) (history : List Entry) → IsLawful terms → Legal terms history → GrantsOnce terms history
+grants_once terms history lawful legal =
+    let numbers = numbers_once terms history legal in
+    let range = lawful.range in
+    let below = λ (i n s : ℕ) (at : slice_get history i ≡ Some (entry s (Granted n))).
+    let is = (numbers.inside i n s at).1 in let end : n < number_limit = omega arith in end in
+    record {
+      inside = numbers.inside;
+      once = λ i j m n s t apart ati atj same. numbers.once i j m n s t apart ati atj
+          (prefix_tells terms.range.device m terms.range.device n range.device (below i m s ati) range.device (below j n t atj) same).1;
     }

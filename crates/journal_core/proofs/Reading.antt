@@ -1,7 +1,7 @@
 -- What an audit has read, piece by piece, and its verdict at the end.
 use Rattle.std.proofs.Common.{◌≡◌, ℕ, ◌+◌, ◌<◌, ◌≤◌, List, [], ◌∷◌, ◌++◌, length, take, refl, sym, ap, ◌∙◌, subst, inr, arith, append_assoc, append-nil, length-take-le}
 use Rattle.std.proofs.lemmas.List.{length-take, take_all}
-use Rattle.journal_core.specs.declared.auditor.Auditor.{Auditor}
+use Rattle.journal_core.specs.declared.progress.Progress.{Progress}
 use Rattle.journal_core.specs.declared.state.State.{State}
 use Rattle.journal_core.specs.declared.state.State.TheVariants.{Start, Sound, Wrong}
 use Rattle.journal_core.specs.declared.verdict.Verdict.{Verdict}
@@ -25,7 +25,7 @@ start_more state next lines whole is judged first = subst (λ l. Judged next (l 
 
 -- a piece of a line, and the end of a line
 
-pub read_piece : (a b : Auditor) (before piece : List ℕ) → HasRead a before → IsLine piece
+pub read_piece : (a b : Progress) (before piece : List ℕ) → HasRead a before → IsLine piece
     → ((lines : List (List ℕ)) (rest : List ℕ) → Audits a lines rest → IsLine piece → Audits b lines (rest ++ piece)) → HasRead b (before ++ piece)
 read_piece a b before piece read line keeps = record {
   lines = read.lines;
@@ -34,7 +34,7 @@ read_piece a b before piece read line keeps = record {
   audits = keeps read.lines read.rest read.audits line;
 }
 
-pub read_line : (a b : Auditor) (before piece : List ℕ) → HasRead a before → IsLine piece
+pub read_line : (a b : Progress) (before piece : List ℕ) → HasRead a before → IsLine piece
     → ((lines : List (List ℕ)) (rest : List ℕ) → Audits a lines rest → IsLine piece → Audits b (lines ++ (rest ++ piece) ∷ []) []) → HasRead b (before ++ (piece ++ 10 ∷ []))
 read_line a b before piece read line ends =
     let whole = read.rest ++ piece in
@@ -58,13 +58,13 @@ kept_front kept rest n is =
 sound_lines : (s : StandingView) (lines : List (List ℕ)) → Judged (Sound s) lines → IsSound lines
 sound_lines s lines sound = subst IsSound (sym sound.1) (s.terms, sound.0, refl, sound.2, sound.3)
 
-some_kept : (a : Auditor) (lines : List (List ℕ)) (rest : List ℕ) → Audits a lines rest → 0 < a.kept_len → a.kept_len ≤ length a.kept → rest ≡ [] → ⊥
+some_kept : (a : Progress) (lines : List (List ℕ)) (rest : List ℕ) → Audits a lines rest → 0 < a.kept_len → a.kept_len ≤ length a.kept → rest ≡ [] → ⊥
 some_kept a lines rest audits some room none =
     let long = ap (length {A = ℕ}) audits.kept in
     let front = length-take-le a.kept_len a.kept room in
     let empty = ap (λ l. length (take 35 l)) none in omega arith
 
-pub verdict_rest : (a : Auditor) (s : StandingView) (bytes : List ℕ) → a.state ≡ Sound s → 0 < a.kept_len → a.kept_len ≤ length a.kept → HasRead a bytes → IsVerdict bytes (Malformed (a.lines + 1))
+pub verdict_rest : (a : Progress) (s : StandingView) (bytes : List ℕ) → a.state ≡ Sound s → 0 < a.kept_len → a.kept_len ≤ length a.kept → HasRead a bytes → IsVerdict bytes (Malformed (a.lines + 1))
 verdict_rest a s bytes is some room read =
     let sound = subst (λ z. Judged z read.lines) is read.audits.state in
     record {
@@ -74,7 +74,7 @@ verdict_rest a s bytes is some room read =
       judged = (read.lines, sound_lines s read.lines sound, inr (refl, (λ none. absurd (some_kept a read.lines read.rest read.audits some room none))), ap (λ n. n + 1) read.audits.count);
     }
 
-pub verdict_wrong : (a : Auditor) (verdict : Verdict) (bytes : List ℕ) → a.state ≡ Wrong verdict → HasRead a bytes → IsVerdict bytes verdict
+pub verdict_wrong : (a : Progress) (verdict : Verdict) (bytes : List ℕ) → a.state ≡ Wrong verdict → HasRead a bytes → IsVerdict bytes verdict
 verdict_wrong a verdict bytes is read = record {
   lines = read.lines;
   rest = read.rest;

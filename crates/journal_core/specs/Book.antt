@@ -1,5 +1,5 @@
 -- The ledger of one thread.
-use Rattle.std.specs.Prelude.{ℕ, ⊤}
+use Rattle.std.specs.Prelude.{ℕ}
 use Rattle.journal_core.specs.declared.book.BookFault.{BookFault}
 use Rattle.journal_core.specs.declared.book.BookFault.TheVariants.{Exhausted, SeatClosed, NotOpen, OutOfMemory, BadSeats}
 
@@ -10,19 +10,3 @@ fault_number SeatClosed = 21
 fault_number NotOpen = 22
 fault_number OutOfMemory = 23
 fault_number BadSeats = 25
-
--- the faults of a new book
-abbrev pub IsNewFault : BookFault → Type 0
-IsNewFault Exhausted = ⊥
-IsNewFault SeatClosed = ⊥
-IsNewFault NotOpen = ⊥
-IsNewFault OutOfMemory = ⊤
-IsNewFault BadSeats = ⊤
-
--- the faults of a settle
-abbrev pub IsSettleFault : BookFault → Type 0
-IsSettleFault Exhausted = ⊥
-IsSettleFault SeatClosed = ⊥
-IsSettleFault NotOpen = ⊤
-IsSettleFault OutOfMemory = ⊤
-IsSettleFault BadSeats = ⊤

@@ -1,16 +1,13 @@
 -- What a ledger may have done: the legal histories of a range and a number of seats.
 use Rattle.std.specs.Prelude.{◌≡◌, ℕ, ◌+◌, ◌<◌, ◌≤◌, Bool, true, false, nat_eq, List, ◌∷◌, ◌++◌, count_by, filter, ⊤}
-use Rattle.journal_core.specs.Range.{Numbers, IsLawfulRange}
+use Rattle.journal_core.specs.Range.{IsLawfulRange}
 use Rattle.journal_core.specs.declared.entry.Way.TheVariants.{Sealed, Void}
 use Rattle.journal_core.specs.declared.entry.Event.{Event}
 use Rattle.journal_core.specs.declared.entry.Event.TheVariants.{Granted, Exhausted, Settled}
 use Rattle.journal_core.specs.declared.entry.Entry.{Entry}
 use Rattle.journal_core.specs.declared.entry.Tally.{Tally}
-
 -- what a ledger is opened with: a range, and how many seats may issue and settle
-pub record Terms : Type 0 where
-  pub range : Numbers
-  pub seats : ℕ
+pub use Rattle.journal_core.specs.declared.terms.Terms.{Terms}
 
 -- a lawful range, and from 1 to 64 seats
 pub record IsLawful (terms : Terms) : Type 0 where
@@ -30,10 +27,12 @@ abbrev pub is_exhausted : Entry → Bool
 is_exhausted e = elim e.event [ Granted n ↦ false | Exhausted ↦ true | Settled n way ↦ false ]
 
 abbrev pub is_sealed : Entry → Bool
-is_sealed e = elim e.event [ Granted n ↦ false | Exhausted ↦ false | Settled n way ↦ elim way [ Sealed ↦ true | Void ↦ false ] ]
+is_sealed e =
+    elim e.event [ Granted n ↦ false | Exhausted ↦ false | Settled n way ↦ elim way [ Sealed ↦ true | Void ↦ false ] ]
 
 abbrev pub is_void : Entry → Bool
-is_void e = elim e.event [ Granted n ↦ false | Exhausted ↦ false | Settled n way ↦ elim way [ Sealed ↦ false | Void ↦ true ] ]
+is_void e =
+    elim e.event [ Granted n ↦ false | Exhausted ↦ false | Settled n way ↦ elim way [ Sealed ↦ false | Void ↦ true ] ]
 
 -- the entry grants this number
 abbrev pub grants : ℕ → Entry → Bool
@@ -58,7 +57,8 @@ abbrev pub voided : List Entry → ℕ
 voided history = count_by is_void history
 
 abbrev pub tally_of : List Entry → Tally
-tally_of history = record { granted = granted history; refused = refused history; sealed = sealed history; void = voided history }
+tally_of history =
+    record { granted = granted history; refused = refused history; sealed = sealed history; void = voided history }
 
 -- how often this number was granted, and settled
 abbrev pub times_granted : ℕ → List Entry → ℕ
@@ -91,6 +91,11 @@ OnExhausted (Granted n) P = ⊤
 OnExhausted Exhausted P = P
 OnExhausted (Settled n way) P = ⊤
 
+abbrev pub IsIssue : Event → Type 0
+IsIssue (Granted n) = ⊤
+IsIssue Exhausted = ⊤
+IsIssue (Settled n way) = ⊥
+
 abbrev pub OnIssue : Event → Type 0 → Type 0
 OnIssue (Granted n) P = P
 OnIssue Exhausted P = P
@@ -116,7 +121,8 @@ pub record MayFollow (terms : Terms) (before : List Entry) (e : Entry) : Type 0 
 
 -- a legal history: each entry may follow those before it
 abbrev pub Legal : Terms → List Entry → Type 0
-Legal terms history = (before : List Entry) (e : Entry) (after : List Entry) → history ≡ before ++ e ∷ after → MayFollow terms before e
+Legal terms history =
+    (before : List Entry) (e : Entry) (after : List Entry) → history ≡ before ++ e ∷ after → MayFollow terms before e
 
 -- a list is a front of another
 abbrev pub Begins : List Entry → List Entry → Type 0

@@ -12,8 +12,11 @@ pub record JournalView : Type 0 where
 abbrev pub terms_of : Numbers → ℕ → Terms
 terms_of range seats = record { range = range; seats = seats }
 
+abbrev pub journal_over : Terms → List Entry → JournalView
+journal_over terms history = record { terms = terms; history = history }
+
 abbrev pub journal_of : Numbers → ℕ → List Entry → JournalView
-journal_of range seats history = record { terms = terms_of range seats; history = history }
+journal_of range seats history = journal_over (terms_of range seats) history
 
 -- a lawful range and number of seats, and a legal history over them
 pub record IsJournal (journal : JournalView) : Type 0 where

@@ -12,7 +12,8 @@ use Rattle.journal_core.specs.Verdict.{Judges}
 abbrev pub Judged : State → List (List ℕ) → Type 0
 Judged Start lines = lines ≡ []
 Judged (Sound standing) lines =
-    (history : List Entry) × (lines ≡ journal_lines standing.terms history) × IsLawful standing.terms × Legal standing.terms history × Tracks standing history
+    (history : List Entry) × (lines ≡ journal_lines standing.terms history) × IsLawful standing.terms
+    × Legal standing.terms history × Tracks standing history
 Judged (Wrong verdict) lines = (later : List (List ℕ)) (rest : List ℕ) → Judges (lines ++ later) rest verdict
 
 -- two lists have the same first 35 bytes

@@ -7,6 +7,8 @@ use Rattle.journal_core.specs.History.{Terms, entry}
 
 -- all numbers granted lie in the range, and no two grants have one prefix
 pub record GrantsOnce (terms : Terms) (history : List Entry) : Type 0 where
-  pub inside : (i number seat : ℕ) → slice_get history i ≡ Some (entry seat (Granted number)) → (terms.range.lo ≤ number) × (number < terms.range.lo + terms.range.size)
-  pub once : (i j m n s t : ℕ) → i ≢ j → slice_get history i ≡ Some (entry s (Granted m)) → slice_get history j ≡ Some (entry t (Granted n))
+  pub inside : (i number seat : ℕ) → slice_get history i ≡ Some (entry seat (Granted number))
+      → (terms.range.lo ≤ number) × (number < terms.range.lo + terms.range.size)
+  pub once : (i j m n s t : ℕ) → i ≢ j → slice_get history i ≡ Some (entry s (Granted m))
+      → slice_get history j ≡ Some (entry t (Granted n))
       → prefix_of terms.range.device m ≢ prefix_of terms.range.device n

@@ -1,5 +1,18 @@
 -- Devices, ranges of file numbers, and the prefix of a number (NIST SP 800-38D, 8.2.1, deterministic construction).
-use Rattle.std.specs.Prelude.{ℕ, ◌+◌, ◌/◌, ◌%◌, ◌<◌, ◌≤◌, List, [], ◌∷◌}
+use Rattle.std.specs.Prelude.{ℕ, ◌+◌, ◌<◌, ◌≤◌, List, ◌++◌}
+use Rattle.std.specs.Int.{bytes_high_first}
+
+-- the greatest number of a device: what 3 bytes hold
+abbrev pub most_device : ℕ
+most_device = 16777215
+
+-- the greatest size of a range
+abbrev pub most_size : ℕ
+most_size = 65535
+
+-- each number is below this: what 4 bytes hold
+abbrev pub number_limit : ℕ
+number_limit = 4294967296
 
 -- the numbers of a range: lo to lo + size - 1 of a device
 pub record Numbers : Type 0 where
@@ -12,13 +25,11 @@ range_of device lo size = record { device = device; lo = lo; size = size }
 
 -- a device of 3 bytes, from 1 to 65,535 numbers, and each of them in 4 bytes
 pub record IsLawfulRange (range : Numbers) : Type 0 where
-  pub device : range.device ≤ 16777215
+  pub device : range.device ≤ most_device
   pub some : 0 < range.size
-  pub few : range.size ≤ 65535
-  pub end : range.lo + range.size ≤ 4294967296
+  pub few : range.size ≤ most_size
+  pub end : range.lo + range.size ≤ number_limit
 
 -- the prefix of a number: the device in 3 and the number in 4 big-endian bytes
 abbrev pub prefix_of : ℕ → ℕ → List ℕ
-prefix_of device number =
-    device / 65536 ∷ device / 256 % 256 ∷ device % 256
-    ∷ number / 16777216 ∷ number / 65536 % 256 ∷ number / 256 % 256 ∷ number % 256 ∷ []
+prefix_of device number = bytes_high_first 3 device ++ bytes_high_first 4 number

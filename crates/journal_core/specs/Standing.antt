@@ -37,13 +37,16 @@ fresh terms = standing_of terms (record { granted = 0; refused = 0; sealed = 0; 
 -- what an issue is answered
 abbrev pub answer_of : StandingView → Event
 answer_of standing =
-    if nat_lt (length standing.numbers) standing.terms.range.size then Granted (standing.terms.range.lo + length standing.numbers) else Exhausted
+    if nat_lt (length standing.numbers) standing.terms.range.size
+    then Granted (standing.terms.range.lo + length standing.numbers) else Exhausted
 
 -- the seat may make this call and be answered so
 abbrev pub CanReply : StandingView → ℕ → Event → Type 0
 CanReply standing seat (Granted n) =
-    (length standing.numbers < standing.terms.range.size) × (n ≡ standing.terms.range.lo + length standing.numbers) × (is_closed standing seat ≡ false)
-CanReply standing seat Exhausted = (length standing.numbers ≡ standing.terms.range.size) × (is_closed standing seat ≡ false)
+    (length standing.numbers < standing.terms.range.size) × (n ≡ standing.terms.range.lo + length standing.numbers)
+    × (is_closed standing seat ≡ false)
+CanReply standing seat Exhausted =
+    (length standing.numbers ≡ standing.terms.range.size) × (is_closed standing seat ≡ false)
 CanReply standing seat (Settled n way) =
     let k = n - standing.terms.range.lo in
     (standing.terms.range.lo ≤ n) × (k < length standing.numbers) × (number_at standing k ≡ issued seat false)
@@ -51,12 +54,16 @@ CanReply standing seat (Settled n way) =
 abbrev pub CanFollow : StandingView → Entry → Type 0
 CanFollow standing e = (e.seat < standing.terms.seats) × CanReply standing e.seat e.event
 
+-- the greatest count: what 32 bits hold
+abbrev pub most_tally : ℕ
+most_tally = 4294967295
+
 -- no count is at its end
 pub record IsSmall (tally : Tally) : Type 0 where
-  pub granted : tally.granted < 4294967295
-  pub refused : tally.refused < 4294967295
-  pub sealed : tally.sealed < 4294967295
-  pub void : tally.void < 4294967295
+  pub granted : tally.granted < most_tally
+  pub refused : tally.refused < most_tally
+  pub sealed : tally.sealed < most_tally
+  pub void : tally.void < most_tally
 
 abbrev pub tally_after : Tally → Event → Tally
 tally_after tally (Granted n) = record tally { granted = tally.granted + 1 }
@@ -67,9 +74,11 @@ tally_after tally (Settled n Void) = record tally { void = tally.void + 1 }
 -- what stands after one more operation
 abbrev pub after : StandingView → ℕ → Event → StandingView
 after standing seat (Granted n) =
-    standing_of standing.terms (tally_after standing.tally (Granted n)) standing.closed (standing.numbers ++ issued seat false ∷ [])
+    standing_of standing.terms (tally_after standing.tally (Granted n)) standing.closed
+    (standing.numbers ++ issued seat false ∷ [])
 after standing seat Exhausted =
-    standing_of standing.terms (tally_after standing.tally Exhausted) (slice_set standing.closed seat true) standing.numbers
+    standing_of standing.terms (tally_after standing.tally Exhausted) (slice_set standing.closed seat true)
+    standing.numbers
 after standing seat (Settled n way) =
     standing_of standing.terms (tally_after standing.tally (Settled n way)) standing.closed
     (slice_set standing.numbers (n - standing.terms.range.lo) (issued seat true))
@@ -80,5 +89,7 @@ pub record Tracks (standing : StandingView) (history : List Entry) : Type 0 wher
   pub seats : length standing.closed ≡ 64
   pub closed : (seat : ℕ) → seat < 64 → is_closed standing seat ≡ nat_lt 0 (refused (calls_of seat history))
   pub count : length standing.numbers ≡ granted history
-  pub seat : (k seat : ℕ) → k < granted history → (number_at standing k).seat ≡ seat ↔ (0 < times_granted (standing.terms.range.lo + k) (calls_of seat history))
-  pub settled : (k : ℕ) → k < granted history → (number_at standing k).settled ≡ nat_lt 0 (times_settled (standing.terms.range.lo + k) history)
+  pub seat : (k seat : ℕ) → k < granted history
+      → (number_at standing k).seat ≡ seat ↔ (0 < times_granted (standing.terms.range.lo + k) (calls_of seat history))
+  pub settled : (k : ℕ) → k < granted history
+      → (number_at standing k).settled ≡ nat_lt 0 (times_settled (standing.terms.range.lo + k) history)

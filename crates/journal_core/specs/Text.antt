@@ -11,8 +11,8 @@ use Rattle.journal_core.specs.History.{Terms}
 -- `range DEVICE LO SIZE SEATS`
 abbrev pub terms_text : Terms → List ℕ
 terms_text terms =
-    codes "range " ++ decimal terms.range.device ++ codes " " ++ decimal terms.range.lo ++ codes " " ++ decimal terms.range.size
-    ++ codes " " ++ decimal terms.seats
+    codes "range " ++ decimal terms.range.device ++ codes " " ++ decimal terms.range.lo ++ codes " "
+    ++ decimal terms.range.size ++ codes " " ++ decimal terms.seats
 
 abbrev pub way_text : Way → List ℕ
 way_text Sealed = codes "sealed"

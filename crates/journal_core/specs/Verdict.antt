@@ -7,24 +7,26 @@ use Rattle.journal_core.specs.declared.entry.Entry.{Entry}
 use Rattle.journal_core.specs.declared.verdict.Verdict.{Verdict}
 use Rattle.journal_core.specs.declared.verdict.Verdict.TheVariants.{Legal as IsLegal, Malformed, Illegal}
 use Rattle.journal_core.specs.History.{Terms, IsLawful, MayFollow, Legal, tally_of}
+use Rattle.journal_core.specs.Range.{number_limit}
 use Rattle.journal_core.specs.Text.{terms_text, entry_text, ended_lines, journal_lines}
 
 -- a line has no line feed in it
 abbrev pub IsLine : List ℕ → Type 0
 IsLine line = All (λ byte. byte ≢ 10) line
 
--- the bytes are cut at each line feed; what follows the last one, or all where there is none, is the rest
+-- the bytes are ended lines, cut at each line feed, and a rest: what follows the last line feed, or all where there
+-- is none
 pub record IsCut (bytes : List ℕ) (lines : List (List ℕ)) (rest : List ℕ) : Type 0 where
   pub whole : bytes ≡ ended_lines lines ++ rest
   pub each : All IsLine lines
   pub last : IsLine rest
 
 abbrev pub IsNumberOf32Bits : Event → Type 0
-IsNumberOf32Bits (Granted n) = n < 4294967296
+IsNumberOf32Bits (Granted n) = n < number_limit
 IsNumberOf32Bits Exhausted = ⊤
-IsNumberOf32Bits (Settled n way) = n < 4294967296
+IsNumberOf32Bits (Settled n way) = n < number_limit
 
--- the entry can stand in a line: its seat is from 0 to 63, and its number from 0 to 4,294,967,295
+-- the entry can stand in a line: its seat is from 0 to 63, and its number one of 32 bits
 pub record IsWritable (e : Entry) : Type 0 where
   pub seat : e.seat < 64
   pub number : IsNumberOf32Bits e.event
@@ -37,27 +39,38 @@ IsWellFormed (first ∷ lines) line = (e : Entry) × IsWritable e × (line ≡ e
 -- no line yet, or a range line and the entries of a legal history
 abbrev pub IsSound : List (List ℕ) → Type 0
 IsSound [] = ⊤
-IsSound (first ∷ lines) = (terms : Terms) × (history : List Entry) × (first ∷ lines ≡ journal_lines terms history) × IsLawful terms × Legal terms history
+IsSound (first ∷ lines) =
+    (terms : Terms) × (history : List Entry) × (first ∷ lines ≡ journal_lines terms history) × IsLawful terms × Legal terms history
 
--- the line behind the sound ones is malformed: it has a line feed and isn't well formed, or it has none;
--- without a line feed it has a byte, or the input has none at all
+-- an ended line stands behind these, and isn't well formed
+abbrev pub IsIllFormed : List (List ℕ) → List (List ℕ) → Type 0
+IsIllFormed before lines =
+    (line : List ℕ) × (later : List (List ℕ)) × (lines ≡ before ++ line ∷ later) × ¬ IsWellFormed before line
+
+-- what follows the last line feed is an unended line: it has a byte, or the input has no byte at all
+abbrev pub IsUnended : List (List ℕ) → List ℕ → Type 0
+IsUnended lines rest = rest ≡ [] → lines ≡ []
+
+-- the line behind the sound ones is malformed: an ended line that isn't well formed, or an unended one
 abbrev pub IsMalformed : List (List ℕ) → List (List ℕ) → List ℕ → Type 0
-IsMalformed before lines rest =
-    ((line : List ℕ) × (later : List (List ℕ)) × (lines ≡ before ++ line ∷ later) × ¬ IsWellFormed before line)
-    ⊎ ((lines ≡ before) × (rest ≡ [] → before ≡ []))
+IsMalformed before lines rest = IsIllFormed before lines ⊎ ((lines ≡ before) × IsUnended before rest)
 
 -- the line behind the sound ones is an entry that may not follow them
 abbrev pub IsIllegal : Terms → List Entry → List (List ℕ) → Type 0
 IsIllegal terms history lines =
-    (e : Entry) × (later : List (List ℕ)) × (lines ≡ journal_lines terms history ++ entry_text e ∷ later) × IsWritable e × ¬ MayFollow terms history e
+    (e : Entry) × (later : List (List ℕ)) × (lines ≡ journal_lines terms history ++ entry_text e ∷ later)
+    × IsWritable e × ¬ MayFollow terms history e
 
 -- the verdict on lines and a rest; lines are counted from 1
 abbrev pub Judges : List (List ℕ) → List ℕ → Verdict → Type 0
 Judges lines rest (IsLegal tally) =
-    (terms : Terms) × (history : List Entry) × (lines ≡ journal_lines terms history) × (rest ≡ []) × IsLawful terms × Legal terms history × (tally ≡ tally_of history)
-Judges lines rest (Malformed n) = (before : List (List ℕ)) × IsSound before × IsMalformed before lines rest × (n ≡ length before + 1)
+    (terms : Terms) × (history : List Entry) × (lines ≡ journal_lines terms history) × (rest ≡ []) × IsLawful terms
+    × Legal terms history × (tally ≡ tally_of history)
+Judges lines rest (Malformed n) =
+    (before : List (List ℕ)) × IsSound before × IsMalformed before lines rest × (n ≡ length before + 1)
 Judges lines rest (Illegal n) =
-    (terms : Terms) × (history : List Entry) × IsLawful terms × Legal terms history × IsIllegal terms history lines × (n ≡ length history + 2)
+    (terms : Terms) × (history : List Entry) × IsLawful terms × Legal terms history
+    × IsIllegal terms history lines × (n ≡ length history + 2)
 
 -- the verdict on these bytes
 pub record IsVerdict (bytes : List ℕ) (verdict : Verdict) : Type 0 where
@@ -69,7 +82,8 @@ pub record IsVerdict (bytes : List ℕ) (verdict : Verdict) : Type 0 where
 -- the line that tells the verdict; open numbers are those granted and not settled
 abbrev pub verdict_text : Verdict → List ℕ
 verdict_text (IsLegal tally) =
-    codes "legal: " ++ decimal tally.granted ++ codes " granted, " ++ decimal tally.sealed ++ codes " sealed, " ++ decimal tally.void
-    ++ codes " void, " ++ decimal (tally.granted - tally.sealed - tally.void) ++ codes " open, " ++ decimal tally.refused ++ codes " refused"
+    codes "legal: " ++ decimal tally.granted ++ codes " granted, " ++ decimal tally.sealed ++ codes " sealed, "
+    ++ decimal tally.void ++ codes " void, " ++ decimal (tally.granted - tally.sealed - tally.void) ++ codes " open, "
+    ++ decimal tally.refused ++ codes " refused"
 verdict_text (Malformed n) = codes "malformed line " ++ decimal n
 verdict_text (Illegal n) = codes "illegal line " ++ decimal n

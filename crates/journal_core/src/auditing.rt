@@ -1,13 +1,15 @@
-//! The audit of a journal: from its bytes to the verdict.
+//! The audit of a journal: a reader read to its end, the verdict on its bytes, and its line written.
+//!
+//! `progress` keeps what the audit needs of the bytes so far, `state` what the lines so far are.
 ghost use Rattle.std.specs.Prelude.{◌≡◌, ◌≢◌, ◌<◌, List, [], ◌∷◌, ◌++◌, length, IfOk, IfErr, IfSome, IsErrOf, OnOk, Some};
 ghost use Rattle.journal_core.specs.declared.entry.Entry.{Entry};
 ghost use Rattle.journal_core.specs.AuditFaults.{fault_number, is_read, is_write};
 ghost use Rattle.journal_core.specs.History.{Terms, IsLawful, Legal, tally_of};
-ghost use Rattle.io_core.specs.Streams.{Appends, AppendsFront, IsAtEnd, Keeps, counted};
+ghost use Rattle.io_core.specs.Streams.{Appends, AppendsFront, IsAtEnd, Keeps, LacksSome, counted};
 ghost use Rattle.journal_core.specs.Text.{journal_text};
 ghost use Rattle.journal_core.specs.Verdict.{IsVerdict, verdict_text};
 
-use crate::auditor::Auditor;
+use crate::progress::Progress;
 use crate::verdict::Verdict;
 use io_core::{Failed, Sink, Source, write_all};
 use std::alloc::Global;
@@ -22,7 +24,7 @@ pub enum AuditFault {
     /// The reader failed, or gave 2^64 - 1 bytes. Nothing was written.
     #[error("read failed")]
     Read,
-    /// The writer failed. A beginning of the verdict's line was written.
+    /// The writer failed. A beginning of the verdict's line was written, and not the whole.
     #[error("write failed")]
     Write,
 }
@@ -40,7 +42,7 @@ impl AuditFault {
     }
 }
 
-/// How many bytes are read at a time.
+// How many bytes are read at a time.
 const BLOCK: usize = 1 << 16;
 
 // Reads to the end of the input, and judges it.
@@ -49,17 +51,17 @@ fn judge_all<R: Source>(alloc: Global, reader: &mut R) -> Result<Verdict, AuditF
     ensures verdict { IfOk result (λ verdict. IfSome (R.left reader.old) (λ input. IsVerdict input verdict)) }
     ensures no_write { result ≢ Err AuditFault.Write }
     ensures undisturbed { result ≢ Err AuditFault.Read → R.failures reader.new ≡ R.failures reader.old }
-    ensures count { IfSome (R.left reader.old) (λ input. length input < 18446744073709551615
+    ensures count { IfSome (R.left reader.old) (λ input. length input < u64.MAX
         → R.failures reader.new ≡ counted (is_read result) (R.failures reader.old)) }
 {
     let Ok(mut block) = vec![in alloc; 0u8; BLOCK] else {
         return Err(AuditFault::OutOfMemory);
     };
-    let mut auditor = Auditor::new(alloc);
+    let mut progress = Progress::new(alloc);
     let mut read = 0u64;
     'input: loop {
         let n = match reader.read(&mut block) {
-            Ok(0) => return Ok(auditor.verdict()),
+            Ok(0) => return Ok(progress.verdict()),
             Ok(n) => n,
             Err(Failed) => return Err(AuditFault::Read),
         };
@@ -67,15 +69,15 @@ fn judge_all<R: Source>(alloc: Global, reader: &mut R) -> Result<Verdict, AuditF
             return Err(AuditFault::Read);
         }
         read += n as u64;
-        match auditor.take(&block[..n]) {
+        match progress.take(&block[..n]) {
             Ok(()) => {}
             Err(_) => return Err(AuditFault::OutOfMemory),
         }
     }
 }
 
-/// Reads a journal to its end and writes the verdict on it as one line. At `OutOfMemory` and `Read` nothing was written; at `Write`
-/// a beginning of the line.
+/// Reads a journal to its end and writes the verdict on it as one line. At `OutOfMemory` and `Read` nothing was
+/// written; at `Write` a beginning of the line, and not the whole.
 ///
 /// It keeps at most 35 bytes of any line, and memory in the order of the range's size, whatever the input's length.
 pub fn audit<R: Source, W: Sink>(
@@ -86,18 +88,24 @@ pub fn audit<R: Source, W: Sink>(
     // Nothing is left unread, the verdict is that of all that was left to read, and its line was written.
     ensures end { OnOk result (IsAtEnd (R.left reader.new)) }
     ensures verdict { IfOk result (λ verdict. IfSome (R.left reader.old) (λ input. IsVerdict input verdict)) }
-    ensures written { IfOk result (λ verdict. Appends (W.taken writer.old) (W.taken writer.new) (verdict_text verdict ++ 10 ∷ [])) }
+    ensures written { IfOk result (λ verdict.
+        Appends (W.taken writer.old) (W.taken writer.new) (verdict_text verdict ++ 10 ∷ [])) }
 
     // The text of a legal journal is legal, with its counts.
-    ensures round_trip { IfOk result (λ verdict. (terms : Terms) (history : List Entry) → IsLawful terms → Legal terms history
-        → R.left reader.old ≡ Some (journal_text terms history) → verdict ≡ Verdict.Legal (tally_of history)) }
+    ensures round_trip { IfOk result (λ verdict. (terms : Terms) (history : List Entry) → IsLawful terms
+        → Legal terms history → R.left reader.old ≡ Some (journal_text terms history) → verdict ≡ Verdict.Legal (tally_of history)) }
 
     // The faults.
-    ensures nothing_written { IfErr result (λ fault. fault ≢ AuditFault.Write → Keeps (W.taken writer.old) (W.taken writer.new)) }
-    ensures front_written { IsErrOf result AuditFault.Write → (verdict : Verdict) × IfSome (R.left reader.old) (λ input. IsVerdict input verdict)
+    ensures nothing_written { IfErr result (λ fault. fault ≢ AuditFault.Write
+        → Keeps (W.taken writer.old) (W.taken writer.new)) }
+    ensures front_written { IsErrOf result AuditFault.Write → (verdict : Verdict)
+        × IfSome (R.left reader.old) (λ input. IsVerdict input verdict)
         × AppendsFront (W.taken writer.old) (W.taken writer.new) (verdict_text verdict ++ 10 ∷ []) }
+    ensures not_whole { IsErrOf result AuditFault.Write → IfSome (R.left reader.old) (λ input. (verdict : Verdict)
+        → IsVerdict input verdict
+        → LacksSome (W.taken writer.old) (W.taken writer.new) (verdict_text verdict ++ 10 ∷ [])) }
     ensures undisturbed { result ≢ Err AuditFault.Read → R.failures reader.new ≡ R.failures reader.old }
-    ensures reads { IfSome (R.left reader.old) (λ input. length input < 18446744073709551615
+    ensures reads { IfSome (R.left reader.old) (λ input. length input < u64.MAX
         → R.failures reader.new ≡ counted (is_read result) (R.failures reader.old)) }
     ensures writes { W.failures writer.new ≡ counted (is_write result) (W.failures writer.old) }
 {

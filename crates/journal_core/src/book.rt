@@ -1,16 +1,17 @@
 //! The ledger of one thread: it issues the numbers of a range to seats, settles them, and stores its journal.
 //!
-//! It is the sequential ledger by which every other one is measured: what it replies is what any ledger replies at that point
-//! of its history.
+//! It is the sequential ledger by which every other one is measured: what it replies is what any ledger replies at
+//! that point of its history.
 ghost use Rattle.std.specs.Prelude.{◌≡◌, ◌≢◌, ◌<◌, ◌≤◌, ◌↔◌, ◌⊎◌, [], IfOk, IfErr, OnOk, OnErr};
-ghost use Rattle.journal_core.specs.Book.{fault_number, IsNewFault, IsSettleFault};
+ghost use Rattle.journal_core.specs.Book.{fault_number};
 ghost use Rattle.journal_core.specs.History.{IsClosed, IsOpen, tally_of};
 ghost use Rattle.journal_core.specs.Journal.{IsJournal, adds, journal_of};
 
 use crate::entry::{Entry, Event, Tally, Way};
 use crate::journal::Journal;
 use crate::range::Range;
-use crate::standing::{MAX_SEATS, Standing};
+use crate::standing::Standing;
+use crate::terms::{MAX_SEATS, Terms};
 use std::alloc::Global;
 use std::marker::Model;
 use thiserror::Error;
@@ -69,33 +70,34 @@ impl Model for Book {
 }
 
 impl Book {
-    /// An empty book over the range, with 1 to 64 seats, numbered from 0. BadSeats where `seats` is 0 or over 64, else OutOfMemory
-    /// where memory was refused.
+    /// An empty book over the range, with 1 to 64 seats, numbered from 0. BadSeats where `seats` is 0 or over 64,
+    /// else OutOfMemory where memory was refused.
     pub fn new(alloc: Global, range: Range, seats: u32) -> Result<Book, BookFault>
         ensures empty { IfOk result (λ book. book ≡ journal_of range seats []) }
-        ensures bad_seats { result ≡ Err BookFault.BadSeats ↔ ((seats ≡ 0) ⊎ (64 < seats)) }
-        ensures only { IfErr result (λ e. IsNewFault e) }
+        ensures bad_seats { result ≡ Err BookFault.BadSeats ↔ ((seats ≡ 0) ⊎ (MAX_SEATS < seats)) }
+        ensures only { IfErr result (λ e. (e ≡ BookFault.OutOfMemory) ⊎ (e ≡ BookFault.BadSeats)) }
     {
         if seats == 0 || seats > MAX_SEATS {
             return Err(BookFault::BadSeats);
         }
         // The call tells the prover that the range is lawful.
         let _ = range.size();
-        let Ok(standing) = Standing::new(alloc, range, seats) else {
+        let Ok(standing) = Standing::new(alloc, Terms { range, seats }) else {
             return Err(BookFault::OutOfMemory);
         };
         let journal = Journal::new(range, seats, Vec::new(alloc));
         Ok(Book { standing, journal })
     }
 
-    /// Issues the next number to a seat. Tested in this order: BadSeats (no such seat), SeatClosed, OutOfMemory, Exhausted. All but
-    /// Exhausted leave the book as it was.
+    /// Issues the next number to a seat. Tested in this order: BadSeats (no such seat), SeatClosed, OutOfMemory,
+    /// Exhausted. All but Exhausted leave the book as it was.
     pub fn issue(&mut self, seat: u32) -> Result<u32, BookFault>
         ensures granted { IfOk result (λ n. self.new ≡ adds self.old seat (Event.Granted n)) }
         ensures exhausted { result ≡ Err BookFault.Exhausted → self.new ≡ adds self.old seat Event.Exhausted }
         ensures unchanged { IfErr result (λ e. e ≢ BookFault.Exhausted → self.new ≡ self.old) }
         ensures bad_seats { result ≡ Err BookFault.BadSeats ↔ (self.old.terms.seats ≤ seat) }
-        ensures seat_closed { result ≡ Err BookFault.SeatClosed ↔ ((seat < self.old.terms.seats) × IsClosed seat self.old.history) }
+        ensures seat_closed { result ≡ Err BookFault.SeatClosed
+            ↔ ((seat < self.old.terms.seats) × IsClosed seat self.old.history) }
         ensures no_other { result ≢ Err BookFault.NotOpen }
         ensures legal { IsJournal self.new }
     {
@@ -117,14 +119,15 @@ impl Book {
         }
     }
 
-    /// Settles a number that is open at a seat, as sealed or void. Tested in this order: BadSeats (no such seat), NotOpen,
-    /// OutOfMemory. Each leaves the book as it was.
+    /// Settles a number that is open at a seat, as sealed or void. Tested in this order: BadSeats (no such seat),
+    /// NotOpen, OutOfMemory. Each leaves the book as it was.
     pub fn settle(&mut self, seat: u32, number: u32, way: Way) -> Result<(), BookFault>
         ensures settled { OnOk result (self.new ≡ adds self.old seat (Event.Settled number way)) }
         ensures unchanged { OnErr result (self.new ≡ self.old) }
         ensures bad_seats { result ≡ Err BookFault.BadSeats ↔ (self.old.terms.seats ≤ seat) }
-        ensures not_open { result ≡ Err BookFault.NotOpen ↔ ((seat < self.old.terms.seats) × ¬ IsOpen seat number self.old.history) }
-        ensures no_other { IfErr result (λ e. IsSettleFault e) }
+        ensures not_open { result ≡ Err BookFault.NotOpen
+            ↔ ((seat < self.old.terms.seats) × ¬ IsOpen seat number self.old.history) }
+        ensures no_other { (result ≢ Err BookFault.Exhausted) × (result ≢ Err BookFault.SeatClosed) }
         ensures legal { IsJournal self.new }
     {
         if seat >= self.standing.seats() {

@@ -14,12 +14,13 @@ pub struct Device {
 
 impl Model for Device {
     ghost use Rattle.std.specs.Prelude.{ℕ, ◌≤◌};
+    ghost use Rattle.journal_core.specs.Range.{most_device};
 
     ghost Value = { ℕ };
 
     ghost view = { λ d. d.number };
 
-    ghost invariant = { λ d. d.number ≤ 16777215 };
+    ghost invariant = { λ d. d.number ≤ most_device };
 
     ghost inverse = { λ n. record { number = n } };
 }
@@ -30,7 +31,7 @@ impl Device {
 
     /// The device of this number, or `None` over 16,777,215.
     pub fn new(number: u32) -> Option<Device>
-        ensures { SomeIff result (number ≤ 16777215) number }
+        ensures { SomeIff result (number ≤ Device.MAX) number }
     {
         if number > Device::MAX {
             return None;
@@ -41,13 +42,14 @@ impl Device {
     /// The device's number.
     pub fn number(self) -> u32
         ensures value { result ≡ self }
-        ensures small { result ≤ 16777215 }
+        ensures small { result ≤ Device.MAX }
     {
         self.number
     }
 }
 
-/// The first 7 bytes of every nonce of the file `number` of `device`: the device in 3 and the number in 4 big-endian bytes.
+/// The first 7 bytes of every nonce of the file `number` of `device`: the device in 3 and the number in 4 big-endian
+/// bytes.
 pub fn prefix(device: Device, number: u32) -> [u8; 7]
     ensures { result ≡ prefix_of device number }
 {

@@ -6,25 +6,25 @@ ghost use Rattle.journal_core.specs.Text.{journal_text, entry_text};
 
 use crate::entry::Entry;
 use crate::range::Range;
+use crate::terms::Terms;
 use std::alloc::{AllocError, Global};
 use std::marker::Model;
 
 /// A legal history over a range and a number of seats.
 #[derive(Drop)]
 pub struct Journal {
-    range: Range,
-    seats: u32,
+    terms: Terms,
     entries: Vec<Entry>,
 }
 
 impl Model for Journal {
-    ghost use Rattle.journal_core.specs.Journal.{JournalView, IsJournal, journal_of};
+    ghost use Rattle.journal_core.specs.Journal.{JournalView, IsJournal, journal_over};
 
     ghost Value = { JournalView };
 
-    ghost view = { λ j. journal_of j.range j.seats j.entries.items };
+    ghost view = { λ j. journal_over j.terms j.entries.items };
 
-    ghost invariant = { λ j. IsJournal (journal_of j.range j.seats j.entries.items) };
+    ghost invariant = { λ j. IsJournal (journal_over j.terms j.entries.items) };
 }
 
 impl Journal {
@@ -33,25 +33,22 @@ impl Journal {
         requires { IsJournal (journal_of range seats entries.items) }
         ensures { result ≡ journal_of range seats entries.items }
     {
-        Journal {
-            range,
-            seats,
-            entries,
-        }
+        let terms = Terms { range, seats };
+        Journal { terms, entries }
     }
 
     /// The range over which the ledger was opened.
     pub fn range(&self) -> Range
         ensures { result ≡ self.now.terms.range }
     {
-        self.range
+        self.terms.range
     }
 
     /// The number of seats: 1 to 64.
     pub fn seats(&self) -> u32
         ensures { result ≡ self.now.terms.seats }
     {
-        self.seats
+        self.terms.seats
     }
 
     /// The operations, in order. They are a legal history.
@@ -75,10 +72,8 @@ impl Journal {
     pub fn text(&self, alloc: Global) -> Result<String, AllocError>
         ensures { IfOk result (λ text. string_bytes text ≡ journal_text self.now.terms self.now.history) }
     {
-        let range = self.range;
-        let (device, lo, size) = (range.device().number(), range.lo(), range.size());
-        let seats = self.seats;
-        let mut text = format!(in alloc; "range {device} {lo} {size} {seats}\n")?;
+        let terms = self.terms;
+        let mut text = format!(in alloc; "{terms}\n")?;
         for entry in &self.entries {
             push_line(&mut text, *entry)?;
         }

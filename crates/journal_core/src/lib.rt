@@ -1,21 +1,23 @@
 //! The ledger of file numbers, as a list: which device sealed under which number, and how each number ended.
 //!
-//! A number makes the prefix of every nonce of one sealing, so no number may be issued twice. This crate has the words of
-//! that promise (device, range, prefix, entry, legal history), the ledger of one thread, the journal and its audit, and the
-//! readers and writers over which the whole product works. The ledger of many threads stands on it, in `ledger_core`.
+//! A number makes the prefix of every nonce of one sealing, so no number may be issued twice. This crate has the words
+//! of that promise (device, range, prefix, entry, legal history), the ledger of one thread, the journal and its audit.
+//! It stands on the readers and writers of `io_core`, whose names it passes on; the ledger of many threads stands on
+//! it, in `ledger_core`.
 #![tactic(auto)]
 
 pub mod auditing;
-mod auditor;
 pub mod book;
 pub mod device;
 pub mod entry;
 pub mod journal;
 pub mod laws;
 mod line;
+mod progress;
 pub mod range;
-pub mod standing;
+mod standing;
 mod state;
+pub mod terms;
 pub mod verdict;
 
 pub use crate::auditing::{AuditFault, audit};
@@ -24,7 +26,7 @@ pub use crate::device::{Device, prefix};
 pub use crate::entry::{Entry, Event, Tally, Way};
 pub use crate::journal::Journal;
 pub use crate::range::{BadRange, Range};
-pub use crate::standing::MAX_SEATS;
+pub use crate::terms::{MAX_SEATS, Terms};
 pub use crate::verdict::Verdict;
 pub use io_core::{
     Failed, FromRead, ReadFault, Sink, Source, ToWrite, fill, read_to_limit, write_all,

@@ -2,15 +2,15 @@
 ghost use Rattle.std.specs.Prelude.{◌≡◌, ℕ, ◌∷◌, ◌++◌, ◌<◌, List, IfSome, IsTrue, MatchOption, Some, ◌↔◌};
 ghost use Rattle.std.specs.Fmt.{decimal};
 ghost use Rattle.journal_core.specs.History.{Terms, IsLawful};
-ghost use Rattle.journal_core.specs.Journal.{terms_of};
 ghost use Rattle.journal_core.specs.Line.{HasNoSpace};
+ghost use Rattle.journal_core.specs.Range.{number_limit};
 ghost use Rattle.journal_core.specs.Text.{entry_text, event_text, terms_text, way_text};
 ghost use Rattle.journal_core.specs.Verdict.{IsNumberOf32Bits, IsWritable};
 
 use crate::device::Device;
 use crate::entry::{Entry, Event, Way};
 use crate::range::Range;
-use crate::standing::MAX_SEATS;
+use crate::terms::{MAX_SEATS, Terms};
 
 fn is_word(text: &str, word: &str) -> bool
     ensures { IsTrue result ↔ (text.now ≡ word.now) }
@@ -21,7 +21,7 @@ fn is_word(text: &str, word: &str) -> bool
 // A decimal number of 32 bits without leading zeros.
 fn number(text: &str) -> Option<u32>
     ensures sound { IfSome result (λ n. text.now ≡ decimal n) }
-    ensures complete { (n : ℕ) → n < 4294967296 → text.now ≡ decimal n → result ≡ Some n }
+    ensures complete { (n : ℕ) → n < number_limit → text.now ≡ decimal n → result ≡ Some n }
 {
     let bytes = text.as_bytes();
     if bytes.is_empty() {
@@ -49,7 +49,7 @@ fn word_then(text: &str) -> Option<(&str, &str)>
 // A number, a space, and what follows.
 fn number_then(text: &str) -> Option<(u32, &str)>
     ensures sound { IfSome result (λ r. text.now ≡ decimal r.0 ++ 32 ∷ r.1.now) }
-    ensures complete { (n : ℕ) (rest : List ℕ) → n < 4294967296 → text.now ≡ decimal n ++ 32 ∷ rest
+    ensures complete { (n : ℕ) (rest : List ℕ) → n < number_limit → text.now ≡ decimal n ++ 32 ∷ rest
         → MatchOption result ⊥ (λ r. (r.0 ≡ n) × (r.1.now ≡ rest)) }
 {
     let (word, rest) = word_then(text)?;
@@ -88,7 +88,7 @@ fn way_in(word: &str) -> Option<Way>
     }
 }
 
-/// The entry that a line names, where it names one.
+// The entry that a line names, where it names one.
 pub(crate) fn entry_in(line: &str) -> Option<Entry>
     ensures sound { IfSome result (λ e. IsWritable e × (line.now ≡ entry_text e)) }
     ensures complete { (e : Entry) → IsWritable e → line.now ≡ entry_text e → result ≡ Some e }
@@ -101,11 +101,10 @@ pub(crate) fn entry_in(line: &str) -> Option<Entry>
     Some(Entry { seat, event })
 }
 
-/// The range and the number of seats that a range line names, where it is one.
-pub(crate) fn terms_in(line: &str) -> Option<(Range, u32)>
-    ensures sound { IfSome result (λ r. IsLawful (terms_of r.0 r.1) × (line.now ≡ terms_text (terms_of r.0 r.1))) }
-    ensures complete { (terms : Terms) → IsLawful terms → line.now ≡ terms_text terms
-        → MatchOption result ⊥ (λ r. terms_of r.0 r.1 ≡ terms) }
+// The range and the number of seats that a range line names, where it is one.
+pub(crate) fn terms_in(line: &str) -> Option<Terms>
+    ensures sound { IfSome result (λ terms. IsLawful terms × (line.now ≡ terms_text terms)) }
+    ensures complete { (terms : Terms) → IsLawful terms → line.now ≡ terms_text terms → result ≡ Some terms }
 {
     let (word, rest) = word_then(line)?;
     if !is_word(word, "range") {
@@ -120,5 +119,5 @@ pub(crate) fn terms_in(line: &str) -> Option<(Range, u32)>
     if seats == 0 || seats > MAX_SEATS {
         return None;
     }
-    Some((range, seats))
+    Some(Terms { range, seats })
 }

@@ -13,7 +13,11 @@ pub struct BadRange;
 
 impl BadRange {
     /// The fault's number.
-    pub const NUMBER: u32 = 24;
+    pub fn number(self) -> u32
+        ensures { result ≡ 24 }
+    {
+        24
+    }
 }
 
 /// The numbers `lo` to `lo + size - 1` of a device: 1 to 65,535 of them, all below 2^32.

@@ -1,18 +1,15 @@
 //! What a running ledger keeps of its history: the counts, which seats are closed, and what became of each number.
 //!
-//! It takes memory for the numbers of the range, once, and answers each call in the same few steps however long the history.
+//! It takes memory for the numbers of the range, once, and answers each call in the same few steps however long the
+//! history.
 ghost use Rattle.std.specs.Prelude.{◌≡◌, ◌<◌, ◌↔◌, false, length, IfOk, IsTrue};
 ghost use Rattle.journal_core.specs.History.{IsLawful};
-ghost use Rattle.journal_core.specs.Journal.{terms_of};
 ghost use Rattle.journal_core.specs.Standing.{CanFollow, IsSmall, after, answer_of, fresh, is_closed, issued, number_at};
 
 use crate::entry::{Entry, Event, Tally, Way};
-use crate::range::Range;
+use crate::terms::{MAX_SEATS, Terms};
 use std::alloc::{AllocError, Global};
 use std::marker::Model;
-
-/// The greatest number of seats.
-pub const MAX_SEATS: u32 = 64;
 
 // A number that was issued: to which seat, and whether it was settled since.
 #[derive(Clone, Copy)]
@@ -23,8 +20,7 @@ struct Issued {
 
 #[derive(Drop)]
 pub(crate) struct Standing {
-    range: Range,
-    seats: u32,
+    terms: Terms,
     tally: Tally,
     closed: [bool; MAX_SEATS as usize],
     numbers: Vec<Issued>,
@@ -33,42 +29,35 @@ pub(crate) struct Standing {
 impl Model for Standing {
     ghost use Rattle.std.specs.Prelude.{◌≤◌, vec_len, vec_capacity};
     ghost use Rattle.journal_core.specs.History.{IsLawful};
-    ghost use Rattle.journal_core.specs.Journal.{terms_of};
     ghost use Rattle.journal_core.specs.Standing.{StandingView, standing_of};
 
     ghost Value = { StandingView };
 
-    ghost view = { λ s. standing_of (terms_of s.range s.seats) s.tally s.closed s.numbers.items };
+    ghost view = { λ s. standing_of s.terms s.tally s.closed s.numbers.items };
 
-    ghost invariant = { λ s. IsLawful (terms_of s.range s.seats) × (vec_len s.numbers ≤ s.range.size) × (s.range.size ≤ vec_capacity s.numbers) };
+    ghost invariant = { λ s. IsLawful s.terms × (vec_len s.numbers ≤ s.terms.range.size)
+        × (s.terms.range.size ≤ vec_capacity s.numbers) };
 }
 
 impl Standing {
     // Before the first call. It makes room for all numbers of the range.
-    pub(crate) fn new(alloc: Global, range: Range, seats: u32) -> Result<Standing, AllocError>
-        requires { IsLawful (terms_of range seats) }
-        ensures { IfOk result (λ s. s ≡ fresh (terms_of range seats)) }
+    pub(crate) fn new(alloc: Global, terms: Terms) -> Result<Standing, AllocError>
+        requires { IsLawful terms }
+        ensures { IfOk result (λ s. s ≡ fresh terms) }
     {
-        let numbers = Vec::with_capacity(alloc, range.size() as usize)?;
+        let numbers = Vec::with_capacity(alloc, terms.range.size() as usize)?;
         Ok(Standing {
-            range,
-            seats,
+            terms,
             tally: Tally::default(),
             closed: [false; MAX_SEATS as usize],
             numbers,
         })
     }
 
-    pub(crate) fn range(&self) -> Range
-        ensures { result ≡ self.now.terms.range }
-    {
-        self.range
-    }
-
     pub(crate) fn seats(&self) -> u32
         ensures { result ≡ self.now.terms.seats }
     {
-        self.seats
+        self.terms.seats
     }
 
     pub(crate) fn tally(&self) -> Tally
@@ -89,8 +78,8 @@ impl Standing {
         ensures { result ≡ answer_of self.now }
     {
         let issued = self.numbers.len() as u32;
-        if issued < self.range.size() {
-            Event::Granted(self.range.lo() + issued)
+        if issued < self.terms.range.size() {
+            Event::Granted(self.terms.range.lo() + issued)
         } else {
             Event::Exhausted
         }
@@ -100,11 +89,11 @@ impl Standing {
     pub(crate) fn can_follow(&self, entry: Entry) -> bool
         ensures { IsTrue result ↔ CanFollow self.now entry }
     {
-        if entry.seat >= self.seats {
+        if entry.seat >= self.terms.seats {
             return false;
         }
         let closed = self.closed[entry.seat as usize];
-        let (lo, size) = (self.range.lo(), self.range.size());
+        let (lo, size) = (self.terms.range.lo(), self.terms.range.size());
         let issued = self.numbers.len() as u32;
         match entry.event {
             Event::Granted(number) => issued < size && number == lo + issued && !closed,
@@ -150,7 +139,7 @@ impl Standing {
                         self.tally.void = self.tally.void.saturating_add(1);
                     }
                 }
-                let k = number - self.range.lo();
+                let k = number - self.terms.range.lo();
                 self.numbers[k as usize].settled = true;
             }
         }

@@ -26,15 +26,17 @@ fn first_line(alloc: Global, line: &[u8]) -> Result<State, AllocError>
         return Ok(State::Wrong(Verdict::Malformed(1)));
     };
     match terms_in(text) {
-        Some((range, seats)) => Ok(State::Sound(Standing::new(alloc, range, seats)?)),
+        Some(terms) => Ok(State::Sound(Standing::new(alloc, terms)?)),
         None => Ok(State::Wrong(Verdict::Malformed(1))),
     }
 }
 
 // Takes the entry of a later line, or says what is wrong with the line of this number.
 fn later_line(standing: &mut Standing, line: &[u8], number: u64) -> Option<Verdict>
-    ensures { (lines : List (List ℕ)) (whole : List ℕ) → SameFront line.now whole → number ≡ length lines + 1 → Judged (State.Sound standing.old) lines
-        → MatchOption result (Judged (State.Sound standing.new) (lines ++ whole ∷ [])) (λ verdict. Judged (State.Wrong verdict) (lines ++ whole ∷ [])) }
+    ensures { (lines : List (List ℕ)) (whole : List ℕ) → SameFront line.now whole → number ≡ length lines + 1
+        → Judged (State.Sound standing.old) lines
+        → MatchOption result (Judged (State.Sound standing.new) (lines ++ whole ∷ []))
+        (λ verdict. Judged (State.Wrong verdict) (lines ++ whole ∷ [])) }
 {
     let Ok(text) = str::from_utf8(line) else {
         return Some(Verdict::Malformed(number));
@@ -52,7 +54,8 @@ fn later_line(standing: &mut Standing, line: &[u8], number: u64) -> Option<Verdi
 impl State {
     // The state after one line more, of this number, whose first 35 bytes are those of `line`.
     pub(crate) fn step(&mut self, alloc: Global, line: &[u8], number: u64) -> Result<(), AllocError>
-        ensures { IfOk result (λ _. (lines : List (List ℕ)) (whole : List ℕ) → SameFront line.now whole → number ≡ length lines + 1 → Judged self.old lines
+        ensures { IfOk result (λ _. (lines : List (List ℕ)) (whole : List ℕ) → SameFront line.now whole
+            → number ≡ length lines + 1 → Judged self.old lines
             → Judged self.new (lines ++ whole ∷ [])) }
     {
         let next = match self {

@@ -154,7 +154,7 @@ fn faults_have_their_numbers_and_texts(rt: HostRuntime) -> Result<(), Fail> {
         assert_eq!(rt; fault.number(), number);
         assert_eq!(rt; format!(in rt.alloc(); "{fault}")?.as_str(), text);
     }
-    assert_eq!(rt; BadRange::NUMBER, 24);
+    assert_eq!(rt; BadRange.number(), 24);
     assert_eq!(rt; format!(in rt.alloc(); "{BadRange}")?.as_str(), "bad range");
     let audits = [
         (AuditFault::OutOfMemory, 23, "out of memory"),
@@ -168,7 +168,8 @@ fn faults_have_their_numbers_and_texts(rt: HostRuntime) -> Result<(), Fail> {
     Ok(())
 }
 
-// The journal of the two seats, each call that memory was refused made again. Run with `rt try --test --fail-alloc 1..`.
+// The journal of the two seats, each call that memory was refused made again. Run with `rt try --test --fail-alloc
+// 1..`.
 #[test]
 fn a_refused_growth_changes_nothing(rt: HostRuntime) -> Result<(), Fail> {
     let alloc = rt.alloc();

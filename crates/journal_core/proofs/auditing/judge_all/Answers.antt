@@ -9,8 +9,8 @@ use Rattle.journal_core.proofs.auditing.judge_all.Goals as goal
 pub input-init : goal.input-init
 input-init g c =
     let len = c.in-Ok.ensures.len in
-    let lines = c.new-auditor.ensures.lines in
-    ([], Consumes-nil _, c.new-auditor.ensures.read, refl, omega arith, omega arith, omega arith, refl)
+    let lines = c.new-progress.ensures.lines in
+    ([], Consumes-nil _, c.new-progress.ensures.read, refl, omega arith, omega arith, omega arith, refl)
 
 pub returns-in-Ok-eq0-clause-verdict : goal.returns-in-Ok-eq0-clause-verdict
 returns-in-Ok-eq0-clause-verdict g c =

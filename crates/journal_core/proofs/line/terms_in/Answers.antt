@@ -1,5 +1,5 @@
 -- The words of the line are the words of the range line that it is said to be.
-use Rattle.std.proofs.Common.{◌≡◌, sym, ◌∙◌, subst, arith, codes}
+use Rattle.std.proofs.Common.{◌≡◌, sym, ap, ◌∙◌, subst, arith, codes, Some}
 use Rattle.journal_core.specs.Range.{IsLawfulRange}
 use Rattle.journal_core.proofs.Lines.{range_no_space, terms_split, four_small, refused_range, made_range, same_range, same_terms}
 use Rattle.journal_core.proofs.Books.{is_false}
@@ -86,4 +86,4 @@ returns-clause-complete c = λ terms lawful is.
     let seats = c.in_ok-seats.ensures.complete terms.seats few.seats size.1 in
     let seats_are : c.in_ok-seats.seats ≡ terms.seats = cc in
     let asked = same_range terms.range c.in_ok-device-2.device c.in_ok-lo.lo c.in_ok-size.size (c.in_ok-device-2.ensures.1 ∙ device.0) lo.0 size.0 in
-    same_terms terms _ _ (made_range c.new-2.result _ _ c.new-2.ensures c.in_ok-range.ensures.value ∙ asked) seats_are
+    ap (λ t. Some t) (same_terms terms _ _ (made_range c.new-2.result _ _ c.new-2.ensures c.in_ok-range.ensures.value ∙ asked) seats_are)

@@ -18,4 +18,4 @@ returns-in_ok-new-in-Some c = λ whole same.
 pub returns-in-None : goal.returns-in-None
 returns-in-None c = λ whole same.
     wrong_first whole (λ terms lawful is.
-    c.in-None.ensures.complete terms lawful (c.in-Ok.ensures.cases.0 ∙ same_text c.args.line.now whole (terms_text terms) same (short_terms terms lawful) is))
+    let none = c.in-None.ensures.complete terms lawful (c.in-Ok.ensures.cases.0 ∙ same_text c.args.line.now whole (terms_text terms) same (short_terms terms lawful) is) in cc)

@@ -1,7 +1,7 @@
-//! An audit under way: what it keeps of the bytes that it has read.
+//! How far an audit has come: what it keeps of the bytes that it has read.
 //!
-//! It keeps the state of the lines so far, and of the line under way at most 35 bytes: the longest line of a journal has 34, so a
-//! longer beginning is malformed whatever follows.
+//! It keeps the state of the lines so far, and of the line under way at most 35 bytes: the longest line of a journal
+//! has 34, so a longer beginning is malformed whatever follows. `auditing` drives it over a reader.
 ghost use Rattle.std.specs.Prelude.{◌≡◌, ℕ, ◌+◌, ◌≤◌, ◌<◌, List, [], ◌∷◌, ◌++◌, length, take, drop, IfOk, MatchOption};
 ghost use Rattle.journal_core.specs.Verdict.{IsLine, IsVerdict};
 
@@ -9,11 +9,11 @@ use crate::state::State;
 use crate::verdict::Verdict;
 use std::alloc::{AllocError, Global};
 
-/// How many bytes of a line are kept: one more than the longest line of a journal has.
+// How many bytes of a line are kept: one more than the longest line of a journal has.
 const KEPT: usize = 35;
 
 #[derive(Drop)]
-pub(crate) struct Auditor {
+pub(crate) struct Progress {
     alloc: Global,
     lines: u64,
     kept: [u8; KEPT],
@@ -24,20 +24,20 @@ pub(crate) struct Auditor {
 
 // Where the first line of these bytes ends, if it does.
 fn line_end(bytes: &[u8]) -> Option<usize>
-    ensures { MatchOption result (IsLine bytes.now) (λ i. (i < length bytes.now) × (bytes.now ≡ take i bytes.now ++ 10 ∷ drop (i + 1) bytes.now) × IsLine (take i bytes.now)) }
+    ensures { MatchOption result (IsLine bytes.now) (λ i. (i < length bytes.now)
+        × (bytes.now ≡ take i bytes.now ++ 10 ∷ drop (i + 1) bytes.now) × IsLine (take i bytes.now)) }
 {
     bytes.iter().position(|byte| *byte == b'\n')
 }
 
-impl Auditor {
+impl Progress {
     ghost use Rattle.journal_core.specs.Audit.{Audits, HasRead};
-    ghost use Rattle.journal_core.specs.Judged.{SameFront};
 
-    pub(crate) fn new(alloc: Global) -> Auditor
+    pub(crate) fn new(alloc: Global) -> Progress
         ensures lines { result.lines ≡ 0 }
         ensures read { HasRead result [] }
     {
-        Auditor {
+        Progress {
             alloc,
             lines: 0,
             kept: [0; KEPT],
@@ -49,7 +49,8 @@ impl Auditor {
     // Keeps what is needed of a piece of the line under way.
     fn keep(&mut self, piece: &[u8])
         ensures count { self.new.lines ≡ self.old.lines }
-        ensures read { (lines : List (List ℕ)) (rest : List ℕ) → Audits self.old lines rest → IsLine piece.now → Audits self.new lines (rest ++ piece.now) }
+        ensures read { (lines : List (List ℕ)) (rest : List ℕ) → Audits self.old lines rest → IsLine piece.now
+            → Audits self.new lines (rest ++ piece.now) }
     {
         let n = piece.len().min(KEPT - self.kept_len);
         let end = self.kept_len + n;
@@ -57,13 +58,16 @@ impl Auditor {
         self.kept_len = end;
     }
 
-    // Judges a line that has ended, of which this is the whole or the kept beginning.
-    fn judge(&mut self, line: &[u8]) -> Result<(), AllocError>
-        requires { self.old.lines < 18446744073709551615 }
+    // Judges the line under way, which has ended.
+    fn judge(&mut self) -> Result<(), AllocError>
+        requires { self.old.lines < u64.MAX }
         ensures count { IfOk result (λ _. self.new.lines ≡ self.old.lines + 1) }
-        ensures read { IfOk result (λ _. (lines : List (List ℕ)) (whole : List ℕ) → Audits self.old lines [] → SameFront line.now whole → IsLine whole
-            → Audits self.new (lines ++ whole ∷ []) []) }
+        ensures read { IfOk result (λ _. (lines : List (List ℕ)) (rest : List ℕ) → Audits self.old lines rest
+            → Audits self.new (lines ++ rest ∷ []) []) }
     {
+        let kept = self.kept;
+        let line = &kept[..self.kept_len];
+        self.kept_len = 0;
         let number = self.lines + 1;
         self.state.step(self.alloc, line, number)?;
         self.lines = number;
@@ -72,36 +76,21 @@ impl Auditor {
 
     // Takes the end of a line: what stands before its line feed.
     fn end(&mut self, piece: &[u8]) -> Result<(), AllocError>
-        requires { self.old.lines < 18446744073709551615 }
+        requires { self.old.lines < u64.MAX }
         ensures count { IfOk result (λ _. self.new.lines ≡ self.old.lines + 1) }
-        ensures read { IfOk result (λ _. (lines : List (List ℕ)) (rest : List ℕ) → Audits self.old lines rest → IsLine piece.now
-            → Audits self.new (lines ++ (rest ++ piece.now) ∷ []) []) }
+        ensures read { IfOk result (λ _. (lines : List (List ℕ)) (rest : List ℕ) → Audits self.old lines rest
+            → IsLine piece.now → Audits self.new (lines ++ (rest ++ piece.now) ∷ []) []) }
     {
-        if self.kept_len == 0 {
-            return self.judge(piece);
-        }
         self.keep(piece);
-        self.judge_kept()
+        self.judge()
     }
 
-    // Judges the line under way, which has ended.
-    fn judge_kept(&mut self) -> Result<(), AllocError>
-        requires { self.old.lines < 18446744073709551615 }
-        ensures count { IfOk result (λ _. self.new.lines ≡ self.old.lines + 1) }
-        ensures read { IfOk result (λ _. (lines : List (List ℕ)) (rest : List ℕ) → Audits self.old lines rest → Audits self.new (lines ++ rest ∷ []) []) }
-    {
-        let kept = self.kept;
-        let line = &kept[..self.kept_len];
-        self.kept_len = 0;
-        self.judge(line)?;
-        Ok(())
-    }
-
-    /// Takes the next bytes of the journal.
+    // Takes the next bytes of the journal.
     pub(crate) fn take(&mut self, bytes: &[u8]) -> Result<(), AllocError>
-        requires { self.old.lines + length bytes.now < 18446744073709551615 }
+        requires { self.old.lines + length bytes.now < u64.MAX }
         ensures count { IfOk result (λ _. self.new.lines ≤ self.old.lines + length bytes.now) }
-        ensures read { IfOk result (λ _. (before : List ℕ) → HasRead self.old before → HasRead self.new (before ++ bytes.now)) }
+        ensures read { IfOk result (λ _. (before : List ℕ) → HasRead self.old before
+            → HasRead self.new (before ++ bytes.now)) }
     {
         let mut rest = bytes;
         while let Some(at) = line_end(rest) {
@@ -112,9 +101,9 @@ impl Auditor {
         Ok(())
     }
 
-    /// The verdict, where the bytes taken are all.
+    // The verdict, where the bytes taken are all.
     pub(crate) fn verdict(&self) -> Verdict
-        requires { self.now.lines < 18446744073709551615 }
+        requires { self.now.lines < u64.MAX }
         ensures { (bytes : List ℕ) → HasRead self.now bytes → IsVerdict bytes result }
     {
         match &self.state {

@@ -2,7 +2,7 @@ use Rattle.std.proofs.Common.{ℕ, ◌+◌, [], ◌∷◌, ◌++◌, length, tak
 use Rattle.std.proofs.lemmas.List.{take_rest}
 use Rattle.journal_core.specs.Audit.{HasRead}
 use Rattle.journal_core.proofs.Reading.{read_piece, read_line}
-use Rattle.journal_core.proofs.auditor.Auditor.take.Goals as goal
+use Rattle.journal_core.proofs.progress.Progress.take.Goals as goal
 
 pub loop-at-preserved : goal.loop-at-preserved
 loop-at-preserved c =

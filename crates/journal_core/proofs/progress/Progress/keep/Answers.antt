@@ -2,7 +2,7 @@ use Rattle.std.proofs.Common.{◌≡◌, ◌≢◌, ◌≤◌, ◌++◌, ℕ, le
 use Rattle.std.proofs.lemmas.List.{take_all}
 use Rattle.std.proofs.lemmas.List.Elements.{All-append}
 use Rattle.journal_core.proofs.Fronts.{filled_more, kept_more}
-use Rattle.journal_core.proofs.auditor.Auditor.keep.Goals as goal
+use Rattle.journal_core.proofs.progress.Progress.keep.Goals as goal
 
 pub returns-clause-read : goal.returns-clause-read
 returns-clause-read c = λ lines rest audits line.

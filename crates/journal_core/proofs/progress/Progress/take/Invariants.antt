@@ -1,7 +1,7 @@
 -- The bytes gone from `rest` were read, and each line that ended had one of them.
 use Rattle.std.proofs.Common.{◌≡◌, ◌≤◌, ℕ, ◌+◌, List, ◌++◌, length}
 use Rattle.journal_core.specs.Audit.{HasRead}
-use Rattle.journal_core.proofs.auditor.Auditor.take.Given as goal
+use Rattle.journal_core.proofs.progress.Progress.take.Given as goal
 
 abbrev pub invariant-loop-at : goal.invariant-loop-at
 invariant-loop-at l =
