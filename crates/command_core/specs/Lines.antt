@@ -5,7 +5,8 @@ use Rattle.std.specs.List.{list_any}
 use Rattle.container_core.specs.Faults.{open_text, seal_text}
 use Rattle.journal_core.specs.Text.{ended_lines}
 use Rattle.command_core.specs.declared.line.FileFault.{FileFault}
-use Rattle.command_core.specs.declared.line.FileFault.TheVariants.{CannotOpen, NoSuffix, OutputExists, CannotCreate, OutOfMemory, NoNumber, Unopened, Unsealed}
+use Rattle.command_core.specs.declared.line.FileFault.TheVariants.{CannotOpen, NoSuffix, OutputExists, CannotCreate}
+use Rattle.command_core.specs.declared.line.FileFault.TheVariants.{OutOfMemory, NoNumber, Unopened, Unsealed}
 use Rattle.command_core.specs.declared.line.FileOutcome.{FileOutcome}
 use Rattle.command_core.specs.declared.line.FileOutcome.TheVariants.{Sealed, Opened, Good, Failed}
 
@@ -24,9 +25,11 @@ fault_text NoNumber = codes "no file number"
 fault_text (Unopened fault) = open_text fault
 fault_text (Unsealed fault) = seal_text fault
 
--- `sealed FILE file NUMBER bytes N`, `opened FILE bytes N`, `good FILE bytes N` or `failed FILE: FAULT`; N counts the plaintext
+-- `sealed FILE file NUMBER bytes N`, `opened FILE bytes N`, `good FILE bytes N` or `failed FILE: FAULT`; N counts the
+-- plaintext
 abbrev pub line_text : List ℕ → FileOutcome → List ℕ
-line_text name (Sealed number bytes) = codes "sealed " ++ name ++ codes " file " ++ decimal number ++ codes " bytes " ++ decimal bytes
+line_text name (Sealed number bytes) =
+    codes "sealed " ++ name ++ codes " file " ++ decimal number ++ codes " bytes " ++ decimal bytes
 line_text name (Opened bytes) = codes "opened " ++ name ++ codes " bytes " ++ decimal bytes
 line_text name (Good bytes) = codes "good " ++ name ++ codes " bytes " ++ decimal bytes
 line_text name (Failed fault) = codes "failed " ++ name ++ codes ": " ++ fault_text fault

@@ -1,10 +1,12 @@
 -- What `open_all` and `verify_all` do with a list of files.
-use Rattle.std.specs.Prelude.{◌≡◌, ◌≢◌, ◌⊎◌, ℕ, ◌-◌, ◌≤◌, true, List, [], ◌∷◌, length, take, map, All, ⊤, Option, flat_map}
+use Rattle.std.specs.Prelude.{◌≡◌, ◌≢◌, ◌⊎◌, ℕ, ◌-◌, ◌≤◌, true, List, [], ◌∷◌, length, take, map, All, ⊤, Option}
+use Rattle.std.specs.Prelude.{flat_map}
 use Rattle.container_core.specs.declared.fault.OpenFault.TheVariants.{Write}
 use Rattle.journal_core.specs.Streams.{Appends, AppendsFront, counted}
 use Rattle.command_core.specs.declared.commands.Task.{Task}
 use Rattle.command_core.specs.declared.commands.Task.TheVariants.{Open, Verify}
-use Rattle.command_core.specs.declared.line.FileFault.TheVariants.{CannotOpen, OutOfMemory, NoNumber, Unopened, Unsealed}
+use Rattle.command_core.specs.declared.line.FileFault.TheVariants.{CannotOpen, OutOfMemory, NoNumber, Unopened}
+use Rattle.command_core.specs.declared.line.FileFault.TheVariants.{Unsealed}
 use Rattle.command_core.specs.declared.line.FileOutcome.{FileOutcome}
 use Rattle.command_core.specs.declared.line.FileOutcome.TheVariants.{Opened, Good, Failed}
 use Rattle.command_core.specs.Folder.{Step, Created, Removing, stepped}
@@ -31,8 +33,8 @@ IsOfVerifying (Failed (Unopened Write)) = ⊥
 IsOfVerifying (Failed (Unopened fault)) = ⊤
 IsOfVerifying _ = ⊥
 
--- the steps on outputs that opening a file makes: its output is created where the whole container was checked, and where the
--- writing then fails its removal is tried
+-- the steps on outputs that opening a file makes: its output is created where the whole container was checked, and
+-- where the writing then fails its removal is tried
 abbrev pub output_steps : List ℕ → FileOutcome → List Step
 output_steps output (Opened bytes) = Created output ∷ []
 output_steps output (Failed (Unopened Write)) = Created output ∷ Removing output ∷ []
@@ -52,16 +54,19 @@ abbrev pub steps_of : Task → FileLine → List Step
 steps_of Open line = opening_steps line
 steps_of Verify line = no_steps line
 
--- What a writer of lines got: a beginning of them; with a status other than 2 all of them, and the status is theirs. At most one
--- write failed, and then the status is 2: behind a failed write no other is tried.
-pub record AreTold (status : ℕ) (lines : List FileLine) (old new : Option (List ℕ)) (failures failures' : Option ℕ) : Type 0 where
+-- What a writer of lines got: a beginning of them; with a status other than 2 all of them, and the status is theirs. At
+-- most one write failed, and then the status is 2: behind a failed write no other is tried.
+pub record AreTold (status : ℕ) (lines : List FileLine) (old new : Option (List ℕ))
+    (failures failures' : Option ℕ) : Type 0 where
   pub range : status ≤ 2
   pub begun : AppendsFront old new (lines_text lines)
   pub whole : status ≢ 2 → (status ≡ status_of_lines lines) × Appends old new (lines_text lines)
   pub stopped : (failures' ≡ failures) ⊎ ((status ≡ 2) × (failures' ≡ counted true failures))
 
--- Every file was worked, in order, each with an outcome that fits, and with its steps on the folder; and their lines were told.
-pub record AreWorked (fits : FileOutcome → Type 0) (steps_for : FileLine → List Step) (names : List (List ℕ)) (status : ℕ)
+-- Every file was worked, in order, each with an outcome that fits, and with its steps on the folder; and their lines
+-- were told.
+pub record AreWorked (fits : FileOutcome → Type 0) (steps_for : FileLine
+    → List Step) (names : List (List ℕ)) (status : ℕ)
     (old new : Option (List ℕ)) (failures failures' : Option ℕ) (steps steps' : Option (List Step)) : Type 0 where
   pub lines : List FileLine
   pub named : map (λ line. line.name) lines ≡ names

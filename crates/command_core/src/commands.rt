@@ -1,15 +1,17 @@
 //! The commands over a folder: each file in turn, with one line on standard output for each.
 //!
-//! A file that fails keeps no other from being worked. Where a line can't be written no further line is tried, the files are
-//! still worked, and the exit status is 2.
-ghost use Rattle.std.specs.Prelude.{◌≡◌, ℕ, ◌<◌, ◌≤◌, List, [], ◌∷◌, ◌++◌, length, map, Option, Ok, Err, IfSome, codes, if◌then◌else◌};
+//! A file that fails keeps no other from being worked. Where a line can't be written no further line is tried, the
+//! files are still worked, and the exit status is 2.
+ghost use Rattle.std.specs.Prelude.{◌≡◌, ℕ, ◌<◌, ◌≤◌, List, [], ◌∷◌, ◌++◌, length, map, Option, Ok, Err, IfSome, codes};
+ghost use Rattle.std.specs.Prelude.{if◌then◌else◌};
 ghost use Rattle.command_core.specs.Folder.{stepped};
 ghost use Rattle.command_core.specs.Lines.{FileLine, is_failed};
-ghost use Rattle.command_core.specs.Work.{output_of, IsOfOpening, IsOfVerifying, opening_steps, no_steps, IsOutcomeOf, steps_of, AreTold, AreWorked};
+ghost use Rattle.command_core.specs.Work.{output_of, IsOfOpening, IsOfVerifying, opening_steps, no_steps, IsOutcomeOf};
+ghost use Rattle.command_core.specs.Work.{steps_of, AreTold, AreWorked};
 
 use crate::folder::{Folder, FolderFault};
 use crate::line::{FileFault, FileOutcome, Line};
-use container_core::{Key, OpenFault};
+use container_core::{Key, MAX_PLAIN, OpenFault};
 use crew_core::Free;
 use engine_core::{run_plain, run_verify};
 use ledger_core::{Failed, Sink, write_all};
@@ -23,7 +25,7 @@ pub const SUFFIX: &str = ".stm";
 pub const MAX_WORKERS: u32 = 16;
 
 /// The greatest number of plaintext bytes of a file that can be asked for: 2^40.
-pub const MAX_BYTES: u64 = 1 << 40;
+pub const MAX_BYTES: u64 = MAX_PLAIN;
 
 /// The exit status where some file failed.
 const SOME_FAILED: u8 = 1;
@@ -83,10 +85,11 @@ fn open_file<T: Threads + Sync, F: Folder>(
     max_bytes: u64,
     workers: u32,
 ) -> FileOutcome
-    requires max_bytes { max_bytes ≤ 1099511627776 }
+    requires max_bytes { max_bytes ≤ MAX_BYTES }
     requires workers { (0 < workers) × (workers ≤ 16) }
     ensures outcome { IsOfOpening result }
-    ensures steps { F.steps folder.new ≡ stepped (F.steps folder.old) (opening_steps (record { name = name.now; outcome = result })) }
+    ensures steps { F.steps folder.new ≡ stepped (F.steps folder.old)
+        (opening_steps (record { name = name.now; outcome = result })) }
 {
     let Some(output) = output_name(name) else {
         return FileOutcome::Failed(FileFault::NoSuffix);
@@ -122,7 +125,7 @@ fn verify_file<T: Threads + Sync, F: Folder>(
     max_bytes: u64,
     workers: u32,
 ) -> FileOutcome
-    requires max_bytes { max_bytes ≤ 1099511627776 }
+    requires max_bytes { max_bytes ≤ MAX_BYTES }
     requires workers { (0 < workers) × (workers ≤ 16) }
     ensures outcome { IsOfVerifying result }
     ensures steps { F.steps folder.new ≡ F.steps folder.old }
@@ -151,8 +154,8 @@ fn worse(status: u8, outcome: FileOutcome) -> u8
     }
 }
 
-/// Writes a file's line, unless one before it wasn't written. The answer is the status so far. A line for which memory is
-/// refused is one that isn't written.
+/// Writes a file's line, unless one before it wasn't written. The answer is the status so far. A line for which memory
+/// is refused is one that isn't written.
 pub fn tell<W: Sink>(
     alloc: Global,
     lines: &mut W,
@@ -162,7 +165,8 @@ pub fn tell<W: Sink>(
 ) -> u8
     ensures { (told : List FileLine) (first : Option (List ℕ)) (count : Option ℕ)
         → AreTold status told first (W.taken lines.old) count (W.failures lines.old)
-        → AreTold result (told ++ record { name = name.now; outcome = outcome } ∷ []) first (W.taken lines.new) count (W.failures lines.new) }
+        → AreTold result (told ++ record { name = name.now; outcome = outcome } ∷ []) first (W.taken lines.new) count
+        (W.failures lines.new) }
 {
     if status == UNTOLD {
         return UNTOLD;
@@ -187,10 +191,11 @@ fn work_file<T: Threads + Sync, F: Folder>(
     workers: u32,
     task: Task,
 ) -> FileOutcome
-    requires max_bytes { max_bytes ≤ 1099511627776 }
+    requires max_bytes { max_bytes ≤ MAX_BYTES }
     requires workers { (0 < workers) × (workers ≤ 16) }
     ensures outcome { IsOutcomeOf task result }
-    ensures steps { F.steps folder.new ≡ stepped (F.steps folder.old) (steps_of task (record { name = name.now; outcome = result })) }
+    ensures steps { F.steps folder.new ≡ stepped (F.steps folder.old)
+        (steps_of task (record { name = name.now; outcome = result })) }
 {
     match task {
         Task::Open => open_file(rt, alloc, key, folder, name, max_bytes, workers),
@@ -207,10 +212,11 @@ fn work_all<T: Threads + Sync, F: Folder, W: Sink>(
     lines: &mut W,
     task: Task,
 ) -> u8
-    requires max_bytes { options.now.max_bytes ≤ 1099511627776 }
+    requires max_bytes { options.now.max_bytes ≤ MAX_BYTES }
     requires workers { (0 < options.now.workers) × (options.now.workers ≤ 16) }
     ensures { AreWorked (IsOutcomeOf task) (steps_of task) (map (λ name. name.now) options.now.files.now) result
-        (W.taken lines.old) (W.taken lines.new) (W.failures lines.old) (W.failures lines.new) (F.steps folder.old) (F.steps folder.new) }
+        (W.taken lines.old) (W.taken lines.new) (W.failures lines.old) (W.failures lines.new) (F.steps folder.old)
+        (F.steps folder.new) }
 {
     let mut status = 0;
     for name in options.files {
@@ -229,9 +235,9 @@ fn work_all<T: Threads + Sync, F: Folder, W: Sink>(
     status
 }
 
-/// Opens each file: reads its container, checks all of it, and then writes the plaintext to the name without `.stm`, which
-/// must not be there yet. The answer is the exit status: 0 where every file was opened, 1 where one failed, 2 where a line
-/// couldn't be written. An output that couldn't be written whole is removed.
+/// Opens each file: reads its container, checks all of it, and then writes the plaintext to the name without `.stm`,
+/// which must not be there yet. The answer is the exit status: 0 where every file was opened, 1 where one failed, 2
+/// where a line couldn't be written. An output that couldn't be written whole is removed.
 pub fn open_all<T: Threads + Sync, F: Folder, L: Sink + Drop, E: Sink + Drop, J: Sink + Drop>(
     rt: &T,
     alloc: Global,
@@ -242,7 +248,7 @@ pub fn open_all<T: Threads + Sync, F: Folder, L: Sink + Drop, E: Sink + Drop, J:
 ) -> u8
     requires files { 0 < length options.now.files.now }
     requires workers { (0 < options.now.workers) × (options.now.workers ≤ 16) }
-    requires max_bytes { options.now.max_bytes ≤ 1099511627776 }
+    requires max_bytes { options.now.max_bytes ≤ MAX_BYTES }
     ensures status { result ≤ 2 }
     ensures files { AreWorked IsOfOpening opening_steps (map (λ name. name.now) options.now.files.now) result
         (L.taken out.old.lines) (L.taken out.new.lines) (L.failures out.old.lines) (L.failures out.new.lines)
@@ -252,8 +258,8 @@ pub fn open_all<T: Threads + Sync, F: Folder, L: Sink + Drop, E: Sink + Drop, J:
     work_all(rt, alloc, key, folder, options, &mut out.lines, Task::Open)
 }
 
-/// Checks each file's container, as `open_all` does, and makes no file. The answer is the exit status: 0 where every file is
-/// good, 1 where one failed, 2 where a line couldn't be written.
+/// Checks each file's container, as `open_all` does, and makes no file. The answer is the exit status: 0 where every
+/// file is good, 1 where one failed, 2 where a line couldn't be written.
 pub fn verify_all<T: Threads + Sync, F: Folder, L: Sink + Drop, E: Sink + Drop, J: Sink + Drop>(
     rt: &T,
     alloc: Global,
@@ -264,7 +270,7 @@ pub fn verify_all<T: Threads + Sync, F: Folder, L: Sink + Drop, E: Sink + Drop, 
 ) -> u8
     requires files { 0 < length options.now.files.now }
     requires workers { (0 < options.now.workers) × (options.now.workers ≤ 16) }
-    requires max_bytes { options.now.max_bytes ≤ 1099511627776 }
+    requires max_bytes { options.now.max_bytes ≤ MAX_BYTES }
     ensures status { result ≤ 2 }
     ensures files { AreWorked IsOfVerifying no_steps (map (λ name. name.now) options.now.files.now) result
         (L.taken out.old.lines) (L.taken out.new.lines) (L.failures out.old.lines) (L.failures out.new.lines)

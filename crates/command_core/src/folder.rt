@@ -32,9 +32,11 @@ pub trait Folder {
         ensures fault { result ≢ Err FolderFault.Exists }
         ensures steps { steps self.new ≡ steps self.old };
 
-    /// Creates an empty output. It never replaces a file: `Exists` where the name is there, and any other cause is `Failed`.
+    /// Creates an empty output. It never replaces a file: `Exists` where the name is there, and any other cause is
+    /// `Failed`.
     fn create(&mut self, name: &str) -> Result<Self::Writer, FolderFault>
-        ensures steps { steps self.new ≡ stepped (steps self.old) (if is_ok result then Created name.now ∷ [] else []) };
+        ensures steps { steps self.new ≡ stepped (steps self.old)
+            (if is_ok result then Created name.now ∷ [] else []) };
 
     /// Removes a file. Its only fault is `Failed`.
     fn remove(&mut self, name: &str) -> Result<(), FolderFault>

@@ -48,11 +48,12 @@ fn key_in(bytes: &[u8]) -> Option<[u8; 32]>
     }
 }
 
-/// Reads a key file to its end, of which it reads at most 67 bytes. `NotKeyFile` where its content isn't 64 hex digits and one of
-/// the three ends.
+/// Reads a key file to its end, of which it reads at most 67 bytes. `NotKeyFile` where its content isn't 64 hex digits
+/// and one of the three ends.
 pub fn read_key<R: Source>(reader: &mut R) -> Result<Key, KeyFault>
     ensures key { IfOk result (λ key. IfSome (R.left reader.old) (λ input. IsKeyText input key)) }
-    ensures refused { result ≡ Err KeyFault.NotKeyFile → IfSome (R.left reader.old) (λ input. (key : List ℕ) → ¬ IsKeyText input key) }
+    ensures refused { result ≡ Err KeyFault.NotKeyFile
+        → IfSome (R.left reader.old) (λ input. (key : List ℕ) → ¬ IsKeyText input key) }
     ensures opened { result ≢ Err KeyFault.CannotOpen }
     ensures bound { ConsumesUpTo (R.left reader.old) (R.left reader.new) 67 }
     ensures read { R.failures reader.new ≡ counted (key_read_failed result) (R.failures reader.old) }

@@ -1,11 +1,16 @@
--- What the engines' contracts cite.
-use Rattle.std.specs.Prelude.{◌≡◌, ℕ, Bool, true, false, List, length, Option, Result, Ok, Err}
+-- What the contracts of the engines cite: what an engine did with its reader, and what with its writer.
+use Rattle.std.specs.Prelude.{◌≡◌, ◌≢◌, ℕ, ◌+◌, ◌<◌, ◌≤◌, Bool, true, false, List, length, Option, Result, Ok, Err}
+use Rattle.std.specs.Prelude.{IfOk, IfErr, OnOk, OnErr, IfSome}
+use Rattle.container_core.specs.Chunks.{container_length}
+use Rattle.container_core.specs.Container.{container}
 use Rattle.container_core.specs.declared.fault.OpenFault.{OpenFault}
 use Rattle.container_core.specs.declared.fault.OpenFault.TheVariants as opening_fault
 use Rattle.container_core.specs.declared.fault.SealFault.{SealFault}
 use Rattle.container_core.specs.declared.fault.SealFault.TheVariants as sealing_fault
+use Rattle.container_core.specs.Faults.{IsOfBytes}
 use Rattle.container_core.specs.Opening.{opening}
-use Rattle.ledger_core.specs.Streams.{Appends, AppendsFront}
+use Rattle.ledger_core.specs.Reads.{ConsumesExactly, ConsumesUpTo}
+use Rattle.ledger_core.specs.Streams.{Appends, AppendsFront, IsAtEnd, Keeps, counted}
 
 -- whether a sealing ended by a failed read
 abbrev pub seal_read_failed : {A : Type 0} → Result A SealFault → Bool
@@ -45,4 +50,59 @@ WritesPlaintext key most input old new = (plain : List ℕ) × (opening key most
 
 -- the input opens, and a beginning of its plaintext was written
 abbrev pub BeginsPlaintext : List ℕ → ℕ → List ℕ → Option (List ℕ) → Option (List ℕ) → Type 0
-BeginsPlaintext key most input old new = (plain : List ℕ) × (opening key most input ≡ Ok plain) × AppendsFront old new plain
+BeginsPlaintext key most input old new =
+    (plain : List ℕ) × (opening key most input ≡ Ok plain) × AppendsFront old new plain
+
+-- What an engine that seals did with its reader, which had `left` to be read, and has `left'` now.
+pub record HasReadPlain {A : Type 0} (most : ℕ) (left left' : Option (List ℕ)) (failures failures' : Option ℕ)
+    (result : Result A SealFault) : Type 0 where
+  -- nothing is left unread
+  pub end : OnOk result (IsAtEnd left')
+  pub all_read : result ≡ Err sealing_fault.Write → IsAtEnd left'
+  -- an input that is too long has more bytes, of which one past the longest was read
+  pub more : result ≡ Err sealing_fault.TooLong → IfSome left (λ input. most < length input)
+  pub too_long : result ≡ Err sealing_fault.TooLong → ConsumesExactly left left' (most + 1)
+  pub bound : ConsumesUpTo left left' (most + 1)
+  -- a failed read is Read, and no other fault is
+  pub read : failures' ≡ counted (seal_read_failed result) failures
+
+-- What it did with its writer, which had taken `taken`, and has `taken'` now.
+pub record HasWrittenContainer (key prefix : List ℕ) (most : ℕ) (left taken taken' : Option (List ℕ))
+    (failures failures' : Option ℕ) (result : Result ℕ SealFault) : Type 0 where
+  -- what was written is the container of the whole input
+  pub written : OnOk result (IfSome left (λ input. Appends taken taken' (container key prefix input)))
+  pub within : OnOk result (IfSome left (λ input. length input ≤ most))
+  -- where a write failed a beginning of that was written, at another fault nothing
+  pub unwritten : result ≢ Err sealing_fault.Write → OnErr result (Keeps taken taken')
+  pub begun : result ≡ Err sealing_fault.Write
+      → IfSome left (λ input. AppendsFront taken taken' (container key prefix input))
+  -- a failed write is Write, and no other fault is
+  pub write : failures' ≡ counted (seal_write_failed result) failures
+  -- the answer is the input's length
+  pub length : IfOk result (λ n. IfSome left (λ input. n ≡ length input))
+
+-- What an engine that opens did with its reader.
+pub record HasReadContainer {A : Type 0} (key : List ℕ) (most : ℕ) (left left' : Option (List ℕ))
+    (failures failures' : Option ℕ) (result : Result A OpenFault) : Type 0 where
+  -- nothing is left unread
+  pub end : OnOk result (IsAtEnd left')
+  pub all_read : result ≡ Err opening_fault.Write → IsAtEnd left'
+  -- a fault of the bytes is the whole input's
+  pub fault : IfErr result (λ fault. IsOfBytes fault → IfSome left (λ input. opening key most input ≡ Err fault))
+  -- of an input that is too long one byte past the longest container is read
+  pub bound : ConsumesUpTo left left' (container_length most + 1)
+  -- a failed read is Read, and no other fault is
+  pub read : failures' ≡ counted (open_read_failed result) failures
+
+-- What it did with its writer.
+pub record HasWrittenPlain (key : List ℕ) (most : ℕ) (left taken taken' : Option (List ℕ))
+    (failures failures' : Option ℕ) (result : Result ℕ OpenFault) : Type 0 where
+  -- what was written is the plaintext of the whole input
+  pub written : OnOk result (IfSome left (λ input. WritesPlaintext key most input taken taken'))
+  -- where a write failed a beginning of that was written, at another fault nothing
+  pub unwritten : result ≢ Err opening_fault.Write → OnErr result (Keeps taken taken')
+  pub begun : result ≡ Err opening_fault.Write → IfSome left (λ input. BeginsPlaintext key most input taken taken')
+  -- a failed write is Write, and no other fault is
+  pub write : failures' ≡ counted (open_write_failed result) failures
+  -- the answer is the plaintext's length
+  pub length : IfOk result (λ n. IfSome left (λ input. OpensTo key most input n))

@@ -10,8 +10,8 @@ ghost use Rattle.engine_core.specs.Status.{status_of};
 use ledger_core::{AuditFault, Sink, Source, Verdict, audit};
 use std::alloc::Global;
 
-/// Audits the journal that the reader gives, and writes the verdict as one line. The answer is the exit status: 0 where the
-/// journal is legal, else 1. At `OutOfMemory` and `Read` nothing was written; at `Write` a beginning of the line.
+/// Audits the journal that the reader gives, and writes the verdict as one line. The answer is the exit status: 0 where
+/// the journal is legal, else 1. At `OutOfMemory` and `Read` nothing was written; at `Write` a beginning of the line.
 pub fn run_audit<R: Source, W: Sink>(
     alloc: Global,
     reader: &mut R,
@@ -24,7 +24,8 @@ pub fn run_audit<R: Source, W: Sink>(
 
     // The faults are those of `audit`.
     ensures nothing_written { IfErr result (λ fault. fault ≢ Write → Keeps (W.taken writer.old) (W.taken writer.new)) }
-    ensures front_written { IsErrOf result Write → (verdict : Verdict) × IfSome (R.left reader.old) (λ input. IsVerdict input verdict)
+    ensures front_written { IsErrOf result Write → (verdict : Verdict)
+        × IfSome (R.left reader.old) (λ input. IsVerdict input verdict)
         × AppendsFront (W.taken writer.old) (W.taken writer.new) (verdict_text verdict ++ 10 ∷ []) }
     ensures undisturbed { result ≢ Err Read → R.failures reader.new ≡ R.failures reader.old }
     ensures reads { IfSome (R.left reader.old) (λ input. length input < 18446744073709551615

@@ -15,7 +15,8 @@ const MOST: usize = usize::MAX;
 // Device 1, file 0.
 const PREFIX: [u8; 7] = [0, 0, 1, 0, 0, 0, 0];
 
-// Seals from a reader that fails on schedule, under a grant of this number. Answers what the engine does, and how the grant ended.
+// Seals from a reader that fails on schedule, under a grant of this number. Answers what the engine does, and how the
+// grant ended.
 fn seal_from<R: Threads + Sync>(
     rt: &R,
     alloc: Global,

@@ -1,4 +1,5 @@
-//! What a gate sees of the engines: as many workers as are asked for work, and all of them pass the gate that was given.
+//! What a gate sees of the engines: as many workers as are asked for work, and all of them pass the gate that was
+//! given.
 ghost use Rattle.std.specs.Prelude.{◌<◌, ◌≤◌};
 
 use container_core::{Key, seal};

@@ -1,5 +1,5 @@
-//! The engines over readers and writers in memory that give or take a few bytes a call, and fail where they are told to.
-//! The expected bytes and digests are those of Python's `cryptography` and `hashlib`.
+//! The engines over readers and writers in memory that give or take a few bytes a call, and fail where they are told
+//! to. The expected bytes and digests are those of Python's `cryptography` and `hashlib`.
 use container_core::{Key, OpenFault, SealFault, seal};
 use engine_core::{open_one, seal_one, verify_one};
 use ledger_core::{Failed, FromMemory, FromRead, Schedule, Source, ToMemory, ToWrite};

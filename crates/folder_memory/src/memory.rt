@@ -52,7 +52,8 @@ impl Model for MemoryFolder {
 
     ghost Value = { MemoryView };
 
-    ghost view = { λ f. memory_view (map (λ file. string_bytes file.name) f.files.items) f.refused f.readers f.writers };
+    ghost view = { λ f. memory_view
+        (map (λ file. string_bytes file.name) f.files.items) f.refused f.readers f.writers };
 }
 
 /// A reader of the bytes that a file had when it was opened.

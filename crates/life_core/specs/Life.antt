@@ -42,7 +42,8 @@ history_of (Acknowledged r seats history) = history
 abbrev pub IsRun : ℕ → Run → Type 0
 IsRun device Refused = ⊤
 IsRun device (CutOff r) = ⊤
-IsRun device (Acknowledged r seats history) = Legal (record { range = range_of device r.lo r.size; seats = seats }) history
+IsRun device (Acknowledged r seats history) = Legal
+    (record { range = range_of device r.lo r.size; seats = seats }) history
 
 -- a life: the ranges of all runs are adjacent, the first begins at 0 and the last ends at 2 ^ 32 at most
 pub record IsLife (device : ℕ) (runs : List Run) : Type 0 where
@@ -77,7 +78,8 @@ prefix_by grant = prefix_of grant.device grant.number
 -- the nonces under which STREAM seals a list of chunks, the first of which has this number
 unfoldable pub stream_nonces : List ℕ → ℕ → List (List ℕ) → List (List ℕ)
 stream_nonces header number [] = []
-stream_nonces header number (chunk ∷ rest) = nonce_of (prefix_in header) number (is_nil rest) ∷ stream_nonces header (number + 1) rest
+stream_nonces header number (chunk ∷ rest) = nonce_of (prefix_in header) number (is_nil rest) ∷ stream_nonces header
+    (number + 1) rest
 
 -- the nonces of the container of a plaintext under a grant
 unfoldable pub container_nonces : List ℕ → Grant → List ℕ → List (List ℕ)

@@ -1,5 +1,5 @@
-//! No nonce is used twice, over all runs of one key: what follows of the definitions of STREAM, ranges, legal histories and
-//! the life of a ledger file. Each law is the contract of a function that does nothing.
+//! No nonce is used twice, over all runs of one key: what follows of the definitions of STREAM, ranges, legal histories
+//! and the life of a ledger file. Each law is the contract of a function that does nothing.
 #![tactic(auto)]
 
 ghost use Rattle.std.specs.Prelude.{◌≡◌, ◌≢◌, ℕ, ◌+◌, ◌^◌, ◌<◌, ◌≤◌, ◌++◌, List, length, Some, slice_get};
@@ -7,7 +7,8 @@ ghost use Rattle.journal_core.specs.Range.{prefix_of};
 ghost use Rattle.container_core.specs.Chunks.{chunks};
 ghost use Rattle.container_core.specs.Container.{container, header_of};
 ghost use Rattle.reserve_core.specs.Reservations.{Span};
-ghost use Rattle.life_core.specs.Life.{Grant, HasGrant, IsLife, Lives, Run, container_nonces, prefix_by, reserved, sealed_under};
+ghost use Rattle.life_core.specs.Life.{Grant, HasGrant, IsLife, Lives, Run, container_nonces, prefix_by, reserved};
+ghost use Rattle.life_core.specs.Life.{sealed_under};
 
 /// In the life of a key and device no number is in two of the ranges that its runs reserved.
 pub fn ranges_are_apart()
@@ -18,15 +19,17 @@ pub fn ranges_are_apart()
 
 /// Over all runs of all devices of one key, two grants with one prefix are the same grant.
 pub fn no_prefix_is_granted_twice()
-    ensures { (lives : Lives) (one other : Grant) → HasGrant lives one → HasGrant lives other → prefix_by one ≡ prefix_by other
+    ensures { (lives : Lives) (one other : Grant) → HasGrant lives one → HasGrant lives other
+        → prefix_by one ≡ prefix_by other
         → one ≡ other }
 {}
 
-/// No nonce is used twice under one key: over all runs of all its devices, where under each grant one plaintext at most is
-/// sealed, two sealed chunks with one nonce are the same chunk of the same container. A sealing that was broken off wrote
-/// a beginning of such a container, so its chunks are among these.
+/// No nonce is used twice under one key: over all runs of all its devices, where under each grant one plaintext at most
+/// is sealed, two sealed chunks with one nonce are the same chunk of the same container. A sealing that was broken off
+/// wrote a beginning of such a container, so its chunks are among these.
 pub fn no_nonce_is_used_twice()
-    ensures { (key : List ℕ) (lives : Lives) (sealed : Grant → List ℕ) (one other : Grant) (chunk another : ℕ) (nonce : List ℕ)
+    ensures { (key : List ℕ) (lives : Lives) (sealed : Grant
+        → List ℕ) (one other : Grant) (chunk another : ℕ) (nonce : List ℕ)
         → HasGrant lives one → HasGrant lives other
         → length (sealed one) ≤ 2 ^ 40 → length (sealed other) ≤ 2 ^ 40
         → slice_get (container_nonces key one (sealed one)) chunk ≡ Some nonce
@@ -34,10 +37,11 @@ pub fn no_nonce_is_used_twice()
         → (one ≡ other) × (chunk ≡ another) }
 {}
 
-/// These nonces are those of STREAM: the container of a plaintext under a grant is its header, and behind it the plaintext's chunks
-/// in order, each sealed by the AEAD under the nonce at its place.
+/// These nonces are those of STREAM: the container of a plaintext under a grant is its header, and behind it the
+/// plaintext's chunks in order, each sealed by the AEAD under the nonce at its place.
 pub fn containers_are_sealed_under_their_nonces()
     ensures { (key : List ℕ) (grant : Grant) (plain : List ℕ)
         → container key (prefix_by grant) plain
-        ≡ header_of key (prefix_by grant) ++ sealed_under key (header_of key (prefix_by grant)) (container_nonces key grant plain) (chunks plain) }
+        ≡ header_of key (prefix_by grant) ++ sealed_under key (header_of key (prefix_by grant))
+        (container_nonces key grant plain) (chunks plain) }
 {}

@@ -1,5 +1,6 @@
 -- Inside: files that are sealed in a group, by several lanes: before the sealing, and between it and their lines.
-use Rattle.std.specs.Prelude.{⊤, ◌≡◌, ◌⊎◌, ℕ, ◌+◌, ◌<◌, ◌≤◌, Bool, false, nat_eq, if◌then◌else◌, List, [], ◌∷◌, ◌++◌, drop, map, All, count_by, flat_map, Option, string_bytes}
+use Rattle.std.specs.Prelude.{⊤, ◌≡◌, ◌⊎◌, ℕ, ◌+◌, ◌<◌, ◌≤◌, Bool, false, nat_eq, if◌then◌else◌, List, [], ◌∷◌, ◌++◌}
+use Rattle.std.specs.Prelude.{drop, map, All, count_by, flat_map, Option, string_bytes}
 use Rattle.journal_core.specs.declared.entry.Entry.{Entry}
 use Rattle.journal_core.specs.declared.entry.Event.{Event}
 use Rattle.journal_core.specs.declared.entry.Event.TheVariants.{Settled}
@@ -15,10 +16,12 @@ use Rattle.sealer_core.specs.declared.prepare.Prepared.TheVariants.{Refused, Unr
 use Rattle.command_core.specs.declared.line.FileOutcome.{FileOutcome}
 use Rattle.command_core.specs.declared.line.FileOutcome.TheVariants.{Sealed, Failed}
 use Rattle.command_core.specs.declared.line.FileFault.{FileFault}
-use Rattle.command_core.specs.declared.line.FileFault.TheVariants.{CannotOpen, OutputExists, CannotCreate, OutOfMemory, Unsealed}
+use Rattle.command_core.specs.declared.line.FileFault.TheVariants.{CannotOpen, OutputExists, CannotCreate, OutOfMemory}
+use Rattle.command_core.specs.declared.line.FileFault.TheVariants.{Unsealed}
 use Rattle.command_core.specs.Folder.{Step, Created, stepped}
 use Rattle.command_core.specs.Lines.{FileLine}
-use Rattle.sealer_core.specs.Sealing.{IsOfSealing, Accounts, unissued_as, creations_of, removals_of, group_steps, line_of, sealed_name, times_sealed, times_voided, times_told}
+use Rattle.sealer_core.specs.Sealing.{IsOfSealing, Accounts, unissued_as, creations_of, removals_of, group_steps}
+use Rattle.sealer_core.specs.Sealing.{line_of, sealed_name, times_sealed, times_voided, times_told}
 use Rattle.command_core.specs.Work.{AreTold}
 
 -- ---- a file before the sealing
@@ -75,7 +78,8 @@ IsHeld seats o = (seat_of o < seats) × HasEnded o
 -- Lines and operations of a ledger agree, where the numbers of these outcomes are granted and not settled yet.
 pub record AreHeld (lines : List FileLine) (outcomes : List Outcome) (operations : List Entry) : Type 0 where
   pub told : (number : ℕ) → times_sealed number operations ≤ times_told number lines
-  pub granted : (number : ℕ) → (times_told number lines + times_voided number operations) + count_by (holds number) outcomes ≤ times_granted number operations
+  pub granted : (number : ℕ) → (times_told number lines + times_voided number operations)
+      + count_by (holds number) outcomes ≤ times_granted number operations
 
 -- the operations are those and this event of some seat, in whatever order; or none came
 abbrev pub IsCounted : List Entry → List Entry → Event → Type 0
@@ -89,13 +93,15 @@ IsEnding number old new _ = IsCounted old new (Settled number ended.Void)
 
 -- ---- how a file ends
 
--- An output gets this container: whole, and then the line tells this number and so many bytes; or cut short, and then the file failed.
+-- An output gets this container: whole, and then the line tells this number and so many bytes; or cut short, and then
+-- the file failed.
 abbrev pub IsPut : List ℕ → ℕ → ℕ → Option (List ℕ) → Option (List ℕ) → FileOutcome → Type 0
 IsPut container number bytes old new (Sealed n m) = (n ≡ number) × (m ≡ bytes) × Appends old new container
-IsPut container number bytes old new end = (end ≡ Failed (Unsealed sealing_fault.Write)) × AppendsFront old new container
+IsPut container number bytes old new end = (end ≡ Failed (Unsealed sealing_fault.Write))
+    × AppendsFront old new container
 
--- A file of so many bytes ends by the outcome of its job: its output gets the container that was sealed, under the number that this
--- was sealed under; or the file failed as the outcome says.
+-- A file of so many bytes ends by the outcome of its job: its output gets the container that was sealed, under the
+-- number that this was sealed under; or the file failed as the outcome says.
 abbrev pub IsEndOf : ℕ → Option (List ℕ) → Option (List ℕ) → Outcome → FileOutcome → Type 0
 IsEndOf bytes old new (job.Sealed seat container spent) end = IsPut container.items spent.number bytes old new end
 IsEndOf bytes old new (job.Spoiled seat spent) end = end ≡ Failed (Unsealed sealing_fault.OutOfMemory)
@@ -110,7 +116,8 @@ IsEndBy bytes old new (outcome ∷ outcomes) end = IsEndOf bytes old new outcome
 abbrev pub IsEndIn : {W : Type 0} → List Outcome → Prepared W → FileOutcome → Type 0
 IsEndIn outcomes (Refused name fault) end = end ≡ Failed fault
 IsEndIn outcomes (Unread name output fault) end = end ≡ Failed (Unsealed fault)
-IsEndIn outcomes (Read name output writer bytes) end = (old : Option (List ℕ)) × ((new : Option (List ℕ)) × IsEndBy bytes old new outcomes end)
+IsEndIn outcomes (Read name output writer bytes) end = (old : Option (List ℕ))
+    × ((new : Option (List ℕ)) × IsEndBy bytes old new outcomes end)
 
 -- the outcomes that are left for the files behind it: a file that was read has the first one, and no other file has any
 abbrev pub left_by : {W : Type 0} → Prepared W → List Outcome → List Outcome
@@ -124,26 +131,32 @@ left_by (Read name output writer bytes) outcomes = drop 1 outcomes
 abbrev pub refused_lines : List (List ℕ) → List FileLine
 refused_lines names = map (λ name. line_of name (Failed OutOfMemory)) names
 
--- Files of a group have their lines: those, in order; and so stand status, operations and steps behind them, where they stood so before.
-pub record AreEnded (names : List (List ℕ)) (made : List Step) (outcomes outcomes' : List Outcome) (operations operations' : List Entry) (status status' : ℕ)
+-- Files of a group have their lines: those, in order; and so stand status, operations and steps behind them, where they
+-- stood so before.
+pub record AreEnded (names : List (List ℕ)) (made : List Step) (outcomes outcomes' : List Outcome)
+    (operations operations' : List Entry) (status status' : ℕ)
     (old new : Option (List ℕ)) (failures failures' : Option ℕ) (steps steps' : Option (List Step)) : Type 0 where
   pub lines : List FileLine
   pub named : map (λ line. line.name) lines ≡ names
   pub fitting : All (λ line. IsOfSealing line.outcome) lines
   pub created : flat_map creations_of lines ≡ made
   pub removed : steps' ≡ stepped steps (flat_map removals_of lines)
-  pub told : (before : List FileLine) (first : Option (List ℕ)) (count : Option ℕ) → AreTold status before first old count failures
+  pub told : (before : List FileLine) (first : Option (List ℕ)) (count : Option ℕ)
+      → AreTold status before first old count failures
       → AreTold status' (before ++ lines) first new count failures'
-  pub accounts : (before : List FileLine) → AreHeld before outcomes operations → AreHeld (before ++ lines) outcomes' operations'
+  pub accounts : (before : List FileLine) → AreHeld before outcomes operations
+      → AreHeld (before ++ lines) outcomes' operations'
 
 -- So far it stands with these files, of which the latter have no line yet.
-pub record AreEnding {W : Type 0} (files left : List (Prepared W)) (outcomes outcomes' : List Outcome) (operations operations' : List Entry) (status status' : ℕ)
+pub record AreEnding {W : Type 0} (files left : List (Prepared W)) (outcomes outcomes' : List Outcome)
+    (operations operations' : List Entry) (status status' : ℕ)
     (old new : Option (List ℕ)) (failures failures' : Option ℕ) (steps steps' : Option (List Step)) : Type 0 where
   pub names : List (List ℕ)
   pub made : List Step
   pub named : names ++ map name_of left ≡ map name_of files
   pub created : made ++ flat_map made_for left ≡ flat_map made_for files
-  pub ended : AreEnded names made outcomes outcomes' operations operations' status status' old new failures failures' steps steps'
+  pub ended : AreEnded names made outcomes outcomes' operations operations' status status'
+      old new failures failures' steps steps'
 
 -- A group was worked: its files have their lines, and so stand status, operations and steps behind them.
 pub record IsGroup (names : List (List ℕ)) (operations operations' : List Entry) (status status' : ℕ)
@@ -152,6 +165,7 @@ pub record IsGroup (names : List (List ℕ)) (operations operations' : List Entr
   pub named : map (λ line. line.name) lines ≡ names
   pub fitting : All (λ line. IsOfSealing line.outcome) lines
   pub stepwise : steps' ≡ stepped steps (group_steps lines)
-  pub told : (before : List FileLine) (first : Option (List ℕ)) (count : Option ℕ) → AreTold status before first old count failures
+  pub told : (before : List FileLine) (first : Option (List ℕ)) (count : Option ℕ)
+      → AreTold status before first old count failures
       → AreTold status' (before ++ lines) first new count failures'
   pub accounts : (before : List FileLine) → Accounts before operations → Accounts (before ++ lines) operations'

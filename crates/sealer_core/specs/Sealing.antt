@@ -1,5 +1,7 @@
 -- What `seal_all` does with a list of files, and how its lines stand to the operations of the ledger.
-use Rattle.std.specs.Prelude.{⊤, ◌≡◌, ◌≢◌, ℕ, ◌+◌, ◌-◌, ◌<◌, ◌≤◌, Bool, true, false, nat_eq, List, [], ◌∷◌, ◌++◌, count_by, slice_get, length, take, map, All, codes, Option, Some, None, flat_map}
+use Rattle.std.specs.Prelude.{⊤, ◌≡◌, ◌≢◌, ℕ, ◌+◌, ◌-◌, ◌<◌, ◌≤◌, ◌⊎◌, IsTrue, Bool, true, false, nat_eq, List, []}
+use Rattle.std.specs.Prelude.{◌∷◌, ◌++◌, count_by, slice_get, length, take, map, All, codes, Option, Some, None}
+use Rattle.std.specs.Prelude.{flat_map}
 use Rattle.journal_core.specs.declared.entry.Entry.{Entry}
 use Rattle.journal_core.specs.declared.entry.Event.TheVariants.{Granted, Exhausted, Settled}
 use Rattle.journal_core.specs.declared.entry.Way.TheVariants as ended
@@ -11,10 +13,12 @@ use Rattle.ledger_core.specs.declared.fault.IssueFault.{IssueFault}
 use Rattle.ledger_core.specs.declared.fault.IssueFault.TheVariants as issue_fault
 use Rattle.ledger_core.specs.Shared.{SeatView}
 use Rattle.reserve_core.specs.Reservations.{Lists, Holds, next_of, reserved}
-use Rattle.sqlite.specs.State.{State, HasCleanDisk}
+use Rattle.sqlite.specs.Effect.{Database}
+use Rattle.sqlite.specs.State.{State, HasCleanDisk, Survives}
 use Rattle.sqlite_trees.specs.Tree.{Trees}
 use Rattle.command_core.specs.declared.line.FileFault.{FileFault}
-use Rattle.command_core.specs.declared.line.FileFault.TheVariants.{CannotOpen, OutputExists, CannotCreate, OutOfMemory, NoNumber, Unsealed}
+use Rattle.command_core.specs.declared.line.FileFault.TheVariants.{CannotOpen, OutputExists, CannotCreate, OutOfMemory}
+use Rattle.command_core.specs.declared.line.FileFault.TheVariants.{NoNumber, Unsealed}
 use Rattle.command_core.specs.declared.line.FileOutcome.{FileOutcome}
 use Rattle.command_core.specs.declared.line.FileOutcome.TheVariants.{Sealed, Opened, Good, Failed}
 use Rattle.command_core.specs.Folder.{Step, Created, Removing, stepped}
@@ -51,8 +55,8 @@ unissued_as issue_fault.Exhausted = NoNumber
 unissued_as issue_fault.SeatClosed = NoNumber
 unissued_as issue_fault.OutOfMemory = Unsealed sealing_fault.OutOfMemory
 
--- the steps on outputs that sealing a file makes: its output is created where the input was opened, and where the file then fails
--- its removal is tried
+-- the steps on outputs that sealing a file makes: its output is created where the input was opened, and where the file
+-- then fails its removal is tried
 abbrev pub created_as : List ℕ → FileOutcome → List Step
 created_as output (Sealed number bytes) = Created output ∷ []
 created_as output (Failed NoNumber) = Created output ∷ []
@@ -70,7 +74,8 @@ creations_of line = created_as (sealed_name line.name) line.outcome
 abbrev pub removals_of : FileLine → List Step
 removals_of line = removed_as (sealed_name line.name) line.outcome
 
--- the steps of files that are sealed side by side: all outputs are created, in order, before the first of them is removed
+-- the steps of files that are sealed side by side: all outputs are created, in order, before the first of them is
+-- removed
 abbrev pub group_steps : List FileLine → List Step
 group_steps group = flat_map creations_of group ++ flat_map removals_of group
 
@@ -99,10 +104,18 @@ times_told number lines = count_by (λ line. tells_of number line.outcome) lines
 
 -- the entry settles this number as sealed, or as void
 abbrev pub seals : ℕ → Entry → Bool
-seals number e = elim e.event [ Granted n ↦ false | Exhausted ↦ false | Settled n way ↦ elim way [ ended.Sealed ↦ nat_eq number n | ended.Void ↦ false ] ]
+seals number e = elim e.event [
+  | Granted n ↦ false
+  | Exhausted ↦ false
+  | Settled n way ↦ elim way [ ended.Sealed ↦ nat_eq number n | ended.Void ↦ false ]
+]
 
 abbrev pub voids : ℕ → Entry → Bool
-voids number e = elim e.event [ Granted n ↦ false | Exhausted ↦ false | Settled n way ↦ elim way [ ended.Sealed ↦ false | ended.Void ↦ nat_eq number n ] ]
+voids number e = elim e.event [
+  | Granted n ↦ false
+  | Exhausted ↦ false
+  | Settled n way ↦ elim way [ ended.Sealed ↦ false | ended.Void ↦ nat_eq number n ]
+]
 
 abbrev pub times_sealed : ℕ → List Entry → ℕ
 times_sealed number history = count_by (seals number) history
@@ -114,30 +127,46 @@ times_voided number history = count_by (voids number) history
 abbrev pub operations_of : List SeatView → List Entry
 operations_of seats = flat_map (λ seat. seat.mine) seats
 
--- The lines and the operations of a ledger agree: a number that was settled as sealed stands in a line that says `sealed`, and each
--- such line, and each number that was settled as void, has a grant of its own.
+-- The lines and the operations of a ledger agree: a number that was settled as sealed stands in a line that says
+-- `sealed`, and each such line, and each number that was settled as void, has a grant of its own.
 pub record Accounts (lines : List FileLine) (operations : List Entry) : Type 0 where
   pub told : (number : ℕ) → times_sealed number operations ≤ times_told number lines
-  pub granted : (number : ℕ) → times_told number lines + times_voided number operations ≤ times_granted number operations
+  pub granted : (number : ℕ)
+      → times_told number lines + times_voided number operations ≤ times_granted number operations
 
 -- the numbers in the lines that say `sealed` lie in the range, and no two of them are the same
 pub record AreNumbered (range : Numbers) (lines : List FileLine) : Type 0 where
   pub inside : (i number bytes : ℕ) (name : List ℕ) → slice_get lines i ≡ Some (line_of name (Sealed number bytes))
       → (range.lo ≤ number) × (number < range.lo + range.size)
-  pub once : (i j one other bytes more : ℕ) (name another : List ℕ) → i ≢ j → slice_get lines i ≡ Some (line_of name (Sealed one bytes))
+  pub once : (i j one other bytes more : ℕ) (name another : List ℕ) → i ≢ j
+      → slice_get lines i ≡ Some (line_of name (Sealed one bytes))
       → slice_get lines j ≡ Some (line_of another (Sealed other more)) → one ≢ other
 
 -- ---- a run
 
--- A range of so many numbers was reserved: where the database holds lists, it stands at the end of that of the key id and device, and
--- every crash leaves it there.
+-- A range of so many numbers was reserved: where the database holds lists, it stands at the end of that of the key id
+-- and device, and every crash leaves it there.
 pub record IsReserved (key_id : List ℕ) (device count : ℕ) (old new : State) (range : Numbers) : Type 0 where
   pub appended : HasCleanDisk new → (lists : Lists) → Holds old.now lists
-      → (range.device ≡ device) × (range.lo ≡ next_of (lists key_id device)) × (range.size ≡ count) × Holds new.now (reserved lists key_id device count)
+      → (range.device ≡ device) × (range.lo ≡ next_of (lists key_id device)) × (range.size ≡ count)
+      × Holds new.now (reserved lists key_id device count)
   pub lasts : HasCleanDisk new → (trees : Trees) → new.may_leave trees → trees ≡ new.now.trees
 
+-- At most one range of so many numbers is appended to the lists.
+abbrev pub AppendsOnce : List ℕ → ℕ → ℕ → State → State → Type 0
+AppendsOnce key_id device count old new =
+    HasCleanDisk new → IsTrue new.is_open → (lists : Lists) → Holds old.now lists
+    → (new.now ≡ old.now) ⊎ Holds new.now (reserved lists key_id device count)
+
+-- A crash leaves the lists from before, or those with the range.
+abbrev pub CrashesAround : List ℕ → ℕ → ℕ → State → State → Type 0
+CrashesAround key_id device count old new =
+    Survives old new (λ trees. (lists : Lists) → Holds old.now lists
+    → (db : Database) × Holds db (reserved lists key_id device count) × (trees ≡ db.trees))
+
 -- Every file was worked, in order and in groups of so many, the last of at most so many; and their lines were told.
-pub record AreGrouped (lanes : ℕ) (names : List (List ℕ)) (status : ℕ) (old new : Option (List ℕ)) (failures failures' : Option ℕ)
+pub record AreGrouped (lanes : ℕ) (names : List (List ℕ)) (status : ℕ) (old new : Option (List ℕ))
+    (failures failures' : Option ℕ)
     (steps steps' : Option (List Step)) : Type 0 where
   pub groups : List (List FileLine)
   pub few : All (λ group. length group ≤ lanes) groups
@@ -150,13 +179,16 @@ pub record AreGrouped (lanes : ℕ) (names : List (List ℕ)) (status : ℕ) (ol
   pub stepwise : steps' ≡ stepped steps (flat_map group_steps groups)
 
 -- So they were, and these operations of a ledger go with the lines.
-pub record AreSealed (lanes : ℕ) (names : List (List ℕ)) (operations : List Entry) (status : ℕ) (old new : Option (List ℕ))
+pub record AreSealed (lanes : ℕ) (names : List (List ℕ)) (operations : List Entry) (status : ℕ)
+    (old new : Option (List ℕ))
     (failures failures' : Option ℕ) (steps steps' : Option (List Step)) : Type 0 where
   pub worked : AreGrouped lanes names status old new failures failures' steps steps'
   pub accounts : Accounts worked.lines operations
 
--- So they were, with a group for as many files as the ledger has seats, over one legal history, and no number stands in two lines.
-pub record HasSealed (names : List (List ℕ)) (terms : Terms) (history : List Entry) (status : ℕ) (old new : Option (List ℕ))
+-- So they were, with a group for as many files as the ledger has seats, over one legal history, and no number stands in
+-- two lines.
+pub record HasSealed (names : List (List ℕ)) (terms : Terms) (history : List Entry) (status : ℕ)
+    (old new : Option (List ℕ))
     (failures failures' : Option ℕ) (steps steps' : Option (List Step)) : Type 0 where
   pub worked : AreGrouped terms.seats names status old new failures failures' steps steps'
   pub numbered : AreNumbered terms.range worked.lines

@@ -19,8 +19,10 @@ fn meet(ledger: Ledger, mut seats: Vec<Seat>)
 }
 
 fn write_text<J: Sink>(alloc: Global, journal: &Journal, writer: &mut J) -> Result<(), RunFault>
-    ensures ok { OnOk result (Appends (J.taken writer.old) (J.taken writer.new) (journal_text journal.now.terms journal.now.history)) }
-    ensures err { OnErr result (AppendsFront (J.taken writer.old) (J.taken writer.new) (journal_text journal.now.terms journal.now.history)) }
+    ensures ok { OnOk result (Appends (J.taken writer.old) (J.taken writer.new)
+        (journal_text journal.now.terms journal.now.history)) }
+    ensures err { OnErr result (AppendsFront (J.taken writer.old) (J.taken writer.new)
+        (journal_text journal.now.terms journal.now.history)) }
 {
     let Ok(text) = journal.text(alloc) else {
         return Err(RunFault::NoJournal);
@@ -40,7 +42,8 @@ fn write_journal<J: Sink>(
 ) -> Result<(), RunFault>
     requires { AreAllSeats ledger seats.items }
     ensures { (history : List Entry) × IsWhole ledger.terms seats.items history
-        × MatchResult result (λ _. Appends (J.taken writer.old) (J.taken writer.new) (journal_text ledger.terms history))
+        × MatchResult result (λ _. Appends (J.taken writer.old) (J.taken writer.new)
+        (journal_text ledger.terms history))
         (λ _. AppendsFront (J.taken writer.old) (J.taken writer.new) (journal_text ledger.terms history)) }
 {
     match ledger.close(seats) {

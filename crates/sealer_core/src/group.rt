@@ -1,21 +1,24 @@
-//! Files sealed in groups, by several lanes of a ledger. Of a group each file in turn is prepared; those that were read are sealed
-//! side by side; then each container in turn is written, and its number settled.
-ghost use Rattle.std.specs.Prelude.{◌≡◌, ◌⊎◌, ℕ, Option, ◌<◌, ◌≤◌, List, [], ◌∷◌, ◌++◌, length, drop, map, All, flat_map};
+//! Files sealed in groups, by several lanes of a ledger. Of a group each file in turn is prepared; those that were read
+//! are sealed side by side; then each container in turn is written, and its number settled.
+ghost use Rattle.std.specs.Prelude.{◌≡◌, ◌⊎◌, ℕ, Option, ◌<◌, ◌≤◌, List, [], ◌∷◌, ◌++◌, length, drop, map, All};
+ghost use Rattle.std.specs.Prelude.{flat_map};
 ghost use Rattle.journal_core.specs.declared.entry.Event.TheVariants.{Settled};
 ghost use Rattle.journal_core.specs.declared.entry.Way.TheVariants.{Sealed};
 ghost use Rattle.ledger_core.specs.Closing.{AreAllSeats};
 ghost use Rattle.command_core.specs.Folder.{stepped};
-ghost use Rattle.sealer_core.specs.Group.{name_of, IsPrepared, made_for, IsHeld, IsCounted, IsEnding, IsPut, IsEndOf, IsEndBy, IsEndIn, left_by, AreHeld, AreEnded, IsGroup, refused_lines};
+ghost use Rattle.sealer_core.specs.Group.{name_of, IsPrepared, made_for, IsHeld, IsCounted, IsEnding, IsPut, IsEndOf};
+ghost use Rattle.sealer_core.specs.Group.{IsEndBy, IsEndIn, left_by, AreHeld, AreEnded, IsGroup, refused_lines};
 ghost use Rattle.command_core.specs.Lines.{FileLine};
 ghost use Rattle.command_core.specs.Work.{AreTold};
 ghost use Rattle.crew_core.specs.Batch.{AreOutcomes};
 ghost use Rattle.crew_core.specs.declared.outcome.Outcome.{Outcome};
-ghost use Rattle.sealer_core.specs.Sealing.{Accounts, AreSealed, IsOfNumber, IsOfSealing, line_of, operations_of, created_as, removed_as, sealed_name};
+ghost use Rattle.sealer_core.specs.Sealing.{Accounts, AreSealed, IsOfNumber, IsOfSealing, line_of, operations_of};
+ghost use Rattle.sealer_core.specs.Sealing.{created_as, removed_as, sealed_name};
 
 use crate::lane::{fault_of, settle_of_file};
 use crate::prepare::{Prepared, prepare_group};
 use crate::sealing::SealOptions;
-use command_core::{FileFault, FileOutcome, Folder, tell};
+use command_core::{FileFault, FileOutcome, Folder, MAX_BYTES, tell};
 use container_core::{Key, SealFault};
 use crew_core::{Free, Outcome, seal_batch};
 use ledger_core::{Failed, Ledger, Seat, Sink, Spent, write_all};
@@ -35,7 +38,8 @@ fn settle_at(ledger: &Ledger, seats: &mut [Seat], place: u32, spent: Spent)
     settle_of_file(ledger, seat, spent);
 }
 
-// Ends a file that was read, by the outcome of its job: where it was sealed its container is written, and its number is settled.
+// Ends a file that was read, by the outcome of its job: where it was sealed its container is written, and its number is
+// settled.
 fn end_job<W: Sink>(
     ledger: &Ledger,
     seats: &mut [Seat],
@@ -49,7 +53,8 @@ fn end_job<W: Sink>(
     ensures count { length seats.new ≡ length seats.old }
     ensures outcome { IsOfNumber result }
     ensures end { IsEndOf bytes (W.taken writer.old) (W.taken writer.new) outcome result }
-    ensures accounts { (name : List ℕ) (lines : List FileLine) (others : List Outcome) → AreHeld lines (outcome ∷ others) (operations_of seats.old)
+    ensures accounts { (name : List ℕ) (lines : List FileLine) (others : List Outcome)
+        → AreHeld lines (outcome ∷ others) (operations_of seats.old)
         → AreHeld (lines ++ line_of name result ∷ []) others (operations_of seats.new) }
 {
     match outcome {
@@ -90,7 +95,8 @@ fn end_next<W: Sink>(
     ensures outcome { IsOfNumber result }
     ensures next { outcomes.new.items ≡ drop 1 outcomes.old.items }
     ensures end { IsEndBy bytes (W.taken writer.old) (W.taken writer.new) outcomes.old.items result }
-    ensures accounts { (name : List ℕ) (lines : List FileLine) → AreHeld lines outcomes.old.items (operations_of seats.old)
+    ensures accounts { (name : List ℕ) (lines : List FileLine)
+        → AreHeld lines outcomes.old.items (operations_of seats.old)
         → AreHeld (lines ++ line_of name result ∷ []) outcomes.new.items (operations_of seats.new) }
 {
     match outcomes.pop_front() {
@@ -149,7 +155,8 @@ fn end_file<F: Folder>(
     ensures next { outcomes.new.items ≡ left_by file.entry outcomes.old.items }
     ensures end { IsEndIn outcomes.old.items file.entry result }
     ensures created { created_as (sealed_name (name_of file.entry)) result ≡ made_for file.entry }
-    ensures removed { F.steps folder.new ≡ stepped (F.steps folder.old) (removed_as (sealed_name (name_of file.entry)) result) }
+    ensures removed { F.steps folder.new ≡ stepped (F.steps folder.old)
+        (removed_as (sealed_name (name_of file.entry)) result) }
     ensures accounts { (lines : List FileLine) → AreHeld lines outcomes.old.items (operations_of seats.old)
         → AreHeld (lines ++ line_of (name_of file.entry) result ∷ []) outcomes.new.items (operations_of seats.new) }
 {
@@ -190,9 +197,11 @@ fn end_group<F: Folder, L: Sink>(
     requires held { All (IsHeld (length seats.old)) outcomes.items }
     ensures all { AreAllSeats ledger.now seats.new }
     ensures count { length seats.new ≡ length seats.old }
-    ensures ended { (left : List Outcome) × AreEnded (map name_of files.entry.items) (flat_map made_for files.entry.items) outcomes.items left
+    ensures ended { (left : List Outcome)
+        × AreEnded (map name_of files.entry.items) (flat_map made_for files.entry.items) outcomes.items left
         (operations_of seats.old) (operations_of seats.new) start result
-        (L.taken lines.old) (L.taken lines.new) (L.failures lines.old) (L.failures lines.new) (F.steps folder.old) (F.steps folder.new) }
+        (L.taken lines.old) (L.taken lines.new) (L.failures lines.old) (L.failures lines.new) (F.steps folder.old)
+        (F.steps folder.new) }
 {
     let mut status = start;
     while let Some(file) = files.pop_front() {
@@ -203,7 +212,8 @@ fn end_group<F: Folder, L: Sink>(
     status
 }
 
-// Seals the jobs of a group side by side, each by a seat of its own. Where memory for the outcomes is refused there is none.
+// Seals the jobs of a group side by side, each by a seat of its own. Where memory for the outcomes is refused there is
+// none.
 fn seal_jobs<T: Threads + Sync>(
     rt: &T,
     alloc: Global,
@@ -215,12 +225,13 @@ fn seal_jobs<T: Threads + Sync>(
     requires all { AreAllSeats ledger.now seats.old }
     requires few { length jobs.now ≤ length seats.old }
     requires lanes { length seats.old ≤ 16 }
-    requires short { All (λ job. length job.items ≤ 1099511627776) jobs.now }
+    requires short { All (λ job. length job.items ≤ MAX_BYTES) jobs.now }
     ensures all { AreAllSeats ledger.now seats.new }
     ensures count { length seats.new ≡ length seats.old }
     ensures held { All (IsHeld (length seats.old)) result.items }
     ensures outcomes { (result.items ≡ []) ⊎ AreOutcomes key.now (map (λ job. job.items) jobs.now) result.items }
-    ensures accounts { (lines : List FileLine) → Accounts lines (operations_of seats.old) → AreHeld lines result.items (operations_of seats.new) }
+    ensures accounts { (lines : List FileLine) → Accounts lines (operations_of seats.old)
+        → AreHeld lines result.items (operations_of seats.new) }
 {
     let lanes = jobs.len() as u32;
     if lanes == 0 {
@@ -234,8 +245,10 @@ fn seal_jobs<T: Threads + Sync>(
 
 // Tells of each file that memory was refused before anything was done with it.
 fn refuse_group<L: Sink>(alloc: Global, names: &[&str], lines: &mut L, start: u8) -> u8
-    ensures { (before : List FileLine) (first : Option (List ℕ)) (count : Option ℕ) → AreTold start before first (L.taken lines.old) count (L.failures lines.old)
-        → AreTold result (before ++ refused_lines (map (λ name. name.now) names.now)) first (L.taken lines.new) count (L.failures lines.new) }
+    ensures { (before : List FileLine) (first : Option (List ℕ)) (count : Option ℕ)
+        → AreTold start before first (L.taken lines.old) count (L.failures lines.old)
+        → AreTold result (before ++ refused_lines (map (λ name. name.now) names.now)) first (L.taken lines.new) count
+        (L.failures lines.new) }
 {
     let mut status = start;
     for name in names {
@@ -266,11 +279,13 @@ fn seal_group<T: Threads + Sync, F: Folder, L: Sink>(
     requires all { AreAllSeats ledger.now seats.old }
     requires lanes { length seats.old ≤ 16 }
     requires few { length names.now ≤ length seats.old }
-    requires max_bytes { max_bytes ≤ 1099511627776 }
+    requires max_bytes { max_bytes ≤ MAX_BYTES }
     ensures all { AreAllSeats ledger.now seats.new }
     ensures count { length seats.new ≡ length seats.old }
-    ensures group { IsGroup (map (λ name. name.now) names.now) (operations_of seats.old) (operations_of seats.new) status result
-        (L.taken lines.old) (L.taken lines.new) (L.failures lines.old) (L.failures lines.new) (F.steps folder.old) (F.steps folder.new) }
+    ensures group { IsGroup (map (λ name. name.now) names.now) (operations_of seats.old)
+        (operations_of seats.new) status result
+        (L.taken lines.old) (L.taken lines.new) (L.failures lines.old) (L.failures lines.new) (F.steps folder.old)
+        (F.steps folder.new) }
 {
     let Ok((files, jobs)) = prepare_group(alloc, folder, names, max_bytes) else {
         return refuse_group(alloc, names, lines, status);
@@ -293,10 +308,12 @@ pub(crate) fn seal_groups<T: Threads + Sync, F: Folder, L: Sink>(
     requires all { AreAllSeats ledger.now seats.old }
     requires lanes { (0 < length seats.old) × (length seats.old ≤ 16) }
     requires fresh { operations_of seats.old ≡ [] }
-    requires max_bytes { options.now.max_bytes ≤ 1099511627776 }
+    requires max_bytes { options.now.max_bytes ≤ MAX_BYTES }
     ensures all { AreAllSeats ledger.now seats.new }
-    ensures sealed { AreSealed (length seats.old) (map (λ name. name.now) options.now.files.now) (operations_of seats.new) result
-        (L.taken lines.old) (L.taken lines.new) (L.failures lines.old) (L.failures lines.new) (F.steps folder.old) (F.steps folder.new) }
+    ensures sealed { AreSealed (length seats.old) (map (λ name. name.now) options.now.files.now)
+        (operations_of seats.new) result
+        (L.taken lines.old) (L.taken lines.new) (L.failures lines.old) (L.failures lines.new) (F.steps folder.old)
+        (F.steps folder.new) }
 {
     let mut status = 0;
     let mut done = 0;

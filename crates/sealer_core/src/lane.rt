@@ -1,5 +1,6 @@
 //! Files sealed one after another by one seat of a ledger, each by as many workers as are asked for.
-ghost use Rattle.std.specs.Prelude.{◌≡◌, ◌⊎◌, ℕ, ◌<◌, ◌≤◌, List, [], ◌∷◌, ◌++◌, length, map, IfOk, IfErr, IfSome, Err, Ok};
+ghost use Rattle.std.specs.Prelude.{◌≡◌, ◌⊎◌, ℕ, ◌<◌, ◌≤◌, List, [], ◌∷◌, ◌++◌, length, map, IfOk, IfErr, IfSome, Err};
+ghost use Rattle.std.specs.Prelude.{Ok};
 ghost use Rattle.container_core.specs.Container.{container};
 ghost use Rattle.journal_core.specs.declared.entry.Event.TheVariants.{Granted, Exhausted, Settled};
 ghost use Rattle.journal_core.specs.Range.{prefix_of};
@@ -8,10 +9,11 @@ ghost use Rattle.ledger_core.specs.Shared.{Extends, IsSameSeat};
 ghost use Rattle.command_core.specs.Folder.{stepped};
 ghost use Rattle.command_core.specs.Lines.{FileLine};
 ghost use Rattle.command_core.specs.declared.line.FileOutcome.TheVariants.{Failed};
-ghost use Rattle.sealer_core.specs.Sealing.{Accounts, AreSealed, IfSealed, IsOfNumber, IsOfSealing, unissued_as, line_of, creations_of, removals_of};
+ghost use Rattle.sealer_core.specs.Sealing.{Accounts, AreSealed, IfSealed, IsOfNumber, IsOfSealing, unissued_as};
+ghost use Rattle.sealer_core.specs.Sealing.{line_of, creations_of, removals_of};
 
 use crate::sealing::SealOptions;
-use command_core::{FileFault, FileOutcome, Folder, FolderFault, tell};
+use command_core::{FileFault, FileOutcome, Folder, FolderFault, MAX_BYTES, tell};
 use container_core::{Key, SealFault};
 use crew_core::Free;
 use engine_core::run_seal;
@@ -33,8 +35,10 @@ pub(crate) fn fault_of(fault: IssueFault) -> FileFault
 // Grants the next number to a file.
 fn issue_to_file(ledger: &Ledger, seat: &mut Seat) -> Result<Grant, FileFault>
     requires ours { seat.old.ledger ≡ ledger.now.ledger }
-    ensures granted { IfOk result (λ grant. Extends seat.old (Granted grant.number) seat.new × (grant.device ≡ seat.old.terms.range.device)) }
-    ensures refused { IfErr result (λ fault. IsOfNumber (Failed fault) × ((seat.new ≡ seat.old) ⊎ Extends seat.old Exhausted seat.new)) }
+    ensures granted { IfOk result (λ grant. Extends seat.old (Granted grant.number) seat.new
+        × (grant.device ≡ seat.old.terms.range.device)) }
+    ensures refused { IfErr result (λ fault. IsOfNumber (Failed fault)
+        × ((seat.new ≡ seat.old) ⊎ Extends seat.old Exhausted seat.new)) }
     ensures same { IsSameSeat seat.old seat.new }
 {
     match ledger.issue(seat) {
@@ -65,13 +69,15 @@ fn seal_next<T: Threads + Sync, R: Source, W: Sink>(
     workers: u32,
 ) -> FileOutcome
     requires ours { seat.old.ledger ≡ ledger.now.ledger }
-    requires max_bytes { max_bytes ≤ 1099511627776 }
+    requires max_bytes { max_bytes ≤ MAX_BYTES }
     requires workers { (0 < workers) × (workers ≤ 16) }
     ensures outcome { IsOfNumber result }
     ensures sealed { IfSealed result (λ number bytes. IfSome (R.left reader.old) (λ input. (bytes ≡ length input)
-        × Appends (W.taken writer.old) (W.taken writer.new) (container key.now (prefix_of seat.old.terms.range.device number) input))) }
+        × Appends (W.taken writer.old) (W.taken writer.new)
+        (container key.now (prefix_of seat.old.terms.range.device number) input))) }
     ensures same { IsSameSeat seat.old seat.new }
-    ensures accounts { (name : List ℕ) (lines : List FileLine) → Accounts lines seat.old.mine → Accounts (lines ++ line_of name result ∷ []) seat.new.mine }
+    ensures accounts { (name : List ℕ) (lines : List FileLine) → Accounts lines seat.old.mine
+        → Accounts (lines ++ line_of name result ∷ []) seat.new.mine }
 {
     let grant = match issue_to_file(ledger, seat) {
         Ok(grant) => grant,
@@ -88,8 +94,8 @@ fn seal_next<T: Threads + Sync, R: Source, W: Sink>(
     }
 }
 
-// Seals one file: its input is opened, its output created, and its number issued, in this order. An output whose file failed is
-// removed.
+// Seals one file: its input is opened, its output created, and its number issued, in this order. An output whose file
+// failed is removed.
 fn seal_file<T: Threads + Sync, F: Folder>(
     rt: &T,
     alloc: Global,
@@ -102,12 +108,14 @@ fn seal_file<T: Threads + Sync, F: Folder>(
     workers: u32,
 ) -> FileOutcome
     requires ours { seat.old.ledger ≡ ledger.now.ledger }
-    requires max_bytes { max_bytes ≤ 1099511627776 }
+    requires max_bytes { max_bytes ≤ MAX_BYTES }
     requires workers { (0 < workers) × (workers ≤ 16) }
     ensures outcome { IsOfSealing result }
-    ensures steps { F.steps folder.new ≡ stepped (F.steps folder.old) (creations_of (line_of name.now result) ++ removals_of (line_of name.now result)) }
+    ensures steps { F.steps folder.new ≡ stepped (F.steps folder.old)
+        (creations_of (line_of name.now result) ++ removals_of (line_of name.now result)) }
     ensures same { IsSameSeat seat.old seat.new }
-    ensures accounts { (lines : List FileLine) → Accounts lines seat.old.mine → Accounts (lines ++ line_of name.now result ∷ []) seat.new.mine }
+    ensures accounts { (lines : List FileLine) → Accounts lines seat.old.mine
+        → Accounts (lines ++ line_of name.now result ∷ []) seat.new.mine }
 {
     let Ok(output) = format!(in alloc; "{name}.stm") else {
         return FileOutcome::Failed(FileFault::OutOfMemory);
@@ -150,11 +158,12 @@ pub(crate) fn seal_one_lane<T: Threads + Sync, F: Folder, W: Sink>(
 ) -> u8
     requires ours { seat.old.ledger ≡ ledger.now.ledger }
     requires fresh { seat.old.mine ≡ [] }
-    requires max_bytes { options.now.max_bytes ≤ 1099511627776 }
+    requires max_bytes { options.now.max_bytes ≤ MAX_BYTES }
     requires workers { (0 < options.now.workers) × (options.now.workers ≤ 16) }
     ensures same { IsSameSeat seat.old seat.new }
     ensures sealed { AreSealed 1 (map (λ name. name.now) options.now.files.now) seat.new.mine result
-        (W.taken lines.old) (W.taken lines.new) (W.failures lines.old) (W.failures lines.new) (F.steps folder.old) (F.steps folder.new) }
+        (W.taken lines.old) (W.taken lines.new) (W.failures lines.old) (W.failures lines.new) (F.steps folder.old)
+        (F.steps folder.new) }
 {
     let mut status = 0;
     for name in options.files {

@@ -1,7 +1,7 @@
 //! The sealer as a library: what each command does, over any reader and any writer.
 //!
-//! `seal_all` is here. The engines are those of `engine_core`, `open_all`, `verify_all` and the folders and lines of all commands
-//! those of `command_core`, and the laws on the life of a ledger file those of `life_core`.
+//! `seal_all` is here. The engines are those of `engine_core`, `open_all`, `verify_all` and the folders and lines of
+//! all commands those of `command_core`, and the laws on the life of a ledger file those of `life_core`.
 #![tactic(auto)]
 
 mod ending;

@@ -4,9 +4,10 @@ ghost use Rattle.journal_core.specs.Streams.{Consumes};
 ghost use Rattle.command_core.specs.Folder.{stepped};
 ghost use Rattle.sealer_core.specs.Group.{name_of, IsPrepared, made_for, read_of};
 
-use command_core::{FileFault, Folder, FolderFault};
+use command_core::{FileFault, Folder, FolderFault, MAX_BYTES};
 use container_core::SealFault;
-use ledger_core::{ReadFault, Source, read_to_limit};
+use engine_core::read_plain;
+use ledger_core::Source;
 use std::alloc::{AllocError, Global};
 use std::collections::VecDeque;
 
@@ -54,11 +55,12 @@ fn prepare_file<'a, F: Folder>(
     max_bytes: u64,
     jobs: &mut Vec<Vec<u8>>,
 ) -> Prepared<'a, F::Writer>
-    requires max_bytes { max_bytes ≤ 1099511627776 }
-    requires short { All (λ job. length job.items ≤ 1099511627776) jobs.old.items }
-    ensures short { All (λ job. length job.items ≤ 1099511627776) jobs.new.items }
+    requires max_bytes { max_bytes ≤ MAX_BYTES }
+    requires short { All (λ job. length job.items ≤ MAX_BYTES) jobs.old.items }
+    ensures short { All (λ job. length job.items ≤ MAX_BYTES) jobs.new.items }
     ensures count { vec_len jobs.new ≤ vec_len jobs.old + 1 }
-    ensures read { map (λ job. length job.items) jobs.new.items ≡ map (λ job. length job.items) jobs.old.items ++ read_of result }
+    ensures read { map (λ job. length job.items) jobs.new.items
+        ≡ map (λ job. length job.items) jobs.old.items ++ read_of result }
     ensures name { name_of result ≡ name.now }
     ensures prepared { IsPrepared result }
     ensures steps { F.steps folder.new ≡ stepped (F.steps folder.old) (made_for result) }
@@ -112,19 +114,18 @@ fn read_job<R: Source>(
     max_bytes: u64,
     jobs: &mut Vec<Vec<u8>>,
 ) -> Result<u64, SealFault>
-    requires max_bytes { max_bytes ≤ 1099511627776 }
-    requires short { All (λ job. length job.items ≤ 1099511627776) jobs.old.items }
-    ensures short { All (λ job. length job.items ≤ 1099511627776) jobs.new.items }
+    requires max_bytes { max_bytes ≤ MAX_BYTES }
+    requires short { All (λ job. length job.items ≤ MAX_BYTES) jobs.old.items }
+    ensures short { All (λ job. length job.items ≤ MAX_BYTES) jobs.new.items }
     ensures count { vec_len jobs.new ≤ vec_len jobs.old + 1 }
-    ensures read { IfOk result (λ bytes. (job : _) × (jobs.new.items ≡ jobs.old.items ++ job ∷ []) × (bytes ≡ length job.items)
+    ensures read { IfOk result (λ bytes. (job : _) × (jobs.new.items ≡ jobs.old.items ++ job ∷ [])
+        × (bytes ≡ length job.items)
         × Consumes (R.left reader.old) (R.left reader.new) job.items) }
     ensures unread { OnErr result (jobs.new.items ≡ jobs.old.items) }
 {
-    let plain = match read_to_limit(alloc, reader, max_bytes) {
+    let plain = match read_plain(alloc, reader, max_bytes) {
         Ok(plain) => plain,
-        Err(ReadFault::TooLong) => return Err(SealFault::TooLong),
-        Err(ReadFault::OutOfMemory) => return Err(SealFault::OutOfMemory),
-        Err(ReadFault::Read) => return Err(SealFault::Read),
+        Err(fault) => return Err(fault),
     };
     let bytes = plain.len() as u64;
     match jobs.push(plain) {
@@ -140,11 +141,12 @@ pub(crate) fn prepare_group<'a, F: Folder>(
     names: &[&'a str],
     max_bytes: u64,
 ) -> Result<(VecDeque<Prepared<'a, F::Writer>>, Vec<Vec<u8>>), AllocError>
-    requires max_bytes { max_bytes ≤ 1099511627776 }
+    requires max_bytes { max_bytes ≤ MAX_BYTES }
     ensures names { IfOk result (λ group. map name_of group.0.items ≡ map (λ name. name.now) names.now) }
     ensures prepared { IfOk result (λ group. All IsPrepared group.0.items) }
-    ensures steps { IfOk result (λ group. F.steps folder.new ≡ stepped (F.steps folder.old) (flat_map made_for group.0.items)) }
-    ensures short { IfOk result (λ group. All (λ job. length job.items ≤ 1099511627776) group.1.items) }
+    ensures steps { IfOk result (λ group. F.steps folder.new ≡ stepped (F.steps folder.old)
+        (flat_map made_for group.0.items)) }
+    ensures short { IfOk result (λ group. All (λ job. length job.items ≤ MAX_BYTES) group.1.items) }
     ensures few { IfOk result (λ group. vec_len group.1 ≤ length names.now) }
     ensures read { IfOk result (λ group. map (λ job. length job.items) group.1.items ≡ flat_map read_of group.0.items) }
     ensures refused { OnErr result (folder.new ≡ folder.old) }

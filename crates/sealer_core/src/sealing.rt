@@ -1,25 +1,26 @@
 //! The command that seals: one range of file numbers is reserved, and each file is sealed under one of them.
 //!
-//! A range is reserved for good before any file is touched, so a number that a run didn't use is given up. Files are sealed in turn by
-//! one lane, or in groups by several.
-ghost use Rattle.std.specs.Prelude.{◌≡◌, ◌≢◌, ◌⊎◌, ℕ, Bool, ◌<◌, ◌≤◌, List, length, map, IsTrue, IfOk, OnErr, is_ok, if◌then◌else◌};
+//! A range is reserved for good before any file is touched, so a number that a run didn't use is given up. Files are
+//! sealed in turn by one lane, or in groups by several.
+ghost use Rattle.std.specs.Prelude.{◌≡◌, ◌≢◌, ◌⊎◌, ℕ, Bool, ◌<◌, ◌≤◌, List, length, map, IsTrue, IfOk, OnErr, is_ok};
+ghost use Rattle.std.specs.Prelude.{if◌then◌else◌};
 ghost use Rattle.sha2.specs.Sha256.{sha256};
 ghost use Rattle.sqlite.specs.Held.{state};
-ghost use Rattle.sqlite.specs.State.{HasCleanDisk, Survives};
+ghost use Rattle.sqlite.specs.State.{HasCleanDisk};
 ghost use Rattle.journal_core.specs.declared.entry.Entry.{Entry};
 ghost use Rattle.journal_core.specs.Journal.{terms_of};
 ghost use Rattle.journal_core.specs.Range.{Numbers};
 ghost use Rattle.journal_core.specs.Text.{journal_text};
 ghost use Rattle.ledger_core.specs.Closing.{AreAllSeats};
 ghost use Rattle.ledger_core.specs.Shared.{fresh_seats};
-ghost use Rattle.reserve_core.specs.Reservations.{Lists, Holds, reserved};
-ghost use Rattle.sealer_core.specs.Sealing.{AreSealed, HasSealed, IsReserved, IsWritten, operations_of};
+ghost use Rattle.sealer_core.specs.Sealing.{AppendsOnce, AreSealed, CrashesAround, HasSealed, IsReserved, IsWritten};
+ghost use Rattle.sealer_core.specs.Sealing.{operations_of};
 
 use crate::ending::end_ledger;
 use crate::group::seal_groups;
 use crate::lane::seal_one_lane;
 use crate::trouble::{RunFault, complain};
-use command_core::{Folder, Outs};
+use command_core::{Folder, MAX_BYTES, Outs};
 use container_core::Key;
 use ledger_core::{Device, Ledger, Range, Seat, Sink};
 use reserve_core::{Keeper, ReserveFault};
@@ -42,7 +43,8 @@ pub struct SealOptions<'a> {
     pub files: &'a [&'a str],
     /// The number of workers that seal a file: 1 to 16. With more than one lane each file is sealed by its lane alone.
     pub workers: u32,
-    /// How many files are sealed at once: 1 to 16. With more than one, so many inputs and containers are in memory at a time.
+    /// How many files are sealed at once: 1 to 16. With more than one, so many inputs and containers are in memory at a
+    /// time.
     pub lanes: u32,
     /// The greatest number of plaintext bytes of a file: at most 2^40.
     pub max_bytes: u64,
@@ -55,11 +57,11 @@ fn reserve_for<S: Alter>(
     device: Device,
     files: usize,
 ) -> Result<Range, RunFault>
-    ensures reserved { IfOk result (IsReserved (sha256 key.now) device files (state S.Store keeper.old) (state S.Store keeper.new)) }
+    ensures reserved { IfOk result (IsReserved (sha256 key.now) device files (state S.Store keeper.old)
+        (state S.Store keeper.new)) }
     ensures same { HasCleanDisk (state S.Store keeper.new) → IsTrue (state S.Store keeper.new).is_open
         → OnErr result ((state S.Store keeper.new).now ≡ (state S.Store keeper.old).now) }
-    ensures crash { Survives (state S.Store keeper.old) (state S.Store keeper.new) (λ trees. (lists : Lists) → Holds (state S.Store keeper.old).now lists
-        → (db : _) × Holds db (reserved lists (sha256 key.now) device files) × (trees ≡ db.trees)) }
+    ensures crash { CrashesAround (sha256 key.now) device files (state S.Store keeper.old) (state S.Store keeper.new) }
 {
     if files > u32::MAX as usize {
         return Err(RunFault::Unreserved(ReserveFault::TooMany));
@@ -79,12 +81,12 @@ fn open_ledger<S: Alter>(
     files: usize,
     lanes: u32,
 ) -> Result<(Ledger, Vec<Seat>), RunFault>
-    ensures reserved { IfOk result (λ r. IsReserved (sha256 key.now) device files (state S.Store keeper.old) (state S.Store keeper.new) r.0.terms.range) }
-    ensures opened { IfOk result (λ r. (r.0.terms.seats ≡ lanes) × AreAllSeats r.0 r.1.items × (r.1.items ≡ fresh_seats r.0.ledger r.0.terms lanes)) }
-    ensures once { HasCleanDisk (state S.Store keeper.new) → IsTrue (state S.Store keeper.new).is_open → (lists : Lists) → Holds (state S.Store keeper.old).now lists
-        → ((state S.Store keeper.new).now ≡ (state S.Store keeper.old).now) ⊎ Holds (state S.Store keeper.new).now (reserved lists (sha256 key.now) device files) }
-    ensures crash { Survives (state S.Store keeper.old) (state S.Store keeper.new) (λ trees. (lists : Lists) → Holds (state S.Store keeper.old).now lists
-        → (db : _) × Holds db (reserved lists (sha256 key.now) device files) × (trees ≡ db.trees)) }
+    ensures reserved { IfOk result (λ r. IsReserved (sha256 key.now) device files (state S.Store keeper.old)
+        (state S.Store keeper.new) r.0.terms.range) }
+    ensures opened { IfOk result (λ r. (r.0.terms.seats ≡ lanes) × AreAllSeats r.0 r.1.items
+        × (r.1.items ≡ fresh_seats r.0.ledger r.0.terms lanes)) }
+    ensures once { AppendsOnce (sha256 key.now) device files (state S.Store keeper.old) (state S.Store keeper.new) }
+    ensures crash { CrashesAround (sha256 key.now) device files (state S.Store keeper.old) (state S.Store keeper.new) }
 {
     let range = match reserve_for(keeper, key, device, files) {
         Ok(range) => range,
@@ -110,11 +112,13 @@ fn seal_files<T: Threads + Sync, F: Folder, W: Sink>(
     requires all { AreAllSeats ledger.now seats.old }
     requires lanes { (0 < options.now.lanes) × (options.now.lanes ≤ 16) × (ledger.now.terms.seats ≡ options.now.lanes) }
     requires fresh { seats.old ≡ fresh_seats ledger.now.ledger ledger.now.terms options.now.lanes }
-    requires max_bytes { options.now.max_bytes ≤ 1099511627776 }
+    requires max_bytes { options.now.max_bytes ≤ MAX_BYTES }
     requires workers { (0 < options.now.workers) × (options.now.workers ≤ 16) }
     ensures all { AreAllSeats ledger.now seats.new }
-    ensures sealed { AreSealed ledger.now.terms.seats (map (λ name. name.now) options.now.files.now) (operations_of seats.new) result
-        (W.taken lines.old) (W.taken lines.new) (W.failures lines.old) (W.failures lines.new) (F.steps folder.old) (F.steps folder.new) }
+    ensures sealed { AreSealed ledger.now.terms.seats (map (λ name. name.now) options.now.files.now)
+        (operations_of seats.new) result
+        (W.taken lines.old) (W.taken lines.new) (W.failures lines.old) (W.failures lines.new) (F.steps folder.old)
+        (F.steps folder.new) }
 {
     if options.lanes == 1 {
         let seat = &mut seats[0];
@@ -139,11 +143,12 @@ fn work_ledger<T: Threads + Sync, F: Folder, W: Sink, J: Sink>(
     requires all { AreAllSeats ledger seats.items }
     requires lanes { (0 < options.now.lanes) × (options.now.lanes ≤ 16) × (ledger.terms.seats ≡ options.now.lanes) }
     requires fresh { seats.items ≡ fresh_seats ledger.ledger ledger.terms options.now.lanes }
-    requires max_bytes { options.now.max_bytes ≤ 1099511627776 }
+    requires max_bytes { options.now.max_bytes ≤ MAX_BYTES }
     requires workers { (0 < options.now.workers) × (options.now.workers ≤ 16) }
     ensures { (history : List Entry)
         × HasSealed (map (λ name. name.now) options.now.files.now) ledger.terms history result.0
-        (W.taken lines.old) (W.taken lines.new) (W.failures lines.old) (W.failures lines.new) (F.steps folder.old) (F.steps folder.new)
+        (W.taken lines.old) (W.taken lines.new) (W.failures lines.old) (W.failures lines.new) (F.steps folder.old)
+        (F.steps folder.new)
         × IsWritten J.taken (journal_text ledger.terms history) (is_ok result.1) journal.old journal.new }
 {
     let told = seal_files(
@@ -159,13 +164,15 @@ fn work_ledger<T: Threads + Sync, F: Folder, W: Sink, J: Sink>(
     (told, end_ledger(alloc, ledger, seats, journal))
 }
 
-/// Seals each file to its name and `.stm`, which must not be there yet, under a number of its own. The answer is the exit status:
-/// 0 where every file was sealed, 1 where one failed, 2 where no range was reserved or no ledger opened (then no file was touched),
-/// where a line couldn't be written (no further line is tried, and the files and the journal are still worked), or where the journal
-/// couldn't be written whole. Each of these but a line has a text on standard error. An output whose file failed is removed.
+/// Seals each file to its name and `.stm`, which must not be there yet, under a number of its own. The answer is the
+/// exit status: 0 where every file was sealed, 1 where one failed, 2 where no range was reserved or no ledger opened
+/// (then no file was touched), where a line couldn't be written (no further line is tried, and the files and the
+/// journal are still worked), or where the journal couldn't be written whole. Each of these but a line has a text on
+/// standard error. An output whose file failed is removed.
 ///
-/// One range is reserved at most, with as many numbers as there are files, and for good: what it leaves unused is given up. Nobody
-/// else may write the ledger file, and no ledger file that was copied or restored may be used again with the same key and device.
+/// One range is reserved at most, with as many numbers as there are files, and for good: what it leaves unused is given
+/// up. Nobody else may write the ledger file, and no ledger file that was copied or restored may be used again with the
+/// same key and device.
 pub fn seal_all<
     T: Threads + Sync,
     S: Alter,
@@ -185,23 +192,27 @@ pub fn seal_all<
     requires files { 0 < length options.now.files.now }
     requires workers { (0 < options.now.workers) × (options.now.workers ≤ 16) }
     requires lanes { (0 < options.now.lanes) × (options.now.lanes ≤ 16) }
-    requires max_bytes { options.now.max_bytes ≤ 1099511627776 }
+    requires max_bytes { options.now.max_bytes ≤ MAX_BYTES }
     ensures status { result ≤ 2 }
-    // No file was touched; or the files were sealed over a range that was reserved, with one legal history, which the journal tells.
-    ensures run { ((result ≡ 2) × (F.steps folder.new ≡ F.steps folder.old) × (out.new.lines ≡ out.old.lines) × (out.new.journal ≡ out.old.journal))
+    // No file was touched; or the files were sealed over a range that was reserved, with one legal history, which the
+    // journal tells.
+    ensures run { ((result ≡ 2) × (F.steps folder.new ≡ F.steps folder.old) × (out.new.lines ≡ out.old.lines)
+        × (out.new.journal ≡ out.old.journal))
         ⊎ ((range : Numbers) × (history : List Entry) × (told : ℕ) × (written : Bool)
-        × IsReserved (sha256 key.now) options.now.device (length options.now.files.now) (state S.Store keeper.old) (state S.Store keeper.new) range
+        × IsReserved (sha256 key.now) options.now.device (length options.now.files.now) (state S.Store keeper.old)
+        (state S.Store keeper.new) range
         × HasSealed (map (λ name. name.now) options.now.files.now) (terms_of range options.now.lanes) history told
-        (L.taken out.old.lines) (L.taken out.new.lines) (L.failures out.old.lines) (L.failures out.new.lines) (F.steps folder.old) (F.steps folder.new)
-        × IsWritten J.taken (journal_text (terms_of range options.now.lanes) history) written out.old.journal out.new.journal
+        (L.taken out.old.lines) (L.taken out.new.lines) (L.failures out.old.lines) (L.failures out.new.lines)
+        (F.steps folder.old) (F.steps folder.new)
+        × IsWritten J.taken (journal_text (terms_of range options.now.lanes) history) written
+        out.old.journal out.new.journal
         × (result ≡ (if written then told else 2))) }
     ensures complaint { result ≢ 2 → out.new.faults ≡ out.old.faults }
     // At most one range is appended, and a crash leaves the lists from before or those with it.
-    ensures once { HasCleanDisk (state S.Store keeper.new) → IsTrue (state S.Store keeper.new).is_open → (lists : Lists) → Holds (state S.Store keeper.old).now lists
-        → ((state S.Store keeper.new).now ≡ (state S.Store keeper.old).now)
-        ⊎ Holds (state S.Store keeper.new).now (reserved lists (sha256 key.now) options.now.device (length options.now.files.now)) }
-    ensures crash { Survives (state S.Store keeper.old) (state S.Store keeper.new) (λ trees. (lists : Lists) → Holds (state S.Store keeper.old).now lists
-        → (db : _) × Holds db (reserved lists (sha256 key.now) options.now.device (length options.now.files.now)) × (trees ≡ db.trees)) }
+    ensures once { AppendsOnce (sha256 key.now) options.now.device (length options.now.files.now)
+        (state S.Store keeper.old) (state S.Store keeper.new) }
+    ensures crash { CrashesAround (sha256 key.now) options.now.device (length options.now.files.now)
+        (state S.Store keeper.old) (state S.Store keeper.new) }
 {
     let opened = open_ledger(
         alloc,

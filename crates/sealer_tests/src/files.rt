@@ -1,5 +1,5 @@
-//! `open_all` and `verify_all`. The containers are those of Python's `cryptography`, under the key 00 01 .. 1f, device 1 and
-//! number 0; the lines are written by hand.
+//! `open_all` and `verify_all`. The containers are those of Python's `cryptography`, under the key 00 01 .. 1f, device
+//! 1 and number 0; the lines are written by hand.
 ghost use Rattle.std.specs.Prelude.{◌<◌, ◌≤◌, length};
 
 use container_core::{Key, seal};

@@ -1,5 +1,5 @@
-//! `seal_all` by several lanes, over folders and ledger files in memory. Lines and journals are written by hand; what a container
-//! holds is told by `open`, whose definition is tested elsewhere against Python's `cryptography`.
+//! `seal_all` by several lanes, over folders and ledger files in memory. Lines and journals are written by hand; what a
+//! container holds is told by `open`, whose definition is tested elsewhere against Python's `cryptography`.
 ghost use Rattle.std.specs.Prelude.{◌<◌, ◌≤◌, length};
 
 use crate::files::{COUNTING, EMPTY, has_bytes};

@@ -1,5 +1,5 @@
-//! `seal_all` by one lane, over folders and ledger files in memory. Containers are those of Python's `cryptography`, under the key
-//! 00 01 .. 1f and device 1; lines and journals are written by hand.
+//! `seal_all` by one lane, over folders and ledger files in memory. Containers are those of Python's `cryptography`,
+//! under the key 00 01 .. 1f and device 1; lines and journals are written by hand.
 ghost use Rattle.std.specs.Prelude.{◌≡◌, ◌<◌, ◌≤◌, length, IfOk};
 
 use crate::files::{COUNTING, EMPTY, SECRET, has_bytes};
@@ -17,7 +17,8 @@ pub(crate) type MemoryOuts = Outs<ToMemory, ToMemory, ToMemory>;
 
 pub(crate) type MemoryKeeper = Keeper<MemStore>;
 
-// The tables of a ledger file, and rows that leave one number of device 1 under the key 00 01 .. 1f, whose SHA-256 is named.
+// The tables of a ledger file, and rows that leave one number of device 1 under the key 00 01 .. 1f, whose SHA-256 is
+// named.
 const NEARLY_SPENT: &str = "CREATE TABLE mark (key_id BLOB NOT NULL, device INTEGER NOT NULL,
       next INTEGER NOT NULL, PRIMARY KEY (key_id, device),
       CHECK (next >= 0 AND next <= 4294967296));
