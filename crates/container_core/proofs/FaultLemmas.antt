@@ -1,5 +1,6 @@
 -- Which fault shows before any chunk is opened, and what opening answers by it.
-use Rattle.std.proofs.Common.{◌≡◌, ℕ, ◌+◌, ◌<◌, ◌≤◌, Bool, true, false, List, length, take, drop, Option, Some, None, Err, not, if◌then◌else◌, ap, sym, ◌∙◌, arith}
+use Rattle.std.proofs.Common.{◌≡◌, ℕ, ◌+◌, ◌<◌, ◌≤◌, Bool, true, false, List, length, take, drop, Option, Some, None}
+use Rattle.std.proofs.Common.{Err, not, if◌then◌else◌, ap, sym, ◌∙◌, arith}
 use Rattle.std.proofs.lemmas.Bool.{false_from_ne_true}
 use Rattle.std.proofs.lemmas.Bool.Decides.{nat_tests}
 use Rattle.std.proofs.lemmas.Option.{none-some}
@@ -7,7 +8,9 @@ use Rattle.std.specs.Prelude.{nat_lt, ◌==◌, slice_index}
 use Rattle.std.specs.Str.{bytes_eq}
 use Rattle.container_core.specs.Container.{magic, hint_of}
 use Rattle.container_core.specs.declared.fault.OpenFault.{OpenFault}
-use Rattle.container_core.specs.declared.fault.OpenFault.TheVariants.{TooLong, ShortHeader, BadMagic, BadVersion, BadExponent, KeyMismatch, BadLength, Forged, OutOfMemory, Read, Write}
+use Rattle.container_core.specs.declared.fault.OpenFault.TheVariants.{TooLong, ShortHeader, BadMagic, BadVersion}
+use Rattle.container_core.specs.declared.fault.OpenFault.TheVariants.{BadExponent, KeyMismatch, BadLength, Forged}
+use Rattle.container_core.specs.declared.fault.OpenFault.TheVariants.{OutOfMemory, Read, Write}
 use Rattle.container_core.specs.Chunks.{sealed_chunks, container_length, has_plaintext}
 use Rattle.container_core.specs.Cutting.{RefusesCut}
 use Rattle.container_core.specs.Opening.{header_fault, first_fault, early_fault, unsealed, unless, opening}

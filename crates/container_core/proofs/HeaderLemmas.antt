@@ -1,5 +1,7 @@
 -- What a header holds.
-use Rattle.std.proofs.Common.{◌≡◌, ℕ, ◌<◌, ◌≤◌, Bool, true, false, eqb, not, List, [], ◌∷◌, ◌++◌, length, get_or, take, drop, Some, None, if◌then◌else◌, refl, ap, sym, ◌∙◌, arith, append_assoc, take-append-drop, length-append, length-take-le}
+use Rattle.std.proofs.Common.{◌≡◌, ℕ, ◌<◌, ◌≤◌, Bool, true, false, eqb, not, List, [], ◌∷◌, ◌++◌, length, get_or, take}
+use Rattle.std.proofs.Common.{drop, Some, None, if◌then◌else◌, refl, ap, sym, ◌∙◌, arith, append_assoc}
+use Rattle.std.proofs.Common.{take-append-drop, length-append, length-take-le}
 use Rattle.std.proofs.lemmas.List.{length-drop, take_at, drop_at, drop_more, drop-drop}
 use Rattle.std.proofs.lemmas.Bool.Decides.{nat_tests, Decides-eqb}
 use Rattle.std.proofs.lemmas.Slice.Eq.{bytes_eq-Decides}
@@ -7,7 +9,8 @@ use Rattle.std.specs.Prelude.{codes, nat_lt}
 use Rattle.std.specs.Str.{bytes_eq}
 use Rattle.sha2.proofs.Facts256.{length-sha256}
 use Rattle.sha2.specs.Sha256.{sha256}
-use Rattle.container_core.specs.declared.fault.OpenFault.TheVariants.{ShortHeader, BadMagic, BadVersion, BadExponent, KeyMismatch}
+use Rattle.container_core.specs.declared.fault.OpenFault.TheVariants.{ShortHeader, BadMagic, BadVersion, BadExponent}
+use Rattle.container_core.specs.declared.fault.OpenFault.TheVariants.{KeyMismatch}
 use Rattle.container_core.specs.Container.{hint_of, header_of}
 use Rattle.container_core.specs.Opening.{header_fault}
 use Rattle.container_core.specs.Stream.{prefix_in}

@@ -1,18 +1,22 @@
 -- Opening is the other way round of sealing: it gives a plaintext exactly for that plaintext's container.
-use Rattle.std.proofs.Common.{◌≡◌, ℕ, ◌+◌, ◌-◌, ◌/◌, ◌<◌, ◌≤◌, Bool, true, false, eqb, List, [], ◌∷◌, ◌++◌, length, get_or, take, drop, Option, Some, None, Result, Ok, Err, not, if◌then◌else◌, refl, ap, sym, ◌∙◌, arith, append_assoc, length-append}
+use Rattle.std.proofs.Common.{◌≡◌, ℕ, ◌+◌, ◌-◌, ◌/◌, ◌<◌, ◌≤◌, Bool, true, false, eqb, List, [], ◌∷◌, ◌++◌, length}
+use Rattle.std.proofs.Common.{get_or, take, drop, Option, Some, None, Result, Ok, Err, not, if◌then◌else◌, refl, ap}
+use Rattle.std.proofs.Common.{sym, ◌∙◌, arith, append_assoc, length-append}
 use Rattle.std.proofs.lemmas.List.{append-nil, length-drop, take_at, drop_at, drop_more, drop_all}
 use Rattle.std.proofs.lemmas.Bool.{false_from_ne_true}
 use Rattle.std.proofs.lemmas.Bool.Decides.{Decides-eqb}
 use Rattle.std.specs.Prelude.{nat_lt}
 use Rattle.container_core.specs.declared.fault.OpenFault.{OpenFault}
 use Rattle.container_core.specs.declared.fault.OpenFault.TheVariants.{TooLong, BadLength, Forged}
-use Rattle.container_core.specs.Chunks.{parts, cut_every, chunks, sealed_chunks, body_length, container_length, has_plaintext}
+use Rattle.container_core.specs.Chunks.{parts, cut_every, chunks, sealed_chunks, body_length, container_length}
+use Rattle.container_core.specs.Chunks.{has_plaintext}
 use Rattle.container_core.specs.Stream.{prefix_in, is_nil, sealed_chunk, opened_chunk, stream}
 use Rattle.container_core.specs.Container.{header_of, container}
 use Rattle.container_core.specs.Opening.{header_fault, first_fault, early_fault, unsealed, unless, opening, joined}
 use Rattle.container_core.proofs.PartsLemmas.{body_count, has_plaintext-of, plaintext_of-has}
 use Rattle.container_core.proofs.StreamLemmas.{length-sealed_chunk, length-stream, unsealed-stream, stream-unsealed}
-use Rattle.container_core.proofs.HeaderLemmas.{length-header_of, good_header, header_fault-good, header-drop, header-faultless, good_header-of, not_below, at_most}
+use Rattle.container_core.proofs.HeaderLemmas.{length-header_of, good_header, header_fault-good, header-drop}
+use Rattle.container_core.proofs.HeaderLemmas.{header-faultless, good_header-of, not_below, at_most}
 
 -- whether a chunk is the last one, by its number
 last_by_number : (number : ℕ) (cs : List (List ℕ)) → number < length cs → is_nil (drop (number + 1) cs) ≡ eqb (number + 1) (length cs)

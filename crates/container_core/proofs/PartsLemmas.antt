@@ -1,9 +1,12 @@
 -- The parts of a list, and the lengths of plaintexts and of their containers.
-use Rattle.std.proofs.Common.{◌≡◌, ℕ, zero, suc, ◌+◌, ◌-◌, ◌*◌, ◌/◌, ◌<◌, ◌≤◌, Bool, true, false, eqb, ◌||◌, inl, inr, List, [], ◌∷◌, length, get_or, take, drop, min, refl, ap, sym, ◌∙◌, arith, zero-add, one-mul, zero-mul}
+use Rattle.std.proofs.Common.{◌≡◌, ℕ, zero, suc, ◌+◌, ◌-◌, ◌*◌, ◌/◌, ◌<◌, ◌≤◌, Bool, true, false, eqb, ◌||◌, inl, inr}
+use Rattle.std.proofs.Common.{List, [], ◌∷◌, length, get_or, take, drop, min, refl, ap, sym, ◌∙◌, arith, zero-add}
+use Rattle.std.proofs.Common.{one-mul, zero-mul}
 use Rattle.std.proofs.lemmas.List.{drop-drop, take_all, take_min, length-drop}
 use Rattle.std.proofs.lemmas.Bool.{or_cases, cases_Bool}
 use Rattle.std.proofs.lemmas.Bool.Decides.{Decides-eqb}
-use Rattle.container_core.specs.Chunks.{parts, cut_every, chunks, sealed_chunks, chunk_count, body_length, container_length, has_plaintext}
+use Rattle.container_core.specs.Chunks.{parts, cut_every, chunks, sealed_chunks, chunk_count, body_length}
+use Rattle.container_core.specs.Chunks.{container_length, has_plaintext}
 use Rattle.container_core.specs.Stream.{is_nil}
 
 pub length-parts : (size full : ℕ) (bytes : List ℕ) → length (parts size full bytes) ≡ full + 1

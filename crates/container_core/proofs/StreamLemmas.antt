@@ -1,5 +1,7 @@
 -- STREAM of the chunks of a plaintext, and opening it again.
-use Rattle.std.proofs.Common.{◌≡◌, ℕ, zero, suc, ◌+◌, ◌-◌, ◌*◌, ◌≤◌, Bool, true, List, [], ◌∷◌, ◌++◌, length, take, drop, Option, Some, None, Result, Ok, Err, refl, ap, sym, ◌∙◌, arith, take-append-drop, length-append, length-take-le}
+use Rattle.std.proofs.Common.{◌≡◌, ℕ, zero, suc, ◌+◌, ◌-◌, ◌*◌, ◌≤◌, Bool, true, List, [], ◌∷◌, ◌++◌, length, take}
+use Rattle.std.proofs.Common.{drop, Option, Some, None, Result, Ok, Err, refl, ap, sym, ◌∙◌, arith, take-append-drop}
+use Rattle.std.proofs.Common.{length-append, length-take-le}
 use Rattle.std.proofs.lemmas.List.{append-nil, length-drop, take_at, drop_at}
 use Rattle.aead_core.specs.Aead.{enciphered, tag_of, opened}
 use Rattle.aead_core.proofs.AeadLemmas.{length-enciphered, length-tag_of, opened-aead, aead-opened}

@@ -1,16 +1,18 @@
 -- Opening: the first fault of a container, or its plaintext.
-use Rattle.std.specs.Prelude.{ℕ, ◌+◌, ◌==◌, nat_lt, not, List, [], ◌∷◌, ◌++◌, length, take, drop, slice_index, Option, Some, None, Result, Ok, Err, if◌then◌else◌}
+use Rattle.std.specs.Prelude.{ℕ, ◌+◌, ◌==◌, nat_lt, not, List, [], ◌∷◌, ◌++◌, length, take, drop, slice_index, Option}
+use Rattle.std.specs.Prelude.{Some, None, Result, Ok, Err, if◌then◌else◌}
 use Rattle.std.specs.Str.{bytes_eq}
 use Rattle.container_core.specs.declared.fault.OpenFault.{OpenFault}
-use Rattle.container_core.specs.declared.fault.OpenFault.TheVariants.{TooLong, ShortHeader, BadMagic, BadVersion, BadExponent, KeyMismatch, BadLength, Forged}
-use Rattle.container_core.specs.Chunks.{container_length, has_plaintext, sealed_chunks}
+use Rattle.container_core.specs.declared.fault.OpenFault.TheVariants.{TooLong, ShortHeader, BadMagic, BadVersion}
+use Rattle.container_core.specs.declared.fault.OpenFault.TheVariants.{BadExponent, KeyMismatch, BadLength, Forged}
+use Rattle.container_core.specs.Chunks.{header_size, container_length, has_plaintext, sealed_chunks}
 use Rattle.container_core.specs.Stream.{is_nil, opened_chunk}
 use Rattle.container_core.specs.Container.{magic, hint_of}
 
 -- the first fault of the header
 unfoldable pub header_fault : List ℕ → List ℕ → Option OpenFault
 header_fault key bytes =
-    if nat_lt (length bytes) 24 then Some ShortHeader else
+    if nat_lt (length bytes) header_size then Some ShortHeader else
     (if not (bytes_eq (take 8 bytes) magic) then Some BadMagic else
     (if not (slice_index bytes 8 == 1) then Some BadVersion else
     (if not (slice_index bytes 9 == 16) then Some BadExponent else
@@ -48,4 +50,5 @@ unless None answer = answer
 -- what opening a container answers, where a plaintext may have `most` bytes: its first fault, or its plaintext
 unfoldable pub opening : List ℕ → ℕ → List ℕ → Result (List ℕ) OpenFault
 opening key most bytes =
-    unless (early_fault key most bytes) (unsealed key (take 24 bytes) 0 (sealed_chunks (drop 24 bytes)))
+    unless (early_fault key most bytes)
+    (unsealed key (take header_size bytes) 0 (sealed_chunks (drop header_size bytes)))

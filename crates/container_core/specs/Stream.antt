@@ -1,8 +1,10 @@
--- STREAM (Hoang, Reyhanitabar, Rogaway, Vizár, CRYPTO 2015) over the AEAD of RFC 8439: each chunk is sealed under a nonce
--- that encodes a prefix, the chunk's number and whether it is the last. Here the associated data is the header.
-use Rattle.std.specs.Prelude.{ℕ, ◌+◌, ◌-◌, Bool, true, false, List, [], ◌∷◌, ◌++◌, length, take, drop, Option, if◌then◌else◌}
+-- STREAM (Hoang, Reyhanitabar, Rogaway, Vizár, CRYPTO 2015) over the AEAD of RFC 8439: each chunk is sealed under a
+-- nonce that encodes a prefix, the chunk's number and whether it is the last. Here the associated data is the header.
+use Rattle.std.specs.Prelude.{ℕ, ◌+◌, ◌-◌, Bool, true, false, List, [], ◌∷◌, ◌++◌, length, take, drop, Option}
+use Rattle.std.specs.Prelude.{if◌then◌else◌}
 use Rattle.std.specs.Int.{w32, to_be_bytes}
 use Rattle.aead_core.specs.Aead.{aead, opened}
+use Rattle.container_core.specs.Chunks.{tag_size}
 
 -- the nonce of a chunk: the prefix, the chunk's number in 4 big-endian bytes, and 1 for the last chunk, else 0
 unfoldable pub nonce_of : List ℕ → ℕ → Bool → List ℕ
@@ -29,8 +31,8 @@ stream key header number [] = []
 stream key header number (chunk ∷ rest) =
     sealed_chunk key header number (is_nil rest) chunk ++ stream key header (number + 1) rest
 
--- the plaintext of a sealed chunk, where its last 16 bytes are the tag of those before
+-- the plaintext of a sealed chunk, where its last 16 bytes, a tag, are the tag of those before
 unfoldable pub opened_chunk : List ℕ → List ℕ → ℕ → Bool → List ℕ → Option (List ℕ)
 opened_chunk key header number last sealed =
-    let bytes = length sealed - 16 in
+    let bytes = length sealed - tag_size in
     opened key (nonce_of (prefix_in header) number last) header (take bytes sealed) (drop bytes sealed)

@@ -2,7 +2,8 @@
 //! header's prefix, the chunk's number and whether it is the last, with the header as associated data.
 //!
 //! Nothing here takes memory, so no answer about a chunk is one about memory.
-ghost use Rattle.std.specs.Prelude.{◌≡◌, ℕ, ◌++◌, ◌+◌, ◌-◌, ◌≤◌, List, length, vec_len, vec_capacity, IsTrue, Some, None, false, if◌then◌else◌};
+ghost use Rattle.std.specs.Prelude.{◌≡◌, ℕ, ◌++◌, ◌+◌, ◌-◌, ◌≤◌, List, length, vec_len, vec_capacity, IsTrue, Some};
+ghost use Rattle.std.specs.Prelude.{None, false, if◌then◌else◌};
 ghost use Rattle.std.specs.Bool.{OnTrue, OnFalse};
 ghost use Rattle.container_core.specs.Stream.{nonce_of, sealed_chunk, opened_chunk};
 
@@ -25,15 +26,15 @@ pub fn nonce(prefix: [u8; 7], chunk: u32, last: bool) -> [u8; 12]
 /// Seals a chunk of at most 65,536 bytes in place, and answers its tag.
 #[tactic(auto, unfolding(crate::specs::Stream::sealed_chunk))]
 pub fn seal_chunk(key: &Key, header: &Header, number: u32, last: bool, text: &mut [u8]) -> [u8; 16]
-    requires { length text.old ≤ 65536 }
+    requires { length text.old ≤ CHUNK }
     ensures { text.new ++ result ≡ sealed_chunk key.now header.now number last text.old }
 {
     let nonce = nonce(header.prefix(), number, last);
     seal_in_place(key.bytes(), &nonce, header.as_bytes(), text)
 }
 
-/// Opens a chunk of at most 65,536 bytes in place, where `tag` is its tag, and answers whether it is. Where it isn't, the
-/// chunk stays as it was.
+/// Opens a chunk of at most 65,536 bytes in place, where `tag` is its tag, and answers whether it is. Where it isn't,
+/// the chunk stays as it was.
 pub fn open_chunk(
     key: &Key,
     header: &Header,
@@ -42,8 +43,9 @@ pub fn open_chunk(
     text: &mut [u8],
     tag: &[u8; 16],
 ) -> bool
-    requires { length text.old ≤ 65536 }
-    ensures value { opened_chunk key.now header.now number last (text.old ++ tag.now) ≡ (if result then Some text.new else None) }
+    requires { length text.old ≤ CHUNK }
+    ensures value { opened_chunk key.now header.now number last (text.old ++ tag.now)
+        ≡ (if result then Some text.new else None) }
     ensures was_sealed { IsTrue result → sealed_chunk key.now header.now number last text.new ≡ text.old ++ tag.now }
     ensures unchanged { result ≡ false → text.new ≡ text.old }
 {
@@ -84,8 +86,8 @@ pub fn append_sealed(
     append(out, &tag);
 }
 
-/// Appends a sealed chunk opened, where there is room for its plaintext, and answers whether its tag, the last 16 bytes, is
-/// the right one. Where it isn't, nothing is appended.
+/// Appends a sealed chunk opened, where there is room for its plaintext, and answers whether its tag, the last 16
+/// bytes, is the right one. Where it isn't, nothing is appended.
 pub fn append_opened(
     out: &mut Vec<u8>,
     key: &Key,
@@ -97,7 +99,8 @@ pub fn append_opened(
     requires tag { TAG ≤ length sealed.now }
     requires small { length sealed.now ≤ SEALED }
     requires room { vec_len out.old + (length sealed.now - TAG) ≤ vec_capacity out.old }
-    ensures opened { OnTrue result ((plain : List ℕ) × (opened_chunk key.now header.now number last sealed.now ≡ Some plain)
+    ensures opened { OnTrue result ((plain : List ℕ)
+        × (opened_chunk key.now header.now number last sealed.now ≡ Some plain)
         × (out.new.items ≡ out.old.items ++ plain)) }
     ensures refused { OnFalse result (opened_chunk key.now header.now number last sealed.now ≡ None) }
     ensures unchanged { OnFalse result (out.new.items ≡ out.old.items) }

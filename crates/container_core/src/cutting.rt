@@ -1,8 +1,10 @@
-//! How a plaintext, and what stands behind the header of its container, are cut into chunks, and how long a container is.
+//! How a plaintext, and what stands behind the header of its container, are cut into chunks, and how long a container
+//! is.
 //!
-//! A `Cut` is determined by the number of plaintext bytes. It gives each chunk by its number, of the plaintext and of the
-//! container. Nothing here takes memory.
-ghost use Rattle.std.specs.Prelude.{◌≡◌, ℕ, ◌+◌, ◌-◌, ◌*◌, ◌<◌, ◌≤◌, List, [], length, take, drop, min, slice_index_or, IfOk, IfErr};
+//! A `Cut` is determined by the number of plaintext bytes. It gives each chunk by its number, of the plaintext and of
+//! the container. Nothing here takes memory.
+ghost use Rattle.std.specs.Prelude.{◌≡◌, ℕ, ◌+◌, ◌-◌, ◌*◌, ◌<◌, ◌≤◌, List, [], length, take, drop, min, slice_index_or};
+ghost use Rattle.std.specs.Prelude.{IfOk, IfErr};
 ghost use Rattle.container_core.specs.Chunks.{chunks, chunk_count, body_length, container_length, sealed_chunks};
 ghost use Rattle.container_core.specs.Cutting.{RefusesCut};
 
@@ -17,7 +19,8 @@ fn chunks_of(plain: u64) -> u64
     plain.saturating_sub(1) / CHUNK as u64 + 1
 }
 
-/// How many bytes the container of so many plaintext bytes has: 24 for the header, the plaintext, and 16 for each chunk.
+/// How many bytes the container of so many plaintext bytes has: 24 for the header, the plaintext, and 16 for each
+/// chunk.
 pub fn container_bytes(plain: u64) -> u64
     requires { plain ≤ MAX_PLAIN }
     ensures { result ≡ container_length plain }
@@ -34,12 +37,13 @@ pub struct Cut {
 
 impl Model for Cut {
     ghost use Rattle.std.specs.Prelude.{ℕ, ◌≤◌};
+    ghost use Rattle.container_core.specs.Chunks.{max_plain};
 
     ghost Value = { ℕ };
 
     ghost view = { λ c. c.plain };
 
-    ghost invariant = { λ c. c.plain ≤ 1099511627776 };
+    ghost invariant = { λ c. c.plain ≤ max_plain };
 
     ghost inverse = { λ n. record { plain = n } };
 }
@@ -53,10 +57,11 @@ impl Cut {
         Cut { plain }
     }
 
-    /// The cut of so many bytes behind a header. `TooLong` over 1,099,780,063,232 bytes; else `BadLength` where no plaintext has a
-    /// container with so many bytes behind its header.
+    /// The cut of so many bytes behind a header. `TooLong` over 1,099,780,063,232 bytes; else `BadLength` where no
+    /// plaintext has a container with so many bytes behind its header.
     ///
-    /// All chunks but the last have 65,552 bytes with their tags. The last has 17 to 65,552, or 16 where it is the only one.
+    /// All chunks but the last have 65,552 bytes with their tags. The last has 17 to 65,552, or 16 where it is the
+    /// only one.
     pub fn of_body(body: u64) -> Result<Cut, OpenFault>
         ensures places { IfOk result (λ plain. body ≡ body_length plain) }
         ensures within { IfOk result (λ plain. plain ≤ MAX_PLAIN) }
@@ -95,10 +100,10 @@ impl Cut {
     /// Its tag follows.
     pub fn place(self, number: u32) -> (u64, u32)
         requires { number < chunk_count self }
-        ensures begin { result.0 ≡ number * 65552 }
-        ensures bytes { result.1 ≡ min 65536 (self - number * 65536) }
+        ensures begin { result.0 ≡ number * SEALED }
+        ensures bytes { result.1 ≡ min CHUNK (self - number * CHUNK) }
         ensures chunk { (body : List ℕ) → length body ≡ body_length self
-            → slice_index_or (sealed_chunks body) number [] ≡ take (result.1 + 16) (drop result.0 body) }
+            → slice_index_or (sealed_chunks body) number [] ≡ take (result.1 + TAG) (drop result.0 body) }
     {
         let before = u64::from(number) * CHUNK as u64;
         let bytes = (self.plain - before).min(CHUNK as u64);

@@ -5,8 +5,8 @@ ghost use Rattle.container_core.specs.Faults.{open_text, seal_text};
 use std::error::Error;
 use std::fmt;
 
-/// Why a container wasn't opened. The first eight are tested in this order; `seal`, `open`, `read_header` and `cut` never
-/// answer `Read` or `Write`.
+/// Why a container wasn't opened. The first eight are tested in this order; no function of this crate answers `Read` or
+/// `Write`.
 #[derive(Clone, Copy, PartialEq, Eq, Debug)]
 pub enum OpenFault {
     /// More bytes than the container of the greatest plaintext allowed.

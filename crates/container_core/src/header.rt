@@ -72,13 +72,13 @@ impl Header {
     }
 }
 
-/// The header with which these bytes begin, where it is one of this key; else the first fault of `ShortHeader`, `BadMagic`,
-/// `BadVersion`, `BadExponent` and `KeyMismatch`, in this order.
+/// The header with which these bytes begin, where it is one of this key; else the first fault of `ShortHeader`,
+/// `BadMagic`, `BadVersion`, `BadExponent` and `KeyMismatch`, in this order.
 #[tactic(auto, unfolding(crate::specs::Opening::header_fault))]
 pub fn read_header(key: &Key, bytes: &[u8]) -> Result<Header, OpenFault>
     ensures fault { IfErr result (λ fault. header_fault key.now bytes.now ≡ Some fault) }
     ensures faultless { OnOk result (header_fault key.now bytes.now ≡ None) }
-    ensures header { IfOk result (λ header. header ≡ take 24 bytes.now) }
+    ensures header { IfOk result (λ header. header ≡ take HEADER bytes.now) }
 {
     if bytes.len() < HEADER {
         return Err(OpenFault::ShortHeader);

@@ -1,6 +1,8 @@
 //! What follows of the definitions alone, each law the contract of a function that does nothing.
-ghost use Rattle.std.specs.Prelude.{◌≡◌, ℕ, ◌*◌, ◌^◌, ◌<◌, ◌≤◌, ◌↔◌, Bool, List, [], ◌∷◌, length, take, drop, slice_index_or, None, Ok, Err};
-ghost use Rattle.container_core.specs.Chunks.{chunks, chunk_count, sealed_chunks, body_length, container_length};
+ghost use Rattle.std.specs.Prelude.{◌≡◌, ℕ, ◌*◌, ◌^◌, ◌<◌, ◌≤◌, ◌↔◌, Bool, true, List, [], ◌∷◌, length, take, drop};
+ghost use Rattle.std.specs.Prelude.{slice_index_or, None, Ok, Err};
+ghost use Rattle.container_core.specs.Chunks.{chunk_size, sealed_size, header_size, chunks, chunk_count, sealed_chunks};
+ghost use Rattle.container_core.specs.Chunks.{body_length, container_length, has_plaintext};
 ghost use Rattle.container_core.specs.Stream.{nonce_of, prefix_in};
 ghost use Rattle.container_core.specs.Container.{container, header_of};
 ghost use Rattle.container_core.specs.declared.fault.OpenFault.{OpenFault};
@@ -30,12 +32,14 @@ pub fn sealed_opens()
 
 /// Bytes whose header has no fault begin with the header of the key and of the prefix that they name.
 pub fn faultless_headers()
-    ensures { (key bytes : List ℕ) → header_fault key bytes ≡ None → take 24 bytes ≡ header_of key (prefix_in bytes) }
+    ensures { (key bytes : List ℕ) → header_fault key bytes ≡ None
+        → take header_size bytes ≡ header_of key (prefix_in bytes) }
 {}
 
 /// Opening names faults of the bytes alone, never one of memory, a reader or a writer.
 pub fn opening_faults()
-    ensures { (key bytes : List ℕ) (most : ℕ) (fault : OpenFault) → opening key most bytes ≡ Err fault → IsOfBytes fault }
+    ensures { (key bytes : List ℕ) (most : ℕ) (fault : OpenFault) → opening key most bytes ≡ Err fault
+        → IsOfBytes fault }
 {}
 
 /// Bytes that are no longer than the container of the greatest plaintext allowed open alike where more is allowed.
@@ -44,33 +48,42 @@ pub fn limits_agree()
         → opening key most bytes ≡ opening key more bytes }
 {}
 
-/// A container names the prefix under which it was sealed; and of one key, two plaintexts with one container are the same.
+/// A container names the prefix under which it was sealed; and of one key, two plaintexts with one container are the
+/// same.
 pub fn containers_differ()
     ensures prefix { (key prefix plain : List ℕ) → length prefix ≡ 7 → prefix_in (container key prefix plain) ≡ prefix }
     ensures plaintext { (key prefix other plain another : List ℕ) → length prefix ≡ 7 → length other ≡ 7
         → container key prefix plain ≡ container key other another → (prefix ≡ other) × (plain ≡ another) }
 {}
 
-/// The chunks of a plaintext: the first 65,536 bytes, then the chunks of the rest. The sealed chunks of what stands behind
-/// a header: the first 65,552 bytes, then the sealed chunks of the rest.
+/// The chunks of a plaintext: the first 65,536 bytes, then the chunks of the rest. The sealed chunks of what stands
+/// behind a header: the first 65,552 bytes, then the sealed chunks of the rest.
 pub fn chunks_recur()
-    ensures short { (plain : List ℕ) → length plain ≤ 65536 → chunks plain ≡ plain ∷ [] }
-    ensures long { (plain : List ℕ) → 65536 < length plain → chunks plain ≡ take 65536 plain ∷ chunks (drop 65536 plain) }
-    ensures short_sealed { (body : List ℕ) → length body ≤ 65552 → sealed_chunks body ≡ body ∷ [] }
-    ensures long_sealed { (body : List ℕ) → 65552 < length body
-        → sealed_chunks body ≡ take 65552 body ∷ sealed_chunks (drop 65552 body) }
+    ensures short { (plain : List ℕ) → length plain ≤ chunk_size → chunks plain ≡ plain ∷ [] }
+    ensures long { (plain : List ℕ) → chunk_size < length plain
+        → chunks plain ≡ take chunk_size plain ∷ chunks (drop chunk_size plain) }
+    ensures short_sealed { (body : List ℕ) → length body ≤ sealed_size → sealed_chunks body ≡ body ∷ [] }
+    ensures long_sealed { (body : List ℕ) → sealed_size < length body
+        → sealed_chunks body ≡ take sealed_size body ∷ sealed_chunks (drop sealed_size body) }
 {}
 
 /// Where the chunks of a plaintext stand, and how many there are.
 pub fn chunks_by_number()
     ensures count { (plain : List ℕ) → length (chunks plain) ≡ chunk_count (length plain) }
     ensures chunk { (plain : List ℕ) (number : ℕ) → number < chunk_count (length plain)
-        → slice_index_or (chunks plain) number [] ≡ take 65536 (drop (number * 65536) plain) }
-    ensures sealed_count { (body : List ℕ) (n : ℕ) → length body ≡ body_length n → length (sealed_chunks body) ≡ chunk_count n }
+        → slice_index_or (chunks plain) number [] ≡ take chunk_size (drop (number * chunk_size) plain) }
+    ensures sealed_count { (body : List ℕ) (n : ℕ) → length body ≡ body_length n
+        → length (sealed_chunks body) ≡ chunk_count n }
 {}
 
 /// A container is 24 bytes longer than its plaintext, and 16 more for each chunk.
 pub fn length_of_container()
     ensures { (key prefix plain : List ℕ) → length prefix ≡ 7
         → length (container key prefix plain) ≡ container_length (length plain) }
+{}
+
+/// A length is tested to be one of a container exactly where some plaintext has a container so long.
+pub fn lengths_of_containers()
+    ensures { (most bytes : ℕ) → (has_plaintext most bytes ≡ true)
+        ↔ ((plain : ℕ) × (plain ≤ most) × (bytes ≡ container_length plain)) }
 {}

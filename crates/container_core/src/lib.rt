@@ -1,5 +1,5 @@
-//! Sealed containers, version 1: a header of 24 bytes and the chunks of a plaintext, sealed as in STREAM over the AEAD of
-//! RFC 8439.
+//! Sealed containers, version 1: a header of 24 bytes and the chunks of a plaintext, sealed as in STREAM over the
+//! AEAD of RFC 8439.
 //!
 //! `specs/` has the format: `chunks` of a plaintext, `stream` of a list of chunks, `container` of a key, a prefix and a
 //! plaintext, and `opening`, which names the first fault of any bytes, or gives their plaintext.
@@ -32,7 +32,7 @@ pub const HEADER: usize = 24;
 /// Bytes of the greatest plaintext: 2^40.
 pub const MAX_PLAIN: u64 = 1 << 40;
 /// Bytes behind the header of the container of the greatest plaintext: 2^40 and 16 for each of 2^24 chunks.
-pub const MAX_BODY: u64 = MAX_PLAIN + 16 * (1 << 24);
+pub const MAX_BODY: u64 = MAX_PLAIN + TAG as u64 * (MAX_PLAIN / CHUNK as u64);
 /// Bytes of the container of the greatest plaintext.
 pub const MAX_CONTAINER: u64 = HEADER as u64 + MAX_BODY;
 

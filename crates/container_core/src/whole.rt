@@ -1,9 +1,11 @@
-//! A whole container in memory. `begin` reads the header and the cut of any bytes, or names their first fault; `seal_into` and
-//! `open_into` seal and open the chunks into room that the caller made; `seal` and `open` make this room, and call them.
+//! A whole container in memory. `begin` reads the header and the cut of any bytes, or names their first fault;
+//! `seal_into` and `open_into` seal and open the chunks into room that the caller made; `seal` and `open` make this
+//! room, and call them.
 //!
-//! The room for the whole is the only memory that is asked for, and it is there before the first chunk is touched: what the
-//! chunks answer can't be that memory was refused.
-ghost use Rattle.std.specs.Prelude.{◌≡◌, ℕ, ◌+◌, ◌<◌, ◌≤◌, ◌++◌, ◌⊎◌, ◌↔◌, List, length, take, vec_len, vec_capacity, Ok, Err, Some, None, IfOk, IfErr, OnOk, OnErr, MatchResult};
+//! The room for the whole is the only memory that is asked for, and it is there before the first chunk is touched:
+//! what the chunks answer can't be that memory was refused.
+ghost use Rattle.std.specs.Prelude.{◌≡◌, ℕ, ◌+◌, ◌<◌, ◌≤◌, ◌++◌, ◌⊎◌, ◌↔◌, List, length, take, vec_len, vec_capacity};
+ghost use Rattle.std.specs.Prelude.{Ok, Err, Some, None, IfOk, IfErr, OnOk, OnErr, MatchResult};
 ghost use Rattle.container_core.specs.Container.{container};
 ghost use Rattle.container_core.specs.Chunks.{body_length, container_length, sealed_chunks};
 ghost use Rattle.container_core.specs.Opening.{early_fault, opening, unsealed};
@@ -17,10 +19,10 @@ use crate::key::Key;
 use crate::{HEADER, MAX_CONTAINER, MAX_PLAIN};
 use std::alloc::Global;
 
-/// The header and the cut of a container under a key, of at most 2^40 plaintext bytes, or the first fault that shows before
-/// any chunk is opened: those of `OpenFault` from `TooLong` to `BadLength`, in this order. Takes no memory.
+/// The header and the cut of a container under a key, of at most 2^40 plaintext bytes, or the first fault that shows
+/// before any chunk is opened: those of `OpenFault` from `TooLong` to `BadLength`, in this order. Takes no memory.
 pub fn begin(key: &Key, bytes: &[u8]) -> Result<(Header, Cut), OpenFault>
-    ensures header { IfOk result (λ begun. begun.0 ≡ take 24 bytes.now) }
+    ensures header { IfOk result (λ begun. begun.0 ≡ take HEADER bytes.now) }
     ensures cut { IfOk result (λ begun. length bytes.now ≡ container_length begun.1) }
     ensures faultless { OnOk result (early_fault key.now MAX_PLAIN bytes.now ≡ None) }
     ensures fault { IfErr result (λ fault. early_fault key.now MAX_PLAIN bytes.now ≡ Some fault) }
@@ -55,7 +57,8 @@ pub fn seal_into(out: &mut Vec<u8>, key: &Key, prefix: [u8; 7], plain: &[u8])
     }
 }
 
-/// The container of a plaintext under a key and a prefix. `TooLong` over 2^40 bytes, `OutOfMemory` where memory was refused.
+/// The container of a plaintext under a key and a prefix. `TooLong` over 2^40 bytes, `OutOfMemory` where memory was
+/// refused.
 pub fn seal(alloc: Global, key: &Key, prefix: [u8; 7], plain: &[u8]) -> Result<Vec<u8>, SealFault>
     ensures container { IfOk result (λ out. out.items ≡ container key.now prefix plain.now) }
     ensures too_long { (result ≡ Err SealFault.TooLong) ↔ (MAX_PLAIN < length plain.now) }
@@ -72,8 +75,8 @@ pub fn seal(alloc: Global, key: &Key, prefix: [u8; 7], plain: &[u8]) -> Result<V
     Ok(out)
 }
 
-/// Appends the plaintext of the chunks behind a header, where there is room for it: for `cut.plain()` bytes. Or names the least
-/// chunk that doesn't check, and then appends nothing. Takes no memory, so `Forged` is the only fault.
+/// Appends the plaintext of the chunks behind a header, where there is room for it: for `cut.plain()` bytes. Or names
+/// the least chunk that doesn't check, and then appends nothing. Takes no memory, so `Forged` is the only fault.
 pub fn open_into(
     out: &mut Vec<u8>,
     key: &Key,
@@ -83,7 +86,8 @@ pub fn open_into(
 ) -> Result<(), OpenFault>
     requires body { length body.now ≡ body_length cut }
     requires room { vec_len out.old + cut ≤ vec_capacity out.old }
-    ensures plaintext { OnOk result ((plain : List ℕ) × (unsealed key.now header.now 0 (sealed_chunks body.now) ≡ Ok plain)
+    ensures plaintext { OnOk result ((plain : List ℕ)
+        × (unsealed key.now header.now 0 (sealed_chunks body.now) ≡ Ok plain)
         × (out.new.items ≡ out.old.items ++ plain)) }
     ensures forged { IfErr result (λ fault. unsealed key.now header.now 0 (sealed_chunks body.now) ≡ Err fault) }
     ensures unchanged { OnErr result (out.new.items ≡ out.old.items) }
@@ -100,19 +104,21 @@ pub fn open_into(
     Ok(())
 }
 
-/// The plaintext of a container under a key, of at most 2^40 bytes, or the first fault that applies of those of `OpenFault`
-/// from `TooLong` to `Forged`. `OutOfMemory` where the room for the plaintext was refused, which is asked for once all but the
-/// tags was tested, and before any of these is.
+/// The plaintext of a container under a key, of at most 2^40 bytes, or the first fault that applies of those of
+/// `OpenFault` from `TooLong` to `Forged`. `OutOfMemory` where the room for the plaintext was refused, which is asked
+/// for once all but the tags was tested, and before any of these is.
 pub fn open(alloc: Global, key: &Key, bytes: &[u8]) -> Result<Vec<u8>, OpenFault>
     ensures plaintext { IfOk result (λ out. opening key.now MAX_PLAIN bytes.now ≡ Ok out.items) }
-    ensures fault { IfErr result (λ fault. (fault ≡ OpenFault.OutOfMemory) ⊎ (opening key.now MAX_PLAIN bytes.now ≡ Err fault)) }
+    ensures fault { IfErr result (λ fault. (fault ≡ OpenFault.OutOfMemory)
+        ⊎ (opening key.now MAX_PLAIN bytes.now ≡ Err fault)) }
 
     // Memory is taken only where neither the length nor the header has a fault.
     ensures memory { result ≡ Err OpenFault.OutOfMemory → early_fault key.now MAX_PLAIN bytes.now ≡ None }
 
     // What opens is the container of its plaintext under the prefix that its header names, and such a container opens.
     ensures sealed { IfOk result (λ out. bytes.now ≡ container key.now (prefix_in bytes.now) out.items) }
-    ensures opens { (plain : List ℕ) → length plain ≤ MAX_PLAIN → bytes.now ≡ container key.now (prefix_in bytes.now) plain
+    ensures opens { (plain : List ℕ) → length plain ≤ MAX_PLAIN
+        → bytes.now ≡ container key.now (prefix_in bytes.now) plain
         → MatchResult result (λ out. out.items ≡ plain) (λ fault. fault ≡ OpenFault.OutOfMemory) }
 {
     let (header, cut) = match begin(key, bytes) {

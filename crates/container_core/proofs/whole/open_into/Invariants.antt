@@ -1,5 +1,5 @@
--- What opened so far stands behind what was there, and opening the chunks that are left behind it answers what opening all of
--- them does.
+-- What opened so far stands behind what was there, and opening the chunks that are left behind it answers what
+-- opening all of them does.
 use Rattle.std.proofs.Common.{◌≡◌, ℕ, ◌+◌, ◌*◌, ◌≤◌, List, ◌++◌, length, drop, min, vec_len, vec_capacity}
 use Rattle.container_core.specs.Chunks.{sealed_chunks}
 use Rattle.container_core.specs.Opening.{unsealed}

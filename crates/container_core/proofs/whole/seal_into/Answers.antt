@@ -1,9 +1,11 @@
-use Rattle.std.proofs.Common.{rules, ◌≡◌, ℕ, ◌+◌, ◌<◌, ◌≤◌, eqb, List, [], ◌++◌, length, get_or, drop, ap, sym, ◌∙◌, subst, arith, length-append}
+use Rattle.std.proofs.Common.{rules, ◌≡◌, ℕ, ◌+◌, ◌<◌, ◌≤◌, eqb, List, [], ◌++◌, length, get_or, drop, ap, sym, ◌∙◌}
+use Rattle.std.proofs.Common.{subst, arith, length-append}
 use Rattle.container_core.specs.Chunks.{chunks, chunk_count}
 use Rattle.container_core.specs.Stream.{sealed_chunk, stream}
 use Rattle.container_core.specs.Container.{container}
 use Rattle.container_core.proofs.PartsLemmas.{length-chunks}
-use Rattle.container_core.proofs.OpeningLemmas.{container-header, length-container, room_for_sealed, sealed_more, sealed_all}
+use Rattle.container_core.proofs.OpeningLemmas.{container-header, length-container, room_for_sealed, sealed_more}
+use Rattle.container_core.proofs.OpeningLemmas.{sealed_all}
 use Rattle.container_core.proofs.whole.seal_into.Goals as goal
 
 pub loop-number-init : goal.loop-number-init

@@ -1,0 +1,184 @@
+//! The table of cut and altered containers: runs of lengths, or of places, that have one answer. The container is
+//! that of 131,073 zero bytes, three chunks, under the key 00 01 .. 1f, device 1, file 0.
+ghost use Rattle.std.specs.Prelude.{◌≤◌, length};
+
+use crate::samples::{COUNTING, prefix_of};
+use anyhow::{Result, ensure};
+use container_core::{HEADER, Key, OpenFault, SEALED, seal};
+use std::alloc::{AllocError, Global};
+use std::io::{self, Print};
+
+/// Bytes of the plaintext: two whole chunks and a byte.
+const PLAIN: usize = 131_073;
+
+/// Bytes of its container.
+pub const LENGTH: usize = 131_145;
+
+/// A way of opening containers.
+pub trait Opener {
+    /// The fault that opening these bytes answers, or none.
+    fn fault_of(&self, key: &Key, bytes: &[u8]) -> Option<OpenFault>;
+}
+
+fn print_answer<R: Print>(rt: &R, what: &str, answer: Option<OpenFault>) -> io::Result<()> {
+    match answer {
+        None => println!(rt; "{what}: opens"),
+        Some(fault) => println!(rt; "{what}: {fault}"),
+    }
+}
+
+fn print_run<R: Print>(
+    rt: &R,
+    alloc: Global,
+    from: usize,
+    to: usize,
+    answer: Option<OpenFault>,
+) -> Result<()> {
+    let what = format!(in alloc; "{from} to {to}")?;
+    print_answer(rt, what.as_str(), answer)?;
+    Ok(())
+}
+
+// Cuts the container to each length from one to another.
+fn cut_to<R: Print, O: Opener>(
+    rt: &R,
+    alloc: Global,
+    opener: &O,
+    key: &Key,
+    bytes: &[u8],
+    from: usize,
+    to: usize,
+) -> Result<()>
+    requires order { from ≤ to }
+    requires within { to ≤ length bytes.now }
+{
+    let mut begin = from;
+    let mut last = opener.fault_of(key, &bytes[..from]);
+    for length in from..to {
+        let next = opener.fault_of(key, &bytes[..length + 1]);
+        if next != last {
+            print_run(rt, alloc, begin, length, last)?;
+            begin = length + 1;
+            last = next;
+        }
+    }
+    print_run(rt, alloc, begin, to, last)
+}
+
+// The container with a byte of its header changed in one bit.
+fn with_header_byte(alloc: Global, bytes: &[u8], place: usize) -> Result<Vec<u8>, AllocError> {
+    let mut other = Vec::from_slice(alloc, bytes)?;
+    if place < other.len() {
+        other[place] ^= 1;
+    }
+    Ok(other)
+}
+
+// Changes each byte of the header.
+fn alter_header<R: Print, O: Opener>(
+    rt: &R,
+    alloc: Global,
+    opener: &O,
+    key: &Key,
+    bytes: &[u8],
+) -> Result<()> {
+    let mut begin = 0;
+    let mut last = None;
+    for place in 0..HEADER {
+        let other = with_header_byte(alloc, bytes, place)?;
+        let next = opener.fault_of(key, other.as_slice());
+        if place > 0 && next != last {
+            print_run(rt, alloc, begin, place - 1, last)?;
+            begin = place;
+        }
+        last = next;
+    }
+    print_run(rt, alloc, begin, HEADER - 1, last)
+}
+
+// A header and chunks, one behind the other.
+fn joined(alloc: Global, parts: &[&[u8]]) -> Result<Vec<u8>, AllocError> {
+    let mut bytes = Vec::new(alloc);
+    for part in parts {
+        bytes.extend_from_slice(part)?;
+    }
+    Ok(bytes)
+}
+
+// Moves the chunks about.
+fn alter_chunks<R: Print, O: Opener>(
+    rt: &R,
+    alloc: Global,
+    opener: &O,
+    key: &Key,
+    bytes: &[u8],
+    other: &[u8],
+) -> Result<()> {
+    ensure!(
+        bytes.len() == LENGTH && other.len() == LENGTH,
+        "three chunks"
+    );
+    let header = &bytes[..HEADER];
+    let first = &bytes[HEADER..HEADER + SEALED];
+    let second = &bytes[HEADER + SEALED..HEADER + 2 * SEALED];
+    let third = &bytes[HEADER + 2 * SEALED..];
+    let strange = &other[HEADER..HEADER + SEALED];
+    let made = joined(alloc, &[header, second, first, third])?;
+    print_answer(
+        rt,
+        "chunks 0 and 1 exchanged",
+        opener.fault_of(key, made.as_slice()),
+    )?;
+    let made = joined(alloc, &[header, first, first, second, third])?;
+    print_answer(
+        rt,
+        "chunk 0 inserted again behind itself",
+        opener.fault_of(key, made.as_slice()),
+    )?;
+    let made = joined(alloc, &[header, first, third])?;
+    print_answer(
+        rt,
+        "chunk 1 taken out",
+        opener.fault_of(key, made.as_slice()),
+    )?;
+    let made = joined(alloc, &[header, first, second, third, third])?;
+    print_answer(
+        rt,
+        "the last chunk added again",
+        opener.fault_of(key, made.as_slice()),
+    )?;
+    let made = joined(alloc, &[header, strange, second, third])?;
+    print_answer(
+        rt,
+        "chunk 0 from the container of file 1",
+        opener.fault_of(key, made.as_slice()),
+    )?;
+    Ok(())
+}
+
+/// Prints what an opener answers to the container cut to each length of these ranges, both ends among them, and to each
+/// alteration.
+pub fn print_table<R: Print, O: Opener>(
+    rt: &R,
+    alloc: Global,
+    opener: &O,
+    lengths: &[(usize, usize)],
+) -> Result<()> {
+    let key = Key::new(COUNTING);
+    let plain = vec![in alloc; 0; PLAIN]?;
+    let bytes = seal(alloc, &key, prefix_of(0), plain.as_slice())?;
+    let other = seal(alloc, &key, prefix_of(1), plain.as_slice())?;
+    let (bytes, other) = (bytes.as_slice(), other.as_slice());
+    println!(rt; "cut to a length")?;
+    for (from, to) in lengths {
+        let (from, to) = (*from, *to);
+        ensure!(from <= to && to <= bytes.len(), "a range of lengths");
+        cut_to(rt, alloc, opener, &key, bytes, from, to)?;
+    }
+    println!(rt; "a byte of the header changed")?;
+    alter_header(rt, alloc, opener, &key, bytes)?;
+    println!(rt; "chunks moved")?;
+    alter_chunks(rt, alloc, opener, &key, bytes, other)?;
+    print_answer(rt, "unaltered", opener.fault_of(&key, bytes))?;
+    Ok(())
+}
