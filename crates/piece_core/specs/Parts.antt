@@ -5,7 +5,7 @@ use Rattle.container_core.specs.Chunks.{body_length}
 use Rattle.piece_core.specs.declared.work.Kind.{Kind}
 use Rattle.piece_core.specs.declared.work.Kind.TheVariants.{Sealing, Opening}
 
--- how many bytes the body has, of a plaintext of so many: the plaintext, or what stands behind the header of its container
+-- how many bytes the body has, of a plaintext of so many: it is the plaintext, or what stands behind a header
 abbrev pub body_bytes : Kind → ℕ → ℕ
 body_bytes Sealing plain = plain
 body_bytes Opening plain = body_length plain
