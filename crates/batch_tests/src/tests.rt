@@ -7,9 +7,8 @@ use crate::run::Run;
 use container_core::{Key, open, seal};
 use crew_core::{Free, Outcome};
 use crew_tests::Meeting;
-use ledger_core::{
-    Device, FromMemory, IssueFault, Range, Schedule, Spent, Tally, ToMemory, Way, audit, prefix,
-};
+use io_memory::{FromMemory, Schedule, ToMemory};
+use ledger_core::{Device, IssueFault, Range, Spent, Tally, Way, audit, prefix};
 use std::alloc::Global;
 use std::test::*;
 

@@ -3,7 +3,7 @@ use Rattle.std.proofs.Common.{◌≡◌, ℕ, ◌+◌, ◌<◌, ◌≤◌, List,
 use Rattle.std.proofs.lemmas.List.{length-take}
 use Rattle.std.proofs.lemmas.Bool.{cases_lt}
 use Rattle.hex.proofs.HexLemmas.{decode_sized-ok}
-use Rattle.journal_core.specs.Streams.{Consumes, IsAtEnd}
+use Rattle.io_core.specs.Streams.{Consumes, IsAtEnd}
 use Rattle.command_core.specs.KeyFile.{IsKeyEnd, IsKeyText}
 
 end_short : (end : List ℕ) → IsKeyEnd end → length end ≤ 2

@@ -5,7 +5,7 @@ use Rattle.std.proofs.KnownBytes.{Appends-nil, Appends-trans}
 use Rattle.std.proofs.lemmas.List.{map-append}
 use Rattle.std.proofs.lemmas.List.Folds.{list_any-append}
 use Rattle.std.specs.List.{list_any}
-use Rattle.journal_core.specs.Streams.{Appends, AppendsFront, counted}
+use Rattle.io_core.specs.Streams.{Appends, AppendsFront, counted}
 use Rattle.journal_core.specs.Text.{ended_lines}
 use Rattle.journal_core.proofs.Texts.{ended_lines-append}
 use Rattle.command_core.specs.Lines.{FileLine, line_text, lines_text, is_failed, status_of_lines}

@@ -2,7 +2,7 @@
 use Rattle.std.specs.Prelude.{◌≡◌, ◌≢◌, ◌⊎◌, ℕ, ◌-◌, ◌≤◌, true, List, [], ◌∷◌, length, take, map, All, ⊤, Option}
 use Rattle.std.specs.Prelude.{flat_map}
 use Rattle.container_core.specs.declared.fault.OpenFault.TheVariants.{Write}
-use Rattle.journal_core.specs.Streams.{Appends, AppendsFront, counted}
+use Rattle.io_core.specs.Streams.{Appends, AppendsFront, counted}
 use Rattle.command_core.specs.declared.commands.Task.{Task}
 use Rattle.command_core.specs.declared.commands.Task.TheVariants.{Open, Verify}
 use Rattle.command_core.specs.declared.line.FileFault.TheVariants.{CannotOpen, OutOfMemory, NoNumber, Unopened}

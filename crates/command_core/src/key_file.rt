@@ -1,7 +1,7 @@
 //! Key files: 64 hex digits of either case, and then nothing, one line feed, or a carriage return and a line feed.
 ghost use Rattle.std.specs.Prelude.{◌≡◌, ◌≢◌, ℕ, List, Err, IfOk, IfSome, IfNone};
-ghost use Rattle.ledger_core.specs.Reads.{ConsumesUpTo};
-ghost use Rattle.ledger_core.specs.Streams.{counted};
+ghost use Rattle.io_core.specs.Reads.{ConsumesUpTo};
+ghost use Rattle.io_core.specs.Streams.{counted};
 ghost use Rattle.command_core.specs.KeyFile.{IsKeyText, key_read_failed};
 
 use container_core::Key;

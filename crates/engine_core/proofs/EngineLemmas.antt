@@ -13,8 +13,8 @@ use Rattle.container_core.specs.Faults.{IsOfBytes}
 use Rattle.container_core.specs.Opening.{opening}
 use Rattle.container_core.proofs.FaultLemmas.{opening-too_long}
 use Rattle.container_core.proofs.LawLemmas.{opening-limits, opening-of_bytes}
-use Rattle.ledger_core.specs.Reads.{ConsumesExactly}
-use Rattle.ledger_core.specs.Streams.{Consumes, IsAtEnd, counted}
+use Rattle.io_core.specs.Reads.{ConsumesExactly}
+use Rattle.io_core.specs.Streams.{Consumes, IsAtEnd, counted}
 use Rattle.engine_core.specs.Engine.{HasReadContainer, open_read_failed}
 
 -- what opening answers of the bytes that were read to the end, it answers of the input

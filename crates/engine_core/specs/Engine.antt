@@ -9,8 +9,8 @@ use Rattle.container_core.specs.declared.fault.SealFault.{SealFault}
 use Rattle.container_core.specs.declared.fault.SealFault.TheVariants as sealing_fault
 use Rattle.container_core.specs.Faults.{IsOfBytes}
 use Rattle.container_core.specs.Opening.{opening}
-use Rattle.ledger_core.specs.Reads.{ConsumesExactly, ConsumesUpTo}
-use Rattle.ledger_core.specs.Streams.{Appends, AppendsFront, IsAtEnd, Keeps, counted}
+use Rattle.io_core.specs.Reads.{ConsumesExactly, ConsumesUpTo}
+use Rattle.io_core.specs.Streams.{Appends, AppendsFront, IsAtEnd, Keeps, counted}
 
 -- whether a sealing ended by a failed read
 abbrev pub seal_read_failed : {A : Type 0} → Result A SealFault → Bool

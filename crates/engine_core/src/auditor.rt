@@ -3,7 +3,7 @@ ghost use Rattle.std.specs.Prelude.{◌≡◌, ◌≢◌, ◌<◌, [], ◌∷◌
 ghost use Rattle.journal_core.specs.declared.auditing.AuditFault.TheVariants.{Read, Write};
 ghost use Rattle.journal_core.specs.declared.verdict.Verdict.{Verdict};
 ghost use Rattle.ledger_core.specs.AuditFaults.{is_read, is_write};
-ghost use Rattle.ledger_core.specs.Streams.{Appends, AppendsFront, IsAtEnd, Keeps, counted};
+ghost use Rattle.io_core.specs.Streams.{Appends, AppendsFront, IsAtEnd, Keeps, counted};
 ghost use Rattle.ledger_core.specs.Verdict.{IsVerdict, verdict_text};
 ghost use Rattle.engine_core.specs.Status.{status_of};
 

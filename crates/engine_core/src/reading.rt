@@ -1,7 +1,7 @@
 //! What the engines share: an input is read whole, and a reader's fault becomes the engine's.
 ghost use Rattle.std.specs.Prelude.{◌≢◌, ℕ, ◌≤◌, List, vec_len, Err, IfOk};
 ghost use Rattle.container_core.specs.Chunks.{container_length};
-ghost use Rattle.ledger_core.specs.Streams.{Consumes};
+ghost use Rattle.io_core.specs.Streams.{Consumes};
 ghost use Rattle.engine_core.specs.Engine.{HasReadPlain, HasReadContainer};
 
 use container_core::{MAX_PLAIN, OpenFault, SealFault, container_bytes};

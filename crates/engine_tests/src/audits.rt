@@ -1,6 +1,7 @@
 //! Audits: journals and their verdicts by hand, from the rules in docs/FORMATS.md.
 use engine_core::run_audit;
-use ledger_core::{AuditFault, FromMemory, FromRead, Schedule, ToMemory, ToWrite};
+use io_memory::{FromMemory, Schedule, ToMemory};
+use ledger_core::{AuditFault, FromRead, ToWrite};
 use std::alloc::Global;
 use std::test::Fail;
 

@@ -6,7 +6,7 @@ use container_core::{Key, seal};
 use crew_core::Gate;
 use crew_tests::{COUNTING, Meeting, Recorder, grant_of, pattern, zeros};
 use engine_core::{run_open, run_plain, run_seal, run_verify};
-use ledger_core::{FromMemory, Schedule, ToMemory};
+use io_memory::{FromMemory, Schedule, ToMemory};
 use std::alloc::Global;
 use std::test::Fail;
 use std::thread::Threads;

@@ -2,7 +2,8 @@
 //! to. The expected bytes and digests are those of Python's `cryptography` and `hashlib`.
 use container_core::{Key, OpenFault, SealFault, seal};
 use engine_core::{open_one, seal_one, verify_one};
-use ledger_core::{Failed, FromMemory, FromRead, Schedule, Source, ToMemory, ToWrite};
+use io_memory::{FromMemory, Schedule, ToMemory};
+use ledger_core::{Failed, FromRead, Source, ToWrite};
 use sha2::{Digest, Sha256};
 use std::alloc::Global;
 use std::test::Fail;

@@ -5,7 +5,8 @@ ghost use Rattle.std.specs.Prelude.{◌≡◌, ◌<◌, [], ◌∷◌, ◌++◌,
 ghost use Rattle.folder_memory.specs.Memory.{memory_view};
 
 use command_core::{Folder, FolderFault};
-use ledger_core::{Failed, FromMemory, Schedule, Sink, Source, ToMemory, write_all};
+use io_memory::{FromMemory, Schedule, ToMemory};
+use ledger_core::{Failed, Sink, Source, write_all};
 use std::alloc::{AllocError, Global};
 use std::cell::RefCell;
 use std::marker::Model;

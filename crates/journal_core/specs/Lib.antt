@@ -8,8 +8,6 @@ pub mod Judged
 pub mod Line
 pub mod Prefixes
 pub mod Range
-pub mod Reads
 pub mod Standing
-pub mod Streams
 pub mod Text
 pub mod Verdict

@@ -31,4 +31,3 @@ pub use crate::verdict::Verdict;
 pub use io_core::{
     Failed, FromRead, ReadFault, Sink, Source, ToWrite, fill, read_to_limit, write_all,
 };
-pub use io_memory::{FromMemory, Schedule, ToMemory};

@@ -14,8 +14,6 @@ pub use Rattle.journal_core.specs.Judged
 pub use Rattle.journal_core.specs.Line
 pub use Rattle.journal_core.specs.Prefixes
 pub use Rattle.journal_core.specs.Range
-pub use Rattle.journal_core.specs.Reads
 pub use Rattle.journal_core.specs.Standing
-pub use Rattle.journal_core.specs.Streams
 pub use Rattle.journal_core.specs.Text
 pub use Rattle.journal_core.specs.Verdict

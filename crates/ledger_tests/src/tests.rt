@@ -2,10 +2,8 @@ ghost use Rattle.std.specs.Prelude.{◌≡◌, ◌<◌, IfOk};
 ghost use Rattle.ledger_core.specs.Journal.{terms_of};
 
 use crate::run::Run;
-use ledger_core::{
-    Device, FromMemory, Grant, IssueFault, Journal, OpenLedgerFault, Range, Schedule, SettleFault,
-    Spent, Tally, ToMemory, Way, audit, laws,
-};
+use io_memory::{FromMemory, Schedule, ToMemory};
+use ledger_core::{Device, Grant, IssueFault, Journal, OpenLedgerFault, Range, SettleFault, Spent, Tally, Way, audit, laws};
 use std::alloc::{AllocError, Global};
 use std::test::*;
 

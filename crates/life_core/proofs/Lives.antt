@@ -9,19 +9,19 @@ use Rattle.journal_core.specs.declared.entry.Event.TheVariants.{Granted}
 use Rattle.journal_core.specs.declared.entry.Entry.{Entry}
 use Rattle.journal_core.specs.Range.{range_of, prefix_of}
 use Rattle.journal_core.specs.History.{Legal, entry}
-use Rattle.journal_core.proofs.Prefixes.{grants_once}
+use Rattle.journal_core.proofs.Prefixes.{numbers_once, prefix_tells}
 use Rattle.container_core.specs.Chunks.{chunks}
 use Rattle.container_core.specs.Container.{container, header_of}
 use Rattle.container_core.specs.Stream.{nonce_of, prefix_in, is_nil, sealed_chunk, stream}
 use Rattle.container_core.proofs.PartsLemmas.{length-chunks}
 use Rattle.container_core.proofs.HeaderLemmas.{prefix_in-header_of}
 use Rattle.container_core.proofs.LawLemmas.{nonce_of-injective}
-use Rattle.reserve_core.specs.Reservations.{Span, Adjacent, end_from}
+use Rattle.reserve_core.specs.Reservations.{TakenRange, Adjacent, end_from}
 use Rattle.life_core.specs.Life.{Run, Refused, CutOff, Acknowledged, reserved, history_of, IsRun, IsLife, Lives, Grant, HasGrant, prefix_by, stream_nonces, container_nonces, sealed_under}
 
 -- ranges of a list
 
-grows : (from : ℕ) (rs : List Span) → Adjacent from rs → from ≤ end_from from rs
+grows : (from : ℕ) (rs : List TakenRange) → Adjacent from rs → from ≤ end_from from rs
 grows from [] adjacent = omega arith
 grows from (r ∷ more) adjacent =
     let (begins, some, rest) = adjacent in
@@ -29,7 +29,7 @@ grows from (r ∷ more) adjacent =
     let same : end_from (r.lo + r.size) more ≡ end_from (from + r.size) more = ap (λ (m : ℕ). end_from (m + r.size) more) begins in
     omega arith
 
-behind : (from : ℕ) (rs : List Span) (j : ℕ) (b : Span) → Adjacent from rs → slice_get rs j ≡ Some b
+behind : (from : ℕ) (rs : List TakenRange) (j : ℕ) (b : TakenRange) → Adjacent from rs → slice_get rs j ≡ Some b
     → (from ≤ b.lo) × (b.lo + b.size ≤ end_from from rs)
 behind from [] j b adjacent at = absurd (cc)
 behind from (r ∷ more) zero b adjacent at =
@@ -45,7 +45,7 @@ behind from (r ∷ more) (suc j) b adjacent at =
     let same : end_from (r.lo + r.size) more ≡ end_from (from + r.size) more = ap (λ (m : ℕ). end_from (m + r.size) more) begins in
     (omega arith, omega arith)
 
-later : (from : ℕ) (rs : List Span) (i j : ℕ) (a b : Span) → Adjacent from rs → i < j → slice_get rs i ≡ Some a
+later : (from : ℕ) (rs : List TakenRange) (i j : ℕ) (a b : TakenRange) → Adjacent from rs → i < j → slice_get rs i ≡ Some a
     → slice_get rs j ≡ Some b → a.lo + a.size ≤ b.lo
 later from [] i j a b adjacent less at also = absurd (cc)
 later from (r ∷ more) i zero a b adjacent less at also = absurd (omega arith)
@@ -59,7 +59,7 @@ later from (r ∷ more) (suc i) (suc j) a b adjacent less at also =
     let (begins, some, rest) = adjacent in
     later (from + r.size) more i j a b rest (omega arith) at also
 
-pub apart : (device : ℕ) (runs : List Run) (i j number : ℕ) (one other : Span) → IsLife device runs → i ≢ j
+pub apart : (device : ℕ) (runs : List Run) (i j number : ℕ) (one other : TakenRange) → IsLife device runs → i ≢ j
     → slice_get (reserved runs) i ≡ Some one → slice_get (reserved runs) j ≡ Some other
     → one.lo ≤ number → number < one.lo + one.size → other.lo ≤ number → number < other.lo + other.size → ⊥
 apart device runs i j number one other life differ at also from below begin under =
@@ -78,20 +78,20 @@ place_of (CutOff None ∷ rest) (suc i) = place_of rest i
 place_of (CutOff (Some q) ∷ rest) (suc i) = suc (place_of rest i)
 place_of (Acknowledged q s h ∷ rest) (suc i) = suc (place_of rest i)
 
-at_place : (runs : List Run) (i : ℕ) (r : Span) (seats : ℕ) (history : List Entry)
+at_place : (runs : List Run) (i : ℕ) (r : TakenRange) (seats : ℕ) (history : List Entry)
     → slice_get runs i ≡ Some (Acknowledged r seats history) → slice_get (reserved runs) (place_of runs i) ≡ Some r
 at_place [] i r seats history at = absurd (cc)
 at_place (Refused ∷ rest) zero r seats history at = absurd (cc)
 at_place (CutOff None ∷ rest) zero r seats history at = absurd (cc)
 at_place (CutOff (Some q) ∷ rest) zero r seats history at = absurd (cc)
-at_place (Acknowledged q s h ∷ rest) zero r seats history at = let same : q ≡ r = cc in ap (λ (x : Span). Some x) same
+at_place (Acknowledged q s h ∷ rest) zero r seats history at = let same : q ≡ r = cc in ap (λ (x : TakenRange). Some x) same
 at_place (Refused ∷ rest) (suc i) r seats history at = at_place rest i r seats history at
 at_place (CutOff None ∷ rest) (suc i) r seats history at = at_place rest i r seats history at
 at_place (CutOff (Some q) ∷ rest) (suc i) r seats history at = at_place rest i r seats history at
 at_place (Acknowledged q s h ∷ rest) (suc i) r seats history at = at_place rest i r seats history at
 
 -- places rise with the runs
-places_rise : (runs : List Run) (i j : ℕ) (r : Span) (seats : ℕ) (history : List Entry) → i < j
+places_rise : (runs : List Run) (i j : ℕ) (r : TakenRange) (seats : ℕ) (history : List Entry) → i < j
     → slice_get runs i ≡ Some (Acknowledged r seats history) → j < length runs → place_of runs i < place_of runs j
 places_rise [] i j r seats history less at inside = absurd (cc)
 places_rise (run ∷ rest) i zero r seats history less at inside = absurd (omega arith)
@@ -109,7 +109,7 @@ places_rise (Acknowledged q s h ∷ rest) (suc i) (suc j) r seats history less a
 
 -- a run with an entry was acknowledged
 acknowledged : (run : Run) (k : ℕ) (e : Entry) → slice_get (history_of run) k ≡ Some e
-    → (r : Span) × (seats : ℕ) × (run ≡ Acknowledged r seats (history_of run))
+    → (r : TakenRange) × (seats : ℕ) × (run ≡ Acknowledged r seats (history_of run))
 acknowledged Refused k e at = absurd (cc)
 acknowledged (CutOff r) k e at = absurd (cc)
 acknowledged (Acknowledged r seats history) k e at = (r, seats, refl)
@@ -121,7 +121,7 @@ runs_at device (x ∷ rest) (suc i) run all at = runs_at device rest i run all.1
 
 -- what a grant of a life is
 record Granting (device : ℕ) (runs : List Run) (run at number : ℕ) : Type 0 where
-  range : Span
+  range : TakenRange
   seats : ℕ
   history : List Entry
   seat : ℕ
@@ -141,7 +141,7 @@ granting lives grant has =
     let (range, seats, is) = acknowledged has.run grant.entry (entry has.seat (Granted grant.number)) has.at_entry in
     let at_run : slice_get runs grant.run ≡ Some (Acknowledged range seats (history_of has.run)) = has.at_run ∙ ap (λ (x : Run). Some x) is in
     let legal = runs_at grant.device runs grant.run (Acknowledged range seats (history_of has.run)) has.life.legal at_run in
-    let once = grants_once (record { range = range_of grant.device range.lo range.size; seats = seats }) (history_of has.run) legal in
+    let once = numbers_once (record { range = range_of grant.device range.lo range.size; seats = seats }) (history_of has.run) legal in
     let inside = once.inside grant.entry grant.number has.seat has.at_entry in
     let place = at_place runs grant.run range seats (history_of has.run) at_run in
     let (lo, end) = behind 0 (reserved runs) (place_of runs grant.run) range has.life.adjacent place in
@@ -185,7 +185,7 @@ entries_differ : (device : ℕ) (runs : List Run) (i k l number : ℕ) → Grant
 entries_differ device runs i k l number one other =
     let same : one.history ≡ other.history = cc (one.at_run, other.at_run) in
     let at : slice_get one.history l ≡ Some (entry other.seat (Granted number)) = ap (λ (h : List Entry). slice_get h l) same ∙ other.at_entry in
-    let once = grants_once (record { range = range_of device one.range.lo one.range.size; seats = one.seats }) one.history one.legal in
+    let once = numbers_once (record { range = range_of device one.range.lo one.range.size; seats = one.seats }) one.history one.legal in
     not_apart k l (λ differ. once.once k l number number one.seat other.seat differ one.at_entry at refl)
 
 same_place : (device : ℕ) (runs : List Run) (i k j l number : ℕ) → Granting device runs i k number → Granting device runs j l number
@@ -195,19 +195,6 @@ same_place device runs i k j l number one other =
     (λ le. runs_differ device runs i k j l number one other (omega arith))
     (λ gt. runs_differ device runs j l i k number other one (omega arith))) in
     (runs_agree, entries_differ device runs i k l number one (subst (λ (r : ℕ). Granting device runs r l number) (sym runs_agree) other))
-
--- a device and a number have one prefix
-prefix_tells : (device number other another : ℕ) → device ≤ 16777215 → number < 4294967296 → other ≤ 16777215 → another < 4294967296
-    → prefix_of device number ≡ prefix_of other another → (device ≡ other) × (number ≡ another)
-prefix_tells device number other another d n e m same =
-    let high : device / 65536 ≡ other / 65536 = cc in
-    let middle : device / 256 % 256 ≡ other / 256 % 256 = cc in
-    let low : device % 256 ≡ other % 256 = cc in
-    let first : number / 16777216 ≡ another / 16777216 = cc in
-    let second : number / 65536 % 256 ≡ another / 65536 % 256 = cc in
-    let third : number / 256 % 256 ≡ another / 256 % 256 = cc in
-    let last : number % 256 ≡ another % 256 = cc in
-    (omega arith, omega arith)
 
 abbrev grant_of : ℕ → ℕ → ℕ → ℕ → Grant
 grant_of device run at number = record { device = device; run = run; entry = at; number = number }

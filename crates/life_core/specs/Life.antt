@@ -5,7 +5,7 @@ use Rattle.journal_core.specs.declared.entry.Event.TheVariants.{Granted}
 use Rattle.journal_core.specs.declared.entry.Entry.{Entry}
 use Rattle.journal_core.specs.Range.{range_of, prefix_of}
 use Rattle.journal_core.specs.History.{Legal, entry}
-use Rattle.reserve_core.specs.Reservations.{Span, Adjacent, next_of}
+use Rattle.reserve_core.specs.Reservations.{TakenRange, Adjacent, next_of}
 use Rattle.aead_core.specs.Aead.{aead}
 use Rattle.container_core.specs.Chunks.{chunks}
 use Rattle.container_core.specs.Container.{header_of}
@@ -16,19 +16,19 @@ pub data Run : Type 0 where
   -- its reservation was refused, and appended nothing
   Refused : Run
   -- a crash or a failing disk cut its reservation off: it appended nothing, or this range. The run had no ledger
-  CutOff : Option Span → Run
+  CutOff : Option TakenRange → Run
   -- its reservation was acknowledged: it appended this range, and a ledger with so many seats over it did this
-  Acknowledged : Span → ℕ → List Entry → Run
+  Acknowledged : TakenRange → ℕ → List Entry → Run
 
 -- what a run appended
-abbrev pub appended : Run → List Span
+abbrev pub appended : Run → List TakenRange
 appended Refused = []
 appended (CutOff None) = []
 appended (CutOff (Some r)) = r ∷ []
 appended (Acknowledged r seats history) = r ∷ []
 
 -- the ranges that the runs appended, in order
-abbrev pub reserved : List Run → List Span
+abbrev pub reserved : List Run → List TakenRange
 reserved [] = []
 reserved (run ∷ rest) = appended run ++ reserved rest
 

@@ -6,13 +6,13 @@ ghost use Rattle.std.specs.Prelude.{◌≡◌, ◌≢◌, ℕ, ◌+◌, ◌^◌,
 ghost use Rattle.journal_core.specs.Range.{prefix_of};
 ghost use Rattle.container_core.specs.Chunks.{chunks};
 ghost use Rattle.container_core.specs.Container.{container, header_of};
-ghost use Rattle.reserve_core.specs.Reservations.{Span};
+ghost use Rattle.reserve_core.specs.Reservations.{TakenRange};
 ghost use Rattle.life_core.specs.Life.{Grant, HasGrant, IsLife, Lives, Run, container_nonces, prefix_by, reserved};
 ghost use Rattle.life_core.specs.Life.{sealed_under};
 
 /// In the life of a key and device no number is in two of the ranges that its runs reserved.
 pub fn ranges_are_apart()
-    ensures { (device : ℕ) (runs : List Run) (i j number : ℕ) (one other : Span) → IsLife device runs → i ≢ j
+    ensures { (device : ℕ) (runs : List Run) (i j number : ℕ) (one other : TakenRange) → IsLife device runs → i ≢ j
         → slice_get (reserved runs) i ≡ Some one → slice_get (reserved runs) j ≡ Some other
         → one.lo ≤ number → number < one.lo + one.size → other.lo ≤ number → number < other.lo + other.size → ⊥ }
 {}

@@ -3,4 +3,4 @@ pub use Rattle.ranges_core.specs.Faults
 pub use Rattle.ranges_core.specs.Lasting
 pub use Rattle.ranges_core.specs.Tables
 pub use Rattle.ranges_core.specs.Writes
-pub mod Reservations
+pub use Rattle.ranges_core.specs.Reservations

@@ -6,7 +6,7 @@ use Rattle.journal_core.specs.declared.entry.Event.{Event}
 use Rattle.journal_core.specs.declared.entry.Event.TheVariants.{Settled}
 use Rattle.journal_core.specs.declared.entry.Way.TheVariants as ended
 use Rattle.journal_core.specs.History.{entry, times_granted}
-use Rattle.journal_core.specs.Streams.{Appends, AppendsFront}
+use Rattle.io_core.specs.Streams.{Appends, AppendsFront}
 use Rattle.container_core.specs.declared.fault.SealFault.TheVariants as sealing_fault
 use Rattle.crew_core.specs.declared.outcome.Outcome.{Outcome}
 use Rattle.crew_core.specs.declared.outcome.Outcome.TheVariants as job

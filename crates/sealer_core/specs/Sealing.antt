@@ -7,12 +7,12 @@ use Rattle.journal_core.specs.declared.entry.Event.TheVariants.{Granted, Exhaust
 use Rattle.journal_core.specs.declared.entry.Way.TheVariants as ended
 use Rattle.journal_core.specs.History.{Terms, Legal, times_granted}
 use Rattle.journal_core.specs.Range.{Numbers}
-use Rattle.journal_core.specs.Streams.{Appends, AppendsFront}
+use Rattle.io_core.specs.Streams.{Appends, AppendsFront}
 use Rattle.container_core.specs.declared.fault.SealFault.TheVariants as sealing_fault
 use Rattle.ledger_core.specs.declared.fault.IssueFault.{IssueFault}
 use Rattle.ledger_core.specs.declared.fault.IssueFault.TheVariants as issue_fault
 use Rattle.ledger_core.specs.Shared.{SeatView}
-use Rattle.reserve_core.specs.Reservations.{Lists, Holds, next_of, reserved}
+use Rattle.reserve_core.specs.Reservations.{Lists, Holds, next_of, with_range}
 use Rattle.sqlite.specs.Effect.{Database}
 use Rattle.sqlite.specs.State.{State, HasCleanDisk, Survives}
 use Rattle.sqlite_trees.specs.Tree.{Trees}
@@ -149,20 +149,20 @@ pub record AreNumbered (range : Numbers) (lines : List FileLine) : Type 0 where
 pub record IsReserved (key_id : List ℕ) (device count : ℕ) (old new : State) (range : Numbers) : Type 0 where
   pub appended : HasCleanDisk new → (lists : Lists) → Holds old.now lists
       → (range.device ≡ device) × (range.lo ≡ next_of (lists key_id device)) × (range.size ≡ count)
-      × Holds new.now (reserved lists key_id device count)
+      × Holds new.now (with_range lists key_id device count)
   pub lasts : HasCleanDisk new → (trees : Trees) → new.may_leave trees → trees ≡ new.now.trees
 
 -- At most one range of so many numbers is appended to the lists.
 abbrev pub AppendsOnce : List ℕ → ℕ → ℕ → State → State → Type 0
 AppendsOnce key_id device count old new =
     HasCleanDisk new → IsTrue new.is_open → (lists : Lists) → Holds old.now lists
-    → (new.now ≡ old.now) ⊎ Holds new.now (reserved lists key_id device count)
+    → (new.now ≡ old.now) ⊎ Holds new.now (with_range lists key_id device count)
 
 -- A crash leaves the lists from before, or those with the range.
 abbrev pub CrashesAround : List ℕ → ℕ → ℕ → State → State → Type 0
 CrashesAround key_id device count old new =
     Survives old new (λ trees. (lists : Lists) → Holds old.now lists
-    → (db : Database) × Holds db (reserved lists key_id device count) × (trees ≡ db.trees))
+    → (db : Database) × Holds db (with_range lists key_id device count) × (trees ≡ db.trees))
 
 -- Every file was worked, in order and in groups of so many, the last of at most so many; and their lines were told.
 pub record AreGrouped (lanes : ℕ) (names : List (List ℕ)) (status : ℕ) (old new : Option (List ℕ))

@@ -1,7 +1,7 @@
 //! The end of a run that seals: its seats meet, and its journal is written where one was asked for.
 ghost use Rattle.std.specs.Prelude.{List, is_ok, MatchResult, OnOk, OnErr};
 ghost use Rattle.journal_core.specs.declared.entry.Entry.{Entry};
-ghost use Rattle.journal_core.specs.Streams.{Appends, AppendsFront};
+ghost use Rattle.io_core.specs.Streams.{Appends, AppendsFront};
 ghost use Rattle.journal_core.specs.Text.{journal_text};
 ghost use Rattle.ledger_core.specs.Closing.{AreAllSeats, IsWhole};
 ghost use Rattle.sealer_core.specs.Sealing.{IsWritten};

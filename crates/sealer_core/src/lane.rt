@@ -4,7 +4,7 @@ ghost use Rattle.std.specs.Prelude.{Ok};
 ghost use Rattle.container_core.specs.Container.{container};
 ghost use Rattle.journal_core.specs.declared.entry.Event.TheVariants.{Granted, Exhausted, Settled};
 ghost use Rattle.journal_core.specs.Range.{prefix_of};
-ghost use Rattle.journal_core.specs.Streams.{Appends};
+ghost use Rattle.io_core.specs.Streams.{Appends};
 ghost use Rattle.ledger_core.specs.Shared.{Extends, IsSameSeat};
 ghost use Rattle.command_core.specs.Folder.{stepped};
 ghost use Rattle.command_core.specs.Lines.{FileLine};

@@ -1,6 +1,6 @@
 //! Files of a group before they are sealed: of each in turn its input is opened, its output created and its input read.
 ghost use Rattle.std.specs.Prelude.{◌≡◌, ◌+◌, ◌≤◌, [], ◌∷◌, ◌++◌, length, map, All, flat_map, vec_len, IfOk, OnErr};
-ghost use Rattle.journal_core.specs.Streams.{Consumes};
+ghost use Rattle.io_core.specs.Streams.{Consumes};
 ghost use Rattle.command_core.specs.Folder.{stepped};
 ghost use Rattle.sealer_core.specs.Group.{name_of, IsPrepared, made_for, read_of};
 

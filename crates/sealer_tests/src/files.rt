@@ -4,7 +4,7 @@ ghost use Rattle.std.specs.Prelude.{◌<◌, ◌≤◌, length};
 
 use container_core::{Key, seal};
 use folder_memory::{MemoryFolder, Pace};
-use ledger_core::{Schedule, ToMemory};
+use io_memory::{Schedule, ToMemory};
 use sealer_core::{OpenOptions, Outs, open_all, verify_all};
 use std::alloc::Global;
 use std::test::Fail;

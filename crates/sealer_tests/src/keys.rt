@@ -1,5 +1,5 @@
 //! Key files, written by hand.
-use ledger_core::{FromMemory, Schedule};
+use io_memory::{FromMemory, Schedule};
 use sealer_core::{KeyFault, read_key};
 
 const DIGITS: &[u8; 64] = b"000102030405060708090a0b0c0d0e0f101112131415161718191A1B1C1D1E1F";

@@ -5,7 +5,8 @@ ghost use Rattle.std.specs.Prelude.{◌≡◌, ◌<◌, ◌≤◌, length, IfOk}
 use crate::files::{COUNTING, EMPTY, SECRET, has_bytes};
 use container_core::{Key, open};
 use folder_memory::{MemoryFolder, Pace};
-use ledger_core::{Device, FromMemory, Schedule, ToMemory};
+use io_memory::{FromMemory, Schedule, ToMemory};
+use ledger_core::Device;
 use reserve_core::Keeper;
 use sealer_core::{Outs, SealOptions, run_audit, seal_all};
 use sqlite::{Connection, MemStore};
