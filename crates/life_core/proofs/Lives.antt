@@ -16,7 +16,7 @@ use Rattle.container_core.specs.Stream.{nonce_of, prefix_in, is_nil, sealed_chun
 use Rattle.container_core.proofs.PartsLemmas.{length-chunks}
 use Rattle.container_core.proofs.HeaderLemmas.{prefix_in-header_of}
 use Rattle.container_core.proofs.LawLemmas.{nonce_of-injective}
-use Rattle.reserve_core.specs.Reservations.{TakenRange, Adjacent, end_from}
+use Rattle.ranges_core.specs.Reservations.{TakenRange, Adjacent, end_from}
 use Rattle.life_core.specs.Life.{Run, Refused, CutOff, Acknowledged, reserved, history_of, IsRun, IsLife, Lives, Grant, HasGrant, prefix_by, stream_nonces, container_nonces, sealed_under}
 
 -- ranges of a list

@@ -5,7 +5,7 @@ use Rattle.journal_core.specs.declared.entry.Event.TheVariants.{Granted}
 use Rattle.journal_core.specs.declared.entry.Entry.{Entry}
 use Rattle.journal_core.specs.Range.{range_of, prefix_of}
 use Rattle.journal_core.specs.History.{Legal, entry}
-use Rattle.reserve_core.specs.Reservations.{TakenRange, Adjacent, next_of}
+use Rattle.ranges_core.specs.Reservations.{TakenRange, Adjacent, next_of}
 use Rattle.aead_core.specs.Aead.{aead}
 use Rattle.container_core.specs.Chunks.{chunks}
 use Rattle.container_core.specs.Container.{header_of}

@@ -6,7 +6,7 @@ ghost use Rattle.std.specs.Prelude.{◌≡◌, ◌≢◌, ℕ, ◌+◌, ◌^◌,
 ghost use Rattle.journal_core.specs.Range.{prefix_of};
 ghost use Rattle.container_core.specs.Chunks.{chunks};
 ghost use Rattle.container_core.specs.Container.{container, header_of};
-ghost use Rattle.reserve_core.specs.Reservations.{TakenRange};
+ghost use Rattle.ranges_core.specs.Reservations.{TakenRange};
 ghost use Rattle.life_core.specs.Life.{Grant, HasGrant, IsLife, Lives, Run, container_nonces, prefix_by, reserved};
 ghost use Rattle.life_core.specs.Life.{sealed_under};
 
