@@ -11,7 +11,8 @@ use Rattle.std.proofs.lemmas.Option.{slice_get-get_or, slice_get_within, get_or_
 use Rattle.std.proofs.lemmas.Bool.{cases_lt}
 use Rattle.journal_core.specs.declared.entry.Event.TheVariants.{Granted}
 use Rattle.journal_core.specs.declared.entry.Entry.{Entry}
-use Rattle.journal_core.specs.History.{Terms, Legal, Begins, entry, is_exhausted, grants, settles, refused, times_granted, times_settled, calls_of}
+use Rattle.journal_core.specs.declared.terms.Terms.{Terms}
+use Rattle.journal_core.specs.History.{Legal, Begins, entry, is_exhausted, grants, settles, refused, times_granted, times_settled, calls_of}
 use Rattle.journal_core.proofs.Histories.{legal_front, reply_of, begins_refl, begins_trans}
 use Rattle.journal_core.proofs.Owners.{owned, count_calls_le, count_more, count_same}
 use Rattle.ledger_core.specs.declared.fault.IssueFault.{IssueFault}

@@ -8,7 +8,7 @@ use Rattle.std.proofs.lemmas.Option.{slice_get_within, slice_get-get_or}
 use Rattle.ledger_core.specs.Shared.{LedgerId, LedgerView, SeatView, fresh_seat, fresh_seats, IsSameSeat, Sees}
 use Rattle.ledger_core.specs.Closing.{AreAllSeats, HaveMet}
 use Rattle.journal_core.specs.declared.entry.Entry.{Entry}
-use Rattle.journal_core.specs.History.{Terms}
+use Rattle.journal_core.specs.declared.terms.Terms.{Terms}
 use Rattle.ledger_core.proofs.Meetings.{get-set_here, get-set_else, some_at, same_at}
 
 at_snoc : (l : List SeatView) (v w : SeatView) (i : ℕ) → slice_get (l ++ v ∷ []) i ≡ Some w → ((slice_get l i ≡ Some w) × (i < length l)) ⊎ ((v ≡ w) × (i ≡ length l))

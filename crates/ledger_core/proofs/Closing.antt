@@ -10,7 +10,8 @@ use Rattle.std.proofs.lemmas.List.Sums.{sum_by-cons}
 use Rattle.std.proofs.lemmas.Option.{slice_get_within}
 use Rattle.journal_core.specs.declared.entry.Entry.{Entry}
 use Rattle.ledger_core.specs.declared.table.Record.{Record}
-use Rattle.journal_core.specs.History.{Terms, IsLawful, Legal, calls_of}
+use Rattle.journal_core.specs.declared.terms.Terms.{Terms}
+use Rattle.journal_core.specs.History.{IsLawful, Legal, calls_of}
 use Rattle.ledger_core.specs.Rule.{Mine}
 use Rattle.ledger_core.specs.Logs.{places_from, recorded, place_in, IsSeat}
 use Rattle.ledger_core.specs.Shared.{LedgerId, LedgerView, SeatView, seat_view, Sees}

@@ -4,7 +4,8 @@ use Rattle.std.proofs.lemmas.List.Sums.{sum_by-append}
 use Rattle.journal_core.specs.declared.entry.Event.{Event}
 use Rattle.journal_core.specs.declared.entry.Event.TheVariants.{Granted, Exhausted, Settled}
 use Rattle.journal_core.specs.declared.entry.Entry.{Entry}
-use Rattle.journal_core.specs.History.{Terms, Begins, Legal, entry, is_granted, grants, granted, times_granted}
+use Rattle.journal_core.specs.declared.terms.Terms.{Terms}
+use Rattle.journal_core.specs.History.{Begins, Legal, entry, is_granted, grants, granted, times_granted}
 use Rattle.ledger_core.specs.Shared.{SeatView, Extends, Knows}
 use Rattle.journal_core.proofs.Histories.{MayReply, reply_of, count_push, induct, legal_front, begins_more}
 

@@ -11,7 +11,8 @@ use Rattle.journal_core.specs.declared.entry.Way.TheVariants.{Sealed, Void}
 use Rattle.journal_core.specs.declared.entry.Event.TheVariants.{Granted, Exhausted, Settled}
 use Rattle.journal_core.specs.declared.entry.Entry.{Entry}
 use Rattle.ledger_core.specs.declared.table.View.{View}
-use Rattle.journal_core.specs.History.{Terms, IsLawful, entry, granted, refused, times_granted, times_settled, calls_of, MayFollow, Legal}
+use Rattle.journal_core.specs.declared.terms.Terms.{Terms}
+use Rattle.journal_core.specs.History.{IsLawful, entry, granted, refused, times_granted, times_settled, calls_of, MayFollow, Legal}
 use Rattle.ledger_core.specs.Rule.{packed, StandsFor, Fits, Apart, HasHistory, IsKept, newcomer, added, Finds, Adds, issue_reply, Mine, issued, settled, looked, adopted, first_seat, other_seats, note_of, hears, nobody}
 use Rattle.journal_core.proofs.Histories.{MayReply, follows, calls_push, begins_refl, begins_more, legal_push, legal_none}
 use Rattle.journal_core.proofs.Bounds.{within}

@@ -8,7 +8,8 @@ use Rattle.std.specs.Prelude.{Some, slice_get}
 use Rattle.std.proofs.lemmas.List.{length-set, set-get_or}
 use Rattle.std.proofs.lemmas.Option.{slice_get_within, slice_get-get_or}
 use Rattle.journal_core.specs.declared.entry.Entry.{Entry}
-use Rattle.journal_core.specs.History.{Terms, Legal, Begins, calls_of}
+use Rattle.journal_core.specs.declared.terms.Terms.{Terms}
+use Rattle.journal_core.specs.History.{Legal, Begins, calls_of}
 use Rattle.ledger_core.specs.Shared.{LedgerId, LedgerView, SeatView, Agree, Knows, Sees}
 use Rattle.ledger_core.specs.Closing.{AreAllSeats, HasSeat, IsWhole, HaveMet}
 use Rattle.ledger_core.specs.Meeting.{IsPassed, ArePassed}

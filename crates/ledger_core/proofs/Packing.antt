@@ -6,7 +6,8 @@ use Rattle.journal_core.specs.declared.entry.Event.{Event}
 use Rattle.journal_core.specs.declared.entry.Event.TheVariants.{Granted, Exhausted, Settled}
 use Rattle.journal_core.specs.declared.entry.Entry.{Entry}
 use Rattle.journal_core.specs.declared.entry.Tally.{Tally}
-use Rattle.journal_core.specs.History.{Terms, IsLawful, entry, is_granted, is_exhausted, is_sealed, is_void, granted, refused, sealed, voided, tally_of, Legal}
+use Rattle.journal_core.specs.declared.terms.Terms.{Terms}
+use Rattle.journal_core.specs.History.{IsLawful, entry, is_granted, is_exhausted, is_sealed, is_void, granted, refused, sealed, voided, tally_of, Legal}
 use Rattle.ledger_core.specs.Rule.{packed, issue_reply}
 use Rattle.ledger_core.specs.Logs.{place_of_word}
 use Rattle.journal_core.proofs.Histories.{count_push}

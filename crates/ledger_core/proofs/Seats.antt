@@ -12,7 +12,8 @@ use Rattle.journal_core.specs.declared.entry.Event.TheVariants.{Granted, Exhaust
 use Rattle.journal_core.specs.declared.entry.Entry.{Entry}
 use Rattle.ledger_core.specs.declared.table.Record.{Record}
 use Rattle.ledger_core.specs.declared.table.View.{View}
-use Rattle.journal_core.specs.History.{Terms, IsLawful, entry, is_exhausted, grants, settles, granted, refused, times_granted, times_settled, calls_of, Legal, Begins}
+use Rattle.journal_core.specs.declared.terms.Terms.{Terms}
+use Rattle.journal_core.specs.History.{IsLawful, entry, is_exhausted, grants, settles, granted, refused, times_granted, times_settled, calls_of, Legal, Begins}
 use Rattle.ledger_core.specs.Rule.{knower, other_seats, added, Finds, Adds, Issues, Settles, issue_reply, IsHeld, Mine}
 use Rattle.ledger_core.specs.Logs.{places_from, recorded, place_in, place_of_word, is_held, held_after, HasMark, IsMarked, Steps, IsSeat, from_seat}
 use Rattle.ledger_core.specs.Shared.{LedgerId, SeatView, fresh_seat, fresh_seats}

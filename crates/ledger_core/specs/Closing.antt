@@ -1,7 +1,8 @@
 -- The end of a ledger: all of its seats, what they have when they have met, and the whole history.
 use Rattle.std.specs.Prelude.{◌≡◌, ℕ, List, length, slice_get, Some}
 use Rattle.journal_core.specs.declared.entry.Entry.{Entry}
-use Rattle.journal_core.specs.History.{Terms, Legal, Begins, calls_of}
+use Rattle.journal_core.specs.declared.terms.Terms.{Terms}
+use Rattle.journal_core.specs.History.{Legal, Begins, calls_of}
 use Rattle.ledger_core.specs.Shared.{LedgerView, SeatView, Knows, Sees}
 
 -- all seats of a ledger, in the order of their numbers

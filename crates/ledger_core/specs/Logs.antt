@@ -8,7 +8,8 @@ use Rattle.journal_core.specs.declared.entry.Entry.{Entry}
 use Rattle.ledger_core.specs.declared.table.Fields.{Fields}
 use Rattle.ledger_core.specs.declared.table.Record.{Record}
 use Rattle.ledger_core.specs.declared.table.View.{View}
-use Rattle.journal_core.specs.History.{Terms, IsLawful, Legal, calls_of, refused, times_granted, times_settled}
+use Rattle.journal_core.specs.declared.terms.Terms.{Terms}
+use Rattle.journal_core.specs.History.{IsLawful, Legal, calls_of, refused, times_granted, times_settled}
 use Rattle.ledger_core.specs.Rule.{Mine, issues_of, sealed_of, void_of}
 
 -- the places of the entries of a seat, where the list begins at place n

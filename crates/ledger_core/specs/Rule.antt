@@ -11,7 +11,8 @@ use Rattle.journal_core.specs.declared.entry.Event.TheVariants.{Granted, Exhaust
 use Rattle.journal_core.specs.declared.entry.Entry.{Entry}
 use Rattle.ledger_core.specs.declared.table.View.{View}
 use Rattle.journal_core.specs.Range.{range_of}
-use Rattle.journal_core.specs.History.{Terms, IsLawful, Legal, Begins, calls_of, granted, refused, sealed, voided}
+use Rattle.journal_core.specs.declared.terms.Terms.{Terms}
+use Rattle.journal_core.specs.History.{IsLawful, Legal, Begins, calls_of, granted, refused, sealed, voided}
 use Rattle.journal_core.specs.History.{times_granted, times_settled, entry}
 
 -- what a number that is settled as sealed adds to the word, and one as void: 2^20 and 2^40. An issue adds 1

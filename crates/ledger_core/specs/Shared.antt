@@ -13,7 +13,8 @@ use Rattle.ledger_core.specs.declared.fault.IssueFault.TheVariants.{SeatClosed, 
 use Rattle.ledger_core.specs.declared.fault.IssueFault.TheVariants.{Exhausted as NoNumber}
 use Rattle.ledger_core.specs.declared.fault.SettleFault.{SettleFault}
 use Rattle.ledger_core.specs.declared.fault.SettleFault.TheVariants.{NotOpen, OutOfMemory as NotSettled}
-use Rattle.journal_core.specs.History.{Terms, IsLawful, Legal, entry, calls_of, refused, times_granted, times_settled}
+use Rattle.journal_core.specs.declared.terms.Terms.{Terms}
+use Rattle.journal_core.specs.History.{IsLawful, Legal, entry, calls_of, refused, times_granted, times_settled}
 use Rattle.journal_core.specs.History.{Begins}
 
 -- which ledger it is. Clauses only compare it: a seat goes with the ledger that has its id. No clause says that two

@@ -3,7 +3,8 @@ ghost use Rattle.std.specs.Prelude.{◌≡◌, ◌≤◌, ◌++◌, ◌∷◌, �
 ghost use Rattle.journal_core.specs.declared.entry.Entry.{Entry};
 ghost use Rattle.journal_core.specs.declared.entry.Event.{Event};
 ghost use Rattle.journal_core.specs.declared.entry.Event.TheVariants.{Granted, Exhausted};
-ghost use Rattle.journal_core.specs.History.{Begins, MayFollow, Terms, entry, granted, refused, sealed};
+ghost use Rattle.journal_core.specs.declared.terms.Terms.{Terms};
+ghost use Rattle.journal_core.specs.History.{Begins, MayFollow, entry, granted, refused, sealed};
 ghost use Rattle.journal_core.specs.History.{times_granted, voided};
 ghost use Rattle.journal_core.specs.Prefixes.{GrantsOnce};
 ghost use Rattle.ledger_core.specs.Closing.{AreAllSeats, HaveMet, IsWhole};

@@ -22,4 +22,8 @@ pub use crate::grant::{Grant, Spent};
 pub use crate::ledger::Ledger;
 pub use crate::note::Note;
 pub use crate::seat::Seat;
-pub use journal_core::{AuditFault, BadRange, Book, BookFault, Device, Entry, Event, Failed, FromRead, Journal, MAX_SEATS, Range, ReadFault, Sink, Source, Tally, ToWrite, Verdict, Way, audit, fill, prefix, read_to_limit, write_all};
+pub use journal_core::{
+    AuditFault, BadRange, Book, BookFault, Device, Entry, Event, Failed, FromRead, Journal,
+    MAX_SEATS, Range, ReadFault, Sink, Source, Tally, ToWrite, Verdict, Way, audit, fill, prefix,
+    read_to_limit, write_all,
+};

@@ -20,7 +20,7 @@ pub struct Opening {
 }
 
 impl Model for Opening {
-    ghost use Rattle.journal_core.specs.History.{Terms};
+    ghost use Rattle.journal_core.specs.declared.terms.Terms.{Terms};
 
     ghost Value = { Terms };
 

@@ -9,7 +9,8 @@ use Rattle.journal_core.specs.declared.entry.Event.{Event}
 use Rattle.journal_core.specs.declared.entry.Event.TheVariants.{Granted, Exhausted, Settled}
 use Rattle.journal_core.specs.declared.entry.Entry.{Entry}
 use Rattle.journal_core.specs.declared.entry.Way.TheVariants as ended
-use Rattle.journal_core.specs.History.{Terms, Legal, entry, is_granted, granted, grants, times_granted, calls_of}
+use Rattle.journal_core.specs.declared.terms.Terms.{Terms}
+use Rattle.journal_core.specs.History.{Legal, entry, is_granted, granted, grants, times_granted, calls_of}
 use Rattle.journal_core.proofs.Histories.{MayReply, reply_of, count_push, count_calls, induct, legal_front, legal_none}
 use Rattle.journal_core.proofs.Bounds.{within, sum_below, sum_below_more}
 use Rattle.ledger_core.specs.declared.fault.IssueFault.{IssueFault}

@@ -5,7 +5,8 @@ use Rattle.std.specs.Prelude.{flat_map}
 use Rattle.journal_core.specs.declared.entry.Entry.{Entry}
 use Rattle.journal_core.specs.declared.entry.Event.TheVariants.{Granted, Exhausted, Settled}
 use Rattle.journal_core.specs.declared.entry.Way.TheVariants as ended
-use Rattle.journal_core.specs.History.{Terms, Legal, times_granted}
+use Rattle.journal_core.specs.declared.terms.Terms.{Terms}
+use Rattle.journal_core.specs.History.{Legal, times_granted}
 use Rattle.journal_core.specs.Range.{Numbers}
 use Rattle.io_core.specs.Streams.{Appends, AppendsFront}
 use Rattle.container_core.specs.declared.fault.SealFault.TheVariants as sealing_fault

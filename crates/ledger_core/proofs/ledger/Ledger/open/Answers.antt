@@ -1,5 +1,5 @@
 use Rattle.std.proofs.Common.{◌∙◌, ap, sym}
-use Rattle.journal_core.specs.History.{Terms}
+use Rattle.journal_core.specs.declared.terms.Terms.{Terms}
 use Rattle.ledger_core.specs.Shared.{fresh_seats}
 use Rattle.ledger_core.proofs.Callers.{all_fresh}
 use Rattle.ledger_core.proofs.ledger.Ledger.open.Goals as goal
