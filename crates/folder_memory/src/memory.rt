@@ -2,6 +2,7 @@
 //!
 //! Its readers and writers tell nothing of their bytes.
 ghost use Rattle.std.specs.Prelude.{◌≡◌, ◌<◌, [], ◌∷◌, ◌++◌, None, Some, IfSome, OnOk, IfOk, length, string_bytes};
+ghost use Rattle.std.specs.Prelude.{is_some, position, bytes_eq};
 ghost use Rattle.folder_memory.specs.Memory.{memory_view};
 
 use command_core::{Folder, FolderFault};
@@ -120,7 +121,9 @@ impl MemoryFolder {
     }
 
     /// Whether there is a file of this name.
-    pub fn has(&self, name: &str) -> bool {
+    pub fn has(&self, name: &str) -> bool
+        ensures { result ≡ is_some (position (λ one. bytes_eq one name.now) self.now.names) }
+    {
         place_of(self.files.as_slice(), name).is_some()
     }
 
@@ -175,7 +178,8 @@ impl MemoryFolder {
 }
 
 fn place_of(files: &[File], name: &str) -> Option<usize>
-    ensures { IfSome result (λ i. i < length files.now) }
+    ensures bound { IfSome result (λ i. i < length files.now) }
+    ensures place { result ≡ position (λ file. bytes_eq (string_bytes file.name) name.now) files.now }
 {
     files.iter().position(|file| file.name.as_str() == name)
 }
