@@ -3,7 +3,10 @@ ghost use Rattle.ledger_core.specs.Journal.{terms_of};
 
 use crate::run::Run;
 use io_memory::{FromMemory, Schedule, ToMemory};
-use ledger_core::{Device, Grant, IssueFault, Journal, OpenLedgerFault, Range, SettleFault, Spent, Tally, Way, audit, laws};
+use ledger_core::{
+    Device, Grant, IssueFault, Journal, OpenLedgerFault, Range, SettleFault, Spent, Tally, Way,
+    audit, laws,
+};
 use std::alloc::{AllocError, Global};
 use std::test::*;
 

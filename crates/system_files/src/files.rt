@@ -1,7 +1,7 @@
 //! The file system as a folder.
 use crate::ledger::{is_beside, is_of_ledger};
-use ledger_core::{FromRead, ToWrite};
 use command_core::{Folder, FolderFault};
+use ledger_core::{FromRead, ToWrite};
 use std::fs;
 use std::fs::{File, OpenFile};
 use std::io::{BufReader, ErrorKind};
