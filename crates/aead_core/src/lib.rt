@@ -13,10 +13,6 @@ use chacha_core::{apply, block};
 use poly_core::{Mac, same};
 
 pub mod laws;
-#[cfg(test)]
-mod tests;
-#[cfg(test)]
-mod vectors;
 
 // The counter of the text's first block; block 0 gives the one-time key.
 const FIRST: u32 = 1;

@@ -14,10 +14,6 @@ use stream::{block_bytes, xor_block, xor_rest};
 pub mod laws;
 mod state;
 mod stream;
-#[cfg(test)]
-mod tests;
-#[cfg(test)]
-mod vectors;
 
 // The bytes of a block.
 const BLOCK: usize = 64;

@@ -13,10 +13,6 @@ mod lanes;
 pub mod laws;
 mod limbs;
 mod mac;
-#[cfg(test)]
-mod tests;
-#[cfg(test)]
-mod vectors;
 
 pub use mac::Mac;
 

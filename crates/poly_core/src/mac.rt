@@ -5,7 +5,7 @@ ghost use Rattle.poly_core.specs.Poly1305.{poly1305, pad16};
 ghost use Rattle.poly_core.specs.Absorbed.{Absorbed};
 
 use crate::blocks::{BLOCK, absorb_blocks, block_at, cut_block, key_r, key_s};
-use crate::limbs::{Limbs, ZERO, square, step, tag_number};
+use crate::limbs::{Limbs, ZERO, step, tag_number};
 use std::marker::Model;
 
 /// Poly1305 under a one-time key, over the bytes absorbed so far.
@@ -14,7 +14,6 @@ use std::marker::Model;
 #[derive(Drop)]
 pub struct Mac {
     r: Limbs,
-    square: Limbs,
     s: u128,
     sum: Limbs,
     rest: [u8; 16],
@@ -36,9 +35,7 @@ impl Model for Mac {
       rest = take m.filled m.rest;
     } };
 
-    ghost invariant = { λ m. AllBelow (2 ^ 26) m.r × AllBelow (2 ^ 26) m.square
-        × AllBelow (2 ^ 27) m.sum × (m.filled < 16)
-        × (value m.square % prime ≡ (value m.r * value m.r) % prime) };
+    ghost invariant = { λ m. AllBelow (2 ^ 26) m.r × AllBelow (2 ^ 27) m.sum × (m.filled < 16) };
 }
 
 impl Mac {
@@ -46,10 +43,8 @@ impl Mac {
     pub fn new(key: &[u8; 32]) -> Mac
         ensures { Absorbed result key.now [] }
     {
-        let r = key_r(key);
         Mac {
-            r,
-            square: square(&r),
+            r: key_r(key),
             s: key_s(key),
             sum: ZERO,
             rest: [0; BLOCK],
@@ -87,7 +82,6 @@ impl Mac {
     {
         let Mac {
             r,
-            square: _,
             s,
             sum,
             rest,
@@ -136,6 +130,6 @@ impl Mac {
             → Absorbed self.new key (message ++ blocks.now) }
         ensures none_begun { self.new.rest ≡ [] }
     {
-        self.sum = absorb_blocks(&self.sum, &self.r, &self.square, blocks);
+        self.sum = absorb_blocks(&self.sum, &self.r, blocks);
     }
 }

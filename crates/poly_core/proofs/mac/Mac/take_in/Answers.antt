@@ -1,4 +1,4 @@
-use Rattle.std.proofs.Common.{◌≡◌, ◌+◌, ◌*◌, ◌%◌, ◌∙◌, ◌++◌, arith, refl, sym, ap, ℕ, length, take}
+use Rattle.std.proofs.Common.{List, ◌≡◌, ◌+◌, ◌*◌, ◌%◌, ◌∙◌, ◌++◌, arith, refl, sym, ap, ℕ, length, take}
 use Rattle.std.proofs.lemmas.List.{length-take-le}
 use Rattle.poly_core.specs.Absorbed.{Progress}
 use Rattle.poly_core.specs.Limbs.{value}
@@ -34,3 +34,11 @@ returns-else-end-lt-BLOCK-clause-absorbed c = λ key message held.
     ∙ sym (step-mod prime (value inside.sum) (block_number (take inside.filled inside.rest ++ c.args.piece.now))
     (value inside.r)) in
     Absorbed-filled _ _ key message c.args.piece.now before refl refl sum refl (omega arith)
+
+pub returns-then-end-lt-BLOCK-clause-short : goal.returns-then-end-lt-BLOCK-clause-short
+returns-then-end-lt-BLOCK-clause-short c = λ short.
+    let inside = c.self.inside in
+    let same = ap (λ (p : Progress). p.rest) c.self.view_is in
+    rest_written inside.rest c.args.piece.now c.copy_from_slice.new.self _ inside.filled _
+    (omega arith) c.copy_from_slice.ensures.after refl
+    ∙ ap (λ (zs : List ℕ). zs ++ c.args.piece.now) same

@@ -1,5 +1,7 @@
+//! ChaCha20 over the vectors of RFC 8439, and a text against its joined blocks.
+
 use crate::vectors::{BLOCKS, QUARTERS, TEXTS};
-use crate::{apply, block, quarter};
+use chacha_core::{apply, block, quarter};
 use std::test::Fail;
 
 #[test]

@@ -1,5 +1,8 @@
-use crate::vectors::TAGS;
-use crate::{Mac, same};
+//! Poly1305 over the vectors of RFC 8439, and messages in pieces.
+
+use crate::vectors::{LONG_TAG, TAGS};
+use poly_core::{Mac, same};
+use std::test::Fail;
 
 fn tag(key: &[u8; 32], message: &[u8]) -> [u8; 16] {
     let mut mac = Mac::new(key);
@@ -29,6 +32,24 @@ fn cuts_make_no_difference(rt: HostRuntime) {
     }
     let empty = *b"\x01\x03\x80\x8a\xfb\x0d\xb2\xfd\x4a\xbf\xf6\xaf\x41\x49\xf5\x1b";
     assert_eq!(rt; tag(key, b""), empty);
+}
+
+// A message of 1,100 bytes in two pieces, at each cut.
+#[test]
+fn cuts_of_a_long_message_make_no_difference(rt: HostRuntime) -> Result<(), Fail> {
+    let (_, key, _, _) = TAGS[0];
+    let mut message = Vec::new(rt.alloc());
+    for i in 0..1100u32 {
+        message.push((i % 251) as u8)?;
+    }
+    for cut in 0..1101usize {
+        assert!(rt; cut <= message.len());
+        let mut mac = Mac::new(key);
+        mac.absorb(&message[..cut]);
+        mac.absorb(&message[cut..]);
+        assert_eq!(rt; mac.finish(), *LONG_TAG, "cut at {cut}");
+    }
+    Ok(())
 }
 
 // Zeros up to a multiple of 16 bytes, and none at a multiple.

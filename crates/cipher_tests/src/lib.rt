@@ -1,0 +1,11 @@
+//! The tests of the cipher: outside vectors, cuts at every length, altered pairs.
+#![tactic(auto)]
+
+#[cfg(test)]
+mod aead;
+#[cfg(test)]
+mod chacha;
+#[cfg(test)]
+mod poly;
+#[cfg(test)]
+mod vectors;
