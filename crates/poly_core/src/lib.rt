@@ -13,8 +13,10 @@ mod lanes;
 pub mod laws;
 mod limbs;
 mod mac;
+mod run;
 
 pub use mac::Mac;
+pub use run::Run;
 
 /// Whether two tags of 16 bytes are equal. It compares by `==`: nothing is claimed of the time that
 /// it takes.
