@@ -59,6 +59,21 @@ pub fn seal_in_place(key: &[u8; 32], nonce: &[u8; 12], aad: &[u8], text: &mut [u
     tag_of(key, nonce, aad, text)
 }
 
+/// Whether `tag` is the tag of the associated data and of a ciphertext, under a key of 32 bytes and
+/// a nonce of 12 (RFC 8439, 2.8). It only reads. Nothing is claimed of the time that the comparison
+/// takes.
+pub fn check(
+    key: &[u8; 32],
+    nonce: &[u8; 12],
+    aad: &[u8],
+    ciphertext: &[u8],
+    tag: &[u8; 16],
+) -> bool
+    ensures { IsTrue result ↔ (tag.now ≡ tag_of key.now nonce.now aad.now ciphertext.now) }
+{
+    same(tag, &tag_of(key, nonce, aad, ciphertext))
+}
+
 /// Opens `text` in place: answers whether `tag` is the tag of the associated data and of `text` as
 /// a ciphertext (RFC 8439, 2.8). Where it is, the text becomes the plaintext; where it isn't, it
 /// stays as it was. A text has at most 2^32 - 1 blocks of 64 bytes. Nothing is claimed of the time
@@ -78,7 +93,7 @@ pub fn open_in_place(
     ensures value { opened key.now nonce.now aad.now text.old tag.now
         ≡ (if result then Some text.new else None) }
 {
-    if same(tag, &tag_of(key, nonce, aad, text)) {
+    if check(key, nonce, aad, text, tag) {
         apply(key, nonce, FIRST, text);
         true
     } else {
