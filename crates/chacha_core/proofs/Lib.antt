@@ -1,3 +1,4 @@
+mod LaneLemmas
 pub mod StreamLemmas
 mod StateLemmas
 mod WordLemmas

@@ -186,3 +186,63 @@ chacha20-two_blocks key nonce counter first second whole short =
     ∙ ap (λ (n : ℕ). xor_from (slice_index (block key n nonce)) 0 first ++ xor_from f (64 * 1) second) here
     ∙ ap (λ (zs : List ℕ). xor_from (slice_index (block key counter nonce)) 0 first ++ zs)
     (sym (xor_from-block key nonce counter 1 second short))
+
+-- the keystream from m blocks on
+pub chacha20-behind : (key nonce : List ℕ) (first m : ℕ) (text : List ℕ)
+    → chacha20 key nonce (first + m) text ≡ xor_from (keystream_byte key nonce first) (64 * m) text
+unfolding chacha20 keystream_byte
+chacha20-behind key nonce first m text =
+    xor_from-same (keystream_byte key nonce (first + m)) (keystream_byte key nonce first) 0 (64 * m) text
+    (λ j h.
+    let place : first + m + (0 + j) / 64 ≡ first + (64 * m + j) / 64 = omega arith in
+    let byte : (0 + j) % 64 ≡ (64 * m + j) % 64 = omega arith in
+    ap (λ (n : ℕ). slice_index (block key n nonce) ((0 + j) % 64)) place
+    ∙ ap (slice_index (block key (first + (64 * m + j) / 64) nonce)) byte)
+
+-- a text in two parts, of which the first is whole blocks
+pub chacha20-append : (key nonce : List ℕ) (first m : ℕ) (xs ys : List ℕ) → length xs ≡ 64 * m
+    → chacha20 key nonce first (xs ++ ys) ≡ chacha20 key nonce first xs ++ chacha20 key nonce (first + m) ys
+unfolding chacha20
+chacha20-append key nonce first m xs ys long =
+    let f = keystream_byte key nonce first in
+    xor_from-append f 0 xs ys
+    ∙ ap (λ (n : ℕ). xor_from f 0 xs ++ xor_from f n ys) (omega arith)
+    ∙ ap (λ (zs : List ℕ). xor_from f 0 xs ++ zs) (sym (chacha20-behind key nonce first m ys))
+
+-- a text whose first a bytes, m whole blocks, are enciphered, k bytes on
+pub chacha20_step : (key nonce : List ℕ) (first m a k : ℕ) (old cur : List ℕ) → a ≡ 64 * m → a + k ≤ length old
+    → cur ≡ chacha20 key nonce first (take a old) ++ drop a old
+    → take a cur ++ (chacha20 key nonce (first + m) (take k (drop a cur)) ++ drop (a + k) cur)
+    ≡ chacha20 key nonce first (take (a + k) old) ++ drop (a + k) old
+unfolding chacha20
+chacha20_step key nonce first m a k old cur whole fits now =
+    let f = keystream_byte key nonce first in
+    let behind : drop a cur ≡ drop a old = ap (drop a) now ∙ drop_done f a old (omega arith) in
+    let front : take a cur ≡ xor_from f 0 (take a old) = ap (take a) now ∙ take_done f a old (omega arith) in
+    let piece = take k (drop a old) in
+    let ys = chacha20 key nonce (first + m) piece in
+    let stream : ys ≡ xor_from f a piece =
+    chacha20-behind key nonce first m piece ∙ ap (λ (n : ℕ). xor_from f n piece) (sym whole) in
+    let end : drop (a + k) cur ≡ drop k (drop a old) = sym (drop-drop k a cur) ∙ ap (drop k) behind in
+    ap (λ (zs : List ℕ). zs ++ (chacha20 key nonce (first + m) (take k (drop a cur)) ++ drop (a + k) cur)) front
+    ∙ ap (λ (zs : List ℕ). xor_from f 0 (take a old) ++ (chacha20 key nonce (first + m) (take k zs) ++ drop
+    (a + k) cur)) behind
+    ∙ ap (λ (zs : List ℕ). xor_from f 0 (take a old) ++ (ys ++ zs)) end
+    ∙ xor_step f a k old ys fits stream
+
+-- the whole text is enciphered
+pub chacha20_done : (key nonce : List ℕ) (first n : ℕ) (old : List ℕ) → length old ≤ n
+    → chacha20 key nonce first (take n old) ++ drop n old ≡ chacha20 key nonce first old
+unfolding chacha20
+chacha20_done key nonce first n old all = xor_done (keystream_byte key nonce first) n old all
+
+-- a text whose first a bytes, m whole blocks, are enciphered, to its end
+pub chacha20_end : (key nonce : List ℕ) (first m a k : ℕ) (old cur piece : List ℕ) → a ≡ 64 * m → a + k ≡ length old
+    → cur ≡ chacha20 key nonce first (take a old) ++ drop a old
+    → piece ≡ chacha20 key nonce (first + m) (take k (drop a cur))
+    → take a cur ++ (piece ++ drop k (drop a cur)) ≡ chacha20 key nonce first old
+chacha20_end key nonce first m a k old cur piece whole all now made =
+    ap (λ (zs : List ℕ). take a cur ++ (zs ++ drop k (drop a cur))) made
+    ∙ ap (λ (zs : List ℕ). take a cur ++ (chacha20 key nonce (first + m) (take k (drop a cur)) ++ zs)) (drop-drop k a cur)
+    ∙ chacha20_step key nonce first m a k old cur whole (omega arith) now
+    ∙ chacha20_done key nonce first (a + k) old (omega arith)

@@ -23,23 +23,24 @@ length-word_bytes (x ∷ xs) =
     let ih = length-word_bytes xs in
     omega (arith, length-append (to_le_bytes w32 x) (word_bytes xs))
 
--- the bytes of the words from place 4 * row on
-pub word_bytes-row : (ws : List ℕ) (row : ℕ) → 4 * row + 4 ≤ length ws
-    → take 16 (drop (16 * row) (word_bytes ws)) ≡ word_bytes (take 4 (drop (4 * row) ws))
-word_bytes-row ws row fits =
-    let front = take (4 * row) ws in
-    let back = drop (4 * row) ws in
-    let long : length front ≡ 4 * row = length-take-le (4 * row) ws (omega arith) in
+-- the bytes of the k words from place i on
+pub word_bytes-part : (ws : List ℕ) (k i : ℕ) → i + k ≤ length ws
+    → take (4 * k) (drop (4 * i) (word_bytes ws)) ≡ word_bytes (take k (drop i ws))
+word_bytes-part ws k i fits =
+    let front = take i ws in
+    let back = drop i ws in
+    let long : length front ≡ i = length-take-le i ws (omega arith) in
     let split : word_bytes ws ≡ word_bytes front ++ word_bytes back =
-    ap word_bytes (sym (take-append-drop (4 * row) ws)) ∙ word_bytes-append front back in
-    let at : drop (16 * row) (word_bytes ws) ≡ word_bytes back =
-    ap (drop (16 * row)) split ∙ drop_at (word_bytes front) (word_bytes back) (16 * row)
+    ap word_bytes (sym (take-append-drop i ws)) ∙ word_bytes-append front back in
+    let at : drop (4 * i) (word_bytes ws) ≡ word_bytes back =
+    ap (drop (4 * i)) split ∙ drop_at (word_bytes front) (word_bytes back) (4 * i)
     (omega (arith, length-word_bytes front)) in
-    let four : length (take 4 back) ≡ 4 = length-take-le 4 back (omega (arith, length-drop (4 * row) ws)) in
-    let split2 : word_bytes back ≡ word_bytes (take 4 back) ++ word_bytes (drop 4 back) =
-    ap word_bytes (sym (take-append-drop 4 back)) ∙ word_bytes-append (take 4 back) (drop 4 back) in
-    ap (take 16) (at ∙ split2)
-    ∙ take_at (word_bytes (take 4 back)) (word_bytes (drop 4 back)) 16 (omega (arith, length-word_bytes (take 4 back)))
+    let some : length (take k back) ≡ k = length-take-le k back (omega (arith, length-drop i ws)) in
+    let split2 : word_bytes back ≡ word_bytes (take k back) ++ word_bytes (drop k back) =
+    ap word_bytes (sym (take-append-drop k back)) ∙ word_bytes-append (take k back) (drop k back) in
+    ap (take (4 * k)) (at ∙ split2)
+    ∙ take_at (word_bytes (take k back)) (word_bytes (drop k back)) (4 * k)
+    (omega (arith, length-word_bytes (take k back)))
 
 -- the lowest digits of a number are its lowest word's
 digits-word : (x rest n : ℕ) → x < 2 ^ 32
@@ -52,19 +53,16 @@ digits-word x rest n small =
     let e : (x + 2 ^ 32 * rest) / 256 / 256 / 256 / 256 ≡ rest = omega arith in
     rw (a, b, c, d, e) refl
 
--- four words side by side as one number, and its bytes
-pub digits-row : (row : List ℕ) → length row ≡ 4 → Each1 (Fits w32) row
-    → digits_l 256 16 (number_l (2 ^ 32) row) ≡ word_bytes row
-digits-row (a ∷ b ∷ c ∷ d ∷ []) four fits =
-    digits-word a (b + 2 ^ 32 * (c + 2 ^ 32 * (d + 2 ^ 32 * 0))) 12 (omega arith)
-    ∙ ap (λ zs. to_le_bytes w32 a ++ zs) (digits-word b (c + 2 ^ 32 * (d + 2 ^ 32 * 0)) 8 (omega arith)
-    ∙ ap (λ zs. to_le_bytes w32 b ++ zs) (digits-word c (d + 2 ^ 32 * 0) 4 (omega arith)
-    ∙ ap (λ zs. to_le_bytes w32 c ++ zs) (digits-word d 0 0 (omega arith))))
-digits-row [] four fits = absurd (omega arith)
-digits-row (a ∷ []) four fits = absurd (omega arith)
-digits-row (a ∷ b ∷ []) four fits = absurd (omega arith)
-digits-row (a ∷ b ∷ c ∷ []) four fits = absurd (omega arith)
-digits-row (a ∷ b ∷ c ∷ d ∷ e ∷ ws) four fits = absurd (omega arith)
+-- words side by side as one number, and its bytes
+pub digits-words : (ws : List ℕ) → Each1 (Fits w32) ws
+    → digits_l 256 (4 * length ws) (number_l (2 ^ 32) ws) ≡ word_bytes ws
+digits-words [] fits = refl
+digits-words (w ∷ ws) fits =
+    let small : w < 2 ^ 32 = fits.0.fits in
+    let four : 4 * suc (length ws) ≡ suc (suc (suc (suc (4 * length ws)))) = omega arith in
+    ap (λ (n : ℕ). digits_l 256 n (w + 2 ^ 32 * number_l (2 ^ 32) ws)) four
+    ∙ digits-word w (number_l (2 ^ 32) ws) (4 * length ws) small
+    ∙ ap (λ (zs : List ℕ). to_le_bytes w32 w ++ zs) (digits-words ws fits.1)
 
 -- a word as `byteorder` reads it
 pub word_at-little : (bytes : List ℕ) (i : ℕ) → little_number 4 (drop (4 * i) bytes) ≡ word_at bytes i

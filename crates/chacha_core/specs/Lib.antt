@@ -1,2 +1,3 @@
 pub mod ChaCha20
+pub mod Lanes
 pub mod Vectors

@@ -8,9 +8,11 @@
 ghost use Rattle.std.specs.Prelude.{◌≡◌, ◌+◌, ◌/◌, ◌^◌, ◌≤◌, length};
 ghost use Rattle.chacha_core.specs.ChaCha20.{quarter_round, block, chacha20};
 
+use group::{GROUP, apply_group};
 use state::{block_words, quarter_round, start_state};
 use stream::{block_bytes, xor_block, xor_rest};
 
+pub mod group;
 pub mod laws;
 mod state;
 mod stream;
@@ -39,6 +41,25 @@ pub fn block(key: &[u8; 32], counter: u32, nonce: &[u8; 12]) -> [u8; 64]
 /// Enciphers or deciphers `text` in place: XORs it with the keystream whose first block has the
 /// counter `first` (RFC 8439, 2.4). No block's counter may pass 32 bits.
 pub fn apply(key: &[u8; 32], nonce: &[u8; 12], first: u32, text: &mut [u8])
+    requires { first + (length text.old + 63) / 64 ≤ 2 ^ 32 }
+    ensures { text.new ≡ chacha20 key.now nonce.now first text.old }
+{
+    let groups = text.len() / GROUP;
+    'groups: for g in 0..groups {
+        apply_group(key, nonce, first + 8 * g as u32, text, GROUP * g);
+    }
+    if text.len() > GROUP * groups {
+        apply_plain(
+            key,
+            nonce,
+            first + 8 * groups as u32,
+            &mut text[GROUP * groups..],
+        );
+    }
+}
+
+// The same, a block at a time.
+fn apply_plain(key: &[u8; 32], nonce: &[u8; 12], first: u32, text: &mut [u8])
     requires { first + (length text.old + 63) / 64 ≤ 2 ^ 32 }
     ensures { text.new ≡ chacha20 key.now nonce.now first text.old }
 {

@@ -9,8 +9,8 @@ ghost use Rattle.chacha_core.specs.ChaCha20.{word_at, start_state, add_states, b
 
 use byteorder::{ByteOrder, LittleEndian};
 
-// The RFC's twenty rounds, by two.
-const DOUBLE_ROUNDS: u32 = 10;
+/// The RFC's twenty rounds, by two.
+pub(crate) const DOUBLE_ROUNDS: u32 = 10;
 
 /// The quarter round on four words (2.1).
 #[inline(always)]
@@ -57,6 +57,7 @@ fn diagonal_rounds(state: [u32; 16]) -> [u32; 16]
 }
 
 // Word i of a list of bytes, little-endian.
+#[inline(always)]
 fn word_at(bytes: &[u8], i: usize) -> u32
     requires { 4 * i + 4 ≤ length bytes.now }
     ensures { result ≡ word_at bytes.now i }
@@ -65,6 +66,7 @@ fn word_at(bytes: &[u8], i: usize) -> u32
 }
 
 /// The state that the block with this counter begins with.
+#[inline(always)]
 pub(crate) fn start_state(key: &[u8; 32], counter: u32, nonce: &[u8; 12]) -> [u32; 16]
     ensures { result ≡ start_state key.now counter nonce.now }
 {

@@ -1,0 +1,12 @@
+use Rattle.chacha_core.specs.ChaCha20.{diagonal_rounds}
+use Rattle.chacha_core.proofs.group.diagonals.Goals as goal
+
+pub returns : goal.returns
+unfolding diagonal_rounds
+returns c j h =
+    rw (
+      ← c.quarter_rounds.ensures j h,
+      ← c.quarter_rounds-2.ensures j h,
+      ← c.quarter_rounds-3.ensures j h,
+      ← c.quarter_rounds-4.ensures j h,
+    )

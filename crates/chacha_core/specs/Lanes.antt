@@ -1,0 +1,20 @@
+-- Blocks side by side: each word of the states is a vector, with one lane for each block.
+use Rattle.std.specs.Prelude.{◌≡◌, ℕ, ◌+◌, ◌<◌, List, [], ◌∷◌, slice_index, slice_index_or}
+use Rattle.chacha_core.specs.ChaCha20.{double_rounds, start_state}
+
+-- lane j of vector k
+abbrev pub lane_at : List (List ℕ) → ℕ → ℕ → ℕ
+lane_at x k j = slice_index (slice_index_or x k []) j
+
+-- the state of block j
+abbrev pub lane : ℕ → List (List ℕ) → List ℕ
+lane j x =
+    lane_at x 0 j ∷ lane_at x 1 j ∷ lane_at x 2 j ∷ lane_at x 3 j
+    ∷ lane_at x 4 j ∷ lane_at x 5 j ∷ lane_at x 6 j ∷ lane_at x 7 j
+    ∷ lane_at x 8 j ∷ lane_at x 9 j ∷ lane_at x 10 j ∷ lane_at x 11 j
+    ∷ lane_at x 12 j ∷ lane_at x 13 j ∷ lane_at x 14 j ∷ lane_at x 15 j ∷ []
+
+-- after n double rounds: the vectors have in lane j what these make of the state of block first + j
+abbrev pub UnderWay : ℕ → List ℕ → List ℕ → ℕ → List (List ℕ) → Type 0
+UnderWay n key nonce first x =
+    (j : ℕ) → j < 8 → lane j x ≡ double_rounds n (start_state key (first + j) nonce)
