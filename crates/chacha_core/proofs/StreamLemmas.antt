@@ -243,6 +243,18 @@ pub chacha20_end : (key nonce : List ℕ) (first m a k : ℕ) (old cur piece : L
     → take a cur ++ (piece ++ drop k (drop a cur)) ≡ chacha20 key nonce first old
 chacha20_end key nonce first m a k old cur piece whole all now made =
     ap (λ (zs : List ℕ). take a cur ++ (zs ++ drop k (drop a cur))) made
-    ∙ ap (λ (zs : List ℕ). take a cur ++ (chacha20 key nonce (first + m) (take k (drop a cur)) ++ zs)) (drop-drop k a cur)
+    ∙ ap (λ (zs : List ℕ). take a cur ++ (chacha20 key nonce (first + m) (take k (drop a cur)) ++ zs))
+    (drop-drop k a cur)
     ∙ chacha20_step key nonce first m a k old cur whole (omega arith) now
     ∙ chacha20_done key nonce first (a + k) old (omega arith)
+
+-- a text that is one piece
+pub chacha20_whole : (key nonce : List ℕ) (first n : ℕ) (text : List ℕ) → length text ≤ n
+    → take 0 text ++ (chacha20 key nonce first (take n (drop 0 text)) ++ drop n text) ≡ chacha20 key nonce first text
+chacha20_whole key nonce first n text all = rw (take_all n text all, drop_all n text all, append-nil) refl
+
+-- what stands behind a text doesn't matter
+pub take-chacha20 : (key nonce : List ℕ) (first : ℕ) (text tail : List ℕ)
+    → take (length text) (chacha20 key nonce first (text ++ tail)) ≡ chacha20 key nonce first text
+unfolding chacha20
+take-chacha20 key nonce first text tail = take-xor_from (keystream_byte key nonce first) text tail

@@ -165,7 +165,8 @@ fn row_bytes(words: u32x8) -> u8x32
 #[inline(always)]
 fn xor_rows(text: &mut [u8], rows: [u32x8; 16])
     requires { length text.old ≡ 512 }
-    ensures { text.new ≡ xor_from (λ j. slice_index (word_bytes (slice_index_or rows (j / 32) [])) (j % 32)) 0 text.old }
+    ensures { text.new
+        ≡ xor_from (λ j. slice_index (word_bytes (slice_index_or rows (j / 32) [])) (j % 32)) 0 text.old }
 {
     'rows: for k in 0..16 {
         let bytes = u8x32::from_slice(&text[ROW * k..]);
@@ -237,4 +238,16 @@ pub(crate) fn apply_group(key: &[u8; 32], nonce: &[u8; 12], first: u32, text: &m
         x = y;
     }
     xor_group(text, at, x, start);
+}
+
+/// Enciphers a text shorter than a group, as a group's first bytes.
+pub(crate) fn apply_part(key: &[u8; 32], nonce: &[u8; 12], first: u32, text: &mut [u8])
+    requires { (first + 8 ≤ 2 ^ 32) × (length text.old < 512) }
+    ensures { text.new ≡ chacha20 key.now nonce.now first text.old }
+{
+    let mut group = [0; GROUP];
+    let len = text.len();
+    group[..len].copy_from_slice(text);
+    apply_group(key, nonce, first, &mut group, 0);
+    text.copy_from_slice(&group[..len]);
 }

@@ -1,6 +1,6 @@
 //! What follows of the definitions alone, each law the contract of a function that does nothing.
 
-ghost use Rattle.std.specs.Prelude.{◌≡◌, ℕ, List, length};
+ghost use Rattle.std.specs.Prelude.{◌≡◌, ℕ, ◌+◌, ◌*◌, List, ◌++◌, length};
 ghost use Rattle.chacha_core.specs.ChaCha20.{quarter_round, block, chacha20};
 ghost use Rattle.chacha_core.specs.Vectors.{key, block_nonce, first_block, text_nonce, plaintext, ciphertext};
 
@@ -14,6 +14,14 @@ pub fn twice_gives_back()
 pub fn length_stays()
     ensures { (key nonce text : List ℕ) (counter : ℕ)
         → length (chacha20 key nonce counter text) ≡ length text }
+{}
+
+/// A text in two parts, the first of whole blocks, is enciphered part by part, the second from the
+/// counter behind the first's blocks.
+pub fn parts_join()
+    ensures { (key nonce first second : List ℕ) (counter blocks : ℕ) → length first ≡ 64 * blocks
+        → chacha20 key nonce counter (first ++ second)
+        ≡ chacha20 key nonce counter first ++ chacha20 key nonce (counter + blocks) second }
 {}
 
 /// The definitions give what RFC 8439 prints beside them: quarter rounds (2.1.1, 2.2.1), a block

@@ -5,10 +5,10 @@
 //! its definition's value on every input.
 #![tactic(auto)]
 
-ghost use Rattle.std.specs.Prelude.{◌≡◌, ◌+◌, ◌/◌, ◌^◌, ◌≤◌, length};
+ghost use Rattle.std.specs.Prelude.{◌≡◌, ◌+◌, ◌/◌, ◌^◌, ◌<◌, ◌≤◌, length};
 ghost use Rattle.chacha_core.specs.ChaCha20.{quarter_round, block, chacha20};
 
-use group::{GROUP, apply_group};
+use group::{GROUP, apply_group, apply_part};
 use state::{block_words, quarter_round, start_state};
 use stream::{block_bytes, xor_block, xor_rest};
 
@@ -19,6 +19,9 @@ mod stream;
 
 // The bytes of a block.
 const BLOCK: usize = 64;
+
+// The bytes up to which single blocks are no slower than a group.
+const FEW: usize = 128;
 
 // The counter's place among the words of a state.
 const COUNTER: usize = 12;
@@ -49,12 +52,25 @@ pub fn apply(key: &[u8; 32], nonce: &[u8; 12], first: u32, text: &mut [u8])
         apply_group(key, nonce, first + 8 * g as u32, text, GROUP * g);
     }
     if text.len() > GROUP * groups {
-        apply_plain(
+        apply_behind(
             key,
             nonce,
             first + 8 * groups as u32,
             &mut text[GROUP * groups..],
         );
+    }
+}
+
+// The same, of a text shorter than a group: as the first part of one, where that is worth it and
+// no counter of the group passes 32 bits.
+fn apply_behind(key: &[u8; 32], nonce: &[u8; 12], first: u32, text: &mut [u8])
+    requires { (first + (length text.old + 63) / 64 ≤ 2 ^ 32) × (length text.old < 512) }
+    ensures { text.new ≡ chacha20 key.now nonce.now first text.old }
+{
+    if text.len() > FEW && first <= u32::MAX - 7 {
+        apply_part(key, nonce, first, text);
+    } else {
+        apply_plain(key, nonce, first, text);
     }
 }
 

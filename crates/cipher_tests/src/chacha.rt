@@ -2,6 +2,7 @@
 
 use crate::vectors::{BLOCKS, QUARTERS, TEXTS};
 use chacha_core::{apply, block, quarter};
+use std::alloc::Global;
 use std::test::Fail;
 
 #[test]
@@ -32,29 +33,68 @@ fn texts_of_the_rfc(rt: HostRuntime) -> Result<(), Fail> {
     Ok(())
 }
 
-// For each length to 130, `apply` is the XOR with the blocks one behind the other, and twice gives
-// the text back.
+// The blocks one behind the other, from this counter on.
+fn joined(
+    alloc: Global,
+    key: &[u8; 32],
+    nonce: &[u8; 12],
+    first: u32,
+    count: u32,
+) -> Result<Vec<u8>, Fail> {
+    let mut stream = Vec::new(alloc);
+    for i in 0..count {
+        stream.extend_from_slice(&block(key, first.wrapping_add(i), nonce))?;
+    }
+    Ok(stream)
+}
+
+// For each length to 1,025, two groups of eight blocks and a byte, `apply` is the XOR with the blocks
+// one behind the other, and twice gives the text back.
 #[test]
 fn apply_is_the_xor_with_joined_blocks(rt: HostRuntime) -> Result<(), Fail> {
     let (_, key, _, nonce, _) = BLOCKS[0];
-    let mut stream = Vec::new(rt.alloc());
+    let stream = joined(rt.alloc(), key, nonce, 1, 17)?;
     let mut plain = Vec::new(rt.alloc());
-    for counter in 7..10 {
-        stream.extend_from_slice(&block(key, counter, nonce))?;
+    for _round in 0..5 {
+        for i in 0..205u8 {
+            plain.push(i)?;
+        }
     }
-    for i in 0..130u8 {
-        plain.push(i)?;
-    }
-    for len in 0..131usize {
+    for len in 0..1026usize {
         assert!(rt; len <= plain.len());
         let mut text = plain[..len].to_vec(rt.alloc())?;
-        apply(key, nonce, 7, &mut text);
+        apply(key, nonce, 1, &mut text);
         for ((had, now), byte) in plain.iter().zip(text.iter()).zip(stream.iter()) {
             assert_eq!(rt; *now, *had ^ *byte, "length {len}");
         }
-        apply(key, nonce, 7, &mut text);
+        apply(key, nonce, 1, &mut text);
         assert_eq!(rt; text.as_slice(), &plain[..len], "length {len}, back");
     }
+    Ok(())
+}
+
+// The last three, four and eight blocks that the counter allows.
+#[test]
+fn apply_reaches_the_last_counter_in_lanes(rt: HostRuntime) -> Result<(), Fail> {
+    let (_, key, _, nonce, _) = BLOCKS[0];
+    let mut three = [0; 192];
+    apply(key, nonce, 4_294_967_293, &mut three);
+    assert_eq!(rt;
+        three.as_slice(),
+        joined(rt.alloc(), key, nonce, 4_294_967_293, 3)?.as_slice()
+    );
+    let mut four = [0; 256];
+    apply(key, nonce, 4_294_967_292, &mut four);
+    assert_eq!(rt;
+        four.as_slice(),
+        joined(rt.alloc(), key, nonce, 4_294_967_292, 4)?.as_slice()
+    );
+    let mut eight = [0; 512];
+    apply(key, nonce, 4_294_967_288, &mut eight);
+    assert_eq!(rt;
+        eight.as_slice(),
+        joined(rt.alloc(), key, nonce, 4_294_967_288, 8)?.as_slice()
+    );
     Ok(())
 }
 

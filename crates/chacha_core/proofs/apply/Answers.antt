@@ -27,7 +27,7 @@ returns-then-text-groups c =
     let a : ℕ = 512 * g in
     let at_end : c.groups.g ≡ g = omega arith in
     chacha20_end c.args.key.now c.args.nonce.now c.args.first (8 * g) a (length c.groups.text - a) old c.groups.text
-    c.apply_plain.new.text (omega arith) (omega arith) (rw at_end at c.groups.invariant) c.apply_plain.ensures
+    c.apply_behind.new.text (omega arith) (omega arith) (rw at_end at c.groups.invariant) c.apply_behind.ensures
 
 pub returns-else-text-groups : goal.returns-else-text-groups
 returns-else-text-groups c =
