@@ -5,14 +5,22 @@
 //! tag of a plaintext, `opened` the plaintext of such a pair.
 #![tactic(auto)]
 
-ghost use Rattle.std.specs.Prelude.{◌≡◌, ◌+◌, ◌-◌, ◌*◌, ◌^◌, ◌≤◌, ◌↔◌, length, take};
+ghost use Rattle.std.specs.Prelude.{◌≡◌, ℕ, ◌+◌, ◌-◌, ◌*◌, ◌^◌, ◌≤◌, ◌↔◌, List, [], ◌++◌, length, take};
 ghost use Rattle.std.specs.Prelude.{IsTrue, Some, None, false, if◌then◌else◌};
-ghost use Rattle.aead_core.specs.Aead.{one_time_key, tag_of, aead, opened};
+ghost use Rattle.poly_core.specs.Absorbed.{Absorbed};
+ghost use Rattle.poly_core.specs.Poly1305.{poly1305, pad16};
+ghost use Rattle.aead_core.specs.Aead.{one_time_key, mac_data, tag_of, aead, opened};
 
+use chacha_core::group::GROUP;
 use chacha_core::{apply, block};
 use poly_core::{Mac, same};
+use woven::seal_groups;
 
 pub mod laws;
+mod woven;
+
+// The bytes of a block of ChaCha20, which are four blocks of Poly1305: one step of a run.
+const BLOCK: usize = 64;
 
 // The counter of the text's first block; block 0 gives the one-time key.
 const FIRST: u32 = 1;
@@ -33,18 +41,36 @@ fn one_time_key(key: &[u8; 32], nonce: &[u8; 12]) -> [u8; 32]
     front(&block(key, 0, nonce))
 }
 
-// The tag of associated data and a ciphertext (2.8).
-fn tag_of(key: &[u8; 32], nonce: &[u8; 12], aad: &[u8], ciphertext: &[u8]) -> [u8; 16]
-    ensures { result ≡ tag_of key.now nonce.now aad.now ciphertext.now }
+// The mac of a message, with the associated data and the zeros behind it absorbed (2.8).
+fn begin(key: &[u8; 32], nonce: &[u8; 12], aad: &[u8]) -> Mac
+    ensures absorbed { Absorbed result (one_time_key key.now nonce.now) (aad.now ++ pad16 aad.now) }
+    ensures none_begun { result.rest ≡ [] }
 {
-    let mut mac = Mac::new(&one_time_key(key, nonce));
-    mac.absorb(aad);
-    mac.pad();
-    mac.absorb(ciphertext);
+    let mut front = Mac::new(&one_time_key(key, nonce));
+    front.absorb(aad);
+    front.pad();
+    front
+}
+
+// The tag, where the ciphertext is absorbed behind that: zeros, and the two lengths (2.8).
+fn finish(mac: Mac, aad: &[u8], ciphertext: &[u8]) -> [u8; 16]
+    ensures { (key : List ℕ) → Absorbed mac key ((aad.now ++ pad16 aad.now) ++ ciphertext.now)
+        → result ≡ poly1305 key (mac_data aad.now ciphertext.now) }
+{
+    let mut mac = mac;
     mac.pad();
     mac.absorb(&(aad.len() as u64).to_le_bytes());
     mac.absorb(&(ciphertext.len() as u64).to_le_bytes());
     mac.finish()
+}
+
+// The tag of associated data and a ciphertext (2.8).
+fn tag_of(key: &[u8; 32], nonce: &[u8; 12], aad: &[u8], ciphertext: &[u8]) -> [u8; 16]
+    ensures { result ≡ tag_of key.now nonce.now aad.now ciphertext.now }
+{
+    let mut mac = begin(key, nonce, aad);
+    mac.absorb(ciphertext);
+    finish(mac, aad, ciphertext)
 }
 
 /// Seals `text` in place under a key of 32 bytes, a nonce of 12 and associated data: the text
@@ -55,8 +81,11 @@ pub fn seal_in_place(key: &[u8; 32], nonce: &[u8; 12], aad: &[u8], text: &mut [u
     ensures ciphertext { text.new ≡ (aead key.now nonce.now aad.now text.old).0 }
     ensures tag { result ≡ (aead key.now nonce.now aad.now text.old).1 }
 {
-    apply(key, nonce, FIRST, text);
-    tag_of(key, nonce, aad, text)
+    let end = text.len() / GROUP * GROUP;
+    let mut mac = seal_groups(begin(key, nonce, aad), key, nonce, &mut text[..end]);
+    apply(key, nonce, FIRST + (end / BLOCK) as u32, &mut text[end..]);
+    mac.absorb(&text[end..]);
+    finish(mac, aad, text)
 }
 
 /// Whether `tag` is the tag of the associated data and of a ciphertext, under a key of 32 bytes and

@@ -1,7 +1,7 @@
 //! The AEAD over the vectors of RFC 8439 and of OpenSSL, both ways, and altered pairs.
 
 use crate::vectors::{LENGTHS, ONE_TIME_KEYS, PAIRS};
-use aead_core::{open_in_place, seal_in_place};
+use aead_core::{check, open_in_place, seal_in_place};
 use chacha_core::block;
 use std::test::Fail;
 
@@ -27,6 +27,7 @@ fn pairs_of_the_rfc(rt: HostRuntime) -> Result<(), Fail> {
         let tag = seal_in_place(key, nonce, aad, &mut text);
         assert_eq!(rt; text.as_slice(), ciphertext, "{place}");
         assert_eq!(rt; tag, *want, "{place}");
+        assert!(rt; check(key, nonce, aad, ciphertext, want), "{place}");
         assert!(rt; open_in_place(key, nonce, aad, &mut text, &tag), "{place}");
         assert_eq!(rt; text.as_slice(), plain, "{place}, opened");
     }
@@ -65,6 +66,39 @@ fn altered_pairs_stay_shut(rt: HostRuntime) -> Result<(), Fail> {
     Ok(())
 }
 
+// Each altered byte of the tag and of the ciphertext, and other associated data, make `check` false.
+#[test]
+fn check_sees_each_altered_byte(rt: HostRuntime) -> Result<(), Fail> {
+    let (_, key, nonce, aad, _, ciphertext, tag) = PAIRS[0];
+    assert!(rt; ciphertext.len() == 114);
+    assert!(rt; check(key, nonce, aad, ciphertext, tag));
+    for i in 0..16usize {
+        let mut other = *tag;
+        other[i] ^= 1;
+        assert!(rt;
+            !check(key, nonce, aad, ciphertext, &other),
+            "byte {i} of the tag"
+        );
+    }
+    let mut text = ciphertext.to_vec(rt.alloc())?;
+    for i in 0..114usize {
+        assert!(rt; i < text.len());
+        text[i] ^= 128;
+        assert!(rt; !check(key, nonce, aad, &text, tag), "byte {i} of the text");
+        text[i] ^= 128;
+    }
+    assert!(rt; check(key, nonce, aad, &text, tag));
+    assert!(rt;
+        !check(key, nonce, b"", ciphertext, tag),
+        "no associated data"
+    );
+    assert!(rt;
+        !check(key, nonce, aad, &ciphertext[1..], tag),
+        "the first byte cut off"
+    );
+    Ok(())
+}
+
 #[test]
 fn tags_at_and_between_multiples_of_16(rt: HostRuntime) -> Result<(), Fail> {
     let mut key = [0; 32];
@@ -81,10 +115,14 @@ fn tags_at_and_between_multiples_of_16(rt: HostRuntime) -> Result<(), Fail> {
         for i in 0..len {
             text.push((i % 256 * 7 % 256) as u8)?;
         }
-        assert!(rt; text.len() <= 1000);
+        assert!(rt; text.len() <= 10_000);
         assert_eq!(rt;
             seal_in_place(&key, nonce, &aad, &mut text),
             *want,
+            "{aad_len} and {len}"
+        );
+        assert!(rt;
+            check(&key, nonce, &aad, &text, want),
             "{aad_len} and {len}"
         );
     }

@@ -1,7 +1,7 @@
 //! Poly1305 over the vectors of RFC 8439, and messages in pieces.
 
 use crate::vectors::{LONG_TAG, TAGS};
-use poly_core::{Mac, same};
+use poly_core::{Mac, Run, same};
 use std::test::Fail;
 
 fn tag(key: &[u8; 32], message: &[u8]) -> [u8; 16] {
@@ -49,6 +49,25 @@ fn cuts_of_a_long_message_make_no_difference(rt: HostRuntime) -> Result<(), Fail
         mac.absorb(&message[cut..]);
         assert_eq!(rt; mac.finish(), *LONG_TAG, "cut at {cut}");
     }
+    Ok(())
+}
+
+// The same message by a run of 17 fours, and the last 12 bytes behind it.
+#[test]
+fn a_run_gives_the_same_tag(rt: HostRuntime) -> Result<(), Fail> {
+    let (_, key, _, _) = TAGS[0];
+    let mut message = Vec::new(rt.alloc());
+    for i in 0..1100u32 {
+        message.push((i % 251) as u8)?;
+    }
+    assert!(rt; message.len() == 1100);
+    let mut run = Run::new(key);
+    for k in 0..16usize {
+        run.four(&message, 64 * k);
+    }
+    let mut mac = run.end(&message, 1024);
+    mac.absorb(&message[1088..]);
+    assert_eq!(rt; mac.finish(), *LONG_TAG);
     Ok(())
 }
 

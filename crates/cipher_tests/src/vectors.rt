@@ -348,7 +348,7 @@ pub(crate) const PAIRS: [(&str, &[u8; 32], &[u8; 12], &[u8], &[u8], &[u8], &[u8;
 /// Lengths of associated data and plaintext at and between the multiples of 16, and the tag, as OpenSSL
 /// gives it under the key 00 .. 1f and the nonce 40 .. 4b; byte i of the associated data is 5 * i and
 /// byte i of the plaintext is 7 * i, both modulo 256.
-pub(crate) const LENGTHS: [(usize, usize, &[u8; 16]); 11] = [
+pub(crate) const LENGTHS: [(usize, usize, &[u8; 16]); 16] = [
     (
         0,
         0,
@@ -403,5 +403,30 @@ pub(crate) const LENGTHS: [(usize, usize, &[u8; 16]); 11] = [
         24,
         1000,
         b"\xd8\xde\x74\xc3\x66\x42\x7d\x98\x26\x28\xd6\xb2\x51\x0f\xdb\xff",
+    ),
+    (
+        13,
+        511,
+        b"\x90\xc1\x76\x29\x30\x5c\xd8\x02\x6e\x27\x72\x28\x43\x56\x84\x2f",
+    ),
+    (
+        13,
+        512,
+        b"\x12\x13\x2d\x5a\x0a\x28\xba\x13\x40\x84\x22\x4e\x9d\xd8\x0c\xb3",
+    ),
+    (
+        13,
+        1100,
+        b"\xd7\xff\x31\x64\x0a\xa1\x0c\x4d\x52\xc6\xb4\xcd\x51\xa9\xf5\xc0",
+    ),
+    (
+        0,
+        2048,
+        b"\x62\x05\x39\x36\x23\x06\xa8\x58\x54\xa6\xd0\x14\x03\x82\x27\x73",
+    ),
+    (
+        13,
+        2085,
+        b"\xd4\x75\x7a\x1b\x7c\xc4\xd5\x71\xea\xdd\x68\x45\x10\xc4\xc5\x29",
     ),
 ];

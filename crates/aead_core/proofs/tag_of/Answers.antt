@@ -1,24 +1,6 @@
-use Rattle.std.proofs.Common.{ap, ◌∙◌, ◌++◌, List, ℕ, [], length}
-use Rattle.std.specs.Int.{w64, to_le_bytes}
-use Rattle.poly_core.specs.Poly1305.{poly1305, pad16}
-use Rattle.aead_core.specs.Aead.{mac_data, tag_of}
-use Rattle.aead_core.proofs.AeadLemmas.{pad16-padded}
+use Rattle.aead_core.specs.Aead.{tag_of}
 use Rattle.aead_core.proofs.tag_of.Goals as goal
 
 pub returns : goal.returns
-unfolding tag_of mac_data
-returns c =
-    let key = c.one_time_key.result in
-    let aad = c.args.aad.now in
-    let text = c.args.ciphertext.now in
-    let front = (aad ++ pad16 aad) ++ text in
-    let with_aad = c.pad.ensures key _ (c.absorb.ensures key [] c.new-mac.ensures) in
-    let with_text = c.pad-2.ensures key _ (c.absorb-2.ensures key _ with_aad) in
-    let with_lengths = c.absorb-4.ensures key _ (c.absorb-3.ensures key _ with_text) in
-    c.finish.ensures key _ with_lengths
-    ∙ ap (λ (zs : List ℕ). poly1305 key (((front ++ zs) ++ c.to_le_bytes.result) ++ c.to_le_bytes-2.result))
-    (pad16-padded aad text)
-    ∙ ap (λ (zs : List ℕ). poly1305 key (((front ++ pad16 text) ++ zs) ++ c.to_le_bytes-2.result)) c.to_le_bytes.ensures
-    ∙ ap (λ (zs : List ℕ). poly1305 key (((front ++ pad16 text) ++ to_le_bytes w64 (length aad)) ++ zs))
-    c.to_le_bytes-2.ensures
-    ∙ ap (λ (k : List ℕ). poly1305 k (mac_data aad text)) c.one_time_key.ensures
+unfolding tag_of
+returns c = c.finish.ensures _ (c.absorb.ensures _ _ c.begin-mac.ensures.absorbed)
