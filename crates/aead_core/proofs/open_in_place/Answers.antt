@@ -20,3 +20,6 @@ pub returns-else-check-clause-value : goal.returns-else-check-clause-value
 returns-else-check-clause-value c =
     opened-wrong c.args.key.now c.args.nonce.now c.args.aad.now c.args.text.now c.args.tag.now
     (λ right. let differs = c.if-check.ensures.1 right in cc)
+
+pub returns-else-check-clause-unchanged : goal.returns-else-check-clause-unchanged
+returns-else-check-clause-unchanged c = λ _. refl
