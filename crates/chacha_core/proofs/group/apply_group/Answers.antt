@@ -1,4 +1,4 @@
-use Rattle.std.proofs.Common.{◌≡◌, ℕ, arith}
+use Rattle.std.proofs.Common.{◌≡◌, arith}
 use Rattle.chacha_core.proofs.group.apply_group.Goals as goal
 
 pub rounds-init : goal.rounds-init

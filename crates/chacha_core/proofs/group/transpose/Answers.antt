@@ -1,4 +1,4 @@
-use Rattle.std.proofs.Common.{◌≡◌, ◌<◌, ℕ, arith}
+use Rattle.std.proofs.Common.{arith}
 use Rattle.chacha_core.proofs.LaneLemmas.{below_eight, row_turned}
 use Rattle.chacha_core.proofs.group.transpose.Goals as goal
 

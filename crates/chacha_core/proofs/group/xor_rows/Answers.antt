@@ -1,4 +1,4 @@
-use Rattle.std.proofs.Common.{ℕ, List, [], ◌+◌, ◌*◌, ◌/◌, ◌%◌, ◌≡◌, ◌<◌, ◌++◌, arith, refl, sym, ap, ◌∙◌, length}
+use Rattle.std.proofs.Common.{ℕ, List, [], ◌+◌, ◌*◌, ◌/◌, ◌%◌, ◌≡◌, ◌<◌, ◌++◌, arith, refl, sym, ap, ◌∙◌}
 use Rattle.std.proofs.Common.{take, drop, slice_index, get_or}
 use Rattle.chacha_core.specs.ChaCha20.{word_bytes, xor_from}
 use Rattle.chacha_core.proofs.StreamLemmas.{xor_chunk, xor_done}

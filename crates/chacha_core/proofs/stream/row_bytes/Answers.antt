@@ -1,4 +1,4 @@
-use Rattle.std.proofs.Common.{ℕ, List, ◌*◌, ◌^◌, ◌≡◌, arith, sym, ap, ◌∙◌, length, take, drop, w32}
+use Rattle.std.proofs.Common.{ℕ, ◌*◌, ◌^◌, ◌≡◌, arith, sym, ap, ◌∙◌, length, take, drop, w32}
 use Rattle.std.proofs.lemmas.List.{length-drop, length-take-le}
 use Rattle.std.proofs.lemmas.Simd.{chunk-fits}
 use Rattle.std.specs.Simd.Lanes.{digits_l, number_l}
