@@ -12,7 +12,7 @@ ghost use Rattle.command_core.specs.Work.{steps_of, AreTold, AreWorked};
 use crate::folder::{Folder, FolderFault};
 use crate::line::{FileFault, FileOutcome, Line};
 use container_core::{Key, MAX_PLAIN, OpenFault};
-use crew_core::Free;
+use crew_core::{Free, MAX_WORKERS};
 use engine_core::{run_plain, run_verify};
 use ledger_core::{Failed, Sink, write_all};
 use std::alloc::Global;
@@ -20,9 +20,6 @@ use std::thread::Threads;
 
 /// What a sealed file's name ends in.
 pub const SUFFIX: &str = ".stm";
-
-/// The greatest number of workers.
-pub const MAX_WORKERS: u32 = 16;
 
 /// The greatest number of plaintext bytes of a file that can be asked for: 2^40.
 pub const MAX_BYTES: u64 = MAX_PLAIN;
@@ -86,7 +83,7 @@ fn open_file<T: Threads + Sync, F: Folder>(
     workers: u32,
 ) -> FileOutcome
     requires max_bytes { max_bytes ≤ MAX_BYTES }
-    requires workers { (0 < workers) × (workers ≤ 16) }
+    requires workers { (0 < workers) × (workers ≤ MAX_WORKERS) }
     ensures outcome { IsOfOpening result }
     ensures steps { F.steps folder.new ≡ stepped (F.steps folder.old)
         (opening_steps (record { name = name.now; outcome = result })) }
@@ -126,7 +123,7 @@ fn verify_file<T: Threads + Sync, F: Folder>(
     workers: u32,
 ) -> FileOutcome
     requires max_bytes { max_bytes ≤ MAX_BYTES }
-    requires workers { (0 < workers) × (workers ≤ 16) }
+    requires workers { (0 < workers) × (workers ≤ MAX_WORKERS) }
     ensures outcome { IsOfVerifying result }
     ensures steps { F.steps folder.new ≡ F.steps folder.old }
 {
@@ -192,7 +189,7 @@ fn work_file<T: Threads + Sync, F: Folder>(
     task: Task,
 ) -> FileOutcome
     requires max_bytes { max_bytes ≤ MAX_BYTES }
-    requires workers { (0 < workers) × (workers ≤ 16) }
+    requires workers { (0 < workers) × (workers ≤ MAX_WORKERS) }
     ensures outcome { IsOutcomeOf task result }
     ensures steps { F.steps folder.new ≡ stepped (F.steps folder.old)
         (steps_of task (record { name = name.now; outcome = result })) }
@@ -213,7 +210,7 @@ fn work_all<T: Threads + Sync, F: Folder, W: Sink>(
     task: Task,
 ) -> u8
     requires max_bytes { options.now.max_bytes ≤ MAX_BYTES }
-    requires workers { (0 < options.now.workers) × (options.now.workers ≤ 16) }
+    requires workers { (0 < options.now.workers) × (options.now.workers ≤ MAX_WORKERS) }
     ensures { AreWorked (IsOutcomeOf task) (steps_of task) (map (λ name. name.now) options.now.files.now) result
         (W.taken lines.old) (W.taken lines.new) (W.failures lines.old) (W.failures lines.new) (F.steps folder.old)
         (F.steps folder.new) }
@@ -247,7 +244,7 @@ pub fn open_all<T: Threads + Sync, F: Folder, L: Sink + Drop, E: Sink + Drop, J:
     out: &mut Outs<L, E, J>,
 ) -> u8
     requires files { 0 < length options.now.files.now }
-    requires workers { (0 < options.now.workers) × (options.now.workers ≤ 16) }
+    requires workers { (0 < options.now.workers) × (options.now.workers ≤ MAX_WORKERS) }
     requires max_bytes { options.now.max_bytes ≤ MAX_BYTES }
     ensures status { result ≤ 2 }
     ensures files { AreWorked IsOfOpening opening_steps (map (λ name. name.now) options.now.files.now) result
@@ -269,7 +266,7 @@ pub fn verify_all<T: Threads + Sync, F: Folder, L: Sink + Drop, E: Sink + Drop, 
     out: &mut Outs<L, E, J>,
 ) -> u8
     requires files { 0 < length options.now.files.now }
-    requires workers { (0 < options.now.workers) × (options.now.workers ≤ 16) }
+    requires workers { (0 < options.now.workers) × (options.now.workers ≤ MAX_WORKERS) }
     requires max_bytes { options.now.max_bytes ≤ MAX_BYTES }
     ensures status { result ≤ 2 }
     ensures files { AreWorked IsOfVerifying no_steps (map (λ name. name.now) options.now.files.now) result

@@ -9,7 +9,8 @@ pub mod folder;
 pub mod key_file;
 pub mod line;
 
-pub use crate::commands::{MAX_BYTES, MAX_WORKERS, OpenOptions, Outs, open_all, tell, verify_all};
+pub use crate::commands::{MAX_BYTES, OpenOptions, Outs, open_all, tell, verify_all};
 pub use crate::folder::{Folder, FolderFault};
 pub use crate::key_file::{KeyFault, read_key};
 pub use crate::line::{FileFault, FileOutcome, Line};
+pub use crew_core::MAX_WORKERS;

@@ -3,7 +3,7 @@ ghost use Rattle.std.specs.Prelude.{◌≡◌, ◌≢◌, ◌<◌, [], ◌∷◌
 ghost use Rattle.journal_core.specs.declared.auditing.AuditFault.TheVariants.{Read, Write};
 ghost use Rattle.journal_core.specs.declared.verdict.Verdict.{Verdict};
 ghost use Rattle.ledger_core.specs.AuditFaults.{is_read, is_write};
-ghost use Rattle.io_core.specs.Streams.{Appends, AppendsFront, IsAtEnd, Keeps, counted};
+ghost use Rattle.io_core.specs.Streams.{Appends, AppendsFront, IsAtEnd, Keeps, LacksSome, counted};
 ghost use Rattle.ledger_core.specs.Verdict.{IsVerdict, verdict_text};
 ghost use Rattle.engine_core.specs.Status.{status_of};
 
@@ -27,8 +27,11 @@ pub fn run_audit<R: Source, W: Sink>(
     ensures front_written { IsErrOf result Write → (verdict : Verdict)
         × IfSome (R.left reader.old) (λ input. IsVerdict input verdict)
         × AppendsFront (W.taken writer.old) (W.taken writer.new) (verdict_text verdict ++ 10 ∷ []) }
+    ensures not_whole { IsErrOf result Write → IfSome (R.left reader.old) (λ input. (verdict : Verdict)
+        → IsVerdict input verdict
+        → LacksSome (W.taken writer.old) (W.taken writer.new) (verdict_text verdict ++ 10 ∷ [])) }
     ensures undisturbed { result ≢ Err Read → R.failures reader.new ≡ R.failures reader.old }
-    ensures reads { IfSome (R.left reader.old) (λ input. length input < 18446744073709551615
+    ensures reads { IfSome (R.left reader.old) (λ input. length input < u64.MAX
         → R.failures reader.new ≡ counted (is_read result) (R.failures reader.old)) }
     ensures writes { W.failures writer.new ≡ counted (is_write result) (W.failures writer.old) }
 {

@@ -13,7 +13,7 @@ ghost use Rattle.engine_core.specs.Engine.{OpensTo};
 
 use crate::reading::{read_container, read_plain};
 use container_core::{Key, MAX_PLAIN, OpenFault, SealFault};
-use crew_core::{Gate, open_whole, seal_whole};
+use crew_core::{Gate, MAX_WORKERS, open_whole, seal_whole};
 use ledger_core::{Failed, Grant, Sink, Source, Spent, write_all};
 use std::alloc::Global;
 use std::thread::Threads;
@@ -34,7 +34,7 @@ pub fn run_seal<T: Threads + Sync, R: Source, W: Sink, G: Gate + Sync>(
     gate: &G,
 ) -> (Result<u64, SealFault>, Spent)
     requires max_bytes { max_bytes ≤ MAX_PLAIN }
-    requires workers { (0 < workers) × (workers ≤ 16) }
+    requires workers { (0 < workers) × (workers ≤ MAX_WORKERS) }
     ensures reads { HasReadPlain max_bytes (R.left reader.old) (R.left reader.new)
         (R.failures reader.old) (R.failures reader.new) result.0 }
     ensures writes { HasWrittenContainer key.now (prefix_of grant.device grant.number) max_bytes (R.left reader.old)
@@ -71,7 +71,7 @@ pub fn run_plain<T: Threads + Sync, R: Source, G: Gate + Sync>(
     gate: &G,
 ) -> Result<Vec<u8>, OpenFault>
     requires max_bytes { max_bytes ≤ MAX_PLAIN }
-    requires workers { (0 < workers) × (workers ≤ 16) }
+    requires workers { (0 < workers) × (workers ≤ MAX_WORKERS) }
     ensures plaintext { IfOk result (λ out.
         IfSome (R.left reader.old) (λ input. opening key.now max_bytes input ≡ Ok out.items)) }
     ensures no_write { result ≢ Err OpenFault.Write }
@@ -99,7 +99,7 @@ pub fn run_open<T: Threads + Sync, R: Source, W: Sink, G: Gate + Sync>(
     gate: &G,
 ) -> Result<u64, OpenFault>
     requires max_bytes { max_bytes ≤ MAX_PLAIN }
-    requires workers { (0 < workers) × (workers ≤ 16) }
+    requires workers { (0 < workers) × (workers ≤ MAX_WORKERS) }
     ensures reads { HasReadContainer key.now max_bytes (R.left reader.old) (R.left reader.new)
         (R.failures reader.old) (R.failures reader.new) result }
     ensures writes { HasWrittenPlain key.now max_bytes (R.left reader.old)
@@ -123,7 +123,7 @@ pub fn run_verify<T: Threads + Sync, R: Source, G: Gate + Sync>(
     gate: &G,
 ) -> Result<u64, OpenFault>
     requires max_bytes { max_bytes ≤ MAX_PLAIN }
-    requires workers { (0 < workers) × (workers ≤ 16) }
+    requires workers { (0 < workers) × (workers ≤ MAX_WORKERS) }
     ensures length { IfOk result (λ n. IfSome (R.left reader.old) (λ input. OpensTo key.now max_bytes input n)) }
     ensures no_write { result ≢ Err OpenFault.Write }
     ensures reads { HasReadContainer key.now max_bytes (R.left reader.old) (R.left reader.new)

@@ -2,7 +2,7 @@
 ghost use Rattle.std.specs.Prelude.{◌<◌, ◌≤◌};
 
 use container_core::{Key, OpenFault, SealFault, seal};
-use crew_core::Free;
+use crew_core::{Free, MAX_WORKERS};
 use crew_tests::{COUNTING, flip, grant_of, pattern};
 use engine_core::{run_open, run_plain, run_seal, run_verify};
 use io_memory::{FromMemory, Schedule, ToMemory};
@@ -28,7 +28,7 @@ fn seal_from<R: Threads + Sync>(
     workers: u32,
 ) -> Result<(Result<u64, SealFault>, Way), Fail>
     requires max_bytes { max_bytes ≤ 1099511627776 }
-    requires workers { (0 < workers) × (workers ≤ 16) }
+    requires workers { (0 < workers) × (workers ≤ MAX_WORKERS) }
 {
     let key = Key::new(COUNTING);
     let grant = grant_of(alloc, number).ok_or("no grant")?;
@@ -58,7 +58,7 @@ fn open_from<R: Threads + Sync>(
     workers: u32,
 ) -> Result<u64, OpenFault>
     requires max_bytes { max_bytes ≤ 1099511627776 }
-    requires workers { (0 < workers) × (workers ≤ 16) }
+    requires workers { (0 < workers) × (workers ≤ MAX_WORKERS) }
 {
     let key = Key::new(COUNTING);
     run_open(
@@ -81,7 +81,7 @@ fn verify_from<R: Threads + Sync>(
     workers: u32,
 ) -> Result<u64, OpenFault>
     requires max_bytes { max_bytes ≤ 1099511627776 }
-    requires workers { (0 < workers) × (workers ≤ 16) }
+    requires workers { (0 < workers) × (workers ≤ MAX_WORKERS) }
 {
     let key = Key::new(COUNTING);
     run_verify(rt, alloc, &key, &mut reader, max_bytes, workers, &Free)

@@ -3,7 +3,7 @@
 ghost use Rattle.std.specs.Prelude.{◌<◌, ◌≤◌};
 
 use container_core::{Key, seal};
-use crew_core::Gate;
+use crew_core::{Gate, MAX_WORKERS};
 use crew_tests::{COUNTING, Meeting, Recorder, grant_of, pattern, zeros};
 use engine_core::{run_open, run_plain, run_seal, run_verify};
 use io_memory::{FromMemory, Schedule, ToMemory};
@@ -41,7 +41,7 @@ fn run<R: Threads + Sync, G: Gate + Sync>(
     workers: u32,
     gate: &G,
 ) -> Result<(), Fail>
-    requires workers { (0 < workers) × (workers ≤ 16) }
+    requires workers { (0 < workers) × (workers ≤ MAX_WORKERS) }
 {
     let key = Key::new(COUNTING);
     let mut writer = ToMemory::new(alloc, 64, MOST, Schedule::Never)?;

@@ -20,15 +20,15 @@ use crate::meeting::{adopt, learn, meet_all, show};
 use crate::note::Note;
 use crate::seat::{Seat, issue_in, look_in, settle_in, tally_of_word};
 use crate::steps::{deal_step, open_word};
-use crate::table::{Opening, Own, Word};
-use journal_core::{Journal, MAX_SEATS, Range, Tally};
+use crate::table::{Own, Word};
+use journal_core::{Journal, MAX_SEATS, Range, Tally, Terms};
 use std::alloc::{AllocError, Global};
 use std::marker::Model;
 
 /// A ledger that callers share.
 #[derive(Drop)]
 pub struct Ledger {
-    pub(crate) opening: Opening,
+    pub(crate) opening: Terms,
     pub(crate) word: Word,
     pub(crate) alloc: Global,
 }
@@ -62,7 +62,7 @@ impl Ledger {
             return Err(OpenLedgerFault::BadSeats);
         }
         let _lawful = range.size();
-        match deal_out(alloc, &Opening::new(range, seats)) {
+        match deal_out(alloc, &Terms { range, seats }) {
             Ok(made) => Ok(made),
             Err(_) => Err(OpenLedgerFault::OutOfMemory),
         }
@@ -90,7 +90,7 @@ impl Ledger {
         let number = issue_in(&self.word, &mut seat.fields);
         match number {
             Some(number) => Ok(Grant::of(
-                seat.fields.opening.range().device(),
+                seat.fields.opening.range.device(),
                 number,
                 &seat.fields.own,
             )),
@@ -119,7 +119,8 @@ impl Ledger {
         Ok(())
     }
 
-    /// Counts the operations of all seats so far. It waits for nobody.
+    /// Counts the operations of all seats that this seat now knows of: all that it knew of before, and what the word
+    /// tells, which is read anew. It waits for nobody.
     pub fn tally(&self, seat: &mut Seat) -> Tally
         requires ours { seat.old.ledger ≡ self.now.ledger }
         ensures sees { Sees seat.old seat.new }
@@ -199,7 +200,7 @@ impl Ledger {
         match room(self.alloc, operations_of(seats.as_slice())) {
             Ok(mut entries) => {
                 put_together(&self, &mut entries, seats.as_mut_slice());
-                Ok(Journal::new(self.opening.range(), self.opening.seats(), entries))
+                Ok(Journal::new(self.opening.range, self.opening.seats, entries))
             }
             Err(error) => Err((error, self, seats)),
         }
@@ -207,13 +208,13 @@ impl Ledger {
 }
 
 // The word of a new ledger, and its seats.
-fn deal_out(alloc: Global, opening: &Opening) -> Result<(Ledger, Vec<Seat>), AllocError>
+fn deal_out(alloc: Global, opening: &Terms) -> Result<(Ledger, Vec<Seat>), AllocError>
     requires { IsLawful opening.now }
     ensures terms { IfOk result (λ r. r.0.terms ≡ opening.now) }
     ensures seats { IfOk result (λ r. r.1.items ≡ fresh_seats r.0.ledger opening.now opening.now.seats) }
 {
-    let last = opening.seats() - 1;
-    let mut seats = Vec::with_capacity(alloc, opening.seats() as usize)?;
+    let last = opening.seats - 1;
+    let mut seats = Vec::with_capacity(alloc, opening.seats as usize)?;
     let (word, mut token) = open_word(alloc, opening)?;
     for number in 0..last {
         let own = new_own(alloc, opening)?;
@@ -231,11 +232,11 @@ fn deal_out(alloc: Global, opening: &Opening) -> Result<(Ledger, Vec<Seat>), All
 }
 
 // What a seat keeps before its first operation.
-fn new_own(alloc: Global, opening: &Opening) -> Result<Own, AllocError>
+fn new_own(alloc: Global, opening: &Terms) -> Result<Own, AllocError>
     ensures empty { IfOk result (λ own. (own.closed ≡ false) × (own.log.items ≡ [])) }
     ensures held { IfOk result (λ own. own.held.items ≡ replicate opening.now.range.size false) }
 {
-    let held = Vec::from_elem(alloc, false, opening.range().size() as usize)?;
+    let held = Vec::from_elem(alloc, false, opening.range.size() as usize)?;
     Ok(Own {
         closed: false,
         log: Vec::new(alloc),

@@ -16,8 +16,8 @@ ghost use Rattle.ledger_core.specs.Shared.{Holds, IsClosedSeat, Knows, fresh_sea
 use crate::counts::counts_in;
 use crate::grant::Spent;
 use crate::steps::{issue_step, look_step, settle_step};
-use crate::table::{Fields, Opening, Own, Record, Token, Word};
-use journal_core::{Entry, Event, Tally};
+use crate::table::{Fields, Own, Record, Token, Word};
+use journal_core::{Entry, Event, Tally, Terms};
 use std::marker::Model;
 
 /// A seat of a shared ledger.
@@ -40,7 +40,7 @@ impl Model for Seat {
 
 impl Seat {
     // A seat that has done nothing.
-    pub(crate) fn new(opening: Opening, number: u32, own: Own, token: Token) -> Seat
+    pub(crate) fn new(opening: Terms, number: u32, own: Own, token: Token) -> Seat
         requires terms { IsLawful opening × (number < opening.seats) }
         requires own { (own.closed ≡ false) × (own.log.items ≡ []) × (length own.held.items ≡ opening.range.size) }
         requires none_held { (k : ℕ) → slice_index_or own.held.items k false ≡ false }
@@ -77,7 +77,7 @@ impl Seat {
     pub fn holds(&self, spent: &Spent) -> bool
         ensures { IsTrue result ↔ Holds self.now spent.now }
     {
-        spent.device() == self.fields.opening.range().device()
+        spent.device() == self.fields.opening.range.device()
             && is_marked(&self.fields.opening, &self.fields.own, spent.number())
     }
 
@@ -91,11 +91,11 @@ impl Seat {
 }
 
 // Whether the number is of the range, and held.
-fn is_marked(opening: &Opening, own: &Own, number: u32) -> bool
+fn is_marked(opening: &Terms, own: &Own, number: u32) -> bool
     requires { length own.now.held.items ≡ opening.now.range.size }
     ensures { IsTrue result ↔ IsMarked opening.now own.now.held.items number }
 {
-    let lo = opening.range().lo();
+    let lo = opening.range.lo();
     if number < lo {
         return false;
     }
@@ -115,14 +115,14 @@ fn place(found: u64) -> u32
 }
 
 // The number that is granted where this word was found, or none.
-fn reply(opening: &Opening, found: u64) -> Option<u32>
+fn reply(opening: &Terms, found: u64) -> Option<u32>
     requires numbers { opening.now.range.lo + opening.now.range.size ≤ 2 ^ 32 }
     requires word { found < 2 ^ 60 }
     ensures { event_of result ≡ issue_reply opening.now (issues_of found) }
 {
     let issues = counts_in(found).issues;
-    if issues < opening.range().size() {
-        Some(opening.range().lo() + issues)
+    if issues < opening.range.size() {
+        Some(opening.range.lo() + issues)
     } else {
         None
     }
@@ -174,7 +174,7 @@ pub(crate) fn issue_in(word: &Word, fields: &mut Fields) -> Option<u32>
     let place = place(found);
     keep(
         &mut fields.own,
-        fields.opening.range().lo(),
+        fields.opening.range.lo(),
         Record { entry, place },
     );
     granted
@@ -201,7 +201,7 @@ pub(crate) fn settle_in(word: &Word, fields: &mut Fields, spent: &Spent)
     let place = place(found);
     keep(
         &mut fields.own,
-        fields.opening.range().lo(),
+        fields.opening.range.lo(),
         Record { entry, place },
     );
 }
@@ -222,14 +222,14 @@ pub(crate) fn look_in(word: &Word, fields: &mut Fields) -> u64
 }
 
 // The counts that a word tells. Of the issues, as many were granted as the range has numbers.
-pub(crate) fn tally_of_word(opening: &Opening, found: u64) -> Tally
+pub(crate) fn tally_of_word(opening: &Terms, found: u64) -> Tally
     requires { found < 2 ^ 60 }
     ensures issues { result.granted + result.refused ≡ issues_of found }
     ensures granted { result.granted ≡ min (issues_of found) opening.now.range.size }
     ensures settled { (result.sealed ≡ sealed_of found) × (result.void ≡ void_of found) }
 {
     let counts = counts_in(found);
-    let granted = counts.issues.min(opening.range().size());
+    let granted = counts.issues.min(opening.range.size());
     Tally {
         granted,
         refused: counts.issues - granted,

@@ -6,16 +6,14 @@ ghost use Rattle.ledger_core.specs.Rule.{newcomer, MayStep, IsHeld, Adopts, Issu
 ghost use Rattle.ledger_core.specs.Rule.{first_seat, other_seats};
 
 use crate::counts::{ISSUED, SEALED, VOID};
-use crate::table::{
-    Adopt, Deal, Hear, Issue, Look, Naming, Opening, Seal, Token, Waste, Word, Write,
-};
+use crate::table::{Adopt, Deal, Hear, Issue, Look, Naming, Seal, Token, Waste, Word, Write};
 use atomic_table::Table;
-use journal_core::Way;
+use journal_core::{Terms, Way};
 use std::alloc::{AllocError, Global};
 use std::marker::Brand;
 
 // A word with all counts at 0, and a token that stands for all seats.
-pub fn open_word(alloc: Global, opening: &Opening) -> Result<(Word, Token), AllocError>
+pub fn open_word(alloc: Global, opening: &Terms) -> Result<(Word, Token), AllocError>
     requires { IsLawful opening.now }
     ensures { IfOk result (λ t. (t.0.shared.table_id.words ≡ 1) × (t.1.table_id ≡ t.0.shared.table_id)
         × (t.1.me ≡ (newcomer opening.now, []))) }

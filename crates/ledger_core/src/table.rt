@@ -3,51 +3,12 @@
 //! The history stands in no memory. The rule says that there is one, that it is legal, that the word has its three
 //! counts, and that each seat has seen a beginning of it in which the seat's own operations are all that there is of
 //! that seat.
-ghost use Rattle.std.specs.Prelude.{◌≡◌};
-ghost use Rattle.journal_core.specs.Journal.{terms_of};
 
 use atomic_table::{Join, Play, Seat, Split, Table, TableRule};
-use journal_core::{Entry, Range};
+use journal_core::{Entry, Terms};
 use std::alloc::Global;
 use std::collections::LinkedList;
 use std::marker::{Brand, Model, PhantomData};
-
-/// What a ledger is opened with.
-#[derive(Clone, Copy)]
-pub struct Opening {
-    range: Range,
-    seats: u32,
-}
-
-impl Model for Opening {
-    ghost use Rattle.journal_core.specs.declared.terms.Terms.{Terms};
-
-    ghost Value = { Terms };
-
-    ghost view = { λ o. record { range = o.range; seats = o.seats } };
-
-    ghost inverse = { λ t. record { range = t.range; seats = t.seats } };
-}
-
-impl Opening {
-    pub fn new(range: Range, seats: u32) -> Opening
-        ensures { result ≡ terms_of range seats }
-    {
-        Opening { range, seats }
-    }
-
-    pub fn range(&self) -> Range
-        ensures { result ≡ self.now.range }
-    {
-        self.range
-    }
-
-    pub fn seats(&self) -> u32
-        ensures { result ≡ self.now.seats }
-    {
-        self.seats
-    }
-}
 
 /// A line of a seat's own log: its entry, and the place in the history where that stands.
 #[derive(Clone, Copy)]
@@ -70,7 +31,7 @@ pub struct Own {
 /// The fields of a seat. Between a step and its record they are no seat, so they have no invariant of their own.
 #[derive(Drop)]
 pub struct Fields {
-    pub opening: Opening,
+    pub opening: Terms,
     /// The seat's number.
     pub number: u32,
     pub own: Own,
@@ -80,7 +41,7 @@ pub struct Fields {
 /// What a token knows. It stands for `width` seats from `seat` on: one for a seat of a ledger, none for a note.
 /// No value of it is made.
 pub struct View {
-    pub terms: Opening,
+    pub terms: Terms,
     pub seat: u32,
     pub width: u32,
     pub seen: LinkedList<Entry>,
@@ -90,7 +51,7 @@ pub struct View {
 
 pub struct OneHistory;
 
-impl TableRule<(), View, Opening> for OneHistory {
+impl TableRule<(), View, Terms> for OneHistory {
     ghost use Rattle.ledger_core.specs.Rule.{IsKept, newcomer};
 
     ghost holds = { IsKept };
@@ -195,6 +156,6 @@ impl Join<View> for Hear {
     ghost spent = { nobody };
 }
 
-pub type Word = Table<(), View, Opening, OneHistory, Global>;
+pub type Word = Table<(), View, Terms, OneHistory, Global>;
 
 pub type Token = Seat<(), View>;

@@ -3,7 +3,7 @@ use Rattle.std.specs.Prelude.{⊤, ◌≡◌, ℕ, ◌+◌, ◌≤◌, List, [],
 use Rattle.std.specs.List.{AllByRecursion}
 use Rattle.journal_core.specs.declared.entry.Event.TheVariants.{Granted}
 use Rattle.journal_core.specs.declared.entry.Entry.{Entry}
-use Rattle.journal_core.specs.Range.{range_of, prefix_of}
+use Rattle.journal_core.specs.Range.{most_device, number_limit, range_of, prefix_of}
 use Rattle.journal_core.specs.History.{Legal, entry}
 use Rattle.ranges_core.specs.Reservations.{TakenRange, Adjacent, next_of}
 use Rattle.aead_core.specs.Aead.{aead}
@@ -47,9 +47,9 @@ IsRun device (Acknowledged r seats history) = Legal
 
 -- a life: the ranges of all runs are adjacent, the first begins at 0 and the last ends at 2 ^ 32 at most
 pub record IsLife (device : ℕ) (runs : List Run) : Type 0 where
-  pub three_bytes : device ≤ 16777215
+  pub three_bytes : device ≤ most_device
   pub adjacent : Adjacent 0 (reserved runs)
-  pub end : next_of (reserved runs) ≤ 4294967296
+  pub end : next_of (reserved runs) ≤ number_limit
   pub legal : AllByRecursion (IsRun device) runs
 
 -- the lives of one key: a life for each device

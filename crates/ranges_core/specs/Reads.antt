@@ -3,7 +3,7 @@ use Rattle.std.specs.Prelude.{Bool, Option, Some, None, is_some, length, not, na
 use Rattle.sqlite.specs.declared.types.Value.{Value}
 use Rattle.sqlite.specs.declared.types.Value.TheVariants.{Int, Blob}
 use Rattle.sqlite.specs.Order.{Row, column}
-use Rattle.ranges_core.specs.Tables.{greatest_device, number_count}
+use Rattle.journal_core.specs.Range.{most_device, number_limit}
 
 -- ---- the texts
 
@@ -73,10 +73,10 @@ is_rowid (Int n) = true
 is_rowid _ = false
 
 abbrev pub is_owner : Row → Bool
-is_owner row = is_key (column row 1) && is_within greatest_device (column row 2)
+is_owner row = is_key (column row 1) && is_within most_device (column row 2)
 
 abbrev pub is_mark_row : Row → Bool
-is_mark_row row = is_rowid (column row 0) && (is_owner row && is_within number_count (column row 3))
+is_mark_row row = is_rowid (column row 0) && (is_owner row && is_within number_limit (column row 3))
 
 -- two whole numbers from 0
 abbrev pub is_range_row : Row → Bool

@@ -7,7 +7,8 @@ use Rattle.sqlite.specs.declared.types.Value.TheVariants.{Int, Blob}
 use Rattle.sqlite.specs.Order.{Row, column}
 use Rattle.sqlite.specs.Tree.{IsAscending}
 use Rattle.sqlite.specs.Effect.{Database, IsDatabase}
-use Rattle.ranges_core.specs.Tables.{IsLedger, greatest_device, no_schema, number_count}
+use Rattle.journal_core.specs.Range.{most_device, number_limit}
+use Rattle.ranges_core.specs.Tables.{IsLedger, no_schema}
 use Rattle.ranges_core.specs.Reads.{is_for}
 
 -- a range as `taken` has it: the numbers lo to lo + size - 1 of the key id and device of its row
@@ -55,7 +56,7 @@ taken_row id key device lo size = Int id ∷ Blob key ∷ Int (pos device) ∷ I
 -- a key id is a blob of 32 bytes, and the number of a device has 24 bits
 pub record IsOwner (key : List ℕ) (device : ℕ) : Type 0 where
   pub bytes : length key ≡ 32
-  pub bits : device ≤ greatest_device
+  pub bits : device ≤ most_device
 
 -- a row of `mark`
 pub record IsMarkRow (row : Row) : Type 0 where
@@ -64,7 +65,7 @@ pub record IsMarkRow (row : Row) : Type 0 where
   pub device : ℕ
   pub next : ℕ
   pub owner : IsOwner key device
-  pub bound : next ≤ number_count
+  pub bound : next ≤ number_limit
   pub is_id : column row 0 ≡ Int id
   pub is_key : column row 1 ≡ Blob key
   pub is_device : column row 2 ≡ Int (pos device)

@@ -1,6 +1,7 @@
 -- The two tables of a ledger file.
 use Rattle.std.specs.Prelude.{◌≡◌, Bool, true, false, ◌&&◌, [], ◌∷◌, Option, None, Some, is_some, slice_get, option_and_then, codes, List, ℕ, pos}
 use Rattle.std.specs.List.{list_all}
+use Rattle.journal_core.specs.Range.{number_limit}
 use Rattle.sqlite.specs.declared.types.Value.TheVariants.{Null, Int}
 use Rattle.sqlite.specs.Collation.TheVariants.{Binary}
 use Rattle.sqlite.specs.Table.{Table}
@@ -15,16 +16,6 @@ use Rattle.sqlite_value.specs.Keys.{plain}
 use Rattle.sqlite_sql.specs.declared.ops.BinaryOp.TheVariants.{Compare, And, Arith}
 use Rattle.sqlite_sql.specs.declared.ops.ArithOp.TheVariants.{Add}
 use Rattle.sqlite_sql.specs.declared.ops.CompareOp.TheVariants.{Ge, Le}
-
--- ---- the counts
-
--- the file numbers of one key and device: 0 to 2^32 - 1
-abbrev pub number_count : ℕ
-number_count = 4294967296
-
--- the greatest number of a device, which has 24 bits
-abbrev pub greatest_device : ℕ
-greatest_device = 16777215
 
 -- ---- the statements that make them
 
@@ -56,12 +47,12 @@ abbrev pub at_most : Term → ℕ → Term
 at_most t n = op2 (Compare Le Binary) t (lit (Int (pos n)))
 
 abbrev pub mark_checks : List Term
-mark_checks = op2 And (at_least (col 1 3) 0) (at_most (col 1 3) number_count) ∷ []
+mark_checks = op2 And (at_least (col 1 3) 0) (at_most (col 1 3) number_limit) ∷ []
 
 abbrev pub taken_checks : List Term
 taken_checks =
     op2 And (op2 And (at_least (col 1 3) 0) (at_least (col 1 4) 1))
-    (at_most (op2 (Arith Add) (col 1 3) (col 1 4)) number_count)
+    (at_most (op2 (Arith Add) (col 1 3) (col 1 4)) number_limit)
     ∷ []
 
 -- a table of columns that may not be NULL, with a primary key over the places

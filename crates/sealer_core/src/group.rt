@@ -20,7 +20,7 @@ use crate::prepare::{Prepared, prepare_group};
 use crate::sealing::SealOptions;
 use command_core::{FileFault, FileOutcome, Folder, MAX_BYTES, tell};
 use container_core::{Key, SealFault};
-use crew_core::{Free, Outcome, seal_batch};
+use crew_core::{Free, MAX_LANES, Outcome, seal_batch};
 use ledger_core::{Failed, Ledger, Seat, Sink, Spent, write_all};
 use std::alloc::Global;
 use std::collections::VecDeque;
@@ -224,7 +224,7 @@ fn seal_jobs<T: Threads + Sync>(
 ) -> VecDeque<Outcome>
     requires all { AreAllSeats ledger.now seats.old }
     requires few { length jobs.now ≤ length seats.old }
-    requires lanes { length seats.old ≤ 16 }
+    requires lanes { length seats.old ≤ MAX_LANES }
     requires short { All (λ job. length job.items ≤ MAX_BYTES) jobs.now }
     ensures all { AreAllSeats ledger.now seats.new }
     ensures count { length seats.new ≡ length seats.old }
@@ -277,7 +277,7 @@ fn seal_group<T: Threads + Sync, F: Folder, L: Sink>(
     status: u8,
 ) -> u8
     requires all { AreAllSeats ledger.now seats.old }
-    requires lanes { length seats.old ≤ 16 }
+    requires lanes { length seats.old ≤ MAX_LANES }
     requires few { length names.now ≤ length seats.old }
     requires max_bytes { max_bytes ≤ MAX_BYTES }
     ensures all { AreAllSeats ledger.now seats.new }
@@ -306,7 +306,7 @@ pub(crate) fn seal_groups<T: Threads + Sync, F: Folder, L: Sink>(
     lines: &mut L,
 ) -> u8
     requires all { AreAllSeats ledger.now seats.old }
-    requires lanes { (0 < length seats.old) × (length seats.old ≤ 16) }
+    requires lanes { (0 < length seats.old) × (length seats.old ≤ MAX_LANES) }
     requires fresh { operations_of seats.old ≡ [] }
     requires max_bytes { options.now.max_bytes ≤ MAX_BYTES }
     ensures all { AreAllSeats ledger.now seats.new }

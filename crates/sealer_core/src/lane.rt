@@ -15,7 +15,7 @@ ghost use Rattle.sealer_core.specs.Sealing.{line_of, creations_of, removals_of};
 use crate::sealing::SealOptions;
 use command_core::{FileFault, FileOutcome, Folder, FolderFault, MAX_BYTES, tell};
 use container_core::{Key, SealFault};
-use crew_core::Free;
+use crew_core::{Free, MAX_WORKERS};
 use engine_core::run_seal;
 use ledger_core::{Grant, IssueFault, Ledger, Seat, Sink, Source, Spent};
 use std::alloc::Global;
@@ -70,7 +70,7 @@ fn seal_next<T: Threads + Sync, R: Source, W: Sink>(
 ) -> FileOutcome
     requires ours { seat.old.ledger ≡ ledger.now.ledger }
     requires max_bytes { max_bytes ≤ MAX_BYTES }
-    requires workers { (0 < workers) × (workers ≤ 16) }
+    requires workers { (0 < workers) × (workers ≤ MAX_WORKERS) }
     ensures outcome { IsOfNumber result }
     ensures sealed { IfSealed result (λ number bytes. IfSome (R.left reader.old) (λ input. (bytes ≡ length input)
         × Appends (W.taken writer.old) (W.taken writer.new)
@@ -109,7 +109,7 @@ fn seal_file<T: Threads + Sync, F: Folder>(
 ) -> FileOutcome
     requires ours { seat.old.ledger ≡ ledger.now.ledger }
     requires max_bytes { max_bytes ≤ MAX_BYTES }
-    requires workers { (0 < workers) × (workers ≤ 16) }
+    requires workers { (0 < workers) × (workers ≤ MAX_WORKERS) }
     ensures outcome { IsOfSealing result }
     ensures steps { F.steps folder.new ≡ stepped (F.steps folder.old)
         (creations_of (line_of name.now result) ++ removals_of (line_of name.now result)) }
@@ -159,7 +159,7 @@ pub(crate) fn seal_one_lane<T: Threads + Sync, F: Folder, W: Sink>(
     requires ours { seat.old.ledger ≡ ledger.now.ledger }
     requires fresh { seat.old.mine ≡ [] }
     requires max_bytes { options.now.max_bytes ≤ MAX_BYTES }
-    requires workers { (0 < options.now.workers) × (options.now.workers ≤ 16) }
+    requires workers { (0 < options.now.workers) × (options.now.workers ≤ MAX_WORKERS) }
     ensures same { IsSameSeat seat.old seat.new }
     ensures sealed { AreSealed 1 (map (λ name. name.now) options.now.files.now) seat.new.mine result
         (W.taken lines.old) (W.taken lines.new) (W.failures lines.old) (W.failures lines.new) (F.steps folder.old)

@@ -11,11 +11,12 @@ mod prepare;
 pub mod sealing;
 mod trouble;
 
-pub use crate::sealing::{MAX_LANES, SealOptions, seal_all};
+pub use crate::sealing::{SealOptions, seal_all};
 pub use command_core::{
-    FileFault, FileOutcome, Folder, FolderFault, KeyFault, Line, MAX_BYTES, MAX_WORKERS,
-    OpenOptions, Outs, open_all, read_key, verify_all,
+    FileFault, FileOutcome, Folder, FolderFault, KeyFault, Line, MAX_BYTES, OpenOptions, Outs,
+    open_all, read_key, verify_all,
 };
+pub use crew_core::{MAX_LANES, MAX_WORKERS};
 pub use engine_core::{
     open_one, run_audit, run_open, run_plain, run_seal, run_verify, seal_one, verify_one,
 };

@@ -22,14 +22,12 @@ use crate::lane::seal_one_lane;
 use crate::trouble::{RunFault, complain};
 use command_core::{Folder, MAX_BYTES, Outs};
 use container_core::Key;
+use crew_core::{MAX_LANES, MAX_WORKERS};
 use ledger_core::{Device, Ledger, Range, Seat, Sink};
 use reserve_core::{Keeper, ReserveFault};
 use sqlite::Alter;
 use std::alloc::Global;
 use std::thread::Threads;
-
-/// The greatest number of lanes.
-pub const MAX_LANES: u32 = 16;
 
 /// The exit status where no file was touched, or the journal couldn't be written whole.
 const TROUBLE: u8 = 2;
@@ -110,10 +108,10 @@ fn seal_files<T: Threads + Sync, F: Folder, W: Sink>(
     lines: &mut W,
 ) -> u8
     requires all { AreAllSeats ledger.now seats.old }
-    requires lanes { (0 < options.now.lanes) × (options.now.lanes ≤ 16) × (ledger.now.terms.seats ≡ options.now.lanes) }
+    requires lanes { (0 < options.now.lanes) × (options.now.lanes ≤ MAX_LANES) × (ledger.now.terms.seats ≡ options.now.lanes) }
     requires fresh { seats.old ≡ fresh_seats ledger.now.ledger ledger.now.terms options.now.lanes }
     requires max_bytes { options.now.max_bytes ≤ MAX_BYTES }
-    requires workers { (0 < options.now.workers) × (options.now.workers ≤ 16) }
+    requires workers { (0 < options.now.workers) × (options.now.workers ≤ MAX_WORKERS) }
     ensures all { AreAllSeats ledger.now seats.new }
     ensures sealed { AreSealed ledger.now.terms.seats (map (λ name. name.now) options.now.files.now)
         (operations_of seats.new) result
@@ -141,10 +139,10 @@ fn work_ledger<T: Threads + Sync, F: Folder, W: Sink, J: Sink>(
     journal: &mut Option<J>,
 ) -> (u8, Result<(), RunFault>)
     requires all { AreAllSeats ledger seats.items }
-    requires lanes { (0 < options.now.lanes) × (options.now.lanes ≤ 16) × (ledger.terms.seats ≡ options.now.lanes) }
+    requires lanes { (0 < options.now.lanes) × (options.now.lanes ≤ MAX_LANES) × (ledger.terms.seats ≡ options.now.lanes) }
     requires fresh { seats.items ≡ fresh_seats ledger.ledger ledger.terms options.now.lanes }
     requires max_bytes { options.now.max_bytes ≤ MAX_BYTES }
-    requires workers { (0 < options.now.workers) × (options.now.workers ≤ 16) }
+    requires workers { (0 < options.now.workers) × (options.now.workers ≤ MAX_WORKERS) }
     ensures { (history : List Entry)
         × HasSealed (map (λ name. name.now) options.now.files.now) ledger.terms history result.0
         (W.taken lines.old) (W.taken lines.new) (W.failures lines.old) (W.failures lines.new) (F.steps folder.old)
@@ -190,8 +188,8 @@ pub fn seal_all<
     out: &mut Outs<L, E, J>,
 ) -> u8
     requires files { 0 < length options.now.files.now }
-    requires workers { (0 < options.now.workers) × (options.now.workers ≤ 16) }
-    requires lanes { (0 < options.now.lanes) × (options.now.lanes ≤ 16) }
+    requires workers { (0 < options.now.workers) × (options.now.workers ≤ MAX_WORKERS) }
+    requires lanes { (0 < options.now.lanes) × (options.now.lanes ≤ MAX_LANES) }
     requires max_bytes { options.now.max_bytes ≤ MAX_BYTES }
     ensures status { result ≤ 2 }
     // No file was touched; or the files were sealed over a range that was reserved, with one legal history, which the

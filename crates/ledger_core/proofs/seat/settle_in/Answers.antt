@@ -1,6 +1,5 @@
 use Rattle.std.proofs.Common.{ap, ◌∙◌, arith}
 use Rattle.journal_core.specs.declared.entry.Event.TheVariants.{Settled}
-use Rattle.journal_core.specs.Range.{Numbers}
 use Rattle.ledger_core.specs.Logs.{held_after}
 use Rattle.ledger_core.proofs.Seats.{seat_settles, found_small, held_inside}
 use Rattle.ledger_core.proofs.seat.settle_in.Goals as goal
@@ -11,7 +10,7 @@ place-place-requires c = let a = c.settle_step-found.ensures.step in found_small
 pub keep-requires-clause-mark : goal.keep-requires-clause-mark
 keep-requires-clause-mark c =
     let inside = held_inside _ _ _ _ _ _ _ c.requires.seat c.requires.held in
-    let lo = c.lo.ensures ∙ ap (λ (r : Numbers). r.lo) c.range.ensures in
+    let lo = c.lo.ensures in
     let number = c.number-settled.ensures in
     let all = c.requires.seat.all_held in
     let least = inside.0 in
@@ -22,6 +21,6 @@ pub returns-clause-seat : goal.returns-clause-seat
 returns-clause-seat c =
     let s = c.settle_step-found.ensures in
     let k = c.keep.ensures in
-    let lo = c.lo.ensures ∙ ap (λ (r : Numbers). r.lo) c.range.ensures in
+    let lo = c.lo.ensures in
     seat_settles _ _ c.number-settled.result c.way-way.result _ _ _ _ _ _ _ _ _ _ c.requires.seat s.step s.table.1 c.place-place.ensures
     k.closed k.log (k.held ∙ ap (λ z. held_after z c.args.fields.now.own.held.items (Settled c.number-settled.result c.way-way.result)) lo)

@@ -1,0 +1,37 @@
+use Rattle.std.proofs.Common.{◌≡◌, Bool, true, false, Ok, Err, List, map, is_ok, inr, refl, ap, subst}
+use Rattle.journal_core.specs.declared.entry.Entry.{Entry}
+use Rattle.journal_core.specs.declared.terms.Terms.{Terms}
+use Rattle.journal_core.specs.Journal.{terms_of}
+use Rattle.journal_core.specs.Text.{journal_text}
+use Rattle.sealer_core.specs.Sealing.{HasSealed, IsWritten}
+use Rattle.sealer_core.proofs.sealing.seal_all.Goals as goal
+
+pub returns-in-Ok-ended-clause-run : goal.returns-in-Ok-ended-clause-run
+returns-in-Ok-ended-clause-run g c =
+    let ledger = c.in-Ok.opened.0 in
+    let range = ledger.terms.range in
+    let told = c.work_ledger-told.result.0 in
+    let (history, sealed, written) = c.work_ledger-told.ensures in
+    let terms : ledger.terms ≡ terms_of range c.args.options.now.lanes = ap (terms_of range) c.in-Ok.ensures.opened.0 in
+    let Written : Terms → Bool → Type 0 = λ t ok. IsWritten g.J.Sink.taken (journal_text t history) ok c.args.out.now.journal c.work_ledger-told.new.journal in
+    let Sealed : Terms → Type 0 = λ t. HasSealed (map (λ name. name.now) c.args.options.now.files.now) t history told
+    (g.L.Sink.taken c.args.out.now.lines) (g.L.Sink.taken c.work_ledger-told.new.lines)
+    (g.L.Sink.failures c.args.out.now.lines) (g.L.Sink.failures c.work_ledger-told.new.lines)
+    (g.F.Folder.steps c.args.folder.now) (g.F.Folder.steps c.work_ledger-told.new.folder) in
+    let ok : is_ok c.work_ledger-told.result.1 ≡ true = ap is_ok c.in-Ok-ended.is in
+    inr (range, history, told, true, c.in-Ok.ensures.reserved, subst Sealed terms sealed, subst (λ t. Written t true) terms (subst (Written ledger.terms) ok written), refl)
+
+pub returns-in-Err-ended-clause-run : goal.returns-in-Err-ended-clause-run
+returns-in-Err-ended-clause-run g c =
+    let ledger = c.in-Ok.opened.0 in
+    let range = ledger.terms.range in
+    let told = c.work_ledger-told.result.0 in
+    let (history, sealed, written) = c.work_ledger-told.ensures in
+    let terms : ledger.terms ≡ terms_of range c.args.options.now.lanes = ap (terms_of range) c.in-Ok.ensures.opened.0 in
+    let Written : Terms → Bool → Type 0 = λ t ok. IsWritten g.J.Sink.taken (journal_text t history) ok c.args.out.now.journal c.work_ledger-told.new.journal in
+    let Sealed : Terms → Type 0 = λ t. HasSealed (map (λ name. name.now) c.args.options.now.files.now) t history told
+    (g.L.Sink.taken c.args.out.now.lines) (g.L.Sink.taken c.work_ledger-told.new.lines)
+    (g.L.Sink.failures c.args.out.now.lines) (g.L.Sink.failures c.work_ledger-told.new.lines)
+    (g.F.Folder.steps c.args.folder.now) (g.F.Folder.steps c.work_ledger-told.new.folder) in
+    let ok : is_ok c.work_ledger-told.result.1 ≡ false = ap is_ok c.in-Err-ended.is in
+    inr (range, history, told, false, c.in-Ok.ensures.reserved, subst Sealed terms sealed, subst (λ t. Written t false) terms (subst (Written ledger.terms) ok written), refl)
