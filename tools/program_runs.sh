@@ -272,6 +272,9 @@ wants exists-for-another-device 1 'failed life/empty: output exists' ''
 rm life/empty.stm
 run seal --key "$key" --ledger life/ledger --device 2 -- life/empty
 wants another-device 0 'sealed life/empty file 1 bytes 0' ''
+rm life/empty.stm
+run seal --key "$key" --ledger life/ledger --device 0 -- life/empty
+wants device-0 0 'sealed life/empty file 0 bytes 0' ''
 
 # What fails: files.
 ln -s /proc/self/mem life/mem

@@ -379,6 +379,28 @@ fn seats_hold_their_own_open_numbers(rt: HostRuntime) -> Result<(), Fail> {
     Ok(())
 }
 
+// What another seat did is counted by a seat that did nothing since it counted last.
+#[test]
+fn a_seat_counts_what_others_did_since(rt: HostRuntime) -> Result<(), Fail> {
+    let mut run = Run::open(rt.alloc(), range_of(7, 2)?, 2)?;
+    let seven = run.issue(1)?.used();
+    let before = run.tally(0);
+    assert!(rt; run.settle(1, seven).is_ok());
+    let after = run.tally(0);
+    assert_eq!(rt; (before.granted, before.sealed), (1, 0));
+    assert_eq!(rt; (after.granted, after.sealed), (1, 1));
+    Ok(())
+}
+
+#[test]
+fn device_0_has_a_ledger_as_any(rt: HostRuntime) -> Result<(), Fail> {
+    let device = Device::new(0).ok_or("device")?;
+    let mut run = Run::open(rt.alloc(), Range::new(device, 0, 1)?, 1)?;
+    let grant = run.issue(0)?;
+    assert_eq!(rt; grant.prefix(), [0; 7]);
+    Ok(())
+}
+
 // The laws are called like any function.
 #[test]
 fn laws_are_called(rt: HostRuntime) -> Result<(), Fail> {
