@@ -1,8 +1,9 @@
 //! ChaCha20 (RFC 8439, 2.1 to 2.4): the quarter round, the block, and the XOR of a text with the
 //! keystream. Nothing here takes memory or waits.
 //!
-//! `specs/ChaCha20.antt` has the definitions, in the RFC's terms, and each public function gives
-//! its definition's value on every input.
+//! `specs/ChaCha20.antt` has the definitions, in the RFC's terms, and `quarter`, `block` and `apply`
+//! give their definitions' values on every input. What the steps of [`group`] leave is said by
+//! `UnderWay` of `specs/Lanes.antt`.
 #![tactic(auto)]
 
 ghost use Rattle.std.specs.Prelude.{◌≡◌, ◌+◌, ◌/◌, ◌^◌, ◌<◌, ◌≤◌, length};

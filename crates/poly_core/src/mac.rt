@@ -115,7 +115,7 @@ impl Mac {
         Run::start(&r, s, &sum)
     }
 
-    // The mac of a sum, with no block begun.
+    /// The mac of a sum, with no block begun.
     pub(crate) fn of(r: &Limbs, s: u128, sum: &Limbs) -> Mac
         requires key_below { AllBelow (2 ^ 26) r.now }
         requires sum_below { AllBelow (2 ^ 27) sum.now }
