@@ -469,6 +469,43 @@ cp life/more life/text
 run seal --key "$key" --ledger life/text --device 1 --journal life/empty.journal life/waits
 wants ledger-no-database 2 '' 'ledger: cannot open'
 is the-created-journal-stays-empty test -e life/empty.journal -a ! -s life/empty.journal
+# What fails: there is no ledger, or its log alone. Nothing is made.
+run seal --key "$key" --ledger life/never --no-new-ledger --device 1 --journal life/never.journal life/waits
+wants ledger-not-there 2 '' 'ledger: not there'
+is no-ledger-was-made no test -e life/never
+: > life/never
+run seal --key "$key" --ledger life/never --no-new-ledger --device 1 --journal life/never.journal life/waits
+wants ledger-empty-is-none 2 '' 'ledger: not there'
+is the-empty-ledger-stays no test -s life/never
+is no-journal-was-made no test -e life/never.journal
+run seal --key "$key" --ledger life/no/ledger --no-new-ledger --device 1 life/waits
+wants ledger-not-there-without-a-folder 2 '' 'ledger: not there'
+run seal --key "$key" --ledger life/more/ledger --no-new-ledger --device 1 life/waits
+wants ledger-in-no-folder 2 '' 'ledger: cannot open'
+head -c 57 /dev/zero > life/lost-wal
+head -c 57 /dev/zero > life/kept-wal
+for bytes in none 0 1; do
+    rm -f life/lost
+    [ $bytes = none ] || head -c $bytes /dev/zero > life/lost
+    run seal --key "$key" --ledger life/lost --device 1 --journal life/never.journal life/waits
+    wants "log-of-no-ledger $bytes" 2 '' 'ledger: cannot open'
+    is "the-log-stays $bytes" cmp -s life/lost-wal life/kept-wal
+    is "the-ledger-stays $bytes" test "$([ -e life/lost ] && wc -c < life/lost || echo none)" = $bytes
+    is "no-journal-beside-a-log $bytes" no test -e life/never.journal
+done
+mkdir life/links
+ln -s ../lost life/links/lost
+run seal --key "$key" --ledger life/links/lost --device 1 life/waits
+wants log-of-no-ledger-by-a-link 2 '' 'ledger: cannot open'
+rm life/lost
+head -c 56 /dev/zero > life/lost-wal
+cp life/numbers life/first
+run seal --key "$key" --ledger life/lost --device 1 life/first
+wants log-without-a-page 0 'sealed life/first file 0 bytes 1492' ''
+rm life/first.stm
+run seal --key "$key" --ledger life/lost --no-new-ledger --device 1 life/first
+wants ledger-is-there 0 'sealed life/first file 1 bytes 1492' ''
+
 (trap '' XFSZ; ulimit -f 8; exec "$sealer" seal --key "$key" --ledger life/ledger --device 5 life/waits) > out 2> err
 status=$?
 wants ledger-store-fails 2 '' 'ledger: store failed'

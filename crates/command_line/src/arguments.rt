@@ -118,6 +118,10 @@ fn seal_command<'a>(alloc: Global) -> Result<Command<'a>, Error> {
         .value_name("F")
         .required(true)
         .help("The ledger file, which is made where there is none");
+    let no_new_ledger = Arg::new(alloc, "no-new-ledger")
+        .long("no-new-ledger")
+        .action(ArgAction::SetTrue)
+        .help("Refuse to make a ledger file: for every run but the first");
     let device = Arg::new(alloc, "device")
         .long("device")
         .value_name("N")
@@ -139,7 +143,8 @@ fn seal_command<'a>(alloc: Global) -> Result<Command<'a>, Error> {
         "seal",
         "Seals each FILE to FILE.stm, each under a number of its own",
     )?;
-    let command = command.arg(ledger)?.arg(device)?.arg(lanes)?.arg(journal)?;
+    let command = command.arg(ledger)?.arg(no_new_ledger)?.arg(device)?;
+    let command = command.arg(lanes)?.arg(journal)?;
     Ok(command.after_help(SEAL_HELP))
 }
 
@@ -148,6 +153,8 @@ fn seal_command<'a>(alloc: Global) -> Result<Command<'a>, Error> {
 pub struct SealRequest<'m, 'a> {
     pub key: &'a str,
     pub ledger: &'a str,
+    /// Whether a ledger file is made where there is none.
+    pub may_make: bool,
     pub device: Device,
     pub files: &'m [&'a str],
     pub workers: u32,
@@ -194,6 +201,7 @@ pub fn seal_request<'m, 'a>(matches: &'m ArgMatches<'a>) -> Result<SealRequest<'
     Ok(SealRequest {
         key,
         ledger,
+        may_make: !matches.get_flag("no-new-ledger"),
         device,
         files,
         workers,

@@ -18,7 +18,7 @@ use std::io::{Read, Write};
 use std::process::ExitCode;
 use std::rt::{Env, Files};
 use std::thread::Threads;
-use system_files::{SystemFiles, keeper_of, new_journal, open_unbuffered, stand_ins};
+use system_files::{SystemFiles, keeper_of, may_open, new_journal, open_unbuffered, stand_ins};
 
 /// The status of a fault of usage, of the key file, or of the program's own reading and writing.
 const FAULT: u8 = 2;
@@ -86,7 +86,8 @@ fn run<
     }
 }
 
-/// Seals the files, once the key file was read, the journal created and the ledger file opened, in this order.
+/// Seals the files, once the key file was read, it was looked whether there is a ledger file, the journal was created and the ledger
+/// file opened, in this order.
 fn seal<R: Files + AllocGlobal + Eprint + Threads + Sync, O: Write + Drop, E: Write + Drop>(
     rt: &R,
     host: &HostRuntime,
@@ -102,6 +103,9 @@ fn seal<R: Files + AllocGlobal + Eprint + Threads + Sync, O: Write + Drop, E: Wr
         Ok(key) => key,
         Err(fault) => return complain(rt, "key", fault),
     };
+    if let Err(fault) = may_open(rt, request.ledger, request.may_make) {
+        return complain(rt, "ledger", fault);
+    }
     let mut folder = SystemFiles(rt);
     let journal = match new_journal(&mut folder, request.journal, request.ledger) {
         Ok(journal) => journal,

@@ -1,8 +1,10 @@
 //! The ledger file.
 use reserve_core::{Keeper, ReserveFault};
 use sqlite::{Connection, FileFrom, FileStore, Start};
+use std::alloc::AllocError;
 use std::fs;
 use std::fs::OpenFile;
+use std::io::ErrorKind;
 use std::os::unix::fs::MetadataExt;
 use std::rt::Files;
 use thiserror::Error;
@@ -16,6 +18,54 @@ pub enum LedgerFault {
     /// The database holds something else.
     #[error("not a ledger")]
     NotLedger,
+    /// There is no ledger file, and none is to be made.
+    #[error("not there")]
+    NotThere,
+}
+
+/// Bytes of a log that holds no page yet: its header, and that of a frame.
+const LOG_WITHOUT_PAGE: u64 = 32 + 24;
+
+/// Whether a run may open the ledger file at this path, before anything is opened or made.
+///
+/// `CannotOpen` comes for a log (PATH-wal) with pages beside no ledger file or an empty one: its file was lost or put elsewhere, and the
+/// database would begin anew over it, from number 0. `NotThere` comes where there is no file, or an empty one, and none may be made. A
+/// file of one byte counts as empty, since the database begins its file with a single 0.
+pub fn may_open<R: Files + AllocGlobal>(
+    rt: &R,
+    path: &str,
+    may_make: bool,
+) -> Result<(), LedgerFault> {
+    let bytes = match fs::metadata(rt, path) {
+        Ok(file) => file.len(),
+        Err(error) if error.kind() == ErrorKind::NotFound => 0,
+        Err(_) => return Err(LedgerFault::CannotOpen),
+    };
+    if bytes > 1 {
+        return Ok(());
+    }
+    let Ok(log) = log_beside(rt, path) else {
+        return Err(LedgerFault::CannotOpen);
+    };
+    match fs::metadata(rt, log.as_str()) {
+        Ok(log) if log.len() > LOG_WITHOUT_PAGE => return Err(LedgerFault::CannotOpen),
+        Ok(_) => {}
+        Err(error) if error.kind() == ErrorKind::NotFound => {}
+        Err(_) => return Err(LedgerFault::CannotOpen),
+    }
+    if may_make {
+        Ok(())
+    } else {
+        Err(LedgerFault::NotThere)
+    }
+}
+
+// The name of the log. It lies where a link to the ledger file leads.
+fn log_beside<R: Files + AllocGlobal>(rt: &R, path: &str) -> Result<String, AllocError> {
+    match fs::canonicalize(rt, path) {
+        Ok(real) => format!(in rt.alloc(); "{}-wal", real.as_str()),
+        Err(_) => format!(in rt.alloc(); "{path}-wal"),
+    }
 }
 
 /// The keeper of the ledger file at this path, which is made where there is none. A path that names no file (an empty one, `:memory:`

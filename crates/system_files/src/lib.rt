@@ -5,4 +5,4 @@ pub mod files;
 pub mod ledger;
 
 pub use crate::files::{JournalFault, SystemFiles, new_journal, open_unbuffered, stand_ins};
-pub use crate::ledger::{LedgerFault, keeper_of};
+pub use crate::ledger::{LedgerFault, keeper_of, may_open};
