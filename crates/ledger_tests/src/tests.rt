@@ -8,6 +8,7 @@ use ledger_core::{
     audit, laws,
 };
 use std::alloc::{AllocError, Global};
+use std::process::Abort;
 use std::test::*;
 
 fn range_of(lo: u32, size: u32) -> Result<Range, Fail> {
@@ -27,38 +28,36 @@ fn open(alloc: Global, range: Range, seats: u32) -> Result<Run, OpenLedgerFault>
 
 // A call that is refused memory must leave the counts as they were.
 
-fn issue(run: &mut Run, seat: usize) -> Result<Result<Grant, IssueFault>, Fail>
+fn issue(rt: &impl Abort, run: &mut Run, seat: usize) -> Result<Grant, IssueFault>
     requires { seat < run.old.terms.seats }
     ensures { run.new ≡ run.old }
 {
     let before = run.tally(seat);
-    let mut answer = run.issue(seat);
-    if matches!(&answer, Err(IssueFault::OutOfMemory)) {
-        if run.tally(seat) != before {
-            return Err("a refused issue changed the counts".into());
+    match run.issue(seat) {
+        Err(IssueFault::OutOfMemory) => {
+            assert_eq!(rt; run.tally(seat), before, "after a refused issue");
+            run.issue(seat)
         }
-        answer = run.issue(seat);
+        other => other,
     }
-    Ok(answer)
 }
 
 fn settle(
+    rt: &impl Abort,
     run: &mut Run,
     seat: usize,
     spent: Spent,
-) -> Result<Result<(), (SettleFault, Spent)>, Fail>
+) -> Result<(), (SettleFault, Spent)>
     requires { seat < run.old.terms.seats }
     ensures { run.new ≡ run.old }
 {
     let before = run.tally(seat);
     match run.settle(seat, spent) {
         Err((SettleFault::OutOfMemory, spent)) => {
-            if run.tally(seat) != before {
-                return Err("a refused settlement changed the counts".into());
-            }
-            Ok(run.settle(seat, spent))
+            assert_eq!(rt; run.tally(seat), before, "after a refused settlement");
+            run.settle(seat, spent)
         }
-        other => Ok(other),
+        other => other,
     }
 }
 
@@ -91,60 +90,98 @@ fn audited(alloc: Global, text: &str) -> Option<Vec<u8>> {
     }
 }
 
-// What was settled is settled once more, which must be refused and handed back.
-fn refused(run: &mut Run, seat: usize, spent: Spent) -> Result<Spent, Fail>
+// What each test does stands in functions over a borrowed ledger, and what it compares in the few below: where a function
+// can end early, each value that it holds is dropped there, and that it may be is proved anew.
+
+fn settles(rt: &impl Abort, run: &mut Run, seat: usize, spent: Spent)
     requires { seat < run.old.terms.seats }
     ensures { run.new ≡ run.old }
 {
-    match settle(run, seat, spent)? {
-        Err((SettleFault::NotOpen, spent)) => Ok(spent),
-        _ => Err("a number that is not open was settled".into()),
+    assert!(rt; settle(rt, run, seat, spent).is_ok());
+}
+
+// The number is not open, so it is refused and handed back.
+fn refused(rt: &impl Abort, run: &mut Run, seat: usize, spent: Spent) -> Spent
+    requires { seat < run.old.terms.seats }
+    ensures { run.new ≡ run.old }
+{
+    match settle(rt, run, seat, spent) {
+        Err((SettleFault::NotOpen, spent)) => spent,
+        _ => panic!(rt; "a number that is not open was settled"),
     }
 }
 
-// Run it with each allocation refused in turn: the six lines are the same.
-#[test]
-fn two_seats_share_a_range(rt: HostRuntime) -> Result<(), Fail> {
-    let mut run = open(rt.alloc(), range_of(7, 2)?, 2)?;
-    let seven = issue(&mut run, 0)??;
-    let eight = issue(&mut run, 1)??;
+fn counts(rt: &impl Abort, run: &mut Run, seat: usize, tally: Tally)
+    requires { seat < run.old.terms.seats }
+    ensures { run.new ≡ run.old }
+{
+    assert_eq!(rt; run.tally(seat), tally);
+}
+
+fn text_when_closed(alloc: Global, run: Run) -> Result<String, Fail> {
+    let Ok(journal) = close(run) else {
+        return Err("memory was refused twice".into());
+    };
+    Ok(text_of(alloc, &journal)?)
+}
+
+fn audits_as<R: AllocGlobal + Abort>(rt: &R, text: &str, line: &[u8]) {
+    let Some(found) = audited(rt.alloc(), text) else {
+        panic!(rt; "memory was refused twice");
+    };
+    assert_eq!(rt; found.as_slice(), line);
+}
+
+// Seat 0 issues 7, seat 1 issues 8, and then no number is left for seat 0.
+fn issue_7_and_8(rt: &impl Abort, run: &mut Run) -> Result<(Grant, Grant), IssueFault>
+    requires { 1 < run.old.terms.seats }
+    ensures { run.new ≡ run.old }
+{
+    let seven = issue(rt, run, 0)?;
+    let eight = issue(rt, run, 1)?;
     assert_eq!(rt; (seven.number(), eight.number()), (7, 8));
     assert_eq!(rt; seven.prefix(), [0, 0, 1, 0, 0, 0, 7]);
-    assert_eq!(rt; issue(&mut run, 0)?.err(), Some(IssueFault::Exhausted));
-    assert_eq!(rt; issue(&mut run, 0)?.err(), Some(IssueFault::SeatClosed));
-    assert!(rt; settle(&mut run, 1, eight.used())?.is_ok());
+    assert_eq!(rt; issue(rt, run, 0).err(), Some(IssueFault::Exhausted));
+    assert_eq!(rt; issue(rt, run, 0).err(), Some(IssueFault::SeatClosed));
+    Ok((seven, eight))
+}
+
+// Seat 1 cannot settle what seat 0 issued.
+fn settle_7_and_8(rt: &impl Abort, run: &mut Run, seven: Spent, eight: Spent)
+    requires { 1 < run.old.terms.seats }
+    ensures { run.new ≡ run.old }
+{
+    settles(rt, run, 1, eight);
     let three = Tally {
         granted: 2,
         refused: 1,
         sealed: 1,
         void: 0,
     };
-    assert_eq!(rt; run.tally(1), three);
-    let seven = refused(&mut run, 1, seven.waste())?;
-    assert_eq!(rt; (seven.number(), run.tally(1)), (7, three));
-    assert!(rt; settle(&mut run, 0, seven)?.is_ok());
-    assert_eq!(rt;
-        run.tally(1),
-        Tally {
-            granted: 2,
-            refused: 1,
-            sealed: 1,
-            void: 1
-        }
-    );
+    counts(rt, run, 1, three);
+    let seven = refused(rt, run, 1, seven);
+    assert_eq!(rt; seven.number(), 7);
+    counts(rt, run, 1, three);
+    settles(rt, run, 0, seven);
+    counts(rt, run, 1, Tally { void: 1, ..three });
+}
+
+// Run it with each allocation refused in turn: the six lines are the same.
+#[test]
+fn two_seats_share_a_range(rt: HostRuntime) -> Result<(), Fail> {
+    let mut run = open(rt.alloc(), range_of(7, 2)?, 2)?;
+    let (seven, eight) = issue_7_and_8(&rt, &mut run)?;
+    settle_7_and_8(&rt, &mut run, seven.waste(), eight.used());
     run.meet(0, 1);
-    let Ok(journal) = close(run) else {
-        return Err("memory was refused twice".into());
-    };
-    let text = text_of(rt.alloc(), &journal)?;
+    let text = text_when_closed(rt.alloc(), run)?;
     assert_eq!(rt;
         text.as_str(),
         "range 1 7 2 2\n0 issue 7\n1 issue 8\n0 issue none\n1 sealed 8\n0 void 7\n"
     );
-    let line = audited(rt.alloc(), text.as_str()).ok_or("memory was refused twice")?;
-    assert_eq!(rt;
-        line.as_slice(),
-        b"legal: 2 granted, 1 sealed, 1 void, 0 open, 1 refused\n".as_slice()
+    audits_as(
+        &rt,
+        text.as_str(),
+        b"legal: 2 granted, 1 sealed, 1 void, 0 open, 1 refused\n",
     );
     Ok(())
 }
@@ -163,14 +200,11 @@ fn four_threads_spend_a_range(rt: HostRuntime) -> Result<(), Fail> {
             void: 500
         }
     );
-    let Ok(journal) = run.close() else {
-        return Err("memory was refused".into());
-    };
-    let text = journal.text(rt.alloc())?;
-    let line = audited(rt.alloc(), text.as_str()).ok_or("memory was refused")?;
-    assert_eq!(rt;
-        line.as_slice(),
-        b"legal: 1000 granted, 500 sealed, 500 void, 0 open, 4 refused\n".as_slice()
+    let text = text_when_closed(rt.alloc(), run)?;
+    audits_as(
+        &rt,
+        text.as_str(),
+        b"legal: 1000 granted, 500 sealed, 500 void, 0 open, 4 refused\n",
     );
     Ok(())
 }
@@ -189,14 +223,11 @@ fn sixty_four_seats_spend_the_greatest_range(rt: HostRuntime) -> Result<(), Fail
             void: 32_767
         }
     );
-    let Ok(journal) = run.close() else {
-        return Err("memory was refused".into());
-    };
-    let text = journal.text(rt.alloc())?;
-    let line = audited(rt.alloc(), text.as_str()).ok_or("memory was refused")?;
-    assert_eq!(rt;
-        line.as_slice(),
-        b"legal: 65535 granted, 32768 sealed, 32767 void, 0 open, 64 refused\n".as_slice()
+    let text = text_when_closed(rt.alloc(), run)?;
+    audits_as(
+        &rt,
+        text.as_str(),
+        b"legal: 65535 granted, 32768 sealed, 32767 void, 0 open, 64 refused\n",
     );
     Ok(())
 }
@@ -215,14 +246,11 @@ fn one_seat_spends_the_greatest_range(rt: HostRuntime) -> Result<(), Fail> {
             void: 32_767
         }
     );
-    let Ok(journal) = run.close() else {
-        return Err("memory was refused".into());
-    };
-    let text = journal.text(rt.alloc())?;
-    let line = audited(rt.alloc(), text.as_str()).ok_or("memory was refused")?;
-    assert_eq!(rt;
-        line.as_slice(),
-        b"legal: 65535 granted, 32768 sealed, 32767 void, 0 open, 1 refused\n".as_slice()
+    let text = text_when_closed(rt.alloc(), run)?;
+    audits_as(
+        &rt,
+        text.as_str(),
+        b"legal: 65535 granted, 32768 sealed, 32767 void, 0 open, 1 refused\n",
     );
     Ok(())
 }
@@ -265,33 +293,42 @@ fn seats_are_from_one_to_sixty_four(rt: HostRuntime) -> Result<(), Fail> {
     Ok(())
 }
 
+// The first number's grant is dropped, and the second number is used and spoiled.
+fn spoil_1(rt: &impl Abort, run: &mut Run) -> Result<(), IssueFault>
+    requires { 0 < run.old.terms.seats }
+    ensures { run.new ≡ run.old }
+{
+    drop(run.issue(0)?);
+    let spoiled = run.issue(0)?.used().spoil();
+    assert_eq!(rt; (spoiled.number(), spoiled.device().number()), (1, 1));
+    settles(rt, run, 0, spoiled);
+    let counted = Tally {
+        granted: 2,
+        refused: 0,
+        sealed: 0,
+        void: 1,
+    };
+    counts(rt, run, 0, counted);
+    Ok(())
+}
+
+// The same two numbers from another ledger.
+fn use_0_and_1(alloc: Global) -> Result<(Spent, Spent), Fail> {
+    let mut other = Run::open(alloc, range_of(0, 3)?, 1)?;
+    let zero = other.issue(0)?.used();
+    let one = other.issue(0)?.used();
+    Ok((zero, one))
+}
+
 // A grant that is dropped leaves its number granted and open, and a number is settled once.
 #[test]
 fn a_number_is_settled_once(rt: HostRuntime) -> Result<(), Fail> {
     let mut run = Run::open(rt.alloc(), range_of(0, 3)?, 1)?;
-    drop(run.issue(0)?);
-    let one = run.issue(0)?;
-    let spoiled = one.used().spoil();
-    assert_eq!(rt; (spoiled.number(), spoiled.device().number()), (1, 1));
-    assert!(rt; run.settle(0, spoiled).is_ok());
-    assert_eq!(rt;
-        run.tally(0),
-        Tally {
-            granted: 2,
-            refused: 0,
-            sealed: 0,
-            void: 1
-        }
-    );
-    let mut other = Run::open(rt.alloc(), range_of(0, 3)?, 1)?;
-    let zero = other.issue(0)?;
-    let one = other.issue(0)?;
-    drop(refused(&mut run, 0, one.used())?);
-    assert!(rt; run.settle(0, zero.used()).is_ok());
-    let Ok(journal) = run.close() else {
-        return Err("memory was refused".into());
-    };
-    let text = journal.text(rt.alloc())?;
+    spoil_1(&rt, &mut run)?;
+    let (zero, one) = use_0_and_1(rt.alloc())?;
+    drop(refused(&rt, &mut run, 0, one));
+    settles(&rt, &mut run, 0, zero);
+    let text = text_when_closed(rt.alloc(), run)?;
     assert_eq!(rt;
         text.as_str(),
         "range 1 0 3 1\n0 issue 0\n0 issue 1\n0 void 1\n0 sealed 0\n"
@@ -321,10 +358,7 @@ fn meetings_change_no_history(rt: HostRuntime) -> Result<(), Fail> {
     assert_eq!(rt; (run.tally(0), run.tally(1)), (all, all));
     assert!(rt; run.settle(0, seven.waste()).is_ok());
     run.meet_all();
-    let Ok(journal) = run.close() else {
-        return Err("memory was refused".into());
-    };
-    let text = journal.text(rt.alloc())?;
+    let text = text_when_closed(rt.alloc(), run)?;
     assert_eq!(rt;
         text.as_str(),
         "range 1 7 2 2\n0 issue 7\n1 issue 8\n0 issue none\n1 sealed 8\n0 void 7\n"
@@ -358,24 +392,45 @@ fn grants_and_spent_numbers_tell_what_they_are(rt: HostRuntime) -> Result<(), Fa
     Ok(())
 }
 
-// The stranger has the number of a grant of this seat, but another device.
-#[test]
-fn seats_hold_their_own_open_numbers(rt: HostRuntime) -> Result<(), Fail> {
-    let mut run = Run::open(rt.alloc(), range_of(7, 2)?, 2)?;
+// Only the seat that issued the number holds it.
+fn use_7(rt: &impl Abort, run: &mut Run) -> Result<Spent, IssueFault>
+    requires { 1 < run.old.terms.seats }
+    ensures { run.new ≡ run.old }
+{
     let seven = run.issue(0)?.used();
     assert_eq!(rt;
         (run.seat(0).holds(&seven), run.seat(1).holds(&seven)),
         (true, false)
     );
+    Ok(seven)
+}
+
+// The same number of another device.
+fn use_7_of_device_2(alloc: Global) -> Result<Spent, Fail> {
     let device = Device::new(2).ok_or("device")?;
-    let mut other = Run::open(rt.alloc(), Range::new(device, 7, 2)?, 1)?;
-    let stranger = other.issue(0)?.used();
+    let mut other = Run::open(alloc, Range::new(device, 7, 2)?, 1)?;
+    Ok(other.issue(0)?.used())
+}
+
+fn refuse_stranger(rt: &impl Abort, run: &mut Run, stranger: Spent)
+    requires { 0 < run.old.terms.seats }
+    ensures { run.new ≡ run.old }
+{
     assert_eq!(rt;
         (stranger.number(), run.seat(0).holds(&stranger)),
         (7, false)
     );
-    drop(refused(&mut run, 0, stranger)?);
-    assert!(rt; run.settle(0, seven).is_ok());
+    drop(refused(rt, run, 0, stranger));
+}
+
+// The stranger has the number of a grant of this seat, but another device.
+#[test]
+fn seats_hold_their_own_open_numbers(rt: HostRuntime) -> Result<(), Fail> {
+    let stranger = use_7_of_device_2(rt.alloc())?;
+    let mut run = Run::open(rt.alloc(), range_of(7, 2)?, 2)?;
+    let seven = use_7(&rt, &mut run)?;
+    refuse_stranger(&rt, &mut run, stranger);
+    settles(&rt, &mut run, 0, seven);
     Ok(())
 }
 
