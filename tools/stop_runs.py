@@ -1,0 +1,151 @@
+#!/usr/bin/env python3
+"""stop_runs.py [NIGHTS [NIGHT]]: stops the built program at its system calls, by strace, and looks at what the next run does.
+
+Over one ledger file that lives on, by one lane, two lanes and two workers, the program is killed at each of its system calls, and each
+of its calls on files and memory is made to fail (EIO, ENOSPC, EINTR, ENOMEM). After a kill no number may be given out that a container
+already has, and the run after must succeed. After an error the run must end by itself, with a status and a text of README.
+Of all stops, some 2,800, each NIGHTS-th is tried (9 where none is given, which takes a minute), from the NIGHT-th on (0): a run a night
+with NIGHT 0 to 8 tries all, as does one with NIGHTS 1. Prints 'N stops as they should be', or what differs. Needs strace; where it isn't
+there it says so and ends well, and under CI it fails.
+"""
+import os
+import re
+import shutil
+import subprocess
+import sys
+import tempfile
+from collections import Counter
+
+top = os.path.abspath(os.path.join(os.path.dirname(__file__), ".."))
+sealer = os.environ.get("SEALER", f"{top}/crates/sealer/out/sealer")
+key = f"{top}/examples/key"
+nights = int(sys.argv[1]) if len(sys.argv) > 1 else 9
+night = int(sys.argv[2]) if len(sys.argv) > 2 else 0
+
+# What a run may print on standard error, and how a line of a file may end that failed.
+TEXTS = re.compile(
+    r"(usage: (an argument is no text|out of memory)|error: out of memory|key: (cannot open|read failed)|journal: (cannot create|out of memory|write failed)"
+    r"|ledger: (cannot open|store failed|out of memory|not a ledger|not there))"
+)
+LINES = re.compile(r"sealed \S+ file [0-9]+ bytes [0-9]+|failed \S+: (cannot open|cannot create|read failed|write failed|out of memory)")
+# The calls that are made to fail, and how.
+ON_FILES = "openat read pread64 write pwrite64 fsync fdatasync ftruncate statx newfstatat close fadvise64 readlink getcwd fchmod fchown fcntl".split()
+ON_MEMORY = ["mmap", "mremap", "clone3"]
+FAULTS = {**{call: ("error=EIO", "error=ENOSPC", "error=EINTR") for call in ON_FILES}, **{call: ("error=ENOMEM",) for call in ON_MEMORY}}
+# It answers the end of the heap, and never an error: one that is not higher says that memory was refused.
+FAULTS["brk"] = ("retval=0",)
+WAYS = {"one lane": [], "two lanes": ["--lanes", "2"], "two workers": ["--workers", "2"]}
+
+if not shutil.which("strace"):
+    print("stop_runs: skipped, strace is not there")
+    sys.exit(1 if os.environ.get("CI") else 0)
+
+room = tempfile.mkdtemp()
+os.chdir(room)
+given = {}  # the prefix of each container that was ever seen, and where
+stops = bad = turn = 0
+
+
+def differs(what):
+    global bad
+    bad += 1
+    print(what)
+
+
+def command(way, files):
+    return [sealer, "seal", "--key", key, "--ledger", "ledger", "--device", "1", "--journal", "journal", *WAYS[way], *files]
+
+
+def clear():
+    for name in os.listdir("."):
+        if name.endswith(".stm") or name == "journal":
+            os.remove(name)
+
+
+def take(what):
+    """The outputs that lie there, whole or in part, have prefixes that no container had."""
+    for name in sorted(os.listdir(".")):
+        if name.endswith(".stm"):
+            with open(name, "rb") as file:
+                begin = file.read(17)
+            if len(begin) == 17:
+                if begin[10:] in given:
+                    differs(f"{what}: {name} has the number of {given[begin[10:]]}")
+                given[begin[10:]] = f"{name}, {what}"
+    clear()
+
+
+def calls(way):
+    """How often each thread makes each call, at most, behind the opening of the key file and in all."""
+    subprocess.run(["strace", "-f", "-o", "trace", *command(way, ["a", "b"])], stdout=subprocess.DEVNULL, check=True)
+    own, late = Counter(), Counter()
+    begun = False
+    with open("trace", encoding="utf-8", errors="replace") as file:
+        for line in file:
+            found = re.match(r"([0-9]+) +([a-z_0-9]+)\(", line)
+            if not found:
+                continue
+            begun = begun or "examples/key" in line and found[2] == "openat"
+            own[found[1], found[2]] += 1
+            if not begun:
+                late[found[2]] += 1
+    most = Counter()
+    for (_, call), count in own.items():
+        most[call] = max(most[call], count)
+    take(f"the run that counts calls, {way}")
+    return most, late
+
+
+def stopped(way, call, n, how):
+    """One run that is stopped, and after a kill one that isn't."""
+    global stops
+    stops += 1
+    what = f"{way}, {call} {n}, {how}"
+    words = ["strace", "-f", "-qq", "-o", "/dev/null", "-e", f"trace={call}", "-e", f"inject={call}:{how}:when={n}"]
+    try:
+        run = subprocess.run([*words, *command(way, ["a", "b"])], capture_output=True, text=True, timeout=60)
+    except subprocess.TimeoutExpired:
+        differs(f"{what}: hangs")
+        return
+    if how != "signal=KILL":
+        if run.returncode not in (0, 1, 2):
+            differs(f"{what}: status {run.returncode}")
+        for line in run.stderr.splitlines():
+            if not TEXTS.fullmatch(line):
+                differs(f"{what}: prints {line}")
+        for line in run.stdout.splitlines():
+            if not LINES.fullmatch(line) and "write" != call:
+                differs(f"{what}: prints {line}")
+        if (run.returncode == 2) != bool(run.stderr) and call != "write":
+            differs(f"{what}: status {run.returncode} with '{run.stderr.strip()}'")
+        if (run.returncode == 1) != ("failed " in run.stdout) and call != "write":
+            differs(f"{what}: status {run.returncode} with '{run.stdout.strip()}'")
+    take(what)
+    after = subprocess.run(command("one lane", ["c"]), capture_output=True, text=True, timeout=60)
+    if after.returncode != 0 or not after.stdout.startswith("sealed c file "):
+        differs(f"{what}: the run after has status {after.returncode}, prints {after.stdout}{after.stderr}")
+    take(f"the run after {what}")
+
+
+with open("a", "w", encoding="ascii") as file:
+    file.write("a" * 200_000)
+for name in ("b", "c"):
+    with open(name, "w", encoding="ascii") as file:
+        file.write(name)
+subprocess.run(command("one lane", ["a"]), stdout=subprocess.DEVNULL, check=True)
+take("the first run")
+for way in WAYS:
+    most, late = calls(way)
+    for call, count in sorted(most.items()):
+        hows = [("signal=KILL", 1)] + [(fault, late[call] + 1) for fault in FAULTS.get(call, ())]
+        for how, first in hows:
+            for n in range(first, count + 1):
+                turn += 1
+                if turn % nights == night % nights:
+                    stopped(way, call, n, how)
+os.chdir("/")
+shutil.rmtree(room)
+if bad:
+    print(f"{bad} of {stops} stops are not as they should be")
+    sys.exit(1)
+print(f"{stops} stops as they should be")
