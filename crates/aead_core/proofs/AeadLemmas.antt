@@ -78,10 +78,3 @@ pad16-padded aad text =
     let pad : length (pad16 aad) ≡ n = length-replicate {A = ℕ} n 0 in
     let same : (16 - length ((aad ++ pad16 aad) ++ text) % 16) % 16 ≡ (16 - length text % 16) % 16 = omega arith in
     ap (λ k. replicate k 0) same
-
--- padded bytes fill whole blocks
-pub length-padded : (aad : List ℕ) → length (aad ++ pad16 aad) % 16 ≡ 0
-length-padded aad =
-    let n : ℕ = (16 - length aad % 16) % 16 in
-    let pad : length (pad16 aad) ≡ n = length-replicate {A = ℕ} n 0 in
-    omega (arith, length-append aad (pad16 aad), pad)

@@ -1,2 +1,1 @@
 pub mod AeadLemmas
-pub mod WovenLemmas

@@ -5,28 +5,22 @@
 //! tag of a plaintext, `opened` the plaintext of such a pair.
 #![tactic(auto)]
 
-ghost use Rattle.std.specs.Prelude.{◌≡◌, ℕ, ◌+◌, ◌-◌, ◌*◌, ◌^◌, ◌≤◌, ◌↔◌, List, [], ◌++◌, length, take};
+ghost use Rattle.std.specs.Prelude.{◌≡◌, ℕ, ◌-◌, ◌*◌, ◌^◌, ◌≤◌, ◌↔◌, List, ◌++◌, length, take};
 ghost use Rattle.std.specs.Prelude.{IsTrue, Some, None, false, if◌then◌else◌};
 ghost use Rattle.poly_core.specs.Absorbed.{Absorbed};
 ghost use Rattle.poly_core.specs.Poly1305.{poly1305, pad16};
-ghost use Rattle.aead_core.specs.Aead.{one_time_key, mac_data, tag_of, aead, opened};
+ghost use Rattle.aead_core.specs.Aead.{one_time_key, mac_data, enciphered, tag_of, aead, opened};
 
-use chacha_core::group::GROUP;
 use chacha_core::{apply, block};
 use poly_core::{Mac, same};
-use woven::seal_groups;
 
 pub mod laws;
-mod woven;
-
-// The bytes of a block of ChaCha20, which are four blocks of Poly1305: one step of a run.
-const BLOCK: usize = 64;
 
 // The counter of the text's first block; block 0 gives the one-time key.
 const FIRST: u32 = 1;
 
-// The first 32 bytes of a block.
-fn front(block: &[u8; 64]) -> [u8; 32]
+// The first 32 bytes of a block, which has 64.
+fn first_half(block: &[u8; 64]) -> [u8; 32]
     ensures { result ≡ take 32 block.now }
 {
     let mut bytes = [0; 32];
@@ -38,13 +32,12 @@ fn front(block: &[u8; 64]) -> [u8; 32]
 fn one_time_key(key: &[u8; 32], nonce: &[u8; 12]) -> [u8; 32]
     ensures { result ≡ one_time_key key.now nonce.now }
 {
-    front(&block(key, 0, nonce))
+    first_half(&block(key, 0, nonce))
 }
 
 // The mac of a message, with the associated data and the zeros behind it absorbed (2.8).
 fn begin(key: &[u8; 32], nonce: &[u8; 12], aad: &[u8]) -> Mac
-    ensures absorbed { Absorbed result (one_time_key key.now nonce.now) (aad.now ++ pad16 aad.now) }
-    ensures none_begun { result.rest ≡ [] }
+    ensures { Absorbed result (one_time_key key.now nonce.now) (aad.now ++ pad16 aad.now) }
 {
     let mut front = Mac::new(&one_time_key(key, nonce));
     front.absorb(aad);
@@ -52,7 +45,8 @@ fn begin(key: &[u8; 32], nonce: &[u8; 12], aad: &[u8]) -> Mac
     front
 }
 
-// The tag, where the ciphertext is absorbed behind that: zeros, and the two lengths (2.8).
+// The tag, where the ciphertext is absorbed behind the padded associated data: zeros, and the two
+// lengths (2.8).
 fn finish(mac: Mac, aad: &[u8], ciphertext: &[u8]) -> [u8; 16]
     ensures { (key : List ℕ) → Absorbed mac key ((aad.now ++ pad16 aad.now) ++ ciphertext.now)
         → result ≡ poly1305 key (mac_data aad.now ciphertext.now) }
@@ -73,6 +67,14 @@ fn tag_of(key: &[u8; 32], nonce: &[u8; 12], aad: &[u8], ciphertext: &[u8]) -> [u
     finish(mac, aad, ciphertext)
 }
 
+// Enciphers or deciphers a text, from its first block's counter on (2.8).
+fn encipher(key: &[u8; 32], nonce: &[u8; 12], text: &mut [u8])
+    requires { length text.old ≤ (2 ^ 32 - 1) * 64 }
+    ensures { text.new ≡ enciphered key.now nonce.now text.old }
+{
+    apply(key, nonce, FIRST, text);
+}
+
 /// Seals `text` in place under a key of 32 bytes, a nonce of 12 and associated data: the text
 /// becomes its ciphertext, and the tag of 16 bytes is answered (RFC 8439, 2.8). A text has at most
 /// 2^32 - 1 blocks of 64 bytes.
@@ -81,11 +83,8 @@ pub fn seal_in_place(key: &[u8; 32], nonce: &[u8; 12], aad: &[u8], text: &mut [u
     ensures ciphertext { text.new ≡ (aead key.now nonce.now aad.now text.old).0 }
     ensures tag { result ≡ (aead key.now nonce.now aad.now text.old).1 }
 {
-    let end = text.len() / GROUP * GROUP;
-    let mut mac = seal_groups(begin(key, nonce, aad), key, nonce, &mut text[..end]);
-    apply(key, nonce, FIRST + (end / BLOCK) as u32, &mut text[end..]);
-    mac.absorb(&text[end..]);
-    finish(mac, aad, text)
+    encipher(key, nonce, text);
+    tag_of(key, nonce, aad, text)
 }
 
 /// Whether `tag` is the tag of the associated data and of a ciphertext, under a key of 32 bytes and
@@ -123,7 +122,7 @@ pub fn open_in_place(
         ≡ (if result then Some text.new else None) }
 {
     if check(key, nonce, aad, text, tag) {
-        apply(key, nonce, FIRST, text);
+        encipher(key, nonce, text);
         true
     } else {
         false

@@ -1,4 +1,5 @@
--- Blocks side by side: each word of the states is a vector, with one lane for each block.
+-- Blocks side by side: each word of the states is a vector, with one lane for each block. Clauses of private functions
+-- alone speak of them.
 use Rattle.std.specs.Prelude.{◌≡◌, ℕ, ◌+◌, ◌<◌, List, [], ◌∷◌, slice_index, slice_index_or}
 use Rattle.chacha_core.specs.ChaCha20.{double_rounds, start_state}
 

@@ -1,8 +1,8 @@
 //! Eight blocks side by side: a vector for each word of a state, with a lane for each block (RFC
 //! 8439, 2.1 to 2.4).
 //!
-//! A group is begun by `start_states`, goes through ten of `double_round`, and is XORed with 512
-//! bytes of a text by `xor_group`; between these a caller is free to do other work.
+//! A group begins with `start_states`, goes through ten of `double_round`, and is XORed with 512
+//! bytes of a text by `xor_group`; `apply_group` does these in turn.
 
 ghost use Rattle.std.specs.Prelude.{◌≡◌, ℕ, ◌+◌, ◌*◌, ◌/◌, ◌%◌, ◌^◌, ◌<◌, ◌≤◌, List, [], ◌∷◌, ◌++◌};
 ghost use Rattle.std.specs.Prelude.{length, take, drop, slice_index, slice_index_or};
@@ -13,8 +13,11 @@ ghost use Rattle.chacha_core.specs.Lanes.{lane, UnderWay};
 use crate::state::{DOUBLE_ROUNDS, start_state};
 use std::simd::{u8x32, u32x8};
 
-/// The bytes of a group: eight blocks.
-pub const GROUP: usize = 512;
+/// The blocks of a group.
+pub(crate) const BLOCKS: u32 = 8;
+
+/// The bytes of a group.
+pub(crate) const GROUP: usize = 512;
 
 // The bytes of a vector.
 const ROW: usize = 32;
@@ -174,9 +177,9 @@ fn xor_rows(text: &mut [u8], rows: [u32x8; 16])
     }
 }
 
-/// The states that the eight blocks from counter `first` on begin with (2.3).
+// The states that the eight blocks from counter `first` on begin with (2.3).
 #[inline(always)]
-pub fn start_states(key: &[u8; 32], nonce: &[u8; 12], first: u32) -> [u32x8; 16]
+fn start_states(key: &[u8; 32], nonce: &[u8; 12], first: u32) -> [u32x8; 16]
     requires { first + 8 ≤ 2 ^ 32 }
     ensures { UnderWay 0 key.now nonce.now first result }
 {
@@ -201,9 +204,9 @@ pub fn start_states(key: &[u8; 32], nonce: &[u8; 12], first: u32) -> [u32x8; 16]
     ]
 }
 
-/// One more double round on each of the eight states (2.3.1).
+// One more double round on each of the eight states (2.3.1).
 #[inline(always)]
-pub fn double_round(x: [u32x8; 16]) -> [u32x8; 16]
+fn double_round(x: [u32x8; 16]) -> [u32x8; 16]
     ensures { (n first : ℕ) (key nonce : List ℕ) → UnderWay n key nonce first x
         → UnderWay (n + 1) key nonce first result }
 {
@@ -211,10 +214,10 @@ pub fn double_round(x: [u32x8; 16]) -> [u32x8; 16]
     diagonals(y)
 }
 
-/// XORs the 512 bytes of a text from the place `at` on with a group that began with `start` and is
-/// through its ten double rounds (2.3 and 2.4). The rest of the text stays.
+// XORs the 512 bytes of a text from the place `at` on with a group that began with `start` and is
+// through its ten double rounds (2.3 and 2.4). The rest of the text stays.
 #[inline(always)]
-pub fn xor_group(text: &mut [u8], at: usize, x: [u32x8; 16], start: [u32x8; 16])
+fn xor_group(text: &mut [u8], at: usize, x: [u32x8; 16], start: [u32x8; 16])
     requires { at + 512 ≤ length text.old }
     ensures { (first : ℕ) (key nonce : List ℕ) → UnderWay 0 key nonce first start → UnderWay 10 key nonce first x
         → text.new ≡ take at text.old ++ (chacha20 key nonce first (take 512 (drop at text.old))

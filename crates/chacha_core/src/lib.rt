@@ -2,18 +2,17 @@
 //! keystream. Nothing here takes memory or waits.
 //!
 //! `specs/ChaCha20.antt` has the definitions, in the RFC's terms, and `quarter`, `block` and `apply`
-//! give their definitions' values on every input. What the steps of [`group`] leave is said by
-//! `UnderWay` of `specs/Lanes.antt`.
+//! give their definitions' values on every input.
 #![tactic(auto)]
 
 ghost use Rattle.std.specs.Prelude.{◌≡◌, ◌+◌, ◌/◌, ◌^◌, ◌<◌, ◌≤◌, length};
 ghost use Rattle.chacha_core.specs.ChaCha20.{quarter_round, block, chacha20};
 
-use group::{GROUP, apply_group, apply_part};
+use group::{BLOCKS, GROUP, apply_group, apply_part};
 use state::{block_words, quarter_round, start_state};
 use stream::{block_bytes, xor_block, xor_rest};
 
-pub mod group;
+mod group;
 pub mod laws;
 mod state;
 mod stream;
@@ -21,7 +20,7 @@ mod stream;
 // The bytes of a block.
 const BLOCK: usize = 64;
 
-// The bytes up to which single blocks are no slower than a group.
+// The bytes up to which single blocks are no slower than a group: a measurement (docs/PERFORMANCE.md).
 const FEW: usize = 128;
 
 // The counter's place among the words of a state.
@@ -50,32 +49,33 @@ pub fn apply(key: &[u8; 32], nonce: &[u8; 12], first: u32, text: &mut [u8])
 {
     let groups = text.len() / GROUP;
     'groups: for g in 0..groups {
-        apply_group(key, nonce, first + 8 * g as u32, text, GROUP * g);
+        apply_group(key, nonce, first + BLOCKS * g as u32, text, GROUP * g);
     }
     if text.len() > GROUP * groups {
         apply_behind(
             key,
             nonce,
-            first + 8 * groups as u32,
+            first + BLOCKS * groups as u32,
             &mut text[GROUP * groups..],
         );
     }
 }
 
-// The same, of a text shorter than a group: as the first part of one, where that is worth it and
-// no counter of the group passes 32 bits.
+// Enciphers a text shorter than a group, from its first block's counter on: as the first part of a
+// group, where that is worth it and no counter of the group passes 32 bits, and block by block else.
 fn apply_behind(key: &[u8; 32], nonce: &[u8; 12], first: u32, text: &mut [u8])
     requires { (first + (length text.old + 63) / 64 ≤ 2 ^ 32) × (length text.old < 512) }
     ensures { text.new ≡ chacha20 key.now nonce.now first text.old }
 {
-    if text.len() > FEW && first <= u32::MAX - 7 {
+    if text.len() > FEW && first <= u32::MAX - (BLOCKS - 1) {
         apply_part(key, nonce, first, text);
     } else {
         apply_plain(key, nonce, first, text);
     }
 }
 
-// The same, a block at a time.
+// Enciphers a text of any length, from its first block's counter on, a block at a time. Each counter
+// it uses has 32 bits.
 fn apply_plain(key: &[u8; 32], nonce: &[u8; 12], first: u32, text: &mut [u8])
     requires { first + (length text.old + 63) / 64 ≤ 2 ^ 32 }
     ensures { text.new ≡ chacha20 key.now nonce.now first text.old }

@@ -116,6 +116,7 @@ fn tags_at_and_between_multiples_of_16(rt: HostRuntime) -> Result<(), Fail> {
             text.push((i % 256 * 7 % 256) as u8)?;
         }
         assert!(rt; text.len() <= 10_000);
+        let plain = text.to_vec(rt.alloc())?;
         assert_eq!(rt;
             seal_in_place(&key, nonce, &aad, &mut text),
             *want,
@@ -125,6 +126,12 @@ fn tags_at_and_between_multiples_of_16(rt: HostRuntime) -> Result<(), Fail> {
             check(&key, nonce, &aad, &text, want),
             "{aad_len} and {len}"
         );
+        assert!(rt; text.len() <= 10_000);
+        assert!(rt;
+            open_in_place(&key, nonce, &aad, &mut text, want),
+            "{aad_len} and {len}"
+        );
+        assert_eq!(rt; text.as_slice(), plain.as_slice(), "{aad_len} and {len}");
     }
     Ok(())
 }

@@ -73,9 +73,38 @@ fn apply_is_the_xor_with_joined_blocks(rt: HostRuntime) -> Result<(), Fail> {
     Ok(())
 }
 
-// The last three, four and eight blocks that the counter allows.
+// The last eight blocks that the counter allows, whole and cut, which go by a group.
 #[test]
 fn apply_reaches_the_last_counter_in_lanes(rt: HostRuntime) -> Result<(), Fail> {
+    let (_, key, _, nonce, _) = BLOCKS[0];
+    let stream = joined(rt.alloc(), key, nonce, 4_294_967_288, 8)?;
+    let mut whole = [0; 512];
+    apply(key, nonce, 4_294_967_288, &mut whole);
+    assert_eq!(rt; whole.as_slice(), stream.as_slice());
+    let mut cut = [0; 500];
+    apply(key, nonce, 4_294_967_288, &mut cut);
+    for (now, byte) in cut.iter().zip(stream.iter()) {
+        assert_eq!(rt; *now, *byte, "cut");
+    }
+    Ok(())
+}
+
+// A whole group, and three blocks behind it that reach the last counter: a second group's would pass
+// 32 bits.
+#[test]
+fn apply_reaches_the_last_counter_behind_a_group(rt: HostRuntime) -> Result<(), Fail> {
+    let (_, key, _, nonce, _) = BLOCKS[0];
+    let stream = joined(rt.alloc(), key, nonce, 4_294_967_285, 11)?;
+    let mut text = [0; 704];
+    apply(key, nonce, 4_294_967_285, &mut text);
+    assert_eq!(rt; text.as_slice(), stream.as_slice());
+    Ok(())
+}
+
+// The last three and the last four blocks, which go one by one: a group's counters would pass 32
+// bits.
+#[test]
+fn apply_reaches_the_last_counter_block_by_block(rt: HostRuntime) -> Result<(), Fail> {
     let (_, key, _, nonce, _) = BLOCKS[0];
     let mut three = [0; 192];
     apply(key, nonce, 4_294_967_293, &mut three);
@@ -88,12 +117,6 @@ fn apply_reaches_the_last_counter_in_lanes(rt: HostRuntime) -> Result<(), Fail> 
     assert_eq!(rt;
         four.as_slice(),
         joined(rt.alloc(), key, nonce, 4_294_967_292, 4)?.as_slice()
-    );
-    let mut eight = [0; 512];
-    apply(key, nonce, 4_294_967_288, &mut eight);
-    assert_eq!(rt;
-        eight.as_slice(),
-        joined(rt.alloc(), key, nonce, 4_294_967_288, 8)?.as_slice()
     );
     Ok(())
 }

@@ -3,8 +3,7 @@
 //!
 //! A [`Mac`] doesn't keep the bytes that it absorbed. Its contracts relate it to a key and a
 //! message by `Absorbed` of `specs/Absorbed.antt`, and what a call promises holds of every key and
-//! message to which the mac stands in this relation; those of a [`Run`], which takes in whole blocks
-//! alone, do so by `Running` of `specs/Running.antt`. No other crate sees a limb.
+//! message to which the mac stands in this relation. No other crate sees a limb.
 #![tactic(auto)]
 
 ghost use Rattle.std.specs.Prelude.{◌≡◌, ◌↔◌, IsTrue};
@@ -14,10 +13,8 @@ mod lanes;
 pub mod laws;
 mod limbs;
 mod mac;
-mod run;
 
 pub use mac::Mac;
-pub use run::Run;
 
 /// Whether two tags of 16 bytes are equal. It compares by `==`: nothing is claimed of the time that
 /// it takes.

@@ -1,14 +1,11 @@
 //! The authenticator of a message that comes piece by piece (RFC 8439, 2.5).
 
-ghost use Rattle.std.specs.Prelude.{◌≡◌, ℕ, ◌+◌, ◌-◌, ◌%◌, ◌^◌, ◌<◌, ◌≤◌, List, [], ◌++◌, length};
-ghost use Rattle.poly_core.specs.Poly1305.{prime, poly1305, pad16};
+ghost use Rattle.std.specs.Prelude.{◌≡◌, ◌+◌, ◌-◌, ◌%◌, ◌<◌, ◌≤◌, ℕ, List, [], ◌++◌, length};
+ghost use Rattle.poly_core.specs.Poly1305.{poly1305, pad16};
 ghost use Rattle.poly_core.specs.Absorbed.{Absorbed};
-ghost use Rattle.poly_core.specs.Running.{Running};
-ghost use Rattle.poly_core.specs.Limbs.{value, AllBelow};
 
 use crate::blocks::{BLOCK, absorb_blocks, block_at, cut_block, key_r, key_s};
 use crate::limbs::{Limbs, ZERO, step, tag_number};
-use crate::run::Run;
 use std::marker::Model;
 
 /// Poly1305 under a one-time key, over the bytes absorbed so far.
@@ -96,41 +93,6 @@ impl Mac {
             sum
         };
         tag_number(&total, s).to_le_bytes()
-    }
-
-    /// Begins a run of whole blocks behind the bytes absorbed, of which none may wait for the rest of
-    /// its block.
-    pub fn into_run(self) -> Run
-        requires none_begun { self.rest ≡ [] }
-        ensures { (key message : List ℕ) → Absorbed self key message
-            → Running result key message }
-    {
-        let Mac {
-            r,
-            s,
-            sum,
-            rest: _,
-            filled: _,
-        } = self;
-        Run::start(&r, s, &sum)
-    }
-
-    /// The mac of a sum, with no block begun.
-    pub(crate) fn of(r: &Limbs, s: u128, sum: &Limbs) -> Mac
-        requires key_below { AllBelow (2 ^ 26) r.now }
-        requires sum_below { AllBelow (2 ^ 27) sum.now }
-        ensures r { result.r ≡ value r.now }
-        ensures s { result.s ≡ s }
-        ensures sum { result.sum ≡ value sum.now % prime }
-        ensures rest { result.rest ≡ [] }
-    {
-        Mac {
-            r: *r,
-            s,
-            sum: *sum,
-            rest: [0; BLOCK],
-            filled: 0,
-        }
     }
 
     // How many bytes a block that was begun lacks.
