@@ -164,7 +164,7 @@ fn alter_chunks<R: Print + Threads + Sync>(
     Ok(())
 }
 
-/// Prints what each cut and each alteration answers by so many workers.
+/// Prints what the cuts and alterations answer by so many workers.
 pub fn print<R: Print + Threads + Sync>(rt: &R, alloc: Global, workers: u32) -> Result<()>
     requires { (0 < workers) × (workers ≤ MAX_WORKERS) }
 {

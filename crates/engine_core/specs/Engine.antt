@@ -10,7 +10,7 @@ use Rattle.container_core.specs.declared.fault.SealFault.TheVariants as sealing_
 use Rattle.container_core.specs.Faults.{IsOfBytes}
 use Rattle.container_core.specs.Opening.{opening}
 use Rattle.io_core.specs.Reads.{ConsumesExactly, ConsumesUpTo}
-use Rattle.io_core.specs.Streams.{Appends, AppendsFront, IsAtEnd, Keeps, counted}
+use Rattle.io_core.specs.Streams.{Appends, AppendsFront, IsAtEnd, Keeps, LacksSome, counted}
 
 -- whether a sealing ended by a failed read
 abbrev pub seal_read_failed : {A : Type 0} → Result A SealFault → Bool
@@ -53,6 +53,11 @@ abbrev pub BeginsPlaintext : List ℕ → ℕ → List ℕ → Option (List ℕ)
 BeginsPlaintext key most input old new =
     (plain : List ℕ) × (opening key most input ≡ Ok plain) × AppendsFront old new plain
 
+-- the input opens, and not all of its plaintext was written
+abbrev pub LacksPlaintext : List ℕ → ℕ → List ℕ → Option (List ℕ) → Option (List ℕ) → Type 0
+LacksPlaintext key most input old new =
+    (plain : List ℕ) × (opening key most input ≡ Ok plain) × LacksSome old new plain
+
 -- What an engine that seals did with its reader, which had `left` to be read, and has `left'` now.
 pub record HasReadPlain {A : Type 0} (most : ℕ) (left left' : Option (List ℕ)) (failures failures' : Option ℕ)
     (result : Result A SealFault) : Type 0 where
@@ -72,10 +77,12 @@ pub record HasWrittenContainer (key prefix : List ℕ) (most : ℕ) (left taken 
   -- what was written is the container of the whole input
   pub written : OnOk result (IfSome left (λ input. Appends taken taken' (container key prefix input)))
   pub within : OnOk result (IfSome left (λ input. length input ≤ most))
-  -- where a write failed a beginning of that was written, at another fault nothing
+  -- where a write failed a beginning of that was written, and not all, at another fault nothing
   pub unwritten : result ≢ Err sealing_fault.Write → OnErr result (Keeps taken taken')
   pub begun : result ≡ Err sealing_fault.Write
       → IfSome left (λ input. AppendsFront taken taken' (container key prefix input))
+  pub short : result ≡ Err sealing_fault.Write
+      → IfSome left (λ input. LacksSome taken taken' (container key prefix input))
   -- a failed write is Write, and no other fault is
   pub write : failures' ≡ counted (seal_write_failed result) failures
   -- the answer is the input's length
@@ -99,9 +106,10 @@ pub record HasWrittenPlain (key : List ℕ) (most : ℕ) (left taken taken' : Op
     (failures failures' : Option ℕ) (result : Result ℕ OpenFault) : Type 0 where
   -- what was written is the plaintext of the whole input
   pub written : OnOk result (IfSome left (λ input. WritesPlaintext key most input taken taken'))
-  -- where a write failed a beginning of that was written, at another fault nothing
+  -- where a write failed a beginning of that was written, and not all, at another fault nothing
   pub unwritten : result ≢ Err opening_fault.Write → OnErr result (Keeps taken taken')
   pub begun : result ≡ Err opening_fault.Write → IfSome left (λ input. BeginsPlaintext key most input taken taken')
+  pub short : result ≡ Err opening_fault.Write → IfSome left (λ input. LacksPlaintext key most input taken taken')
   -- a failed write is Write, and no other fault is
   pub write : failures' ≡ counted (open_write_failed result) failures
   -- the answer is the plaintext's length

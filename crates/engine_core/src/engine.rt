@@ -16,7 +16,7 @@ use std::alloc::Global;
 /// Reads all of an input of at most `max_bytes` bytes (2^40 at most) and writes its container under a key and a prefix.
 /// Answers the input's length. `TooLong` where a byte more was read, and nothing past it is; at `TooLong`,
 /// `OutOfMemory` and `Read` nothing was written; at `Write` the whole input was read, and a beginning of its container
-/// was written.
+/// was written, and not the whole.
 pub fn seal_one<R: Source, W: Sink>(
     alloc: Global,
     key: &Key,
@@ -62,8 +62,8 @@ fn plain_one<R: Source>(
 
 /// Reads a container and writes its plaintext, which has at most `max_bytes` bytes (2^40 at most), once every chunk was
 /// checked. Answers the plaintext's length, or the first fault of the container. At every fault but `Write` nothing was
-/// written; at `Write` the whole input was read, and a beginning of its plaintext was written. Of an input that is too
-/// long one byte past the longest container is read.
+/// written; at `Write` the whole input was read, and a beginning of its plaintext was written, and not the whole. Of an
+/// input that is too long one byte past the longest container is read.
 pub fn open_one<R: Source, W: Sink>(
     alloc: Global,
     key: &Key,

@@ -21,7 +21,7 @@ use std::thread::Threads;
 /// Reads all of an input of at most `max_bytes` bytes (2^40 at most) and writes its container under a key and a grant's
 /// prefix, sealed by 1 to 16 workers. Answers the input's length. `TooLong` where a byte more was read, and nothing
 /// past it is; at `TooLong`, `OutOfMemory` and `Read` nothing was written; at `Write` the whole input was read, and a
-/// beginning of its container was written.
+/// beginning of its container was written, and not the whole.
 pub fn run_seal<T: Threads + Sync, R: Source, W: Sink, G: Gate + Sync>(
     rt: &T,
     alloc: Global,
@@ -87,7 +87,7 @@ pub fn run_plain<T: Threads + Sync, R: Source, G: Gate + Sync>(
 
 /// Reads a container and writes its plaintext, once every chunk was checked: `run_plain`, and the writing. Answers the
 /// plaintext's length, or the first fault of the container. At every fault but `Write` nothing was written; at `Write`
-/// the whole input was read, and a beginning of its plaintext was written.
+/// the whole input was read, and a beginning of its plaintext was written, and not the whole.
 pub fn run_open<T: Threads + Sync, R: Source, W: Sink, G: Gate + Sync>(
     rt: &T,
     alloc: Global,

@@ -1,7 +1,8 @@
 //! The engines with workers over readers and writers in memory.
 ghost use Rattle.std.specs.Prelude.{◌<◌, ◌≤◌};
 
-use container_core::{Key, OpenFault, SealFault, seal};
+use crate::one_thread::{EMPTY, PLAIN};
+use container_core::{CHUNK, HEADER, Key, OpenFault, SEALED, SealFault, seal};
 use crew_core::{Free, MAX_WORKERS};
 use crew_tests::{COUNTING, flip, grant_of, pattern};
 use engine_core::{run_open, run_plain, run_seal, run_verify};
@@ -191,6 +192,26 @@ fn a_failed_write_leaves_a_beginning(rt: HostRuntime) -> Result<(), Fail> {
     Ok(())
 }
 
+// A writer that takes all and fails at the next call, which nobody makes.
+#[test]
+fn room_for_all_and_no_more(rt: HostRuntime) -> Result<(), Fail> {
+    for (plain, sealed) in [("", EMPTY.as_slice()), ("plain", PLAIN.as_slice())] {
+        let bytes = plain.len() as u64;
+        let schedule = Schedule::Bytes(sealed.len() as u64);
+        let mut writer = ToMemory::new(rt.alloc(), 64, 7, schedule)?;
+        let reader = FromMemory::new(plain.as_bytes(), 3, Schedule::Never);
+        let (result, way) = seal_from(&rt, rt.alloc(), 0, reader, &mut writer, 9, 2)?;
+        assert!(rt; result == Ok(bytes) && way == Way::Sealed);
+        assert!(rt; writer.bytes() == sealed);
+        let mut writer = ToMemory::new(rt.alloc(), 64, 3, Schedule::Bytes(bytes))?;
+        let reader = FromMemory::new(sealed, 7, Schedule::Never);
+        let result = open_from(&rt, rt.alloc(), reader, &mut writer, 9, 2);
+        assert!(rt; result == Ok(bytes));
+        assert!(rt; writer.bytes() == plain.as_bytes());
+    }
+    Ok(())
+}
+
 // A container of eight chunks with one bit changed in the ciphertext of chunk 5, and one in that of chunk 2.
 fn damaged(alloc: Global) -> Result<Vec<u8>, Fail> {
     let plain = pattern(alloc, 524_288)?;
@@ -215,6 +236,51 @@ fn nothing_of_a_damaged_container_is_written(rt: HostRuntime) -> Result<(), Fail
             "{workers} workers"
         );
         assert!(rt; writer.bytes().is_empty());
+    }
+    Ok(())
+}
+
+// What the plaintext of a container is refused for.
+fn fault_of<R: Threads + Sync>(
+    rt: &R,
+    alloc: Global,
+    bytes: &[u8],
+    workers: u32,
+) -> Option<OpenFault>
+    requires workers { (0 < workers) × (workers ≤ MAX_WORKERS) }
+{
+    let key = Key::new(COUNTING);
+    let mut reader = FromMemory::new(bytes, MOST, Schedule::Never);
+    run_plain(rt, alloc, &key, &mut reader, 1 << 24, workers, &Free).err()
+}
+
+// In the last round of several: no fault stands in its place, `OutOfMemory` among them.
+#[test]
+fn a_late_bad_chunk_is_named(rt: HostRuntime) -> Result<(), Fail> {
+    let plain = pattern(rt.alloc(), 100 * CHUNK)?;
+    let mut bytes = seal(rt.alloc(), &Key::new(COUNTING), PREFIX, plain.as_slice())?;
+    assert!(rt; bytes.len() == HEADER + 100 * SEALED);
+    flip(bytes.as_mut_slice(), HEADER + 97 * SEALED + 1_000, 4);
+    for workers in [1, 3] {
+        let fault = fault_of(&rt, rt.alloc(), bytes.as_slice(), workers);
+        assert!(rt;
+            fault == Some(OpenFault::Forged { chunk: 97 }),
+            "{workers} workers"
+        );
+        let reader = FromMemory::new(bytes.as_slice(), MOST, Schedule::Never);
+        let mut writer = ToMemory::new(rt.alloc(), 64, MOST, Schedule::Never)?;
+        let result = open_from(&rt, rt.alloc(), reader, &mut writer, 1 << 24, workers);
+        assert!(rt;
+            result == Err(OpenFault::Forged { chunk: 97 }),
+            "{workers} workers"
+        );
+        assert!(rt; writer.bytes().is_empty());
+        let reader = FromMemory::new(bytes.as_slice(), MOST, Schedule::Never);
+        let result = verify_from(&rt, rt.alloc(), reader, 1 << 24, workers);
+        assert!(rt;
+            result == Err(OpenFault::Forged { chunk: 97 }),
+            "{workers} workers"
+        );
     }
     Ok(())
 }

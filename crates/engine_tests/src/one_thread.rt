@@ -18,7 +18,7 @@ const COUNTING: [u8; 32] = [
 const PREFIX: [u8; 7] = [0, 0, 1, 0, 0, 0, 0];
 
 // The container of the empty plaintext.
-const EMPTY: [u8; 40] = [
+pub(crate) const EMPTY: [u8; 40] = [
     0x53, 0x54, 0x52, 0x4d, 0x53, 0x45, 0x41, 0x4c, 0x01, 0x10, 0x00, 0x00, 0x01, 0x00, 0x00, 0x00,
     0x00, 0x63, 0x0d, 0xcd, 0x29, 0x66, 0xc4, 0x33, 0x27, 0x55, 0xaa, 0x90, 0x44, 0xd3, 0x91, 0x66,
     0x88, 0xa3, 0x63, 0xf0, 0x4a, 0x03, 0x69, 0x2e,
@@ -39,7 +39,7 @@ const FOUR: [u8; 44] = [
 ];
 
 // The container of `plain`.
-const PLAIN: [u8; 45] = [
+pub(crate) const PLAIN: [u8; 45] = [
     0x53, 0x54, 0x52, 0x4d, 0x53, 0x45, 0x41, 0x4c, 0x01, 0x10, 0x00, 0x00, 0x01, 0x00, 0x00, 0x00,
     0x00, 0x63, 0x0d, 0xcd, 0x29, 0x66, 0xc4, 0x33, 0x2c, 0x79, 0x13, 0x3d, 0x2f, 0x16, 0x74, 0x8c,
     0xfb, 0xf1, 0x94, 0x0b, 0x66, 0xab, 0x1e, 0xd4, 0xc7, 0x05, 0x2b, 0x13, 0x7b,
@@ -288,6 +288,27 @@ fn a_failed_write_leaves_a_beginning_of_the_plaintext(rt: HostRuntime) -> Result
         assert!(rt; result == Err(OpenFault::Write));
         assert!(rt; writer.bytes() == front.as_slice(), "after {bytes}");
         assert!(rt; is_at_end(&mut reader));
+    }
+    Ok(())
+}
+
+// A writer that takes all and fails at the next call, which nobody makes.
+#[test]
+fn room_for_all_and_no_more(rt: HostRuntime) -> Result<(), Fail> {
+    let key = Key::new(COUNTING);
+    for (plain, sealed) in [("", EMPTY.as_slice()), ("plain", PLAIN.as_slice())] {
+        let bytes = plain.len() as u64;
+        let schedule = Schedule::Bytes(sealed.len() as u64);
+        let mut writer = ToMemory::new(rt.alloc(), 64, 7, schedule)?;
+        let mut reader = FromMemory::new(plain.as_bytes(), 3, Schedule::Never);
+        let result = seal_one(rt.alloc(), &key, PREFIX, &mut reader, &mut writer, 9);
+        assert!(rt; result == Ok(bytes));
+        assert_eq!(rt; writer.bytes(), sealed);
+        let mut writer = ToMemory::new(rt.alloc(), 64, 3, Schedule::Bytes(bytes))?;
+        let mut reader = FromMemory::new(sealed, 7, Schedule::Never);
+        let result = open_one(rt.alloc(), &key, &mut reader, &mut writer, 9);
+        assert!(rt; result == Ok(bytes));
+        assert_eq!(rt; writer.bytes(), plain.as_bytes());
     }
     Ok(())
 }

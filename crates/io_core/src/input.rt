@@ -54,7 +54,8 @@ pub fn read_to_limit<R: Source>(
     ensures bytes { IfOk result (λ bytes. Consumes (R.left source.old) (R.left source.new) bytes.items) }
     ensures end { OnOk result (IsAtEnd (R.left source.new)) }
     ensures within { IfOk result (λ bytes. vec_len bytes ≤ max) }
-    ensures too_long { result ≡ Err ReadFault.TooLong → ConsumesExactly (R.left source.old) (R.left source.new) (max + 1) }
+    ensures too_long { result ≡ Err ReadFault.TooLong
+        → ConsumesExactly (R.left source.old) (R.left source.new) (max + 1) }
     ensures err { OnErr result (ConsumesUpTo (R.left source.old) (R.left source.new) (max + 1)) }
     ensures count { R.failures source.new ≡ counted (is_read result) (R.failures source.old) }
 {

@@ -40,7 +40,8 @@ IsWellFormed (first ∷ lines) line = (e : Entry) × IsWritable e × (line ≡ e
 abbrev pub IsSound : List (List ℕ) → Type 0
 IsSound [] = ⊤
 IsSound (first ∷ lines) =
-    (terms : Terms) × (history : List Entry) × (first ∷ lines ≡ journal_lines terms history) × IsLawful terms × Legal terms history
+    (terms : Terms) × (history : List Entry) × (first ∷ lines ≡ journal_lines terms history) × IsLawful terms
+    × Legal terms history
 
 -- an ended line stands behind these, and isn't well formed
 abbrev pub IsIllFormed : List (List ℕ) → List (List ℕ) → Type 0

@@ -93,7 +93,8 @@ pub fn audit<R: Source, W: Sink>(
 
     // The text of a legal journal is legal, with its counts.
     ensures round_trip { IfOk result (λ verdict. (terms : Terms) (history : List Entry) → IsLawful terms
-        → Legal terms history → R.left reader.old ≡ Some (journal_text terms history) → verdict ≡ Verdict.Legal (tally_of history)) }
+        → Legal terms history → R.left reader.old ≡ Some (journal_text terms history)
+        → verdict ≡ Verdict.Legal (tally_of history)) }
 
     // The faults.
     ensures nothing_written { IfErr result (λ fault. fault ≢ AuditFault.Write

@@ -16,34 +16,11 @@ use Rattle.container_core.specs.Stream.{nonce_of, prefix_in, is_nil, sealed_chun
 use Rattle.container_core.proofs.PartsLemmas.{length-chunks}
 use Rattle.container_core.proofs.HeaderLemmas.{prefix_in-header_of}
 use Rattle.container_core.proofs.LawLemmas.{nonce_of-injective}
-use Rattle.ranges_core.specs.Reservations.{TakenRange, Adjacent, end_from}
+use Rattle.ranges_core.specs.Reservations.{TakenRange, Adjacent}
+use Rattle.ranges_core.proofs.Behind.{behind}
 use Rattle.life_core.specs.Life.{Run, Refused, CutOff, Acknowledged, reserved, history_of, IsRun, IsLife, Lives, Grant, HasGrant, prefix_by, stream_nonces, container_nonces, sealed_under}
 
 -- ranges of a list
-
-grows : (from : ℕ) (rs : List TakenRange) → Adjacent from rs → from ≤ end_from from rs
-grows from [] adjacent = omega arith
-grows from (r ∷ more) adjacent =
-    let (begins, some, rest) = adjacent in
-    let h = grows (from + r.size) more rest in
-    let same : end_from (r.lo + r.size) more ≡ end_from (from + r.size) more = ap (λ (m : ℕ). end_from (m + r.size) more) begins in
-    omega arith
-
-behind : (from : ℕ) (rs : List TakenRange) (j : ℕ) (b : TakenRange) → Adjacent from rs → slice_get rs j ≡ Some b
-    → (from ≤ b.lo) × (b.lo + b.size ≤ end_from from rs)
-behind from [] j b adjacent at = absurd (cc)
-behind from (r ∷ more) zero b adjacent at =
-    let (begins, some, rest) = adjacent in
-    let h = grows (from + r.size) more rest in
-    let same : end_from (r.lo + r.size) more ≡ end_from (from + r.size) more = ap (λ (m : ℕ). end_from (m + r.size) more) begins in
-    let lo : r.lo ≡ b.lo = cc in
-    let size : r.size ≡ b.size = cc in
-    (omega arith, omega arith)
-behind from (r ∷ more) (suc j) b adjacent at =
-    let (begins, some, rest) = adjacent in
-    let (lo, end) = behind (from + r.size) more j b rest at in
-    let same : end_from (r.lo + r.size) more ≡ end_from (from + r.size) more = ap (λ (m : ℕ). end_from (m + r.size) more) begins in
-    (omega arith, omega arith)
 
 later : (from : ℕ) (rs : List TakenRange) (i j : ℕ) (a b : TakenRange) → Adjacent from rs → i < j → slice_get rs i ≡ Some a
     → slice_get rs j ≡ Some b → a.lo + a.size ≤ b.lo

@@ -1,4 +1,5 @@
 mod Asks
+pub mod Behind
 mod Effects
 pub mod Lasting
 mod Makes

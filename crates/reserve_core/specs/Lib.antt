@@ -1,3 +1,5 @@
+pub mod Folded
+pub mod NextRun
 pub use Rattle.ranges_core.specs.Calls
 pub use Rattle.ranges_core.specs.Faults
 pub use Rattle.ranges_core.specs.Lasting

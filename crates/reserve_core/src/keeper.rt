@@ -15,9 +15,9 @@ use std::marker::Model;
 
 /// The ranges that were ever reserved, in a database that nobody else writes.
 ///
-/// It stands over a connection. At the end of a run `release` it and close the connection: until then what was
-/// committed to a file stands in the log beside the file (FILE-wal), and the two are one ledger, of which the file
-/// alone is not.
+/// It stands over a connection. What was committed to a file stands in the log beside the file (FILE-wal), and the two
+/// are one ledger, until the log is copied into the file: by `LedgerFile::fold`, or as the connection is closed, once
+/// it was given back by `release`.
 #[derive(Drop)]
 pub struct Keeper<S: Alter> {
     conn: Connection<S>,

@@ -1,11 +1,20 @@
 //! Laws of the lists of ranges, and of the next run over what a crash leaves.
-ghost use Rattle.std.specs.Prelude.{◌≡◌, ℕ, List};
+ghost use Rattle.std.specs.Prelude.{◌≡◌, ◌+◌, ◌≤◌, ℕ, List, [], Some, slice_get};
 ghost use Rattle.sqlite.specs.Effect.{Database, IsDatabase};
-ghost use Rattle.sqlite.specs.Held.{Held, state};
-ghost use Rattle.ranges_core.specs.Lasting.{Begins, Last, LeavesOnlyThis};
-ghost use Rattle.ranges_core.specs.Reservations.{AreApart, Holds, Lists, Opened};
+ghost use Rattle.sqlite.specs.Files.{file_state, over_files};
+ghost use Rattle.sqlite.specs.Held.{Held, IsConnected, state};
+ghost use Rattle.sqlite.specs.State.{HasCleanDisk};
+ghost use Rattle.sqlite_store.specs.FileStore as store;
+ghost use Rattle.sqlite_wal.specs.Files.{outcomes};
+ghost use Rattle.sqlite_wal.specs.Reads.{AreClean};
+ghost use Rattle.sqlite_wal.specs.Recovery.{Image};
+ghost use Rattle.reserve_core.specs.Folded.{AreFolded, LeftBy};
+ghost use Rattle.reserve_core.specs.NextRun.{AreIn, IsFound, PassesOn, PassOn};
+ghost use Rattle.ranges_core.specs.Lasting.{Begins, Keeps, Last, LeavesOnlyThis, StillLast};
+ghost use Rattle.ranges_core.specs.Reservations.{AreApart, Holds, Lists, Opened, TakenRange, next_of};
 
-use sqlite::Alter;
+use sqlite::{Alter, Files};
+use sqlite_disk::Disk;
 
 /// Any two ranges of one key id and device are apart: each ends before a later one begins, so no number is in two.
 pub fn ranges_are_apart()
@@ -27,4 +36,58 @@ pub fn next_run_has_the_ranges<S: Alter, T: Alter>()
         → ∥ (state S.Store was).may_leave (state T.Store found).now.trees ∥₁ → IsDatabase (state T.Store found).now
         → Opened (state T.Store found).now (state T.Store now).now → Holds (state T.Store now).now lists
         → Begins before lists }
+{}
+
+/// What a crash leaves holds the lists. Where all that it may leave of a connection over files has lists that begin with
+/// these, whatever it leaves of the two files holds a database with such lists. `IsConnected` is what every connection
+/// keeps true.
+pub fn a_crash_leaves_the_ranges<D: Disk + Drop>()
+    ensures { (was : _) (before : Lists) → HasCleanDisk (file_state {g = D.Disk} was)
+        → IsConnected (store.view was.store) (store.recovers was.store) was.schema was.saved was.in_transaction
+        → Last (file_state was) before → (files : Image) → (store.state was.store).may_leave files
+        → AreIn before files }
+{}
+
+/// Once a connection over files was folded, the ledger file alone has its lists: whatever a crash leaves of the two files
+/// from then on holds them, with the log as it was left and with none at all.
+pub fn a_folded_file_has_the_ranges<D: Disk + Drop>()
+    ensures { (was : _) (left : Files D) (before : Lists)
+        → LeftBy (over_files {g = D.Disk}) (λ store left. AreClean D.Disk left.log left.db → AreFolded store left)
+        was left
+        → AreClean D.Disk left.log left.db → Keeps before (file_state {g = D.Disk} was).committed.trees
+        → (files : Image) → outcomes D.Disk left.log left.db files
+        → AreIn before files × AreIn before (record files { log = [] }) }
+{}
+
+/// What is in the files, the next run has: a keeper that was made of what a connection found there has lists that begin
+/// with those. The connection may be over another type of disk.
+pub fn the_next_keeper_has_the_ranges<T: Alter>()
+    ensures { (files : Image) (keeper : Held T) (before lists : Lists) → AreIn before files
+        → IsFound T.Store files keeper → Holds (state T.Store keeper).now lists → Begins before lists }
+{}
+
+/// A run passes on what it found, at whatever moment after its opening it is cut off.
+pub fn a_run_passes_on_what_it_found<D: Disk + Drop>()
+    ensures { (files later : Image) (keeper last : _) → IsFound (over_files {g = D.Disk}) files keeper
+        → StillLast over_files keeper last → HasCleanDisk (file_state {g = D.Disk} last)
+        → IsConnected (store.view last.store) (store.recovers last.store) last.schema last.saved last.in_transaction
+        → (store.state last.store).may_leave later → PassesOn files later }
+{}
+
+/// So does one that folded its files, and then also without the log.
+pub fn a_folded_run_passes_on_what_it_found<D: Disk + Drop>()
+    ensures { (files later : Image) (keeper last : _) (left : Files D) → IsFound (over_files {g = D.Disk}) files keeper
+        → StillLast over_files keeper last
+        → LeftBy over_files (λ store left. AreClean D.Disk left.log left.db → AreFolded store left) last left
+        → AreClean D.Disk left.log left.db → outcomes D.Disk left.log left.db later
+        → PassesOn files later × PassesOn files (record later { log = [] }) }
+{}
+
+/// Where files hold a range of a key id and device, and whatever runs pass on what they found, one after another, the number
+/// at which a later run's keeper begins to reserve lies behind that range.
+pub fn a_later_run_reserves_behind<T: Alter>()
+    ensures { (files last : Image) (between : List Image) (keeper : Held T) (before lists : Lists)
+        → AreIn before files → PassOn files between last → IsFound T.Store last keeper
+        → Holds (state T.Store keeper).now lists → (key : List ℕ) (device i : ℕ) (range : TakenRange)
+        → slice_get (before key device) i ≡ Some range → range.lo + range.size ≤ next_of (lists key device) }
 {}

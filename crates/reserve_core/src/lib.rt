@@ -7,8 +7,10 @@
 //! statements are `ranges_core`'s.
 #![tactic(auto)]
 
+pub mod file;
 pub mod keeper;
 pub mod laws;
 
+pub use crate::file::{Fold, LedgerFile};
 pub use crate::keeper::Keeper;
 pub use ranges_core::{NUMBERS, ReserveFault};

@@ -2,7 +2,13 @@
 #![tactic(auto)]
 
 #[cfg(test)]
+mod disk;
+#[cfg(test)]
 mod faults;
+#[cfg(test)]
+mod folds;
+#[cfg(test)]
+mod stops;
 pub mod store;
 #[cfg(test)]
 mod tests;

@@ -70,6 +70,28 @@ pub fn ledger_of_many(alloc: Global, ranges: u32) -> Option<Connection<MemStore>
     Some(conn)
 }
 
+/// A ledger in memory in which the devices from 0 have a range of one number each.
+pub fn ledger_of_devices(alloc: Global, devices: u32) -> Option<Connection<MemStore>> {
+    let mut conn = database(alloc, &[TABLES, "BEGIN"])?;
+    let id = ID.as_slice();
+    for device in 0..devices {
+        put_device(&mut conn, id, device)?;
+    }
+    conn.execute_batch("COMMIT").ok()?;
+    Some(conn)
+}
+
+fn put_device(conn: &mut Connection<MemStore>, id: &[u8], device: u32) -> Option<()> {
+    conn.execute("INSERT INTO mark VALUES (?1, ?2, 1)", params![id, device])
+        .ok()?;
+    conn.execute(
+        "INSERT INTO taken VALUES (?1, ?2, 0, 1)",
+        params![id, device],
+    )
+    .ok()?;
+    Some(())
+}
+
 /// The keeper of a database, or why there is none.
 pub fn keeper<S: Alter + Drop>(conn: Connection<S>) -> Result<Keeper<S>, ReserveFault> {
     match Keeper::open(conn) {

@@ -1,5 +1,7 @@
 //! Reservations, one after the other.
-use crate::store::{ID, database, has_taken, keeper, ledger, ledger_of_many, reserve};
+use crate::store::{
+    ID, database, has_taken, keeper, ledger, ledger_of_devices, ledger_of_many, reserve,
+};
 use journal_core::Device;
 use reserve_core::{Keeper, ReserveFault};
 use std::test::*;
@@ -113,6 +115,17 @@ fn a_ledger_of_25000_ranges_goes_on(rt: HostRuntime) -> Result<(), Fail> {
     assert_eq!(rt; reserve(&mut keeper, &ID, 1, 2), Ok((25_000, 2)));
     let device = Device::new(1).ok_or("device")?;
     assert_eq!(rt; keeper.taken(&ID, device)?.len(), 25_001);
+    Ok(())
+}
+
+#[test]
+fn one_of_4000_devices_and_a_new_one(rt: HostRuntime) -> Result<(), Fail> {
+    let mut keeper = keeper(ledger_of_devices(rt.alloc(), 4_000).ok_or("database")?)?;
+    assert_eq!(rt; reserve(&mut keeper, &ID, 2_000, 2), Ok((1, 2)));
+    assert_eq!(rt; reserve(&mut keeper, &ID, 4_000, 3), Ok((0, 3)));
+    assert!(rt; has_taken(&mut keeper, &ID, 2_000, &[(0, 1), (1, 2)]));
+    assert!(rt; has_taken(&mut keeper, &ID, 1_999, &[(0, 1)]));
+    assert!(rt; has_taken(&mut keeper, &ID, 4_000, &[(0, 3)]));
     Ok(())
 }
 

@@ -1,0 +1,106 @@
+//! The ledger file in a run's hands: its keeper, and after the reservation the files alone.
+ghost use Rattle.std.specs.Prelude.{◌≡◌, ◌≢◌, IfErr, IfOk, MatchResult, OnOk, Err};
+ghost use Rattle.sqlite_wal.specs.Reads.{AreClean};
+ghost use Rattle.sqlite.specs.Held.{Held};
+ghost use Rattle.reserve_core.specs.Folded.{AreFolded, AreLeft, LeftBy};
+
+use crate::keeper::Keeper;
+use ranges_core::ReserveFault;
+use sqlite::{Alter, FileStore, Files, MemStore};
+use sqlite_disk::Disk;
+use sqlite_trees::store::Store;
+
+/// A store whose log can be copied into its file.
+pub trait Fold: Alter + Drop {
+    /// What is left of a store: its files, which are held and neither read nor written any more.
+    type Left: Drop;
+
+    // A crash leaves of this nothing that it couldn't leave of the store.
+    ghost is_left: { Self → Self.Left → Type 0 };
+
+    // The store's last commit stands in the file itself, with the log as a crash leaves it and with none.
+    ghost is_folded: { Self → Self.Left → Type 0 };
+
+    /// Rolls back what wasn't committed, copies the log into the file, and syncs it. Where that fails the log stays.
+    fn fold(self) -> Result<Self::Left, Self::Left>
+        ensures left { MatchResult result (is_left self) (is_left self) }
+        ensures folded { IfOk result (is_folded self) };
+}
+
+impl<D: Disk + Drop> Fold for FileStore<D> {
+    type Left = Files<D>;
+
+    ghost is_left = { AreLeft };
+
+    ghost is_folded = { λ store left. AreClean D.Disk left.log left.db → AreFolded store left };
+
+    fn fold(self) -> Result<Files<D>, Files<D>>
+        ensures left { MatchResult result (AreLeft self) (AreLeft self) }
+        ensures folded { IfOk result (λ left. AreClean D.Disk left.log left.db → AreFolded self left) }
+    {
+        let mut store = self;
+        store.rollback();
+        match store.checkpoint() {
+            Ok(()) => Ok(store.close()),
+            Err(_) => Err(store.close()),
+        }
+    }
+}
+
+// Of memory nothing outlives the process.
+impl Fold for MemStore {
+    type Left = MemStore;
+
+    ghost is_left = { λ store left. left ≡ store };
+
+    ghost is_folded = { λ store left. left ≡ store };
+
+    fn fold(self) -> Result<MemStore, MemStore>
+        ensures left { MatchResult result (λ left. left ≡ self) (λ left. left ≡ self) }
+        ensures folded { IfOk result (λ left. left ≡ self) }
+    {
+        Ok(self)
+    }
+}
+
+/// The ledger file in a run's hands.
+#[derive(Drop)]
+pub enum LedgerFile<S: Fold> {
+    /// Its keeper, which reserves.
+    Kept(Keeper<S>),
+    /// The files, once the log was copied into the ledger file, or that failed. They are held, and nothing reads or writes
+    /// them any more.
+    Folded(S::Left),
+    /// Neither: it stands here only while `fold` moves the files.
+    Gone,
+}
+
+impl<S: Fold> LedgerFile<S> {
+    /// Copies the log into the ledger file and syncs that, so that it has what was committed without its log. A keeper is
+    /// folded once: `Store` comes where the copying failed, and where there is no keeper.
+    pub fn fold(&mut self) -> Result<(), ReserveFault>
+        ensures kept { (k : Held S) → self.old ≡ LedgerFile.Kept k → (left : S.Left)
+            × (self.new ≡ LedgerFile.Folded left) × LeftBy S.Store S.is_left k left
+            × OnOk result (LeftBy S.Store S.is_folded k left) }
+        ensures named { IfErr result (λ e. e ≡ ReserveFault.Store) }
+        ensures other { ((k : Held S) → self.old ≢ LedgerFile.Kept k)
+            → (self.new ≡ self.old) × (result ≡ Err ReserveFault.Store) }
+    {
+        match std::mem::replace(self, LedgerFile::Gone) {
+            LedgerFile::Kept(keeper) => match keeper.release().into_store().fold() {
+                Ok(files) => {
+                    *self = LedgerFile::Folded(files);
+                    Ok(())
+                }
+                Err(files) => {
+                    *self = LedgerFile::Folded(files);
+                    Err(ReserveFault::Store)
+                }
+            },
+            other => {
+                *self = other;
+                Err(ReserveFault::Store)
+            }
+        }
+    }
+}

@@ -1,0 +1,110 @@
+//! The two files of a ledger, in memory, and a disk that stops.
+use crate::store::{ID, has_taken, reserve};
+use reserve_core::Keeper;
+use sqlite::{Alter, Connection, FileStore, Files, Leftover, Options};
+use sqlite_disk::{Crash, Disk, Fuse, Memory};
+use std::alloc::Global;
+
+pub type Stopping = Fuse<Memory>;
+
+/// Which of the two files stops.
+#[derive(Clone, Copy)]
+pub enum Which {
+    Log,
+    Database,
+}
+
+/// What the next run finds of each file: all that was written, as where the program ends, or what was synced.
+#[derive(Clone, Copy, Debug)]
+pub enum Left {
+    Written,
+    /// As after a power cut.
+    Synced,
+    LogSynced,
+    DatabaseSynced,
+}
+
+impl Left {
+    pub const ALL: [Left; 4] = [
+        Left::Written,
+        Left::Synced,
+        Left::LogSynced,
+        Left::DatabaseSynced,
+    ];
+}
+
+/// New files, of which one fails each call after so many.
+pub fn fused(alloc: Global, which: Which, calls: u64) -> Files<Stopping> {
+    let (log_calls, db_calls) = match which {
+        Which::Log => (calls, u64::MAX),
+        Which::Database => (u64::MAX, calls),
+    };
+    Files {
+        log: Fuse::new(Memory::new(alloc), log_calls),
+        db: Fuse::new(Memory::new(alloc), db_calls),
+    }
+}
+
+/// A connection over these files, or the files.
+pub fn connect<D: Disk + Drop>(
+    alloc: Global,
+    files: Files<D>,
+) -> Result<Connection<FileStore<D>>, Files<D>> {
+    if !files.may_be_used() {
+        return Err(files);
+    }
+    match Connection::open_files(alloc, files, few_pages()) {
+        Ok(conn) => Ok(conn),
+        Err((_, left)) => Err(left.into_files()),
+    }
+}
+
+/// A store of little memory, which is filled each time that one is opened.
+fn few_pages() -> Options {
+    let mut options = Options::new(1);
+    options.cache_pages = 50;
+    options.spill_pages = 50;
+    options
+}
+
+/// The files of a connection, with the log as it is.
+pub fn files_of<D: Disk + Drop>(conn: Connection<FileStore<D>>) -> Files<D> {
+    Leftover::Store(conn.into_store()).into_files()
+}
+
+/// What the next run finds of these files.
+pub fn found(alloc: Global, files: Files<Stopping>, left: Left) -> Option<Files<Memory>> {
+    let Files { mut log, mut db } = files;
+    if matches!(left, Left::Synced | Left::LogSynced) {
+        log.crash();
+    }
+    if matches!(left, Left::Synced | Left::DatabaseSynced) {
+        db.crash();
+    }
+    let log = copy(alloc, &log)?;
+    let db = copy(alloc, &db)?;
+    Some(Files { log, db })
+}
+
+/// A file of the same bytes that doesn't stop.
+pub fn copy(alloc: Global, file: &Stopping) -> Option<Memory> {
+    let mut memory = Memory::new(alloc);
+    memory.write_at(0, file.inner().bytes()).ok()?;
+    Some(memory)
+}
+
+/// Whether both tables are there; `None` where one is.
+pub fn has_both_or_none<S: Alter>(conn: &mut Connection<S>) -> Option<bool> {
+    let has_mark = conn.prepare("SELECT next FROM mark").is_ok();
+    let has_taken = conn.prepare("SELECT lo FROM taken").is_ok();
+    if has_mark == has_taken {
+        Some(has_mark)
+    } else {
+        None
+    }
+}
+
+/// Whether device 1 has these ranges, and the next number is this one. If it has them that number is reserved.
+pub fn begins_with<S: Alter>(keeper: &mut Keeper<S>, ranges: &[(u32, u64)], next: u32) -> bool {
+    has_taken(keeper, &ID, 1, ranges) && reserve(keeper, &ID, 1, 1) == Ok((next, 1))
+}
