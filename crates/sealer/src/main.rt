@@ -4,21 +4,37 @@
 //! journal file, or of the program's own reading and writing.
 #![tactic(auto)]
 
+ghost use Rattle.std.specs.Prelude.{◌≡◌, ◌⊎◌, ◌<◌, ◌≤◌, ℕ, Bool, List, length, map, IfOk, if◌then◌else◌};
+ghost use Rattle.sha2.specs.Sha256.{sha256};
+ghost use Rattle.journal_core.specs.declared.entry.Entry.{Entry};
+ghost use Rattle.journal_core.specs.Journal.{terms_of};
+ghost use Rattle.journal_core.specs.Range.{Numbers};
+ghost use Rattle.journal_core.specs.Text.{journal_text};
+ghost use Rattle.sqlite_wal.specs.Files.{image_at};
+ghost use Rattle.sqlite.specs.Files.{file_state, over_files};
+ghost use Rattle.sqlite.specs.State.{HasCleanDisk};
+ghost use Rattle.reserve_core.specs.NextRun.{IsFound};
+ghost use Rattle.sealer_core.specs.Sealing.{FoldsFiles, HasSealed, IsWritten};
+
 use clap::{ArgMatches, Error};
 use command_line::{command, max_bytes, seal_request, workers};
 use container_core::Key;
-use ledger_core::{FromRead, ToWrite};
+use ledger_core::{FromRead, Sink, ToWrite};
 use sealer_core::{
-    KeyFault, OpenOptions, Outs, SealOptions, open_all, read_key, run_audit, seal_all, verify_all,
+    Folder, KeyFault, LedgerFile, MAX_BYTES, MAX_LANES, MAX_WORKERS, OpenOptions, Outs,
+    SealOptions, open_all, read_key, run_audit, seal_all, verify_all,
 };
-use sqlite::Wary;
+use sqlite::{FileFrom, FileStore, Start, Wary};
 use std::alloc::Global;
 use std::fmt::Display;
 use std::io::{Read, Write};
 use std::process::ExitCode;
 use std::rt::{Env, Files};
 use std::thread::Threads;
-use system_files::{SystemFiles, keeper_of, may_open, new_journal, open_unbuffered, stand_ins};
+use system_files::{
+    LedgerFault, LedgerPath, SystemFiles, close_ledger, may_open, new_journal, open_ledger,
+    open_unbuffered, stand_ins,
+};
 
 /// The status of a fault of usage, of the key file, or of the program's own reading and writing.
 const FAULT: u8 = 2;
@@ -103,17 +119,17 @@ fn seal<R: Files + AllocGlobal + Eprint + Threads + Sync, O: Write + Drop, E: Wr
         Ok(key) => key,
         Err(fault) => return complain(rt, "key", fault),
     };
-    if let Err(fault) = may_open(rt, request.ledger, request.may_make) {
+    let ledger = LedgerPath {
+        path: request.ledger,
+        may_make: request.may_make,
+    };
+    if let Err(fault) = may_open(rt, &ledger) {
         return complain(rt, "ledger", fault);
     }
     let mut folder = SystemFiles(rt);
     let journal = match new_journal(&mut folder, request.journal, request.ledger) {
         Ok(journal) => journal,
         Err(fault) => return complain(rt, "journal", fault),
-    };
-    let mut keeper = match keeper_of(host, request.ledger, Wary) {
-        Ok(keeper) => keeper,
-        Err(fault) => return complain(rt, "ledger", fault),
     };
     let options = SealOptions {
         device: request.device,
@@ -127,19 +143,66 @@ fn seal<R: Files + AllocGlobal + Eprint + Threads + Sync, O: Write + Drop, E: Wr
         faults: ToWrite(errors),
         journal,
     };
-    let status = seal_all(
+    match seal_from(
         rt,
-        rt.alloc(),
+        host,
         &key,
-        &mut keeper,
+        &ledger,
+        Wary,
         &mut folder,
         &options,
         &mut out,
-    );
-    // The range is reserved for good already. Closing copies the log beside the ledger file into it; where that fails the log stays,
-    // and the next run reads it.
-    let _ = keeper.release().close();
-    status
+    ) {
+        Ok((status, file)) => {
+            close_ledger(file);
+            status
+        }
+        Err(fault) => complain(rt, "ledger", fault),
+    }
+}
+
+/// Opens this ledger file, and seals the files under a range that is reserved there. The answer is the status, with the
+/// ledger file. `S` stands for what the ledger file and its log hold.
+fn seal_from<
+    R: AllocGlobal + Threads + Sync,
+    S: Start,
+    F: Folder,
+    L: Sink + Drop,
+    E: Sink + Drop,
+    J: Sink + Drop,
+>(
+    rt: &R,
+    host: &HostRuntime,
+    key: &Key,
+    ledger: &LedgerPath<'_>,
+    start: S,
+    folder: &mut F,
+    options: &SealOptions,
+    out: &mut Outs<L, E, J>,
+) -> Result<(u8, LedgerFile<FileStore<FileFrom<S>>>), LedgerFault>
+    requires files { 0 < length options.now.files.now }
+    requires workers { (0 < options.now.workers) × (options.now.workers ≤ MAX_WORKERS) }
+    requires lanes { (0 < options.now.lanes) × (options.now.lanes ≤ MAX_LANES) }
+    requires max_bytes { options.now.max_bytes ≤ MAX_BYTES }
+    // The ledger file was opened as it was found. Then no file was touched; or the files were sealed over a range that was reserved
+    // there and that the file has without its log, with one legal history, which the journal tells.
+    ensures run { IfOk result (λ r. (keeper : _)
+        × (HasCleanDisk (file_state keeper) → IsFound over_files (image_at S.Start) keeper)
+        × (((r.0 ≡ 2) × (F.steps folder.new ≡ F.steps folder.old) × (out.new.lines ≡ out.old.lines)
+        × (out.new.journal ≡ out.old.journal))
+        ⊎ ((range : Numbers) × (history : List Entry) × (told : ℕ) × (written : Bool)
+        × FoldsFiles LedgerFile.Kept LedgerFile.Folded (sha256 key.now) options.now.device
+        (length options.now.files.now) (LedgerFile.Kept keeper) r.1 range
+        × HasSealed (map (λ name. name.now) options.now.files.now) (terms_of range options.now.lanes) history told
+        (L.taken out.old.lines) (L.taken out.new.lines) (L.failures out.old.lines) (L.failures out.new.lines)
+        (F.steps folder.old) (F.steps folder.new)
+        × IsWritten J.taken (journal_text (terms_of range options.now.lanes) history) written
+        out.old.journal out.new.journal
+        × (r.0 ≡ (if written then told else 2))))) }
+{
+    let mut file = open_ledger(host, ledger, start)?;
+    let status = seal_all(rt, rt.alloc(), key, &mut file, folder, options, out);
+    Ok((status, file))
 }
 
 /// Opens or verifies the files, once the key file was read.

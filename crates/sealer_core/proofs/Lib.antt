@@ -1,3 +1,4 @@
+mod Apart
 pub mod Groups
 pub mod Numbering
 pub mod Sealings

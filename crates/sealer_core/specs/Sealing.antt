@@ -14,8 +14,17 @@ use Rattle.ledger_core.specs.declared.fault.IssueFault.{IssueFault}
 use Rattle.ledger_core.specs.declared.fault.IssueFault.TheVariants as issue_fault
 use Rattle.ledger_core.specs.Shared.{SeatView}
 use Rattle.reserve_core.specs.Reservations.{Lists, Holds, next_of, with_range}
+use Rattle.reserve_core.specs.Folded.{AreFolded, LeftBy}
+use Rattle.reserve_core.specs.Lasting.{StillLast}
+use Rattle.sqlite_disk.specs.declared.Disk as disk
+use Rattle.sqlite_disk.specs.declared.Files.{Files}
+use Rattle.sqlite_store.specs.declared.store.FileStore.{FileStore}
+use Rattle.sqlite_wal.specs.Reads.{AreClean}
 use Rattle.sqlite.specs.Effect.{Database}
+use Rattle.sqlite.specs.Files.{over_files}
+use Rattle.sqlite.specs.Held.{Held, state}
 use Rattle.sqlite.specs.State.{State, HasCleanDisk, Survives}
+use Rattle.sqlite_trees.specs.declared.store.Store.{Ghosts}
 use Rattle.sqlite_trees.specs.Tree.{Trees}
 use Rattle.command_core.specs.declared.line.FileFault.{FileFault}
 use Rattle.command_core.specs.declared.line.FileFault.TheVariants.{CannotOpen, OutputExists, CannotCreate, OutOfMemory}
@@ -164,6 +173,29 @@ abbrev pub CrashesAround : List ℕ → ℕ → ℕ → State → State → Type
 CrashesAround key_id device count old new =
     Survives old new (λ trees. (lists : Lists) → Holds old.now lists
     → (db : Database) × Holds db (with_range lists key_id device count) × (trees ≡ db.trees))
+
+-- A ledger file's keeper appended at most one range, whatever outlived a crash still does, and it stands as it then was; or
+-- it was folded, and this is left of it.
+abbrev pub ReservesOnce : {S L F : Type 0} → Ghosts S → (Held S → F) → (L → F) → (S → L → Type 0) → List ℕ → ℕ → ℕ
+    → F → F → Type 0
+ReservesOnce g kept folded is_left key_id device count old new =
+    (was : _) → old ≡ kept was → (mid : _) × AppendsOnce key_id device count (state g was) (state g mid)
+    × CrashesAround key_id device count (state g was) (state g mid) × StillLast g was mid
+    × ((new ≡ kept mid) ⊎ ((left : _) × (new ≡ folded left) × LeftBy g is_left mid left))
+
+-- It appended a range, whatever outlived a crash still does, and it was folded: the file has all this without its log.
+abbrev pub FoldsARange : {S L F : Type 0} → Ghosts S → (Held S → F) → (L → F) → (S → L → Type 0) → List ℕ → ℕ → ℕ
+    → F → F → Numbers → Type 0
+FoldsARange g kept folded is_folded key_id device count old new range =
+    (was : _) × (mid : _) × (left : _) × (old ≡ kept was) × (new ≡ folded left)
+    × IsReserved key_id device count (state g was) (state g mid) range × StillLast g was mid
+    × LeftBy g is_folded mid left
+
+-- so over files, as long as the disk returned what was written
+abbrev pub FoldsFiles : {D F : Type 0} {g : disk.Ghosts D} → (Held (FileStore D g) → F) → (Files D → F) → List ℕ → ℕ → ℕ
+    → F → F → Numbers → Type 0
+FoldsFiles {g} kept folded =
+    FoldsARange over_files kept folded (λ store left. AreClean g left.log left.db → AreFolded store left)
 
 -- Every file was worked, in order and in groups of so many, the last of at most so many; and their lines were told.
 pub record AreGrouped (lanes : ℕ) (names : List (List ℕ)) (status : ℕ) (old new : Option (List ℕ))

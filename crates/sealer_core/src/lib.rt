@@ -8,6 +8,7 @@ mod ending;
 mod group;
 mod lane;
 mod prepare;
+pub mod runs;
 pub mod sealing;
 mod trouble;
 
@@ -21,3 +22,4 @@ pub use engine_core::{
     open_one, run_audit, run_open, run_plain, run_seal, run_verify, seal_one, verify_one,
 };
 pub use life_core as laws;
+pub use reserve_core::LedgerFile;

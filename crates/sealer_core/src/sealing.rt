@@ -1,20 +1,20 @@
 //! The command that seals: one range of file numbers is reserved, and each file is sealed under one of them.
 //!
-//! A range is reserved for good before any file is touched, so a number that a run didn't use is given up. Files are
-//! sealed in turn by one lane, or in groups by several.
+//! A range is reserved for good before any file is touched, and stands in the ledger file itself, so a number that a run
+//! didn't use is given up. Files are sealed in turn by one lane, or in groups by several.
 ghost use Rattle.std.specs.Prelude.{◌≡◌, ◌≢◌, ◌⊎◌, ℕ, Bool, ◌<◌, ◌≤◌, List, length, map, IsTrue, IfOk, OnErr, is_ok};
 ghost use Rattle.std.specs.Prelude.{if◌then◌else◌};
 ghost use Rattle.sha2.specs.Sha256.{sha256};
 ghost use Rattle.sqlite.specs.Held.{state};
-ghost use Rattle.sqlite.specs.State.{HasCleanDisk};
 ghost use Rattle.journal_core.specs.declared.entry.Entry.{Entry};
 ghost use Rattle.journal_core.specs.Journal.{terms_of};
 ghost use Rattle.journal_core.specs.Range.{Numbers};
 ghost use Rattle.journal_core.specs.Text.{journal_text};
 ghost use Rattle.ledger_core.specs.Closing.{AreAllSeats};
 ghost use Rattle.ledger_core.specs.Shared.{fresh_seats};
-ghost use Rattle.sealer_core.specs.Sealing.{AppendsOnce, AreSealed, CrashesAround, HasSealed, IsReserved, IsWritten};
-ghost use Rattle.sealer_core.specs.Sealing.{operations_of};
+ghost use Rattle.reserve_core.specs.Lasting.{StillLast};
+ghost use Rattle.sealer_core.specs.Sealing.{AppendsOnce, AreSealed, CrashesAround, FoldsARange, HasSealed, IsReserved, IsWritten};
+ghost use Rattle.sealer_core.specs.Sealing.{ReservesOnce, operations_of};
 
 use crate::ending::end_ledger;
 use crate::group::seal_groups;
@@ -24,7 +24,7 @@ use command_core::{Folder, MAX_BYTES, Outs};
 use container_core::Key;
 use crew_core::{MAX_LANES, MAX_WORKERS};
 use ledger_core::{Device, Ledger, Range, Seat, Sink};
-use reserve_core::{Keeper, ReserveFault};
+use reserve_core::{Fold, Keeper, LedgerFile, ReserveFault};
 use sqlite::Alter;
 use std::alloc::Global;
 use std::thread::Threads;
@@ -49,7 +49,7 @@ pub struct SealOptions<'a> {
 }
 
 // Reserves as many numbers as there are files.
-fn reserve_for<S: Alter>(
+fn reserve_by<S: Alter>(
     keeper: &mut Keeper<S>,
     key: &Key,
     device: Device,
@@ -57,9 +57,9 @@ fn reserve_for<S: Alter>(
 ) -> Result<Range, RunFault>
     ensures reserved { IfOk result (IsReserved (sha256 key.now) device files (state S.Store keeper.old)
         (state S.Store keeper.new)) }
-    ensures same { HasCleanDisk (state S.Store keeper.new) → IsTrue (state S.Store keeper.new).is_open
-        → OnErr result ((state S.Store keeper.new).now ≡ (state S.Store keeper.old).now) }
+    ensures once { AppendsOnce (sha256 key.now) device files (state S.Store keeper.old) (state S.Store keeper.new) }
     ensures crash { CrashesAround (sha256 key.now) device files (state S.Store keeper.old) (state S.Store keeper.new) }
+    ensures kept { StillLast S.Store keeper.old keeper.new }
 {
     if files > u32::MAX as usize {
         return Err(RunFault::Unreserved(ReserveFault::TooMany));
@@ -70,23 +70,45 @@ fn reserve_for<S: Alter>(
     }
 }
 
+// Reserves as many numbers as there are files, and copies the log into the ledger file.
+fn reserve_for<S: Fold>(
+    file: &mut LedgerFile<S>,
+    key: &Key,
+    device: Device,
+    files: usize,
+) -> Result<Range, RunFault>
+    ensures reserved { IfOk result (FoldsARange S.Store LedgerFile.Kept LedgerFile.Folded S.is_folded (sha256 key.now)
+        device files file.old file.new) }
+    ensures once { ReservesOnce S.Store LedgerFile.Kept LedgerFile.Folded S.is_left (sha256 key.now) device files
+        file.old file.new }
+{
+    let range = match file {
+        LedgerFile::Kept(keeper) => reserve_by(keeper, key, device, files)?,
+        _ => return Err(RunFault::Unreserved(ReserveFault::Store)),
+    };
+    match file.fold() {
+        Ok(()) => Ok(range),
+        Err(fault) => Err(RunFault::Unreserved(fault)),
+    }
+}
+
 // Opens a ledger over a new range, with a seat for each lane.
-fn open_ledger<S: Alter>(
+fn open_ledger<S: Fold>(
     alloc: Global,
     key: &Key,
-    keeper: &mut Keeper<S>,
+    file: &mut LedgerFile<S>,
     device: Device,
     files: usize,
     lanes: u32,
 ) -> Result<(Ledger, Vec<Seat>), RunFault>
-    ensures reserved { IfOk result (λ r. IsReserved (sha256 key.now) device files (state S.Store keeper.old)
-        (state S.Store keeper.new) r.0.terms.range) }
+    ensures reserved { IfOk result (λ r. FoldsARange S.Store LedgerFile.Kept LedgerFile.Folded S.is_folded
+        (sha256 key.now) device files file.old file.new r.0.terms.range) }
     ensures opened { IfOk result (λ r. (r.0.terms.seats ≡ lanes) × AreAllSeats r.0 r.1.items
         × (r.1.items ≡ fresh_seats r.0.ledger r.0.terms lanes)) }
-    ensures once { AppendsOnce (sha256 key.now) device files (state S.Store keeper.old) (state S.Store keeper.new) }
-    ensures crash { CrashesAround (sha256 key.now) device files (state S.Store keeper.old) (state S.Store keeper.new) }
+    ensures once { ReservesOnce S.Store LedgerFile.Kept LedgerFile.Folded S.is_left (sha256 key.now) device files
+        file.old file.new }
 {
-    let range = match reserve_for(keeper, key, device, files) {
+    let range = match reserve_for(file, key, device, files) {
         Ok(range) => range,
         Err(fault) => return Err(fault),
     };
@@ -108,7 +130,8 @@ fn seal_files<T: Threads + Sync, F: Folder, W: Sink>(
     lines: &mut W,
 ) -> u8
     requires all { AreAllSeats ledger.now seats.old }
-    requires lanes { (0 < options.now.lanes) × (options.now.lanes ≤ MAX_LANES) × (ledger.now.terms.seats ≡ options.now.lanes) }
+    requires lanes { (0 < options.now.lanes) × (options.now.lanes ≤ MAX_LANES)
+        × (ledger.now.terms.seats ≡ options.now.lanes) }
     requires fresh { seats.old ≡ fresh_seats ledger.now.ledger ledger.now.terms options.now.lanes }
     requires max_bytes { options.now.max_bytes ≤ MAX_BYTES }
     requires workers { (0 < options.now.workers) × (options.now.workers ≤ MAX_WORKERS) }
@@ -139,7 +162,8 @@ fn work_ledger<T: Threads + Sync, F: Folder, W: Sink, J: Sink>(
     journal: &mut Option<J>,
 ) -> (u8, Result<(), RunFault>)
     requires all { AreAllSeats ledger seats.items }
-    requires lanes { (0 < options.now.lanes) × (options.now.lanes ≤ MAX_LANES) × (ledger.terms.seats ≡ options.now.lanes) }
+    requires lanes { (0 < options.now.lanes) × (options.now.lanes ≤ MAX_LANES)
+        × (ledger.terms.seats ≡ options.now.lanes) }
     requires fresh { seats.items ≡ fresh_seats ledger.ledger ledger.terms options.now.lanes }
     requires max_bytes { options.now.max_bytes ≤ MAX_BYTES }
     requires workers { (0 < options.now.workers) × (options.now.workers ≤ MAX_WORKERS) }
@@ -163,17 +187,18 @@ fn work_ledger<T: Threads + Sync, F: Folder, W: Sink, J: Sink>(
 }
 
 /// Seals each file to its name and `.stm`, which must not be there yet, under a number of its own. The answer is the
-/// exit status: 0 where every file was sealed, 1 where one failed, 2 where no range was reserved or no ledger opened
-/// (then no file was touched), where a line couldn't be written (no further line is tried, and the files and the
-/// journal are still worked), or where the journal couldn't be written whole. Each of these but a line has a text on
-/// standard error. An output whose file failed is removed.
+/// exit status: 0 where every file was sealed, 1 where one failed, 2 where no range was reserved, the ledger file not
+/// folded or no ledger opened (then no file was touched), where a line couldn't be written (no further line is tried,
+/// and the files and the journal are still worked), or where the journal couldn't be written whole. Each of these but a
+/// line has a text on standard error. An output whose file failed is removed.
 ///
 /// One range is reserved at most, with as many numbers as there are files, and for good: what it leaves unused is given
-/// up. Nobody else may write the ledger file, and no ledger file that was copied or restored may be used again with the
-/// same key and device.
+/// up. Before the first file is opened the ledger file is folded, so that it has the range without its log; after that
+/// it is no keeper's, and a further run opens it anew. Nobody else may write the ledger file, and no ledger file that was
+/// copied or restored may be used again with the same key and device.
 pub fn seal_all<
     T: Threads + Sync,
-    S: Alter,
+    S: Fold,
     F: Folder,
     L: Sink + Drop,
     E: Sink + Drop,
@@ -182,7 +207,7 @@ pub fn seal_all<
     rt: &T,
     alloc: Global,
     key: &Key,
-    keeper: &mut Keeper<S>,
+    file: &mut LedgerFile<S>,
     folder: &mut F,
     options: &SealOptions,
     out: &mut Outs<L, E, J>,
@@ -192,13 +217,13 @@ pub fn seal_all<
     requires lanes { (0 < options.now.lanes) × (options.now.lanes ≤ MAX_LANES) }
     requires max_bytes { options.now.max_bytes ≤ MAX_BYTES }
     ensures status { result ≤ 2 }
-    // No file was touched; or the files were sealed over a range that was reserved, with one legal history, which the
-    // journal tells.
+    // No file was touched; or the files were sealed over a range that was reserved, in a ledger file that has it without
+    // its log, with one legal history, which the journal tells.
     ensures run { ((result ≡ 2) × (F.steps folder.new ≡ F.steps folder.old) × (out.new.lines ≡ out.old.lines)
         × (out.new.journal ≡ out.old.journal))
         ⊎ ((range : Numbers) × (history : List Entry) × (told : ℕ) × (written : Bool)
-        × IsReserved (sha256 key.now) options.now.device (length options.now.files.now) (state S.Store keeper.old)
-        (state S.Store keeper.new) range
+        × FoldsARange S.Store LedgerFile.Kept LedgerFile.Folded S.is_folded (sha256 key.now) options.now.device
+        (length options.now.files.now) file.old file.new range
         × HasSealed (map (λ name. name.now) options.now.files.now) (terms_of range options.now.lanes) history told
         (L.taken out.old.lines) (L.taken out.new.lines) (L.failures out.old.lines) (L.failures out.new.lines)
         (F.steps folder.old) (F.steps folder.new)
@@ -206,16 +231,15 @@ pub fn seal_all<
         out.old.journal out.new.journal
         × (result ≡ (if written then told else 2))) }
     ensures complaint { result ≢ 2 → out.new.faults ≡ out.old.faults }
-    // At most one range is appended, and a crash leaves the lists from before or those with it.
-    ensures once { AppendsOnce (sha256 key.now) options.now.device (length options.now.files.now)
-        (state S.Store keeper.old) (state S.Store keeper.new) }
-    ensures crash { CrashesAround (sha256 key.now) options.now.device (length options.now.files.now)
-        (state S.Store keeper.old) (state S.Store keeper.new) }
+    // At most one range is appended, and a crash leaves the lists from before or those with it: up to the fold, and of
+    // what a fold left.
+    ensures once { ReservesOnce S.Store LedgerFile.Kept LedgerFile.Folded S.is_left (sha256 key.now)
+        options.now.device (length options.now.files.now) file.old file.new }
 {
     let opened = open_ledger(
         alloc,
         key,
-        keeper,
+        file,
         options.device,
         options.files.len(),
         options.lanes,

@@ -8,4 +8,8 @@ mod keys;
 #[cfg(test)]
 mod lanes;
 #[cfg(test)]
+mod runs;
+#[cfg(test)]
 mod sealing;
+#[cfg(test)]
+mod stops;

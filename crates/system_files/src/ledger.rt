@@ -1,10 +1,17 @@
 //! The ledger file.
-use reserve_core::{Keeper, ReserveFault};
+ghost use Rattle.std.specs.Prelude.{◌≡◌, IfOk};
+ghost use Rattle.sqlite_wal.specs.Files.{image_at};
+ghost use Rattle.sqlite.specs.Files.{file_state, over_files};
+ghost use Rattle.sqlite.specs.State.{HasCleanDisk};
+ghost use Rattle.reserve_core.specs.NextRun.{IsFound};
+
+use crate::log::{log_adds, log_beside, log_is_begun};
+use reserve_core::{Keeper, LedgerFile, ReserveFault};
 use sqlite::{Connection, FileFrom, FileStore, Start};
-use std::alloc::AllocError;
+use sqlite_disk::Disk;
 use std::fs;
 use std::fs::OpenFile;
-use std::io::ErrorKind;
+use std::io::{self, ErrorKind};
 use std::os::unix::fs::MetadataExt;
 use std::rt::Files;
 use thiserror::Error;
@@ -12,81 +19,103 @@ use thiserror::Error;
 /// Why the ledger file can't be used. The texts are those that the program prints.
 #[derive(Clone, Copy, PartialEq, Eq, Debug, Error)]
 pub enum LedgerFault {
-    /// There is no such folder, the file is no database or can't be read, or another process holds it.
+    /// There is no such folder, the file is no database or can't be read, its log doesn't go with it, its tables are not
+    /// alone, memory was refused, or another process holds it.
     #[error("cannot open")]
     CannotOpen,
     /// The database holds something else.
     #[error("not a ledger")]
     NotLedger,
-    /// There is no ledger file, and none is to be made.
+    /// There is no ledger file, or one without tables, and none is to be made.
     #[error("not there")]
     NotThere,
 }
 
-/// Bytes of a log that holds no page yet: its header, and that of a frame.
-const LOG_WITHOUT_PAGE: u64 = 32 + 24;
+/// Which ledger file a run asks for.
+#[derive(Clone, Copy, Debug)]
+pub struct LedgerPath<'a> {
+    /// Its path. The log lies beside it, where a link leads.
+    pub path: &'a str,
+    /// Whether it is made where there is none.
+    pub may_make: bool,
+}
 
-/// Whether a run may open the ledger file at this path, before anything is opened or made.
+/// Whether a run may open this ledger file, before anything is opened or made.
 ///
-/// `CannotOpen` comes for a log (PATH-wal) with pages beside no ledger file or an empty one: its file was lost or put elsewhere, and the
-/// database would begin anew over it, from number 0. `NotThere` comes where there is no file, or an empty one, and none may be made. A
-/// file of one byte counts as empty, since the database begins its file with a single 0.
+/// `CannotOpen` comes for a log (PATH-wal) that doesn't go with the file: beside no file any that isn't empty, and beside an
+/// empty file any but one that was only begun, since that file was lost or put elsewhere, and the database would begin anew
+/// over it, from number 0; and one with pages with which the file has fewer numbers of some key and device than without it, as
+/// far as the file alone is a ledger and memory suffices to read it. `NotThere` comes where there is no file, or an empty one,
+/// and none may be made. A file of one byte counts as empty, since the database begins its file with a single 0.
 pub fn may_open<R: Files + AllocGlobal>(
     rt: &R,
-    path: &str,
-    may_make: bool,
+    ledger: &LedgerPath<'_>,
 ) -> Result<(), LedgerFault> {
-    let bytes = match fs::metadata(rt, path) {
-        Ok(file) => file.len(),
-        Err(error) if error.kind() == ErrorKind::NotFound => 0,
-        Err(_) => return Err(LedgerFault::CannotOpen),
-    };
-    if bytes > 1 {
-        return Ok(());
-    }
+    let path = ledger.path;
     let Ok(log) = log_beside(rt, path) else {
         return Err(LedgerFault::CannotOpen);
     };
-    match fs::metadata(rt, log.as_str()) {
-        Ok(log) if log.len() > LOG_WITHOUT_PAGE => return Err(LedgerFault::CannotOpen),
-        Ok(_) => {}
-        Err(error) if error.kind() == ErrorKind::NotFound => {}
-        Err(_) => return Err(LedgerFault::CannotOpen),
+    let (Ok(file_bytes), Ok(log_bytes)) = (length_of(rt, path), length_of(rt, log.as_str())) else {
+        return Err(LedgerFault::CannotOpen);
+    };
+    let is_new = file_bytes.unwrap_or(0) <= 1;
+    let goes_with_it = if file_bytes.is_none() {
+        log_bytes.unwrap_or(0) == 0
+    } else if is_new {
+        log_is_begun(rt, log.as_str(), log_bytes)
+    } else {
+        log_adds(rt, path, log.as_str(), log_bytes)
+    };
+    if !goes_with_it {
+        return Err(LedgerFault::CannotOpen);
     }
-    if may_make {
+    if ledger.may_make || !is_new {
         Ok(())
     } else {
         Err(LedgerFault::NotThere)
     }
 }
 
-// The name of the log. It lies where a link to the ledger file leads.
-fn log_beside<R: Files + AllocGlobal>(rt: &R, path: &str) -> Result<String, AllocError> {
-    match fs::canonicalize(rt, path) {
-        Ok(real) => format!(in rt.alloc(); "{}-wal", real.as_str()),
-        Err(_) => format!(in rt.alloc(); "{path}-wal"),
+// The length of a file, where there is one.
+fn length_of<R: Files + AllocGlobal>(rt: &R, path: &str) -> io::Result<Option<u64>> {
+    match fs::metadata(rt, path) {
+        Ok(file) => Ok(Some(file.len())),
+        Err(error) if error.kind() == ErrorKind::NotFound => Ok(None),
+        Err(error) => Err(error),
     }
 }
 
-/// The keeper of the ledger file at this path, which is made where there is none. A path that names no file (an empty one, `:memory:`
-/// or a URI) is refused: two runs must never be without a file between them.
-pub fn keeper_of<S: Start>(
+/// This ledger file, with its keeper; it is made where there is none. A path that names no file (an empty one, `:memory:`
+/// or a URI) is refused: two runs must never be without a file between them. A refusal leaves the log as it is.
+///
+/// Where none may be made, a database without tables is `NotThere`, also one that the opening itself began since the file was
+/// gone. `S` stands for what the files hold, as the database's own way to open a path has it.
+pub fn open_ledger<S: Start>(
     rt: &HostRuntime,
-    path: &str,
+    ledger: &LedgerPath<'_>,
     start: S,
-) -> Result<Keeper<FileStore<FileFrom<S>>>, LedgerFault> {
-    let Ok(connection) = Connection::open_from(rt, path, false, start) else {
+) -> Result<LedgerFile<FileStore<FileFrom<S>>>, LedgerFault>
+    ensures found { IfOk result (λ file. (keeper : _) × (file ≡ LedgerFile.Kept keeper)
+        × (HasCleanDisk (file_state keeper) → IsFound over_files (image_at S.Start) keeper)) }
+{
+    let Ok(connection) = Connection::open_from(rt, ledger.path, false, start) else {
         return Err(LedgerFault::CannotOpen);
     };
+    if !ledger.may_make && connection.schema().tables.is_empty() {
+        return Err(LedgerFault::NotThere);
+    }
     match Keeper::open(connection) {
-        Ok(keeper) => Ok(keeper),
-        Err((fault, connection)) => {
-            let _ = connection.close();
-            match fault {
-                ReserveFault::BadStore => Err(LedgerFault::NotLedger),
-                _ => Err(LedgerFault::CannotOpen),
-            }
-        }
+        Ok(keeper) => Ok(LedgerFile::Kept(keeper)),
+        Err((ReserveFault::BadStore, _)) => Err(LedgerFault::NotLedger),
+        Err(_) => Err(LedgerFault::CannotOpen),
+    }
+}
+
+/// Closes a ledger file. Where no fold was tried its log is copied into it; where that fails the log stays, and the next run
+/// reads it.
+pub fn close_ledger<D: Disk + Drop>(file: LedgerFile<FileStore<D>>) {
+    if let LedgerFile::Kept(keeper) = file {
+        let _ = keeper.release().close();
     }
 }
 

@@ -3,6 +3,7 @@
 
 pub mod files;
 pub mod ledger;
+mod log;
 
 pub use crate::files::{JournalFault, SystemFiles, new_journal, open_unbuffered, stand_ins};
-pub use crate::ledger::{LedgerFault, keeper_of, may_open};
+pub use crate::ledger::{LedgerFault, LedgerPath, close_ledger, may_open, open_ledger};

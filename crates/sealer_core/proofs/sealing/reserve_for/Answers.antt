@@ -1,25 +1,27 @@
-use Rattle.std.proofs.Common.{◌≡◌, List, ℕ, subst}
-use Rattle.sqlite.specs.Effect.{Database}
-use Rattle.sqlite.specs.Held.{state}
-use Rattle.sqlite.specs.State.{Survives}
-use Rattle.reserve_core.specs.Reservations.{Lists, Holds, next_of, with_range}
+use Rattle.std.proofs.Common.{◌≡◌, inl, inr, refl}
 use Rattle.sealer_core.proofs.sealing.reserve_for.Goals as goal
 
+pub returns-in_err-range-in-Kept-clause-once : goal.returns-in_err-range-in-Kept-clause-once
+returns-in_err-range-in-Kept-clause-once g c was is =
+    let same : c.in-Kept.keeper ≡ was = cc in
+    rw (← same) (c.reserve_by.new.keeper, c.reserve_by.ensures.once, c.reserve_by.ensures.crash, c.reserve_by.ensures.kept, inl refl)
+
 pub returns-in-Ok-clause-reserved : goal.returns-in-Ok-clause-reserved
-returns-in-Ok-clause-reserved g c = record {
-  appended = λ clean lists hold.
-      let e = c.in-Ok.ensures.appends clean lists hold in
-      subst (λ (k : List ℕ). (c.in-Ok.range.device ≡ c.args.device) × (c.in-Ok.range.lo ≡ next_of (lists k c.args.device)) × (c.in-Ok.range.size ≡ c.args.files)
-      × Holds (state g.S.Store c.reserve.new.self).now (with_range lists k c.args.device c.args.files)) c.id.ensures (e.0, e.1, e.2, e.4);
-  lasts = λ clean trees left. c.in-Ok.ensures.lasts clean trees left;
-}
+returns-in-Ok-clause-reserved g c =
+    let mid = c.reserve_by.new.keeper in
+    let folded = c.in-Ok.ensures.kept mid refl in
+    (c.in-Kept.keeper, mid, folded.0, c.in-Kept.is, folded.1, c.in_ok-range-in-Kept.ensures.reserved, c.reserve_by.ensures.kept, folded.3)
 
-pub returns-in-Ok-clause-crash : goal.returns-in-Ok-clause-crash
-returns-in-Ok-clause-crash g c =
-    subst (λ (k : List ℕ). Survives (state g.S.Store c.args.keeper.now) (state g.S.Store c.reserve.new.self) (λ trees. (lists : Lists)
-    → Holds (state g.S.Store c.args.keeper.now).now lists → (db : Database) × Holds db (with_range lists k c.args.device c.args.files) × (trees ≡ db.trees))) c.id.ensures c.reserve.ensures.crash
+pub returns-in-Ok-clause-once : goal.returns-in-Ok-clause-once
+returns-in-Ok-clause-once g c was is =
+    let mid = c.reserve_by.new.keeper in
+    let folded = c.in-Ok.ensures.kept mid refl in
+    let same : c.in-Kept.keeper ≡ was = cc in
+    rw (← same) (mid, c.reserve_by.ensures.once, c.reserve_by.ensures.crash, c.reserve_by.ensures.kept, inr (folded.0, folded.1, folded.2))
 
-pub returns-in-Err-clause-crash : goal.returns-in-Err-clause-crash
-returns-in-Err-clause-crash g c =
-    subst (λ (k : List ℕ). Survives (state g.S.Store c.args.keeper.now) (state g.S.Store c.reserve.new.self) (λ trees. (lists : Lists)
-    → Holds (state g.S.Store c.args.keeper.now).now lists → (db : Database) × Holds db (with_range lists k c.args.device c.args.files) × (trees ≡ db.trees))) c.id.ensures c.reserve.ensures.crash
+pub returns-in-Err-clause-once : goal.returns-in-Err-clause-once
+returns-in-Err-clause-once g c was is =
+    let mid = c.reserve_by.new.keeper in
+    let folded = c.in-Err.ensures.kept mid refl in
+    let same : c.in-Kept.keeper ≡ was = cc in
+    rw (← same) (mid, c.reserve_by.ensures.once, c.reserve_by.ensures.crash, c.reserve_by.ensures.kept, inr (folded.0, folded.1, folded.2))

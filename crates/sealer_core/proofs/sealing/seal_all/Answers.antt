@@ -1,5 +1,4 @@
-use Rattle.std.proofs.Common.{◌≡◌, Bool, true, false, Ok, Err, List, map, is_ok, inr, refl, ap, subst}
-use Rattle.journal_core.specs.declared.entry.Entry.{Entry}
+use Rattle.std.proofs.Common.{◌≡◌, Bool, true, false, map, is_ok, inr, refl, ap, subst}
 use Rattle.journal_core.specs.declared.terms.Terms.{Terms}
 use Rattle.journal_core.specs.Journal.{terms_of}
 use Rattle.journal_core.specs.Text.{journal_text}

@@ -1,0 +1,15 @@
+use Rattle.std.proofs.Common.{refl, arith}
+use Rattle.system_files.proofs.ledger.open_ledger.Goals as goal
+
+pub returns-in-Ok-open : goal.returns-in-Ok-open
+returns-in-Ok-open g c =
+    let opening = c.in-Ok.ensures in
+    let keeper = c.in-Ok-open.ensures in
+    record { found = (c.in-Ok-open.keeper, refl, λ clean. record {
+      connection = c.in-Ok.connection;
+      finds = opening.found (omega (arith, keeper.crash.clean, clean));
+      opens = (opening.opened (omega (arith, keeper.crash.clean, clean))).0;
+      live = (opening.opened (omega (arith, keeper.crash.clean, clean))).1;
+      opened = keeper.opened clean;
+      only = keeper.lasts clean;
+    }) }

@@ -1,0 +1,112 @@
+//! The log that a database keeps beside its file (PATH-wal), and whether it goes with the file.
+use sqlite::{Connection, FileStore, Files as DiskFiles, Options, params};
+use sqlite_disk::{Disk, Memory};
+use std::alloc::{AllocError, Global};
+use std::fs;
+use std::rt::Files;
+
+// Bytes of a log that holds no page yet: its header, and that of a frame.
+const WITHOUT_PAGE: u64 = 32 + 24;
+
+// Where a log's header has the number of its round, and that of a log that was begun with its file. Each copying into the file begins
+// a further round, and the first of these is 0.
+const ROUND: usize = 12;
+
+const BEGUN: [u8; 4] = [0xff; 4];
+
+// The name of the log. It lies where a link to the ledger file leads.
+pub(crate) fn log_beside<R: Files + AllocGlobal>(rt: &R, path: &str) -> Result<String, AllocError> {
+    match fs::canonicalize(rt, path) {
+        Ok(real) => format!(in rt.alloc(); "{}-wal", real.as_str()),
+        Err(_) => format!(in rt.alloc(); "{path}-wal"),
+    }
+}
+
+// Whether a log of this length is one that a run left which was killed while it made the file: there is none, it has at most a byte, or
+// it is in its first round and has no page.
+pub(crate) fn log_is_begun<R: Files + AllocGlobal>(rt: &R, log: &str, bytes: Option<u64>) -> bool {
+    match bytes {
+        None | Some(0 | 1) => true,
+        Some(bytes) if bytes > WITHOUT_PAGE => false,
+        Some(_) => match fs::read(rt, log) {
+            Ok(header) => header.len() >= ROUND + 4 && header[ROUND..ROUND + 4] == BEGUN[..],
+            Err(_) => false,
+        },
+    }
+}
+
+// Whether a log of this length only adds to a ledger file: with it no key and device has fewer numbers than without. That of a run
+// that was cut off does; another ledger's needn't. Where the file alone is no ledger, as where a run was killed while it copied its
+// log, there is nothing to compare. Nothing is opened but in memory.
+pub(crate) fn log_adds<R: Files + AllocGlobal>(
+    rt: &R,
+    path: &str,
+    log: &str,
+    bytes: Option<u64>,
+) -> bool {
+    match bytes {
+        Some(bytes) if bytes > WITHOUT_PAGE => {}
+        _ => return true,
+    }
+    let (Ok(db), Ok(log)) = (fs::read(rt, path), fs::read(rt, log)) else {
+        return false;
+    };
+    let Some(mut alone) = opened(rt.alloc(), &[], db.as_slice()) else {
+        return true;
+    };
+    match opened(rt.alloc(), log.as_slice(), db.as_slice()) {
+        Some(mut both) => keeps_marks(&mut alone, &mut both),
+        None => false,
+    }
+}
+
+// A database of these bytes, in memory.
+fn opened(alloc: Global, log: &[u8], db: &[u8]) -> Option<Connection<FileStore<Memory>>> {
+    let log = copied(alloc, log)?;
+    let db = copied(alloc, db)?;
+    if !log.may_be_used() || !db.may_be_used() {
+        return None;
+    }
+    Connection::open_files(alloc, DiskFiles { log, db }, Options::new(0)).ok()
+}
+
+fn copied(alloc: Global, bytes: &[u8]) -> Option<Memory> {
+    let mut file = Memory::new(alloc);
+    if !bytes.is_empty() {
+        file.write_at(0, bytes).ok()?;
+    }
+    Some(file)
+}
+
+// Whether each key and device of the one ledger has its numbers in the other.
+fn keeps_marks(
+    one: &mut Connection<FileStore<Memory>>,
+    other: &mut Connection<FileStore<Memory>>,
+) -> bool {
+    let Ok(marks) = one.query_all("SELECT key_id, device, next FROM mark", &[]) else {
+        return true;
+    };
+    for mark in &marks {
+        let (Ok(key), Ok(device), Ok(next)) = (
+            mark.get::<Vec<u8>>(0),
+            mark.get::<i64>(1),
+            mark.get::<i64>(2),
+        ) else {
+            return false;
+        };
+        if next_in(other, &key, device) < Some(next) {
+            return false;
+        }
+    }
+    true
+}
+
+fn next_in(ledger: &mut Connection<FileStore<Memory>>, key: &Vec<u8>, device: i64) -> Option<i64> {
+    let found = ledger
+        .query_row(
+            "SELECT next FROM mark WHERE key_id = ?1 AND device = ?2",
+            params![key, device],
+        )
+        .ok()?;
+    found.get(0).ok()
+}
