@@ -497,20 +497,39 @@ mkdir life/links
 ln -s ../lost life/links/lost
 run seal --key "$key" --ledger life/links/lost --device 1 life/waits
 wants log-of-no-ledger-by-a-link 2 '' 'ledger: cannot open'
-rm life/lost
-head -c 56 /dev/zero > life/lost-wal
+rm life/lost life/lost-wal
+# a log that was only begun, beside an empty file: a run was killed as it made the ledger
+printf '\067\177\006\202\000\055\342\030\000\000\020\000\377\377\377\377' > life/lost-wal
 cp life/numbers life/first
 run seal --key "$key" --ledger life/lost --device 1 life/first
-wants log-without-a-page 0 'sealed life/first file 0 bytes 1492' ''
+wants begun-log-of-no-ledger 2 '' 'ledger: cannot open'
+: > life/lost
+run seal --key "$key" --ledger life/lost --device 1 life/first
+wants begun-log 0 'sealed life/first file 0 bytes 1492' ''
 rm life/first.stm
 run seal --key "$key" --ledger life/lost --no-new-ledger --device 1 life/first
 wants ledger-is-there 0 'sealed life/first file 1 bytes 1492' ''
+rm life/first.stm
+# the log that a run left, and its file lost or emptied
+cp life/lost-wal life/kept-wal
+: > life/lost
+run seal --key "$key" --ledger life/lost --device 1 life/first
+wants log-of-an-emptied-ledger 2 '' 'ledger: cannot open'
+rm life/lost
+run seal --key "$key" --ledger life/lost --device 1 life/first
+wants log-of-a-lost-ledger 2 '' 'ledger: cannot open'
+is the-left-log-stays cmp -s life/lost-wal life/kept-wal
+is no-lost-ledger-was-made no test -e life/lost
 
 (trap '' XFSZ; ulimit -f 8; exec "$sealer" seal --key "$key" --ledger life/ledger --device 5 life/waits) > out 2> err
 status=$?
 wants ledger-store-fails 2 '' 'ledger: store failed'
 is nothing-was-sealed-without-a-range no test -e life/waits.stm
 if has sqlite3; then
+    sqlite3 life/bare 'CREATE TABLE one (a INTEGER); DROP TABLE one'
+    run seal --key "$key" --ledger life/bare --no-new-ledger --device 1 life/waits
+    wants ledger-without-tables-is-none 2 '' 'ledger: not there'
+    is no-tables-were-made test "$(sqlite3 life/bare 'SELECT count(*) FROM sqlite_master')" = 0
     sqlite3 life/other 'CREATE TABLE mark (a INTEGER)'
     run seal --key "$key" --ledger life/other --device 1 life/waits
     wants ledger-of-others 2 '' 'ledger: not a ledger'

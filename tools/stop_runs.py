@@ -5,8 +5,14 @@ Over one ledger file that lives on, by one lane, two lanes and two workers, the 
 of its calls on files and memory is made to fail (EIO, ENOSPC, EINTR, ENOMEM). After a kill no number may be given out that a container
 already has, and the run after must succeed. After an error the run must end by itself, with a status and a text of README.
 Of all stops, some 2,800, each NIGHTS-th is tried (9 where none is given, which takes a minute), from the NIGHT-th on (0): a run a night
-with NIGHT 0 to 8 tries all, as does one with NIGHTS 1. Prints 'N stops as they should be', or what differs. Needs strace; where it isn't
-there it says so and ends well, and under CI it fails.
+with NIGHT 0 to 8 tries all, as does one with NIGHTS 1.
+
+Then it is killed as it makes a ledger, at each of its calls on files: the next run succeeds. And it is killed right behind its first finished
+output, and of the ledger's two files the log is deleted, cut at 20 lengths, has one bit flipped at 50 places, or is another ledger's, without
+pages and with them: the next run gives a number that no run had, or ends with `ledger: cannot open` and leaves the file as it was; the latter where the
+file is lost or emptied.
+
+Prints 'N stops as they should be', or what differs. Needs strace; where it isn't there it says so and ends well, and under CI it fails.
 """
 import os
 import re
@@ -127,6 +133,122 @@ def stopped(way, call, n, how):
     take(f"the run after {what}")
 
 
+def number_in(name):
+    with open(name, "rb") as file:
+        return int.from_bytes(file.read(17)[13:], "big")
+
+
+def killed_behind_an_output():
+    """A run of two files that is killed as it tells that the first was sealed. The answer is the last number of its range."""
+    subprocess.run(["strace", "-o", "trace", "-e", "trace=write", *command("one lane", ["a", "b"])], stdout=subprocess.DEVNULL, check=True)
+    with open("trace", encoding="utf-8", errors="replace") as file:
+        writes = [line.startswith('write(1, "sealed a ') for line in file]
+    clear()
+    words = ["strace", "-o", "/dev/null", "-e", "trace=write", "-e", f"inject=write:signal=KILL:when={writes.index(True) + 1}"]
+    subprocess.run([*words, *command("one lane", ["a", "b"])], capture_output=True)
+    return number_in("a.stm") + 1
+
+
+def files_of_ledger():
+    with open("ledger", "rb") as ledger, open("ledger-wal", "rb") as log:
+        return ledger.read(), log.read()
+
+
+def put(ledger, log):
+    """Makes these the ledger's two files; a log that is None isn't there."""
+    with open("ledger", "wb") as file:
+        file.write(ledger)
+    if os.path.exists("ledger-wal"):
+        os.remove("ledger-wal")
+    if log is not None:
+        with open("ledger-wal", "wb") as file:
+            file.write(log)
+
+
+def logs_with_pages():
+    """The logs of runs that are killed as they reserve, or copy their log."""
+    logs = []
+    before = files_of_ledger()
+    for n in range(30, 0, -1):
+        put(*before)
+        words = ["strace", "-o", "/dev/null", "-e", "trace=fdatasync", "-e", f"inject=fdatasync:signal=KILL:when={n}"]
+        subprocess.run([*words, *command("one lane", ["b"])], capture_output=True)
+        clear()
+        log = files_of_ledger()[1]
+        if len(log) > 56:
+            logs.append((f"another ledger's, with pages ({n})", log))
+    if not logs:
+        differs("no run left a log with pages")
+    return logs
+
+
+def altered_logs():
+    """One run after each alteration of the log that a killed run left."""
+    global stops
+    # another ledger, and two of its logs
+    subprocess.run(command("one lane", ["a"]), stdout=subprocess.DEVNULL, check=True)
+    clear()
+    mine = files_of_ledger()
+    for name in ("ledger", "ledger-wal"):
+        os.remove(name)
+    killed_behind_an_output()
+    clear()
+    other = files_of_ledger()[1]
+    others = [("another ledger's", other), *logs_with_pages()]
+    put(*mine)
+    last = killed_behind_an_output()
+    if not os.path.exists("a.stm") or os.path.getsize("a.stm") < 200_000 or not os.path.exists("ledger-wal"):
+        differs("the run was not killed behind its first output")
+    clear()
+    ledger, log = files_of_ledger()
+    bits = [round(i * (8 * len(log) - 1) / 49) for i in range(50)] if log else []
+    logs = [("deleted", None), *others]
+    logs += [(f"cut at {at} bytes", log[:at]) for at in sorted({len(log) * i // 20 for i in range(20)})]
+    logs += [(f"bit {bit} flipped", log[: bit // 8] + bytes([log[bit // 8] ^ 1 << bit % 8]) + log[bit // 8 + 1 :]) for bit in bits]
+    for what, lost in ("the ledger lost", True), ("the ledger emptied", False):
+        stops += 1
+        put(b"", log)
+        if lost:
+            os.remove("ledger")
+        run = subprocess.run(command("one lane", ["c"]), capture_output=True, text=True, timeout=60)
+        if (run.returncode, run.stderr) != (2, "ledger: cannot open\n") or os.path.exists("journal"):
+            differs(f"{what}: status {run.returncode}, {run.stdout}{run.stderr}")
+        clear()
+    for what, bytes_of_log in logs:
+        stops += 1
+        put(ledger, bytes_of_log)
+        run = subprocess.run(command("one lane", ["c"]), capture_output=True, text=True, timeout=60)
+        if run.returncode == 0:
+            if number_in("c.stm") <= last:
+                differs(f"the log {what}: number {number_in('c.stm')} was given before, up to {last}")
+        elif (run.returncode, run.stderr) != (2, "ledger: cannot open\n") or files_of_ledger()[0] != ledger:
+            differs(f"the log {what}: status {run.returncode}, {run.stderr}")
+        clear()
+
+
+def first_runs():
+    """Kills a run as it makes the ledger, at each of its calls on files: the next run makes it, or goes on."""
+    global stops
+    mine = files_of_ledger()
+    for call in ("openat", "fsync", "fdatasync", "pwrite64", "write", "ftruncate"):
+        for n in range(1, 100):
+            for name in ("ledger", "ledger-wal"):
+                if os.path.exists(name):
+                    os.remove(name)
+            words = ["strace", "-f", "-qq", "-o", "/dev/null", "-e", f"trace={call}", "-e", f"inject={call}:signal=KILL:when={n}"]
+            run = subprocess.run([*words, *command("one lane", ["b"])], capture_output=True)
+            used = os.path.exists("b.stm") and os.path.getsize("b.stm") >= 17
+            clear()
+            if run.returncode == 0:
+                break
+            stops += 1
+            after = subprocess.run(command("one lane", ["c"]), capture_output=True, text=True, timeout=60)
+            if after.returncode != 0 or used and number_in("c.stm") == 0:
+                differs(f"first run, {call} {n}: the run after has status {after.returncode}, prints {after.stdout}{after.stderr}")
+            clear()
+    put(*mine)
+
+
 with open("a", "w", encoding="ascii") as file:
     file.write("a" * 200_000)
 for name in ("b", "c"):
@@ -143,6 +265,8 @@ for way in WAYS:
                 turn += 1
                 if turn % nights == night % nights:
                     stopped(way, call, n, how)
+first_runs()
+altered_logs()
 os.chdir("/")
 shutil.rmtree(room)
 if bad:
