@@ -5,11 +5,17 @@ pub returns-in-Ok-open : goal.returns-in-Ok-open
 returns-in-Ok-open g c =
     let opening = c.in-Ok.ensures in
     let keeper = c.in-Ok-open.ensures in
-    record { found = (c.in-Ok-open.keeper, refl, λ clean. record {
-      connection = c.in-Ok.connection;
-      finds = opening.found (omega (arith, keeper.crash.clean, clean));
-      opens = (opening.opened (omega (arith, keeper.crash.clean, clean))).0;
-      live = (opening.opened (omega (arith, keeper.crash.clean, clean))).1;
-      opened = keeper.opened clean;
-      only = keeper.lasts clean;
-    }) }
+    record {
+      found = (
+        c.in-Ok-open.keeper,
+        refl,
+        λ clean. record {
+          connection = c.in-Ok.connection;
+          finds = opening.found (omega (arith, keeper.crash.clean, clean));
+          opens = (opening.opened (omega (arith, keeper.crash.clean, clean))).0;
+          live = (opening.opened (omega (arith, keeper.crash.clean, clean))).1;
+          opened = keeper.opened clean;
+          only = keeper.lasts clean;
+        },
+      );
+    }
