@@ -1,6 +1,7 @@
 -- Which fault shows before any chunk is opened, and what opening answers by it.
 use Rattle.std.proofs.Common.{◌≡◌, ℕ, ◌+◌, ◌<◌, ◌≤◌, Bool, true, false, List, length, take, drop, Option, Some, None}
-use Rattle.std.proofs.Common.{Err, not, if◌then◌else◌, ap, sym, ◌∙◌, arith}
+use Rattle.std.proofs.Common.{Err, not, if◌then◌else◌, ap, sym, ◌∙◌, arith, length-take, take-take, get_or-take}
+use Rattle.std.proofs.lemmas.List.{drop-take}
 use Rattle.std.proofs.lemmas.Bool.{false_from_ne_true}
 use Rattle.std.proofs.lemmas.Bool.Decides.{nat_tests}
 use Rattle.std.proofs.lemmas.Option.{none-some}
@@ -58,21 +59,53 @@ early-none key most bytes n few long good =
     grows i m small e = omega arith
 
 -- what refuses the cutting of what stands behind the header
-pub early-refused : (key bytes : List ℕ) (body : ℕ) (fault : OpenFault) → length bytes ≡ 24 + body
-    → length bytes ≤ container_length 1099511627776 → header_fault key bytes ≡ None → RefusesCut body fault
-    → early_fault key 1099511627776 bytes ≡ Some fault
-early-refused key bytes body TooLong long within good refused = absurd (omega arith)
-early-refused key bytes body ShortHeader long within good refused = absurd refused
-early-refused key bytes body BadMagic long within good refused = absurd refused
-early-refused key bytes body BadVersion long within good refused = absurd refused
-early-refused key bytes body BadExponent long within good refused = absurd refused
-early-refused key bytes body KeyMismatch long within good refused = absurd refused
-early-refused key bytes body BadLength long within good refused =
-    early-bad_length key 1099511627776 bytes within good (λ n few e. refused.1 n (omega arith))
-early-refused key bytes body (Forged chunk) long within good refused = absurd refused
-early-refused key bytes body OutOfMemory long within good refused = absurd refused
-early-refused key bytes body Read long within good refused = absurd refused
-early-refused key bytes body Write long within good refused = absurd refused
+pub early-refused : (key : List ℕ) (most : ℕ) (bytes : List ℕ) (body : ℕ) (fault : OpenFault) → most ≤ 1099511627776
+    → length bytes ≡ 24 + body → length bytes ≤ container_length most → header_fault key bytes ≡ None
+    → RefusesCut body fault → early_fault key most bytes ≡ Some fault
+early-refused key most bytes body TooLong few long within good refused = absurd (omega arith)
+early-refused key most bytes body ShortHeader few long within good refused = absurd refused
+early-refused key most bytes body BadMagic few long within good refused = absurd refused
+early-refused key most bytes body BadVersion few long within good refused = absurd refused
+early-refused key most bytes body BadExponent few long within good refused = absurd refused
+early-refused key most bytes body KeyMismatch few long within good refused = absurd refused
+early-refused key most bytes body BadLength few long within good refused =
+    early-bad_length key most bytes within good (λ n small e. refused.1 n (omega arith))
+early-refused key most bytes body (Forged chunk) few long within good refused = absurd refused
+early-refused key most bytes body OutOfMemory few long within good refused = absurd refused
+early-refused key most bytes body Read few long within good refused = absurd refused
+early-refused key most bytes body Write few long within good refused = absurd refused
+
+-- a header's first fault shows in its 24 bytes
+pub header_fault-take : (key bytes : List ℕ) → header_fault key (take 24 bytes) ≡ header_fault key bytes
+unfolding header_fault
+header_fault-take key bytes =
+    let long = length-take 24 bytes in
+    let short : nat_lt (length (take 24 bytes)) 24 ≡ nat_lt (length bytes) 24 = grind (arith, nat_tests) in
+    let magic = take-take 8 24 bytes (omega arith) in
+    let version = get_or-take 24 bytes 8 0 (omega arith) in
+    let exponent = get_or-take 24 bytes 9 0 (omega arith) in
+    let hint : take 7 (drop 17 (take 24 bytes)) ≡ take 7 (drop 17 bytes) =
+    ap (λ (l : List ℕ). take 7 l) (drop-take 17 7 bytes) ∙ take-take 7 7 (drop 17 bytes) (omega arith) in
+    cc
+
+-- what begins with the same 24 bytes has the same fault there
+pub header_fault-front : (key front whole : List ℕ) → take 24 whole ≡ front
+    → header_fault key whole ≡ header_fault key front
+header_fault-front key front whole same =
+    sym (header_fault-take key whole) ∙ ap (λ (l : List ℕ). header_fault key l) same
+
+-- and where it is as long, all that shows early
+pub early-alike : (key bytes other : List ℕ) (most : ℕ) → length bytes ≡ length other → take 24 bytes ≡ take 24 other
+    → early_fault key most bytes ≡ early_fault key most other
+unfolding early_fault
+early-alike key bytes other most long same =
+    let header : header_fault key bytes ≡ header_fault key other =
+    header_fault-front key (take 24 other) bytes same ∙ header_fault-take key other in
+    ap (λ (n : ℕ). first_fault (if nat_lt (container_length most) n then Some TooLong else None)
+    (first_fault (header_fault key bytes) (if not (has_plaintext most n) then Some BadLength else None))) long
+    ∙ ap (λ (f : Option OpenFault).
+    first_fault (if nat_lt (container_length most) (length other) then Some TooLong else None)
+    (first_fault f (if not (has_plaintext most (length other)) then Some BadLength else None))) header
 
 -- the fault that the tests of a container name, from its length to its cutting
 abbrev named_by : (long short alien version exponent hint cut : Bool) → Option OpenFault

@@ -3,4 +3,5 @@ pub mod StreamLemmas
 pub mod HeaderLemmas
 pub mod OpeningLemmas
 pub mod FaultLemmas
+pub mod RoundLemmas
 pub mod LawLemmas

@@ -12,7 +12,8 @@ use Rattle.container_core.specs.Chunks.{parts, cut_every, chunks, sealed_chunks,
 use Rattle.container_core.specs.Chunks.{has_plaintext}
 use Rattle.container_core.specs.Stream.{prefix_in, is_nil, sealed_chunk, opened_chunk, stream}
 use Rattle.container_core.specs.Container.{header_of, container}
-use Rattle.container_core.specs.Opening.{header_fault, first_fault, early_fault, unsealed, unless, opening, joined}
+use Rattle.container_core.specs.Opening.{header_fault, first_fault, early_fault, unsealed, behind, unless, opening}
+use Rattle.container_core.specs.Opening.{joined}
 use Rattle.container_core.proofs.PartsLemmas.{body_count, has_plaintext-of, plaintext_of-has}
 use Rattle.container_core.proofs.StreamLemmas.{length-sealed_chunk, length-stream, unsealed-stream, stream-unsealed}
 use Rattle.container_core.proofs.HeaderLemmas.{length-header_of, good_header, header_fault-good, header-drop}
@@ -78,20 +79,16 @@ container-header key prefix plain header out front named begun =
     ∙ append_assoc front header (stream key header 0 (chunks plain))
     ∙ ap (λ (h : List ℕ). front ++ (h ++ stream key h 0 (chunks plain))) named
 
--- these bytes go before all else
-abbrev pub after : List ℕ → Result (List ℕ) OpenFault → Result (List ℕ) OpenFault
-after front (Ok rest) = Ok (front ++ rest)
-after front (Err fault) = Err fault
+pub behind-behind : (xs ys : List ℕ) (r : Result (List ℕ) OpenFault) → behind xs (behind ys r) ≡ behind (xs ++ ys) r
+behind-behind xs ys (Ok rest) = ap (λ (l : List ℕ). Ok l) (sym (append_assoc xs ys rest))
+behind-behind xs ys (Err fault) = refl
 
-after-after : (xs ys : List ℕ) (r : Result (List ℕ) OpenFault) → after xs (after ys r) ≡ after (xs ++ ys) r
-after-after xs ys (Ok rest) = ap (λ (l : List ℕ). Ok l) (sym (append_assoc xs ys rest))
-after-after xs ys (Err fault) = refl
+pub behind-nil : (r : Result (List ℕ) OpenFault) → behind [] r ≡ r
+behind-nil (Ok rest) = refl
+behind-nil (Err fault) = refl
 
-pub after-nil : (r : Result (List ℕ) OpenFault) → after [] r ≡ r
-after-nil (Ok rest) = refl
-after-nil (Err fault) = refl
-
-joined-some : (forged : OpenFault) (plain : List ℕ) (r : Result (List ℕ) OpenFault) → joined forged (Some plain) r ≡ after plain r
+pub joined-some : (forged : OpenFault) (plain : List ℕ) (r : Result (List ℕ) OpenFault)
+    → joined forged (Some plain) r ≡ behind plain r
 joined-some forged plain (Ok rest) = refl
 joined-some forged plain (Err fault) = refl
 
@@ -110,31 +107,31 @@ unsealed-nil key header number = refl
 
 -- one more chunk was opened
 pub opened_more : (key header : List ℕ) (number : ℕ) (cs : List (List ℕ)) (out plain : List ℕ) (whole : Result (List ℕ) OpenFault) → number < length cs
-    → after out (unsealed key header number (drop number cs)) ≡ whole
+    → behind out (unsealed key header number (drop number cs)) ≡ whole
     → opened_chunk key header number (eqb (number + 1) (length cs)) (get_or cs number []) ≡ Some plain
-    → after (out ++ plain) (unsealed key header (number + 1) (drop (number + 1) cs)) ≡ whole
+    → behind (out ++ plain) (unsealed key header (number + 1) (drop (number + 1) cs)) ≡ whole
 opened_more key header number cs out plain whole below e opens =
     let more = unsealed key header (number + 1) (drop (number + 1) cs) in
-    let step : unsealed key header number (drop number cs) ≡ after plain more =
+    let step : unsealed key header number (drop number cs) ≡ behind plain more =
     unsealed-from key header number cs below
     ∙ ap (λ (o : Option (List ℕ)). joined (Forged number) o more) opens ∙ joined-some (Forged number) plain more in
-    sym (after-after out plain more) ∙ ap (λ (r : Result (List ℕ) OpenFault). after out r) (sym step) ∙ e
+    sym (behind-behind out plain more) ∙ ap (λ (r : Result (List ℕ) OpenFault). behind out r) (sym step) ∙ e
 
 -- it doesn't check
 pub forged_more : (key header : List ℕ) (number : ℕ) (cs : List (List ℕ)) (out : List ℕ) (whole : Result (List ℕ) OpenFault) → number < length cs
-    → after out (unsealed key header number (drop number cs)) ≡ whole
+    → behind out (unsealed key header number (drop number cs)) ≡ whole
     → opened_chunk key header number (eqb (number + 1) (length cs)) (get_or cs number []) ≡ None → whole ≡ Err (Forged number)
 forged_more key header number cs out whole below e fails =
-    sym e ∙ ap (λ (r : Result (List ℕ) OpenFault). after out r)
+    sym e ∙ ap (λ (r : Result (List ℕ) OpenFault). behind out r)
     (unsealed-from key header number cs below
     ∙ ap (λ (o : Option (List ℕ)). joined (Forged number) o (unsealed key header (number + 1) (drop (number + 1) cs))) fails)
 
 -- all of them were opened
 pub opened_all : (key header : List ℕ) (number : ℕ) (cs : List (List ℕ)) (out : List ℕ) (whole : Result (List ℕ) OpenFault) → length cs ≤ number
-    → after out (unsealed key header number (drop number cs)) ≡ whole → whole ≡ Ok out
+    → behind out (unsealed key header number (drop number cs)) ≡ whole → whole ≡ Ok out
 opened_all key header number cs out whole over e =
-    sym e ∙ ap (λ (l : List (List ℕ)). after out (unsealed key header number l)) (drop_all number cs over)
-    ∙ ap (λ (r : Result (List ℕ) OpenFault). after out r) (unsealed-nil key header number)
+    sym e ∙ ap (λ (l : List (List ℕ)). behind out (unsealed key header number l)) (drop_all number cs over)
+    ∙ ap (λ (r : Result (List ℕ) OpenFault). behind out r) (unsealed-nil key header number)
     ∙ ap (λ (l : List ℕ). Ok l) (append-nil out)
 
 -- how many bytes stand behind the header

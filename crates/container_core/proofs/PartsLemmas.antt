@@ -1,8 +1,9 @@
 -- The parts of a list, and the lengths of plaintexts and of their containers.
 use Rattle.std.proofs.Common.{◌≡◌, ℕ, zero, suc, ◌+◌, ◌-◌, ◌*◌, ◌/◌, ◌<◌, ◌≤◌, Bool, true, false, eqb, ◌||◌, inl, inr}
-use Rattle.std.proofs.Common.{List, [], ◌∷◌, length, get_or, take, drop, min, refl, ap, sym, ◌∙◌, arith, zero-add}
-use Rattle.std.proofs.Common.{one-mul, zero-mul}
-use Rattle.std.proofs.lemmas.List.{drop-drop, take_all, take_min, length-drop}
+use Rattle.std.proofs.Common.{List, [], ◌∷◌, ◌++◌, length, get_or, take, drop, min, refl, ap, sym, ◌∙◌, arith}
+use Rattle.std.proofs.Common.{zero-add, one-mul, zero-mul, length-append}
+use Rattle.std.proofs.lemmas.List.{drop-drop, take_all, take_min, take_at, drop_at, take-append-le, drop-append-le}
+use Rattle.std.proofs.lemmas.List.{length-drop}
 use Rattle.std.proofs.lemmas.Bool.{or_cases, cases_Bool}
 use Rattle.std.proofs.lemmas.Bool.Decides.{Decides-eqb}
 use Rattle.container_core.specs.Chunks.{parts, cut_every, chunks, sealed_chunks, chunk_count, body_length}
@@ -75,6 +76,57 @@ is_nil-chunks plain = is_nil-parts 65536 ((length plain - 1) / 65536) plain
 pub is_nil-sealed_chunks : (body : List ℕ) → is_nil (sealed_chunks body) ≡ false
 unfolding sealed_chunks cut_every
 is_nil-sealed_chunks body = is_nil-parts 65552 ((length body - 1) / 65552) body
+
+-- whole parts, and the parts of what stands behind them
+parts-append : (size k m : ℕ) (xs ys : List ℕ) → length xs ≡ suc k * size
+    → parts size (k + suc m) (xs ++ ys) ≡ parts size k xs ++ parts size m ys
+unfolding parts
+parts-append size zero m xs ys is =
+    let one : length xs ≡ size = rw (one-mul size) at is in
+    ap (λ (n : ℕ). parts size n (xs ++ ys)) (zero-add (suc m))
+    ∙ ap (λ (p : List ℕ). p ∷ parts size m (drop size (xs ++ ys))) (take_at xs ys size one)
+    ∙ ap (λ (rest : List ℕ). xs ∷ parts size m rest) (drop_at xs ys size one)
+parts-append size (suc k) m xs ys is =
+    let more = more_size (suc k) size in
+    let left = length-drop size xs in
+    let room : size ≤ length xs = omega arith in
+    let next : suc k + suc m ≡ suc (k + suc m) = omega arith in
+    ap (λ (n : ℕ). parts size n (xs ++ ys)) next
+    ∙ ap (λ (p : List ℕ). p ∷ parts size (k + suc m) (drop size (xs ++ ys))) (take-append-le size xs ys room)
+    ∙ ap (λ (rest : List ℕ). take size xs ∷ parts size (k + suc m) rest) (drop-append-le size xs ys room)
+    ∙ ap (λ (ps : List (List ℕ)). take size xs ∷ ps) (parts-append size k m (drop size xs) ys (omega arith))
+
+pub chunks-append : (xs ys : List ℕ) (k : ℕ) → length xs ≡ k * 65536 → 0 < k → 0 < length ys
+    → chunks (xs ++ ys) ≡ chunks xs ++ chunks ys
+unfolding chunks cut_every
+chunks-append xs ys zero is some more = absurd (omega arith)
+chunks-append xs ys (suc k) is some more =
+    let both = length-append xs ys in
+    let all : (length (xs ++ ys) - 1) / 65536 ≡ k + suc ((length ys - 1) / 65536) = omega arith in
+    let front : k ≡ (length xs - 1) / 65536 = omega arith in
+    ap (λ (n : ℕ). parts 65536 n (xs ++ ys)) all
+    ∙ parts-append 65536 k ((length ys - 1) / 65536) xs ys is
+    ∙ ap (λ (n : ℕ). parts 65536 n xs ++ chunks ys) front
+
+pub sealed_chunks-append : (xs ys : List ℕ) (k : ℕ) → length xs ≡ k * 65552 → 0 < k → 0 < length ys
+    → sealed_chunks (xs ++ ys) ≡ sealed_chunks xs ++ sealed_chunks ys
+unfolding sealed_chunks cut_every
+sealed_chunks-append xs ys zero is some more = absurd (omega arith)
+sealed_chunks-append xs ys (suc k) is some more =
+    let both = length-append xs ys in
+    let all : (length (xs ++ ys) - 1) / 65552 ≡ k + suc ((length ys - 1) / 65552) = omega arith in
+    let front : k ≡ (length xs - 1) / 65552 = omega arith in
+    ap (λ (n : ℕ). parts 65552 n (xs ++ ys)) all
+    ∙ parts-append 65552 k ((length ys - 1) / 65552) xs ys is
+    ∙ ap (λ (n : ℕ). parts 65552 n xs ++ sealed_chunks ys) front
+
+pub length-whole_chunks : (xs : List ℕ) (k : ℕ) → length xs ≡ k * 65536 → 0 < k → length (chunks xs) ≡ k
+unfolding chunks cut_every
+length-whole_chunks xs k is some = let parted = length-parts 65536 ((length xs - 1) / 65536) xs in omega arith
+
+pub length-whole_sealed_chunks : (xs : List ℕ) (k : ℕ) → length xs ≡ k * 65552 → 0 < k → length (sealed_chunks xs) ≡ k
+unfolding sealed_chunks cut_every
+length-whole_sealed_chunks xs k is some = let parted = length-parts 65552 ((length xs - 1) / 65552) xs in omega arith
 
 -- a body has as many sealed chunks as its plaintext has chunks
 pub body_count : (n body : ℕ) → body ≡ body_length n → (body - 1) / 65552 ≡ (n - 1) / 65536

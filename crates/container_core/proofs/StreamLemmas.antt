@@ -1,14 +1,15 @@
 -- STREAM of the chunks of a plaintext, and opening it again.
-use Rattle.std.proofs.Common.{◌≡◌, ℕ, zero, suc, ◌+◌, ◌-◌, ◌*◌, ◌≤◌, Bool, true, List, [], ◌∷◌, ◌++◌, length, take}
-use Rattle.std.proofs.Common.{drop, Option, Some, None, Result, Ok, Err, refl, ap, sym, ◌∙◌, arith, take-append-drop}
-use Rattle.std.proofs.Common.{length-append, length-take-le}
+use Rattle.std.proofs.Common.{◌≡◌, ℕ, zero, suc, ◌+◌, ◌-◌, ◌*◌, ◌≤◌, Bool, true, ◌&&◌, List, [], ◌∷◌, ◌++◌, length}
+use Rattle.std.proofs.Common.{take, drop, Option, Some, None, Result, Ok, Err, refl, ap, sym, ◌∙◌, arith}
+use Rattle.std.proofs.Common.{take-append-drop, length-append, length-take-le}
+use Rattle.std.proofs.Math.Bool.{and-true}
 use Rattle.std.proofs.lemmas.List.{append-nil, length-drop, take_at, drop_at}
 use Rattle.aead_core.specs.Aead.{enciphered, tag_of, opened}
 use Rattle.aead_core.proofs.AeadLemmas.{length-enciphered, length-tag_of, opened-aead, aead-opened}
 use Rattle.container_core.specs.declared.fault.OpenFault.{OpenFault}
 use Rattle.container_core.specs.declared.fault.OpenFault.TheVariants.{Forged}
 use Rattle.container_core.specs.Chunks.{parts}
-use Rattle.container_core.specs.Stream.{nonce_of, prefix_in, is_nil, sealed_chunk, opened_chunk, stream}
+use Rattle.container_core.specs.Stream.{nonce_of, prefix_in, is_nil, sealed_chunk, opened_chunk, stream, stream_by}
 use Rattle.container_core.specs.Opening.{unsealed, joined}
 use Rattle.container_core.proofs.PartsLemmas.{is_nil-parts}
 
@@ -59,24 +60,42 @@ length-opened_chunk key header number last sealed plain e =
     sym (ap (λ (l : List ℕ). length l) (sealed_chunk-opened_chunk key header number last sealed plain e))
     ∙ length-sealed_chunk key header number last plain
 
--- STREAM adds a tag to each chunk
-pub length-stream : (key header : List ℕ) (number full : ℕ) (plain : List ℕ)
-    → length (stream key header number (parts 65536 full plain)) ≡ length plain + 16 * (full + 1)
-unfolding stream parts
-length-stream key header number zero plain =
-    let one = length-sealed_chunk key header number true plain in
-    let sealed = sealed_chunk key header number true plain in
+-- a last round is STREAM
+pub stream_by-true : (key header : List ℕ) (number : ℕ) (cs : List (List ℕ))
+    → stream_by key header number true cs ≡ stream key header number cs
+unfolding stream_by stream
+stream_by-true key header number [] = refl
+stream_by-true key header number (c ∷ cs) =
+    ap (λ (b : Bool). sealed_chunk key header number b c ++ stream_by key header (number + 1) true cs)
+    (and-true (is_nil cs))
+    ∙ ap (λ (s : List ℕ). sealed_chunk key header number (is_nil cs) c ++ s) (stream_by-true key header (number + 1) cs)
+
+-- a round adds a tag to each chunk
+pub length-stream_by : (key header : List ℕ) (number : ℕ) (last : Bool) (full : ℕ) (plain : List ℕ)
+    → length (stream_by key header number last (parts 65536 full plain)) ≡ length plain + 16 * (full + 1)
+unfolding stream_by parts
+length-stream_by key header number last zero plain =
+    let one = length-sealed_chunk key header number last plain in
+    let sealed = sealed_chunk key header number last plain in
     let all = length-append sealed [] in
     omega arith
-length-stream key header number (suc full) plain =
+length-stream_by key header number last (suc full) plain =
     let rest = parts 65536 full (drop 65536 plain) in
-    let sealed = sealed_chunk key header number (is_nil rest) (take 65536 plain) in
-    let one = length-sealed_chunk key header number (is_nil rest) (take 65536 plain) in
-    let more = length-stream key header (number + 1) full (drop 65536 plain) in
-    let all = length-append sealed (stream key header (number + 1) rest) in
+    let ends = is_nil rest && last in
+    let sealed = sealed_chunk key header number ends (take 65536 plain) in
+    let one = length-sealed_chunk key header number ends (take 65536 plain) in
+    let more = length-stream_by key header (number + 1) last full (drop 65536 plain) in
+    let all = length-append sealed (stream_by key header (number + 1) last rest) in
     let cut = length-append (take 65536 plain) (drop 65536 plain) in
-    let whole : length (take 65536 plain ++ drop 65536 plain) ≡ length plain = ap (λ (l : List ℕ). length l) (take-append-drop 65536 plain) in
+    let whole : length (take 65536 plain ++ drop 65536 plain) ≡ length plain =
+    ap (λ (l : List ℕ). length l) (take-append-drop 65536 plain) in
     omega arith
+
+pub length-stream : (key header : List ℕ) (number full : ℕ) (plain : List ℕ)
+    → length (stream key header number (parts 65536 full plain)) ≡ length plain + 16 * (full + 1)
+length-stream key header number full plain =
+    ap (λ (s : List ℕ). length s) (sym (stream_by-true key header number (parts 65536 full plain)))
+    ∙ length-stream_by key header number true full plain
 
 -- a chunk that checks, before others that do
 pub unsealed-cons : (key header : List ℕ) (number : ℕ) (sealed : List ℕ) (rest : List (List ℕ)) (last : Bool) (plain more : List ℕ)
@@ -128,7 +147,8 @@ pub record FirstOpens (key header : List ℕ) (number : ℕ) (sealed : List ℕ)
   pub ends : unsealed key header (number + 1) rest ≡ Ok more
   pub all : plain ≡ chunk ++ more
 
-parted : (forged : OpenFault) (o : Option (List ℕ)) (r : Result (List ℕ) OpenFault) (plain : List ℕ) → joined forged o r ≡ Ok plain
+pub parted : (forged : OpenFault) (o : Option (List ℕ)) (r : Result (List ℕ) OpenFault) (plain : List ℕ)
+    → joined forged o r ≡ Ok plain
     → (chunk : List ℕ) × (more : List ℕ) × (o ≡ Some chunk) × (r ≡ Ok more) × (plain ≡ chunk ++ more)
 parted forged None r plain e = cc
 parted forged (Some chunk) (Ok more) plain e = (chunk, more, refl, refl, cc)

@@ -1,6 +1,6 @@
 -- Opening: the first fault of a container, or its plaintext.
-use Rattle.std.specs.Prelude.{ℕ, ◌+◌, ◌==◌, nat_lt, not, List, [], ◌∷◌, ◌++◌, length, take, drop, slice_index, Option}
-use Rattle.std.specs.Prelude.{Some, None, Result, Ok, Err, if◌then◌else◌}
+use Rattle.std.specs.Prelude.{ℕ, ◌+◌, ◌==◌, ◌&&◌, nat_lt, not, Bool, List, [], ◌∷◌, ◌++◌, length, take, drop}
+use Rattle.std.specs.Prelude.{slice_index, Option, Some, None, Result, Ok, Err, if◌then◌else◌}
 use Rattle.std.specs.Str.{bytes_eq}
 use Rattle.container_core.specs.declared.fault.OpenFault.{OpenFault}
 use Rattle.container_core.specs.declared.fault.OpenFault.TheVariants.{TooLong, ShortHeader, BadMagic, BadVersion}
@@ -41,6 +41,19 @@ unfoldable pub unsealed : List ℕ → List ℕ → ℕ → List (List ℕ) → 
 unsealed key header number [] = Ok []
 unsealed key header number (sealed ∷ rest) =
     joined (Forged number) (opened_chunk key header number (is_nil rest) sealed) (unsealed key header (number + 1) rest)
+
+-- a round opened: some sealed chunks, the first of which has this number, and whether the last of them is the whole's
+-- last
+unfoldable pub unsealed_by : List ℕ → List ℕ → ℕ → Bool → List (List ℕ) → Result (List ℕ) OpenFault
+unsealed_by key header number last [] = Ok []
+unsealed_by key header number last (sealed ∷ rest) =
+    joined (Forged number) (opened_chunk key header number (is_nil rest && last) sealed)
+    (unsealed_by key header (number + 1) last rest)
+
+-- the plaintext of what follows stands behind this one, unless it has a fault
+abbrev pub behind : List ℕ → Result (List ℕ) OpenFault → Result (List ℕ) OpenFault
+behind front (Ok rest) = Ok (front ++ rest)
+behind front (Err fault) = Err fault
 
 -- a fault, or else an answer
 abbrev pub unless : Option OpenFault → Result (List ℕ) OpenFault → Result (List ℕ) OpenFault

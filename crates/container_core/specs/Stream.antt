@@ -1,6 +1,6 @@
 -- STREAM (Hoang, Reyhanitabar, Rogaway, Vizár, CRYPTO 2015) over the AEAD of RFC 8439: each chunk is sealed under a
 -- nonce that encodes a prefix, the chunk's number and whether it is the last. Here the associated data is the header.
-use Rattle.std.specs.Prelude.{ℕ, ◌+◌, ◌-◌, Bool, true, false, List, [], ◌∷◌, ◌++◌, length, take, drop, Option}
+use Rattle.std.specs.Prelude.{ℕ, ◌+◌, ◌-◌, ◌&&◌, Bool, true, false, List, [], ◌∷◌, ◌++◌, length, take, drop, Option}
 use Rattle.std.specs.Prelude.{if◌then◌else◌}
 use Rattle.std.specs.Int.{w32, to_be_bytes}
 use Rattle.aead_core.specs.Aead.{aead, opened}
@@ -30,6 +30,12 @@ unfoldable pub stream : List ℕ → List ℕ → ℕ → List (List ℕ) → Li
 stream key header number [] = []
 stream key header number (chunk ∷ rest) =
     sealed_chunk key header number (is_nil rest) chunk ++ stream key header (number + 1) rest
+
+-- a round of STREAM: some chunks, the first of which has this number, and whether the last of them is the whole's last
+unfoldable pub stream_by : List ℕ → List ℕ → ℕ → Bool → List (List ℕ) → List ℕ
+stream_by key header number last [] = []
+stream_by key header number last (chunk ∷ rest) =
+    sealed_chunk key header number (is_nil rest && last) chunk ++ stream_by key header (number + 1) last rest
 
 -- the plaintext of a sealed chunk, where its last 16 bytes, a tag, are the tag of those before
 unfoldable pub opened_chunk : List ℕ → List ℕ → ℕ → Bool → List ℕ → Option (List ℕ)

@@ -10,7 +10,7 @@ ghost use Rattle.container_core.specs.Stream.{nonce_of, sealed_chunk, opened_chu
 use crate::header::Header;
 use crate::key::Key;
 use crate::{CHUNK, SEALED, TAG};
-use aead_core::{open_in_place, seal_in_place};
+use aead_core::{check, open_in_place, seal_in_place};
 use std::alloc::AllocError;
 
 /// The nonce of a chunk: the prefix, the number in 4 big-endian bytes, and 1 for the last chunk, else 0.
@@ -117,4 +117,18 @@ pub fn append_opened(
         out.truncate(begin);
         false
     }
+}
+
+/// Whether the last 16 bytes of a sealed chunk are its right tag. It only reads.
+pub fn check_chunk(key: &Key, header: &Header, number: u32, last: bool, sealed: &[u8]) -> bool
+    requires { TAG ≤ length sealed.now }
+    ensures checks { OnTrue result ((plain : List ℕ)
+        × (opened_chunk key.now header.now number last sealed.now ≡ Some plain)) }
+    ensures refused { OnFalse result (opened_chunk key.now header.now number last sealed.now ≡ None) }
+{
+    let (text, end) = sealed.split_at(sealed.len() - TAG);
+    let mut tag = [0; TAG];
+    tag.copy_from_slice(end);
+    let nonce = nonce(header.prefix(), number, last);
+    check(key.bytes(), &nonce, header.as_bytes(), text, &tag)
 }

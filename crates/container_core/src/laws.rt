@@ -1,13 +1,13 @@
 //! What follows of the definitions alone, each law the contract of a function that does nothing.
-ghost use Rattle.std.specs.Prelude.{◌≡◌, ℕ, ◌*◌, ◌^◌, ◌<◌, ◌≤◌, ◌↔◌, Bool, true, List, [], ◌∷◌, length, take, drop};
-ghost use Rattle.std.specs.Prelude.{slice_index_or, None, Ok, Err};
+ghost use Rattle.std.specs.Prelude.{◌≡◌, ℕ, ◌+◌, ◌*◌, ◌^◌, ◌<◌, ◌≤◌, ◌↔◌, Bool, true, false, List, [], ◌∷◌, ◌++◌};
+ghost use Rattle.std.specs.Prelude.{length, take, drop, slice_index_or, None, Ok, Err};
 ghost use Rattle.container_core.specs.Chunks.{chunk_size, sealed_size, header_size, chunks, chunk_count, sealed_chunks};
 ghost use Rattle.container_core.specs.Chunks.{body_length, container_length, has_plaintext};
-ghost use Rattle.container_core.specs.Stream.{nonce_of, prefix_in};
+ghost use Rattle.container_core.specs.Stream.{nonce_of, prefix_in, stream, stream_by};
 ghost use Rattle.container_core.specs.Container.{container, header_of};
 ghost use Rattle.container_core.specs.declared.fault.OpenFault.{OpenFault};
 ghost use Rattle.container_core.specs.Faults.{IsOfBytes};
-ghost use Rattle.container_core.specs.Opening.{header_fault, opening};
+ghost use Rattle.container_core.specs.Opening.{header_fault, early_fault, opening, unsealed, unsealed_by, behind};
 
 /// Two chunks have one nonce only where prefix, number and place as the last are the same.
 pub fn nonces_differ()
@@ -86,4 +86,61 @@ pub fn length_of_container()
 pub fn lengths_of_containers()
     ensures { (most bytes : ℕ) → (has_plaintext most bytes ≡ true)
         ↔ ((plain : ℕ) × (plain ≤ most) × (bytes ≡ container_length plain)) }
+{}
+
+/// Whole chunks, and any bytes behind them: their chunks are those of the one, then those of the other; and the same of
+/// sealed chunks.
+pub fn chunks_of_two_parts()
+    ensures chunks { (front rest : List ℕ) (count : ℕ) → length front ≡ count * chunk_size → 0 < count → 0 < length rest
+        → chunks (front ++ rest) ≡ chunks front ++ chunks rest }
+    ensures count { (front : List ℕ) (count : ℕ) → length front ≡ count * chunk_size → 0 < count
+        → length (chunks front) ≡ count }
+    ensures sealed { (front rest : List ℕ) (count : ℕ) → length front ≡ count * sealed_size → 0 < count
+        → 0 < length rest → sealed_chunks (front ++ rest) ≡ sealed_chunks front ++ sealed_chunks rest }
+    ensures sealed_count { (front : List ℕ) (count : ℕ) → length front ≡ count * sealed_size → 0 < count
+        → length (sealed_chunks front) ≡ count }
+{}
+
+/// STREAM is a round that is the last; a round is two rounds, one behind the other, wherever it is parted between two
+/// chunks; and it is longer than its plaintext by a tag for each chunk.
+pub fn rounds_of_a_stream()
+    ensures whole { (key header : List ℕ) (number : ℕ) (pieces : List (List ℕ))
+        → stream_by key header number true pieces ≡ stream key header number pieces }
+    ensures pieces { (key header : List ℕ) (number : ℕ) (last : Bool) (front rest : List (List ℕ)) → 0 < length rest
+        → stream_by key header number last (front ++ rest)
+        ≡ stream_by key header number false front ++ stream_by key header (number + length front) last rest }
+    ensures bytes { (key header : List ℕ) (number : ℕ) (last : Bool) (front rest : List ℕ) (count : ℕ)
+        → length front ≡ count * chunk_size → 0 < count → 0 < length rest
+        → stream_by key header number last (chunks (front ++ rest))
+        ≡ stream_by key header number false (chunks front) ++ stream_by key header (number + count) last (chunks rest) }
+    ensures length { (key header : List ℕ) (number : ℕ) (last : Bool) (plain : List ℕ)
+        → length (stream_by key header number last (chunks plain)) ≡ body_length (length plain) }
+{}
+
+/// Opening all chunks is opening a round that is the last. A round opens as two rounds do, one behind the other: to the
+/// first one's fault, or else to its plaintext before what the other opens to. The plaintext's length follows from the
+/// number of sealed bytes.
+pub fn rounds_open()
+    ensures whole { (key header : List ℕ) (number : ℕ) (pieces : List (List ℕ))
+        → unsealed_by key header number true pieces ≡ unsealed key header number pieces }
+    ensures opened { (key header : List ℕ) (number : ℕ) (last : Bool) (front rest plain : List ℕ) (count : ℕ)
+        → length front ≡ count * sealed_size → 0 < count → 0 < length rest
+        → unsealed_by key header number false (sealed_chunks front) ≡ Ok plain
+        → unsealed_by key header number last (sealed_chunks (front ++ rest))
+        ≡ behind plain (unsealed_by key header (number + count) last (sealed_chunks rest)) }
+    ensures refused { (key header : List ℕ) (number : ℕ) (last : Bool) (front rest : List ℕ) (count : ℕ)
+        (fault : OpenFault) → length front ≡ count * sealed_size → 0 < count → 0 < length rest
+        → unsealed_by key header number false (sealed_chunks front) ≡ Err fault
+        → unsealed_by key header number last (sealed_chunks (front ++ rest)) ≡ Err fault }
+    ensures length { (key header : List ℕ) (number : ℕ) (last : Bool) (body plain : List ℕ) (bytes : ℕ)
+        → length body ≡ body_length bytes → unsealed_by key header number last (sealed_chunks body) ≡ Ok plain
+        → length plain ≡ bytes }
+{}
+
+/// A header's first fault shows in the first 24 bytes, and the first fault of all that show before any chunk is opened
+/// in these and in the length.
+pub fn headers_stand_in_front()
+    ensures header { (key bytes : List ℕ) → header_fault key (take header_size bytes) ≡ header_fault key bytes }
+    ensures early { (key bytes other : List ℕ) (most : ℕ) → length bytes ≡ length other
+        → take header_size bytes ≡ take header_size other → early_fault key most bytes ≡ early_fault key most other }
 {}

@@ -14,12 +14,12 @@ pub mod key;
 pub mod laws;
 pub mod whole;
 
-pub use crate::chunk::{append_opened, append_sealed, nonce, open_chunk, seal_chunk};
+pub use crate::chunk::{append_opened, append_sealed, check_chunk, nonce, open_chunk, seal_chunk};
 pub use crate::cutting::{Cut, container_bytes};
 pub use crate::fault::{OpenFault, SealFault};
 pub use crate::header::{Header, read_header};
 pub use crate::key::Key;
-pub use crate::whole::{begin, open, open_into, seal, seal_into};
+pub use crate::whole::{begin, begin_within, open, open_into, seal, seal_into};
 
 /// Plaintext bytes of every chunk but the last: 2 to the exponent that the header names.
 pub const CHUNK: usize = 1 << 16;

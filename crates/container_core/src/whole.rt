@@ -1,11 +1,11 @@
-//! A whole container in memory. `begin` reads the header and the cut of any bytes, or names their first fault;
-//! `seal_into` and `open_into` seal and open the chunks into room that the caller made; `seal` and `open` make this
-//! room, and call them.
+//! A whole container in memory. `begin` reads the header and the cut of any bytes, or names their first fault, and
+//! `begin_within` does so from the first 24 of them and their number; `seal_into` and `open_into` seal and open the
+//! chunks into room that the caller made; `seal` and `open` make this room, and call them.
 //!
 //! The room for the whole is the only memory that is asked for, and it is there before the first chunk is touched:
 //! what the chunks answer can't be that memory was refused.
-ghost use Rattle.std.specs.Prelude.{◌≡◌, ℕ, ◌+◌, ◌<◌, ◌≤◌, ◌++◌, ◌⊎◌, ◌↔◌, List, length, take, vec_len, vec_capacity};
-ghost use Rattle.std.specs.Prelude.{Ok, Err, Some, None, IfOk, IfErr, OnOk, OnErr, MatchResult};
+ghost use Rattle.std.specs.Prelude.{◌≡◌, ℕ, ◌+◌, ◌<◌, ◌≤◌, ◌++◌, ◌⊎◌, ◌↔◌, List, length, take, min, vec_len};
+ghost use Rattle.std.specs.Prelude.{vec_capacity, Ok, Err, Some, None, IfOk, IfErr, OnOk, OnErr, MatchResult};
 ghost use Rattle.container_core.specs.Container.{container};
 ghost use Rattle.container_core.specs.Chunks.{body_length, container_length, sealed_chunks};
 ghost use Rattle.container_core.specs.Opening.{early_fault, opening, unsealed};
@@ -16,8 +16,43 @@ use crate::cutting::{Cut, container_bytes};
 use crate::fault::{OpenFault, SealFault};
 use crate::header::{Header, read_header};
 use crate::key::Key;
-use crate::{HEADER, MAX_CONTAINER, MAX_PLAIN};
+use crate::{HEADER, MAX_PLAIN};
 use std::alloc::Global;
+
+/// The header and the cut of a container of so many bytes under a key, of at most `most` plaintext bytes, or the first
+/// fault that shows before any chunk is opened: those of `OpenFault` from `TooLong` to `BadLength`, in this order.
+/// `front` is the container's first 24 bytes, or all that it has. Takes no memory.
+pub fn begin_within(
+    key: &Key,
+    front: &[u8],
+    bytes: u64,
+    most: u64,
+) -> Result<(Header, Cut), OpenFault>
+    requires most { most ≤ MAX_PLAIN }
+    requires front { length front.now ≡ min HEADER bytes }
+    ensures header { IfOk result (λ begun. begun.0 ≡ front.now) }
+    ensures cut { IfOk result (λ begun. bytes ≡ container_length begun.1) }
+    ensures within { IfOk result (λ begun. begun.1 ≤ most) }
+
+    // Of every container of so many bytes that begins so.
+    ensures faultless { OnOk result ((whole : List ℕ) → length whole ≡ bytes → take HEADER whole ≡ front.now
+        → early_fault key.now most whole ≡ None) }
+    ensures fault { IfErr result (λ fault. (whole : List ℕ) → length whole ≡ bytes → take HEADER whole ≡ front.now
+        → early_fault key.now most whole ≡ Some fault) }
+{
+    let long = bytes > container_bytes(most);
+    if long {
+        return Err(OpenFault::TooLong);
+    }
+    let header = match read_header(key, front) {
+        Ok(header) => header,
+        Err(fault) => return Err(fault),
+    };
+    match Cut::of_body(bytes - HEADER as u64) {
+        Ok(cut) => Ok((header, cut)),
+        Err(fault) => Err(fault),
+    }
+}
 
 /// The header and the cut of a container under a key, of at most 2^40 plaintext bytes, or the first fault that shows
 /// before any chunk is opened: those of `OpenFault` from `TooLong` to `BadLength`, in this order. Takes no memory.
@@ -27,17 +62,8 @@ pub fn begin(key: &Key, bytes: &[u8]) -> Result<(Header, Cut), OpenFault>
     ensures faultless { OnOk result (early_fault key.now MAX_PLAIN bytes.now ≡ None) }
     ensures fault { IfErr result (λ fault. early_fault key.now MAX_PLAIN bytes.now ≡ Some fault) }
 {
-    if bytes.len() as u64 > MAX_CONTAINER {
-        return Err(OpenFault::TooLong);
-    }
-    let header = match read_header(key, bytes) {
-        Ok(header) => header,
-        Err(fault) => return Err(fault),
-    };
-    match Cut::of_body((bytes.len() - HEADER) as u64) {
-        Ok(cut) => Ok((header, cut)),
-        Err(fault) => Err(fault),
-    }
+    let (front, _) = bytes.split_at(HEADER.min(bytes.len()));
+    begin_within(key, front, bytes.len() as u64, MAX_PLAIN)
 }
 
 /// Appends the container of a plaintext of at most 2^40 bytes under a key and a prefix, where there is room for it: for

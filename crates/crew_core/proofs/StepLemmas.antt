@@ -1,5 +1,5 @@
 -- One job's step at a seat: a number just granted is open there, and later issues leave it so.
-use Rattle.std.proofs.Common.{◌≡◌, ◌⊎◌, ℕ, ◌+◌, ◌*◌, ◌<◌, ◌≤◌, cond, List, [], ◌∷◌, ◌++◌, length, map, get_or, refl, sym, ap, ◌∙◌, subst, arith, eq-eqb, append_assoc, append-nil, inl, inr}
+use Rattle.std.proofs.Common.{◌≡◌, ◌⊎◌, All, nat_eq, ne_eqb, ℕ, ◌+◌, ◌<◌, ◌≤◌, cond, List, [], ◌∷◌, ◌++◌, length, map, get_or, refl, sym, ap, ◌∙◌, subst, arith, eq-eqb, append_assoc, append-nil, inl, inr}
 use mathlib.Core.Logic.{dite}
 use native.Mathlib.Decide.{ℕ_discrete}
 use Rattle.std.specs.Prelude.{Some, slice_get}
@@ -8,7 +8,8 @@ use Rattle.std.proofs.lemmas.Grind.{flat_map-append}
 use Rattle.std.proofs.lemmas.List.{length_push, map-append, get_or_append_left, get_or_push}
 use Rattle.std.proofs.lemmas.List.Sums.{sum_by-append}
 use Rattle.std.proofs.lemmas.Option.{slice_get-get_or, slice_get_within, get_or_from_slice_get}
-use Rattle.std.proofs.lemmas.Bool.{cases_lt}
+use Rattle.std.proofs.lemmas.Bool.{cases_lt, cases_eq}
+use Rattle.std.proofs.lemmas.List.Elements.{All-push}
 use Rattle.journal_core.specs.declared.entry.Event.TheVariants.{Granted}
 use Rattle.journal_core.specs.declared.entry.Entry.{Entry}
 use Rattle.journal_core.specs.declared.terms.Terms.{Terms}
@@ -21,7 +22,11 @@ use Rattle.ledger_core.specs.Shared.{SeatView, SpentView, Knows, Extends, Holds,
 use Rattle.crew_core.specs.declared.outcome.Outcome.{Outcome}
 use Rattle.crew_core.specs.declared.outcome.Outcome.TheVariants.{Sealed, Spoiled, Unissued}
 use Rattle.crew_core.specs.Batch.{seat_of, issue_of, issues, IsAt, IsFaultAt, IsOutcome}
-use Rattle.crew_core.specs.Lanes.{BatchView, IsStep, IsWorked}
+use Rattle.claim_core.specs.Claims.{times}
+use Rattle.claim_core.proofs.Sums.{times_push}
+use Rattle.crew_core.specs.declared.places.Done.{Done}
+use Rattle.crew_core.specs.Lanes.{BatchView, IsDone, IsStep, IsWorked}
+use Rattle.crew_core.specs.Places.{Ascends, done_of, jobs_of, outcomes_of}
 
 -- a number just granted was never settled
 open_number : (terms : Terms) (t n : ℕ) (before mine after mine' : List Entry) → Legal terms after → after ≡ before ++ entry t (Granted n) ∷ [] → calls_of t after ≡ mine'
@@ -98,18 +103,9 @@ step_granted key job lane old new n o same extends named outcome seat at = recor
 issues_push : (number : ℕ) (outcomes : List Outcome) (o : Outcome) → issues number (outcomes ++ o ∷ []) ≡ issues number outcomes ++ issues number (o ∷ [])
 issues_push number outcomes o = ap (map (entry number)) (flat_map-append issue_of outcomes (o ∷ [])) ∙ map-append (entry number) (flat_map issue_of outcomes) (flat_map issue_of (o ∷ []))
 
--- what a lane has worked off before its first job
-pub worked_none : (batch : BatchView) (lane : ℕ) (seat : SeatView) (outcomes : List Outcome) → outcomes ≡ [] → IsWorked batch lane seat seat outcomes
-worked_none batch lane seat outcomes none = subst (IsWorked batch lane seat seat) (sym none) record {
-  within = λ k below. absurd (omega arith);
-  each = λ k o at. absurd (cc);
-  mine = sym (append-nil seat.mine);
-  seen = begins_refl seat.seen;
-  same = record { ledger = refl; terms = refl; number = refl };
-}
-
 -- an outcome of a list that is one longer
-at_push : (outcomes : List Outcome) (o x : Outcome) (k : ℕ) → slice_get (outcomes ++ o ∷ []) k ≡ Some x → ((slice_get outcomes k ≡ Some x) × (k < length outcomes)) ⊎ ((o ≡ x) × (k ≡ length outcomes))
+pub at_push : (outcomes : List Outcome) (o x : Outcome) (k : ℕ) → slice_get (outcomes ++ o ∷ []) k ≡ Some x
+    → ((slice_get outcomes k ≡ Some x) × (k < length outcomes)) ⊎ ((o ≡ x) × (k ≡ length outcomes))
 at_push outcomes o x k at =
     let inside = slice_get_within (outcomes ++ o ∷ []) k x at in
     let long = length_push outcomes o in
@@ -119,29 +115,62 @@ at_push outcomes o x k at =
       | inr high ↦ let here : length outcomes ≡ k = omega arith in inr (sym (get_or_push outcomes o x k here) ∙ is, sym here)
     ]
 
--- a lane has worked off one job more
-pub worked_next : (batch : BatchView) (lane : ℕ) (old was new : SeatView) (outcomes : List Outcome) (o : Outcome) → IsWorked batch lane old was outcomes
-    → lane + length outcomes * batch.lanes < length batch.jobs → IsStep batch.key (get_or batch.jobs (lane + length outcomes * batch.lanes) []) lane was new o
-    → IsWorked batch lane old new (outcomes ++ o ∷ [])
-worked_next batch lane old was new outcomes o worked inside step = record {
-  within = λ k below. let long = length_push outcomes o in elim (cases_lt k (length outcomes)) [
-    | inl low ↦ worked.within k low
-    | inr high ↦ let here : length outcomes ≡ k = omega arith in subst (λ m. lane + m * batch.lanes < length batch.jobs) here inside
-  ];
-  each = λ k x at. elim (at_push outcomes o x k at) [
-    | inl before ↦ let e = worked.each k x before.0 in (e.0, e.1, at_keeps batch.key (get_or batch.jobs (lane + length outcomes * batch.lanes) []) lane was new o x step e.2)
-    | inr here ↦ let P : Outcome → ℕ → Type 0 = λ y m. IsOutcome batch.key (get_or batch.jobs (lane + m * batch.lanes) []) y × (seat_of y ≡ lane) × IsAt new y in
-        subst (P x) (sym here.1) (subst (λ y. P y (length outcomes)) here.0 (step.outcome, step.seat, step.stands))
-  ];
-  mine = step.mine ∙ ap (λ l. l ++ issues was.number (o ∷ [])) worked.mine ∙ append_assoc old.mine (issues old.number outcomes) (issues was.number (o ∷ []))
-      ∙ ap (λ m. old.mine ++ (issues old.number outcomes ++ issues m (o ∷ []))) worked.same.number ∙ ap (λ l. old.mine ++ l) (sym (issues_push old.number outcomes o));
-  seen = begins_trans old.seen was.seen new.seen worked.seen step.seen;
-  same = record { ledger = step.same.ledger ∙ worked.same.ledger; terms = step.same.terms ∙ worked.same.terms; number = step.same.number ∙ worked.same.number };
+-- what a lane has done before its first job
+pub worked_none : (batch : BatchView) (lane : ℕ) (seat : SeatView) (done : List Done) → done ≡ []
+    → IsWorked batch lane seat seat done
+worked_none batch lane seat done none = subst (IsWorked batch lane seat seat) (sym none) record {
+  each = λ k d below. absurd (omega arith);
+  ascends = tt;
+  mine = sym (append-nil seat.mine);
+  seen = begins_refl seat.seen;
+  same = record { ledger = refl; terms = refl; number = refl };
 }
 
--- the job behind it
-pub next_of : (lane : ℕ) (outcomes : List Outcome) (o : Outcome) (lanes : ℕ) → (lane + length outcomes * lanes) + lanes ≡ lane + length (outcomes ++ o ∷ []) * lanes
-next_of lane outcomes o lanes = one_more lane (length outcomes) lanes ∙ ap (λ m. lane + m * lanes) (sym (length_push outcomes o))
-  where
-    one_more : (a n k : ℕ) → (a + n * k) + k ≡ a + (n + 1) * k
-    one_more a n k = grind arith
+-- a number greater than all before it
+ascends_push : (xs : List ℕ) (n : ℕ) → Ascends xs → ((x : ℕ) → 0 < times x xs → x < n) → Ascends (xs ++ n ∷ [])
+ascends_push [] n up below = ((λ y has. absurd (omega arith)), tt)
+ascends_push (x ∷ xs) n up below =
+    let one : cond {A = ℕ} (nat_eq x x) 1 0 ≡ 1 = ap (λ b. cond {A = ℕ} b 1 0) (eq-eqb x x refl) in
+    let here : 0 < times x (x ∷ xs) = omega arith in (
+      (λ y has.
+          let both = times_push y xs n in
+          elim (cases_lt 0 (times y xs)) [
+            | inl old ↦ up.0 y old
+            | inr none ↦ elim (cases_eq n y) [
+              | inl last ↦ subst (λ m. x < m) last (below x here)
+              | inr other ↦
+                  let e : cond {A = ℕ} (nat_eq n y) 1 0 ≡ 0 = ap (λ b. cond {A = ℕ} b 1 0) (ne_eqb n y other) in
+                  absurd (omega arith)
+            ]
+          ]),
+      ascends_push xs n up.1 (λ y has. below y (omega arith)),
+    )
+
+-- a lane has done one job more
+pub worked_next : (batch : BatchView) (lane job : ℕ) (old was new : SeatView) (done : List Done) (o : Outcome)
+    → IsWorked batch lane old was done → IsStep batch.key (get_or batch.jobs job []) lane was new o
+    → ((x : ℕ) → 0 < times x (jobs_of done) → x < job) → IsWorked batch lane old new (done ++ done_of job o ∷ [])
+worked_next batch lane job old was new done o worked step last = record {
+  each =
+      let before : All (IsDone batch lane new) done = λ k d below.
+      let is = worked.each k d below in
+      let its = get_or done k d in
+      let stands = at_keeps batch.key (get_or batch.jobs job []) lane was new o its.outcome step is.stands in
+      record { outcome = is.outcome; seat = is.seat; stands = stands } in
+      let this : IsDone batch lane new (done_of job o) =
+      record { outcome = step.outcome; seat = step.seat; stands = step.stands } in
+      All-push (IsDone batch lane new) done (done_of job o) before this;
+  ascends = subst Ascends (sym (map-append (λ (d : Done). d.job) done (done_of job o ∷ [])))
+      (ascends_push (jobs_of done) job worked.ascends last);
+  mine = step.mine ∙ ap (λ l. l ++ issues was.number (o ∷ [])) worked.mine
+      ∙ append_assoc old.mine (issues old.number (outcomes_of done)) (issues was.number (o ∷ []))
+      ∙ ap (λ m. old.mine ++ (issues old.number (outcomes_of done) ++ issues m (o ∷ []))) worked.same.number
+      ∙ ap (λ l. old.mine ++ l) (sym (issues_push old.number (outcomes_of done) o))
+      ∙ ap (λ l. old.mine ++ issues old.number l) (sym (map-append (λ (d : Done). d.outcome) done (done_of job o ∷ [])));
+  seen = begins_trans old.seen was.seen new.seen worked.seen step.seen;
+  same = record {
+    ledger = step.same.ledger ∙ worked.same.ledger;
+    terms = step.same.terms ∙ worked.same.terms;
+    number = step.same.number ∙ worked.same.number;
+  };
+}

@@ -3,22 +3,25 @@ ghost use Rattle.std.specs.Prelude.{◌≡◌, ℕ, ◌<◌, ◌≤◌, length, 
 ghost use Rattle.crew_core.specs.Batch.{AreOutcomes, AreAmong, AreIssued, GoOn};
 ghost use Rattle.ledger_core.specs.Shared.{SeatView};
 
-use crate::gate::Gate;
-use crate::lanes::{Batch, all_places, weave, work_lanes};
+use crate::lanes::{Batch, work_lanes};
 use crate::outcome::Outcome;
+use crate::places::{all_places, put_in_order};
 use crate::{MAX_JOBS, MAX_LANES};
 use container_core::{Key, MAX_PLAIN};
 use ledger_core::{Ledger, Seat};
 use std::alloc::{AllocError, Global};
 use std::thread::Threads;
+use worker_core::Gate;
 
-/// Seals at most 65,535 jobs, each of at most 2^40 bytes, by 1 to 16 lanes. Lane i uses the seat at place i, and of k
-/// lanes it works off the jobs i, i + k, i + 2k and so on: for each it passes the gate with the job's number, issues a
-/// number, and seals the job on its own thread. The caller's thread is lane 0, and works off each lane that can't be
-/// started. There are no more lanes than jobs.
+/// Seals at most 65,535 jobs, each of at most 2^40 bytes, by 1 to 16 lanes. Lane i uses the seat at place i. The lanes
+/// draw the jobs in the order of their numbers, each its next when it is done with the last, till none is left: for
+/// each a lane passes the gate with the job's number, issues a number, and seals the job on its own thread. So a lane
+/// that is held up holds up one job alone. The caller's thread is lane 0, and a lane that can't be started is left out.
+/// There are no more lanes than jobs.
 ///
 /// The answer has one outcome for each job, in the order of the jobs. Nothing is settled: that is the caller's. Where
-/// memory for the places of all outcomes is refused, nothing was issued.
+/// memory for what the lanes share, or for the places of all outcomes, is refused, nothing was issued. Each lane has
+/// places for all jobs.
 pub fn seal_batch<R: Threads + Sync, G: Gate + Sync>(
     rt: &R,
     alloc: Global,
@@ -41,14 +44,16 @@ pub fn seal_batch<R: Threads + Sync, G: Gate + Sync>(
     ensures past_lanes { (i : ℕ) → lanes ≤ i → slice_get seats.new i ≡ slice_get seats.old i }
     ensures refused { OnErr result (seats.new ≡ seats.old) }
 {
+    let count = jobs.len() as u32;
     // A lane more than there are jobs would have none.
-    let lanes = lanes.min(jobs.len() as u32).max(1);
-    let batch = Batch::new(key, ledger, jobs, lanes);
+    let lanes = lanes.min(count).max(1);
     let mut outcomes = Vec::with_capacity(alloc, jobs.len())?;
-    let mut all = all_places(alloc, jobs.len() / lanes as usize + 1, lanes)?;
+    let mut all = all_places(alloc, jobs.len(), lanes)?;
+    let (batch, mut claimant) = Batch::open(alloc, key, ledger, jobs, lanes)?;
     let places = all.as_mut_slice();
     let (used, _) = seats.split_at_mut(lanes as usize);
-    work_lanes(rt, alloc, &batch, lanes, gate, used, places);
-    weave(&mut outcomes, places, jobs.len());
+    work_lanes(rt, alloc, &batch, lanes, gate, used, places, &mut claimant);
+    batch.close(claimant);
+    put_in_order(&mut outcomes, places, count);
     Ok(outcomes)
 }

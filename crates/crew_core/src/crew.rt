@@ -12,11 +12,11 @@ ghost use Rattle.piece_core.specs.Answer.{IsOf, whole_of};
 ghost use Rattle.crew_core.specs.Deal.{IsDeal, IsMade, IsStill, HasFirst, HasOthers, HasUpTo, IsMultiple};
 
 use crate::MAX_WORKERS;
-use crate::gate::Gate;
 use container_core::OpenFault;
 use piece_core::{MAX_PIECES, Piece, Shelf, ShelfFault, Work};
 use std::alloc::{AllocError, Global};
 use std::thread::{Threads, join, join_mut};
+use worker_core::Gate;
 
 // How many pieces a worker makes in a round but the first and the last: 1 MiB, made in some 4 ms, where its thread
 // starts in less than 0.1 ms.

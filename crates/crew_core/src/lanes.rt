@@ -1,19 +1,21 @@
-//! The lanes of a batch: each works off the jobs that it was dealt, with a seat of its own and in places that were made
-//! before the first of them started. The outcomes are put in the order of the jobs once all lanes have ended.
-ghost use Rattle.std.specs.Prelude.{◌≡◌, ℕ, ◌+◌, ◌*◌, ◌<◌, ◌≤◌, ◌++◌, [], ◌∷◌, length, map, All, IfOk, IfNone};
-ghost use Rattle.std.specs.Prelude.{slice_index_or, option_to_list, vec_len, vec_capacity};
+//! The lanes of a batch: each draws its jobs from the claims that all share, one after the other till none is left, and
+//! works on them with a seat of its own, in places of its own. So a lane that is held up holds up one job alone.
+ghost use Rattle.std.specs.Prelude.{◌≡◌, ℕ, ◌+◌, ◌<◌, ◌≤◌, [], length, map, All, IfOk, IfSome, IfNone, slice_index_or};
 ghost use Rattle.std.specs.Thread.{IsSync};
-ghost use Rattle.crew_core.specs.Lanes.{batch_of, AreDealt, AreFree, AreLanes, AreReady, AreWoven, IsLane, IsStep};
+ghost use Rattle.claim_core.specs.Claims.{IsOf, newcomer, with_number, with_end, joined, times, once_below};
+ghost use Rattle.crew_core.specs.Lanes.{ended, AreFree, AreLanes, AreReady, IsStep, IsWorked};
+ghost use Rattle.crew_core.specs.Places.{all_jobs, jobs_of};
 
-use crate::gate::Gate;
 use crate::outcome::Outcome;
+use crate::places::{Done, Places};
 use crate::{MAX_JOBS, MAX_LANES};
+use claim_core::{Claimant, Claims};
 use container_core::{Key, MAX_PLAIN, seal};
 use ledger_core::{Ledger, Seat};
 use std::alloc::{AllocError, Global};
-use std::collections::VecDeque;
 use std::marker::Model;
 use std::thread::{Threads, join_mut};
+use worker_core::Gate;
 
 /// What all lanes of a batch share.
 #[derive(Drop)]
@@ -21,7 +23,7 @@ pub(crate) struct Batch<'a> {
     key: &'a Key,
     ledger: &'a Ledger,
     jobs: &'a [Vec<u8>],
-    lanes: u32,
+    claims: Claims,
 }
 
 impl<'a> Model for Batch<'a> {
@@ -30,75 +32,101 @@ impl<'a> Model for Batch<'a> {
 
     ghost Value = { BatchView };
 
-    ghost view = { λ b. batch_of b.key.now b.ledger.now.ledger (map (λ job. job.items) b.jobs.now) b.lanes };
+    ghost view = { λ b. batch_of b.key.now b.ledger.now.ledger (map (λ job. job.items) b.jobs.now) b.claims };
 
     ghost invariant = { λ b. IsBatch
-        (batch_of b.key.now b.ledger.now.ledger (map (λ job. job.items) b.jobs.now) b.lanes) };
-}
-
-/// The outcomes of one lane, in the order of its jobs, in room that was made beforehand.
-#[derive(Drop)]
-pub(crate) struct Places {
-    outcomes: VecDeque<Outcome>,
-}
-
-impl Model for Places {
-    ghost use Rattle.std.specs.VecDeque.{deque_capacity};
-    ghost use Rattle.crew_core.specs.Lanes.{PlacesView};
-
-    ghost Value = { PlacesView };
-
-    ghost view = { λ p. record { outcomes = p.outcomes.items; room = deque_capacity p.outcomes } };
+        (batch_of b.key.now b.ledger.now.ledger (map (λ job. job.items) b.jobs.now) b.claims) };
 }
 
 impl<'a> Batch<'a> {
-    pub(crate) fn new(
+    /// A batch of these jobs for so many lanes, and the claimant that stands for all of them.
+    pub(crate) fn open(
+        alloc: Global,
         key: &'a Key,
         ledger: &'a Ledger,
         jobs: &'a [Vec<u8>],
         lanes: u32,
-    ) -> Batch<'a>
+    ) -> Result<(Batch<'a>, Claimant), AllocError>
         requires lanes { (0 < lanes) × (lanes ≤ MAX_LANES) }
         requires few { length jobs.now ≤ MAX_JOBS }
         requires short { All (λ job. length job.items ≤ MAX_PLAIN) jobs.now }
-        ensures { result ≡ batch_of key.now ledger.now.ledger (map (λ job. job.items) jobs.now) lanes }
+        ensures key { IfOk result (λ r. r.0.key ≡ key.now) }
+        ensures ledger { IfOk result (λ r. r.0.ledger ≡ ledger.now.ledger) }
+        ensures jobs { IfOk result (λ r. r.0.jobs ≡ map (λ job. job.items) jobs.now) }
+        ensures lanes { IfOk result (λ r. r.0.claims.workers ≡ lanes) }
+        ensures claimant { IfOk result (λ r. r.1 ≡ newcomer r.0.claims lanes) }
     {
-        Batch {
+        let (claims, claimant) = Claims::open(alloc, jobs.len() as u32, lanes)?;
+        let batch = Batch {
             key,
             ledger,
             jobs,
-            lanes,
-        }
+            claims,
+        };
+        Ok((batch, claimant))
     }
 
-    // How many jobs there are.
-    fn count(&self) -> usize
-        ensures count { result ≡ length self.now.jobs }
-        ensures few { result ≤ MAX_JOBS }
+    // The next job, or None where none is left.
+    fn draw(&self, claimant: &mut Claimant) -> Option<u32>
+        requires ours { IsOf self.now.claims claimant.old }
+        requires may { claimant.old.ends < claimant.old.workers }
+        ensures some { IfSome result (λ n. claimant.new ≡ with_number claimant.old n) }
+        ensures within { IfSome result (λ n. n < length self.now.jobs) }
+        ensures ascends { IfSome result (λ n. (x : ℕ) → 0 < times x claimant.old.drawn → x < n) }
+        ensures fewer { IfSome result (λ n. length claimant.old.drawn < length self.now.jobs) }
+        ensures none { IfNone result (claimant.new ≡ with_end claimant.old) }
     {
-        self.jobs.len()
+        self.claims.draw(claimant)
     }
 
-    // How many lanes there are.
-    fn lanes(&self) -> usize
-        ensures lanes { result ≡ self.now.lanes }
-        ensures few { (0 < result) × (result ≤ MAX_LANES) }
+    // The claimant of one lane, cut off: so many are left with the other.
+    fn cut_off(&self, claimant: &mut Claimant, _left: u32) -> Claimant
+        requires left { 0 < _left }
+        requires fresh { claimant.old ≡ newcomer self.now.claims (_left + 1) }
+        ensures left { claimant.new ≡ newcomer self.now.claims _left }
+        ensures right { result ≡ newcomer self.now.claims 1 }
     {
-        self.lanes as usize
+        self.claims.split(claimant)
+    }
+
+    // Takes in the claimant of a lane that has ended, behind so many others.
+    fn take_in(&self, claimant: &mut Claimant, other: Claimant)
+        requires ours { IsOf self.now.claims claimant.old }
+        requires other { IsOf self.now.claims other }
+        requires lanes { (0 < claimant.old.workers) × (0 < other.workers) }
+        ensures { claimant.new ≡ joined claimant.old other }
+    {
+        self.claims.join(claimant, other);
+    }
+
+    /// All lanes have ended: together they have drawn each job once.
+    pub(crate) fn close(self, claimant: Claimant)
+        requires ours { IsOf self.claims claimant }
+        requires all { claimant.workers ≡ self.claims.workers }
+        requires ended { 0 < claimant.ends }
+        ensures { (x : ℕ) → times x claimant.drawn ≡ once_below x (length self.entry.jobs) }
+    {
+        let Batch {
+            key: _,
+            ledger: _,
+            jobs: _,
+            claims,
+        } = self;
+        claims.close(claimant);
     }
 
     // Issues a number at the seat, and seals the job under it.
-    fn seal_job(&self, alloc: Global, lane: u32, number: usize, seat: &mut Seat) -> Outcome
-        requires number { number < length self.now.jobs }
+    fn seal_job(&self, alloc: Global, lane: u32, job: u32, seat: &mut Seat) -> Outcome
+        requires job { job < length self.now.jobs }
         requires ours { seat.old.ledger ≡ self.now.ledger }
-        ensures { IsStep self.now.key (slice_index_or self.now.jobs number []) lane seat.old seat.new result }
+        ensures { IsStep self.now.key (slice_index_or self.now.jobs job []) lane seat.old seat.new result }
     {
         sealed_job(
             alloc,
             self.key,
             self.ledger,
             lane,
-            self.jobs[number].as_slice(),
+            self.jobs[job as usize].as_slice(),
             seat,
         )
     }
@@ -134,45 +162,7 @@ fn sealed_job(
     }
 }
 
-impl Places {
-    // Room for so many outcomes.
-    fn new(alloc: Global, room: usize) -> Result<Places, AllocError>
-        ensures { IfOk result (λ places. (places.outcomes ≡ []) × (room ≤ places.room)) }
-    {
-        let outcomes = VecDeque::with_capacity(alloc, room)?;
-        Ok(Places { outcomes })
-    }
-
-    // Adds an outcome, in room that is there.
-    fn put(&mut self, outcome: Outcome)
-        requires { length self.old.outcomes < self.old.room }
-        ensures { self.new ≡ record self.old { outcomes = self.old.outcomes ++ outcome ∷ [] } }
-    {
-        self.outcomes.push_back_reserved(outcome);
-    }
-
-    // Takes the first outcome out.
-    fn next(&mut self) -> Option<Outcome>
-        ensures outcomes { self.old.outcomes ≡ option_to_list result ++ self.new.outcomes }
-        ensures none { IfNone result (self.old.outcomes ≡ []) }
-    {
-        self.outcomes.pop_front()
-    }
-}
-
-/// Places for each lane, with room for so many outcomes.
-pub(crate) fn all_places(alloc: Global, room: usize, lanes: u32) -> Result<Vec<Places>, AllocError>
-    ensures { IfOk result (λ all. (vec_len all ≡ lanes)
-        × All (λ places. (places.outcomes ≡ []) × (room ≤ places.room)) all.items) }
-{
-    let mut all = Vec::with_capacity(alloc, lanes as usize)?;
-    for _ in 0..lanes {
-        all.push(Places::new(alloc, room)?)?;
-    }
-    Ok(all)
-}
-
-// Works off the jobs of one lane, in their order.
+// Works on one job after the other, till none is left.
 fn work_lane<G: Gate>(
     alloc: Global,
     batch: &Batch,
@@ -180,19 +170,18 @@ fn work_lane<G: Gate>(
     gate: &G,
     seat: &mut Seat,
     places: &mut Places,
+    claimant: &mut Claimant,
 )
-    requires lane { lane < batch.now.lanes }
     requires ours { seat.old.ledger ≡ batch.now.ledger }
     requires free { AreFree batch.now places.old }
-    ensures { IsLane batch.now lane seat.old seat.new places.new.outcomes }
+    requires fresh { claimant.old ≡ newcomer batch.now.claims 1 }
+    ensures worked { IsWorked batch.now lane seat.old seat.new places.new.done }
+    ensures drawn { claimant.new ≡ ended batch.now.claims 1 (jobs_of places.new.done) }
 {
-    let count = batch.count();
-    let lanes = batch.lanes();
-    let mut number = lane as usize;
-    while number < count {
-        gate.pass(lane, number as u32);
-        places.put(batch.seal_job(alloc, lane, number, seat));
-        number += lanes;
+    while let Some(job) = batch.draw(claimant) {
+        gate.pass(lane, job);
+        let outcome = batch.seal_job(alloc, lane, job, seat);
+        places.put(Done { job, outcome });
     }
 }
 
@@ -204,14 +193,16 @@ fn one_lane<G: Gate>(
     gate: &G,
     seats: &mut [Seat],
     places: &mut [Places],
+    claimant: &mut Claimant,
 )
-    requires lane { lane < batch.now.lanes }
     requires ready { AreReady batch.now 1 seats.old places.old }
-    ensures { AreLanes batch.now lane seats.old seats.new places.new }
+    requires fresh { claimant.old ≡ newcomer batch.now.claims 1 }
+    ensures lanes { AreLanes batch.now lane seats.old seats.new places.new }
+    ensures drawn { claimant.new ≡ ended batch.now.claims 1 (all_jobs places.new) }
 {
     let places = &mut places[0];
     let seat = &mut seats[0];
-    work_lane(alloc, batch, lane, gate, seat, places);
+    work_lane(alloc, batch, lane, gate, seat, places, claimant);
 }
 
 /// Works off the lanes below `upto`, each with the seat and the places of its number.
@@ -224,19 +215,25 @@ pub(crate) fn work_lanes<R: Threads + Sync, G: Gate + Sync>(
     gate: &G,
     seats: &mut [Seat],
     places: &mut [Places],
+    claimant: &mut Claimant,
 )
-    requires lanes { (0 < upto) × (upto ≤ batch.now.lanes) }
+    requires upto { 0 < upto }
     requires ready { AreReady batch.now upto seats.old places.old }
-    ensures { AreLanes batch.now 0 seats.old seats.new places.new }
+    requires fresh { claimant.old ≡ newcomer batch.now.claims upto }
+    ensures lanes { AreLanes batch.now 0 seats.old seats.new places.new }
+    ensures drawn { claimant.new ≡ ended batch.now.claims upto (all_jobs places.new) }
 {
     if upto == 1 {
-        one_lane(alloc, batch, 0, gate, seats, places);
+        one_lane(alloc, batch, 0, gate, seats, places, claimant);
         return;
     }
     let last = upto - 1;
     let (seats, seat) = seats.split_at_mut(last as usize);
     let (places, place) = places.split_at_mut(last as usize);
-    work_both(rt, alloc, batch, last, gate, seats, places, seat, place);
+    let theirs = work_both(
+        rt, alloc, batch, last, gate, seats, places, claimant, seat, place,
+    );
+    batch.take_in(claimant, theirs);
 }
 
 // Works off the lane of this number on a thread of its own, and those below it from this thread.
@@ -249,39 +246,31 @@ fn work_both<R: Threads + Sync, G: Gate + Sync>(
     gate: &G,
     seats: &mut [Seat],
     places: &mut [Places],
+    claimant: &mut Claimant,
     seat: &mut [Seat],
     place: &mut [Places],
-)
-    requires lanes { (0 < last) × (last < batch.now.lanes) }
+) -> Claimant
+    requires last { 0 < last }
     requires before { AreReady batch.now last seats.old places.old }
     requires at { AreReady batch.now 1 seat.old place.old }
+    requires fresh { claimant.old ≡ newcomer batch.now.claims (last + 1) }
     ensures before { AreLanes batch.now 0 seats.old seats.new places.new }
     ensures at { AreLanes batch.now last seat.old seat.new place.new }
+    ensures ours { claimant.new ≡ ended batch.now.claims last (all_jobs places.new) }
+    ensures theirs { result ≡ ended batch.now.claims 1 (all_jobs place.new) }
 {
+    let mut theirs = batch.cut_off(claimant, last);
     let mut other = ||
-        requires { IsSync G.row × (last < batch.now.lanes) × AreReady batch.now 1 seat.now place.now }
-        ensures { AreLanes batch.entry.now last seat.entry.now seat.exit.now place.exit.now }
-    { one_lane(alloc, batch, last, gate, seat, place) };
+        requires { IsSync G.row × AreReady batch.now 1 seat.now place.now × (theirs ≡ newcomer batch.now.claims 1) }
+        ensures { AreLanes batch.entry.now last seat.entry.now seat.exit.now place.exit.now
+            × (theirs.exit ≡ ended batch.entry.now.claims 1 (all_jobs place.exit.now)) }
+    { one_lane(alloc, batch, last, gate, seat, place, &mut theirs) };
     let mut here = ||
-        requires { IsSync R.row × IsSync G.row × (0 < last) × (last ≤ batch.now.lanes)
-            × AreReady batch.now last seats.now places.now }
-        ensures { AreLanes batch.entry.now 0 seats.entry.now seats.exit.now places.exit.now }
-    { work_lanes(rt, alloc, batch, last, gate, seats, places) };
+        requires { IsSync R.row × IsSync G.row × (0 < last) × AreReady batch.now last seats.now places.now
+            × (claimant.now ≡ newcomer batch.now.claims last) }
+        ensures { AreLanes batch.entry.now 0 seats.entry.now seats.exit.now places.exit.now
+            × (claimant.exit.now ≡ ended batch.entry.now.claims last (all_jobs places.exit.now)) }
+    { work_lanes(rt, alloc, batch, last, gate, seats, places, claimant) };
     join_mut(rt, &mut other, &mut here);
-}
-
-/// Puts the outcomes of all lanes in the order of their jobs, into room that is there.
-pub(crate) fn weave(outcomes: &mut Vec<Outcome>, places: &mut [Places], jobs: usize)
-    requires room { (vec_len outcomes.old ≡ 0) × (jobs ≤ vec_capacity outcomes.old) }
-    requires lanes { 0 < length places.old }
-    requires dealt { AreDealt jobs places.old }
-    ensures { AreWoven jobs places.old outcomes.new.items }
-{
-    for number in 0..jobs {
-        let lane = number % places.len();
-        match places[lane].next() {
-            Some(outcome) => outcomes.push_reserved(outcome),
-            None => unreachable!(),
-        }
-    }
+    theirs
 }

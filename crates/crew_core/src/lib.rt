@@ -7,19 +7,17 @@
 
 pub mod batch;
 mod crew;
-pub mod gate;
 mod lanes;
 pub mod outcome;
+mod places;
 pub mod whole;
 
 pub use crate::batch::seal_batch;
-pub use crate::gate::{Free, Gate};
 pub use crate::outcome::Outcome;
 pub use crate::whole::{open_whole, seal_whole};
 pub use piece_core::{Kind, Piece, PutFault, Shelf, ShelfFault, Work};
+pub use worker_core::{Free, Gate, MAX_WINDOW, MAX_WORKERS};
 
-/// The most workers of one sealing or opening.
-pub const MAX_WORKERS: u32 = 16;
 /// The most lanes of a batch.
 pub const MAX_LANES: u32 = 16;
 /// The most jobs of a batch.

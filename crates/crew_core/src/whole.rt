@@ -10,7 +10,6 @@ ghost use Rattle.ledger_core.specs.Range.{prefix_of};
 
 use crate::MAX_WORKERS;
 use crate::crew::work_whole;
-use crate::gate::Gate;
 use container_core::laws::opening_faults;
 use container_core::{Key, MAX_PLAIN, OpenFault};
 use ledger_core::{Grant, Spent};
@@ -18,6 +17,7 @@ use piece_core::Work;
 use piece_core::laws::wholes_of_works;
 use std::alloc::{AllocError, Global};
 use std::thread::Threads;
+use worker_core::Gate;
 
 // Whether memory was refused.
 fn is_refusal(fault: OpenFault) -> bool

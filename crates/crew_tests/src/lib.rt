@@ -1,5 +1,5 @@
-//! The tests of `crew_core`, and what they share: grants, a plaintext, a gate that two workers must meet, and one that
-//! keeps who passed with what.
+//! The tests of `crew_core`, and what they share: grants, a plaintext, a gate that two workers must meet, one that
+//! holds a worker back, and one that keeps who passed with what.
 #![tactic(auto)]
 
 #[cfg(test)]
@@ -7,6 +7,7 @@ mod damaged;
 #[cfg(test)]
 mod gates;
 pub mod grants;
+pub mod late;
 pub mod meeting;
 pub mod plain;
 pub mod recorder;
@@ -16,6 +17,7 @@ mod sealed;
 mod shelves;
 
 pub use crate::grants::grant_of;
+pub use crate::late::Late;
 pub use crate::meeting::Meeting;
 pub use crate::plain::{COUNTING, flip, pattern, zeros};
 pub use crate::recorder::Recorder;

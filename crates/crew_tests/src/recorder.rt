@@ -40,6 +40,19 @@ impl Recorder {
     }
 }
 
+impl Recorder {
+    /// Whether each piece was passed once, by one of so many workers, and no other piece was.
+    pub fn is_each_once(&self, workers: u64) -> bool {
+        for word in self.words.iter() {
+            let passed = word.load(Ordering::SeqCst);
+            if passed < PASS || passed - PASS >= workers {
+                return false;
+            }
+        }
+        self.strange.load(Ordering::SeqCst) == 0
+    }
+}
+
 impl Gate for Recorder {
     fn pass(&self, worker: u32, piece: u32) {
         match self.words.as_slice().get(piece as usize) {

@@ -6,12 +6,12 @@ use Rattle.container_core.specs.Opening.{unsealed}
 use Rattle.container_core.specs.Stream.{opened_chunk}
 use Rattle.container_core.proofs.PartsLemmas.{length-sealed_chunks}
 use Rattle.container_core.proofs.StreamLemmas.{length-opened_chunk}
-use Rattle.container_core.proofs.OpeningLemmas.{after-nil, opened_more, forged_more, opened_all}
+use Rattle.container_core.proofs.OpeningLemmas.{behind-nil, opened_more, forged_more, opened_all}
 use Rattle.container_core.proofs.whole.open_into.Goals as goal
 
 pub loop-number-init : goal.loop-number-init
 loop-number-init c =
-    ([], sym (append-nil c.args.out.now.items), after-nil (unsealed c.args.key.now c.args.header.now 0 (sealed_chunks c.args.body.now)), omega arith, c.requires.room)
+    ([], sym (append-nil c.args.out.now.items), behind-nil (unsealed c.args.key.now c.args.header.now 0 (sealed_chunks c.args.body.now)), omega arith, c.requires.room)
 
 pub append_opened-requires-clause-room : goal.append_opened-requires-clause-room
 append_opened-requires-clause-room c =

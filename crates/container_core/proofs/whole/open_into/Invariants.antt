@@ -2,13 +2,12 @@
 -- opening all of them does.
 use Rattle.std.proofs.Common.{◌≡◌, ℕ, ◌+◌, ◌*◌, ◌≤◌, List, ◌++◌, length, drop, min, vec_len, vec_capacity}
 use Rattle.container_core.specs.Chunks.{sealed_chunks}
-use Rattle.container_core.specs.Opening.{unsealed}
-use Rattle.container_core.proofs.OpeningLemmas.{after}
+use Rattle.container_core.specs.Opening.{unsealed, behind}
 use Rattle.container_core.proofs.whole.open_into.Given as goal
 
 abbrev pub invariant-loop-number : goal.invariant-loop-number
 invariant-loop-number l = (plain : List ℕ)
     × (l.out.items ≡ l.fn.out.items ++ plain)
-    × (after plain (unsealed l.key l.header l.number (drop l.number (sealed_chunks l.body))) ≡ unsealed l.key l.header 0 (sealed_chunks l.body))
+    × (behind plain (unsealed l.key l.header l.number (drop l.number (sealed_chunks l.body))) ≡ unsealed l.key l.header 0 (sealed_chunks l.body))
     × (length plain ≡ min (l.number * 65536) l.cut)
     × (vec_len l.fn.out + l.cut ≤ vec_capacity l.out)

@@ -1,21 +1,27 @@
-use Rattle.std.proofs.Common.{◌+◌, ◌*◌, ◌<◌, [], length, get_or, ap, ◌∙◌, subst, arith}
-use Rattle.crew_core.specs.Lanes.{IsStep}
-use Rattle.crew_core.proofs.StepLemmas.{worked_next, next_of}
+use Rattle.std.proofs.Common.{◌<◌, [], ◌∷◌, ap, sym, ◌∙◌, subst}
+use Rattle.std.proofs.lemmas.List.{map-append}
+use Rattle.claim_core.specs.Claims.{ClaimantView, times, with_number}
+use Rattle.crew_core.specs.declared.places.Done.{Done}
+use Rattle.crew_core.specs.Lanes.{claimant_of}
+use Rattle.crew_core.specs.Places.{done_of}
+use Rattle.crew_core.proofs.StepLemmas.{worked_next}
 use Rattle.crew_core.proofs.lanes.work_lane.Goals as goal
 
-pub loop-number-preserved : goal.loop-number-preserved
-loop-number-preserved g c =
-    let was = c.loop-number.invariant in
+pub loop-job-preserved : goal.loop-job-preserved
+loop-job-preserved g c =
+    let was = c.loop-job.invariant in
     let batch = c.args.batch.now in
-    let lane = c.args.lane in
-    let number = c.loop-number.number in
-    let outcomes = c.loop-number.places.outcomes in
-    let o = c.seal_job.result in
-    let grown = ap (λ p. p.outcomes) c.put.ensures in
-    let inside : lane + length outcomes * batch.lanes < length batch.jobs = subst (λ n. n < length batch.jobs) was.next (omega (arith, c.loop-number-test.true, c.count-count.ensures.count)) in
-    let step = subst (λ n. IsStep batch.key (get_or batch.jobs n []) lane c.loop-number.seat c.seal_job.new.seat o) was.next c.seal_job.ensures in
+    let done = c.loop-job.places.done in
+    let job = c.in-Some.job in
+    let o = c.seal_job-outcome.result in
+    let drawn = was.drawn in
+    let grown = ap (λ p. p.done) c.put.ensures in
     record {
-      next = rw grown (ap (λ m. number + m) c.lanes-lanes.ensures.lanes ∙ ap (λ m. m + batch.lanes) was.next ∙ next_of lane outcomes o batch.lanes);
-      worked = rw grown (worked_next batch lane c.args.seat.now c.loop-number.seat c.seal_job.new.seat outcomes o was.worked inside step);
+      worked = rw grown (worked_next batch c.args.lane job c.args.seat.now c.loop-job.seat c.seal_job-outcome.new.seat
+          done o was.worked c.seal_job-outcome.ensures
+          (λ x has. c.in-Some.ensures.ascends x (subst (λ (v : ClaimantView). 0 < times x v.drawn) (sym drawn) has)));
+      drawn = rw grown (c.in-Some.ensures.some ∙ ap (λ v. with_number v job) drawn
+          ∙ ap (λ js. claimant_of batch.claims 1 js 0)
+          (sym (map-append (λ (d : Done). d.job) done (done_of job o ∷ []))));
       room = rw (ap (λ p. p.room) c.put.ensures) was.room;
     }

@@ -1,13 +1,14 @@
-use Rattle.std.proofs.Common.{◌≡◌, ◌+◌, ◌-◌, ◌*◌, ◌≤◌, length}
-use Rattle.crew_core.specs.Lanes.{IsWorked}
+use Rattle.std.proofs.Common.{◌≡◌, ◌-◌, ◌≤◌, length}
+use Rattle.crew_core.specs.Lanes.{IsWorked, claimant_of}
+use Rattle.crew_core.specs.Places.{jobs_of}
 use Rattle.crew_core.proofs.lanes.work_lane.Given as goal
 
-abbrev pub invariant-loop-number : goal.invariant-loop-number
-invariant-loop-number g l = record {
-  next : l.number ≡ l.lane + length l.places.outcomes * l.batch.lanes;
-  worked : IsWorked l.batch l.lane l.initial.seat l.seat l.places.outcomes;
-  room : length l.batch.jobs ≤ l.places.room * l.batch.lanes;
+abbrev pub invariant-loop-job : goal.invariant-loop-job
+invariant-loop-job g l = record {
+  worked : IsWorked l.batch l.lane l.initial.seat l.seat l.places.done;
+  drawn : l.claimant ≡ claimant_of l.batch.claims 1 (jobs_of l.places.done) 0;
+  room : length l.batch.jobs ≤ l.places.room;
 }
 
-abbrev pub decreases-loop-number : goal.decreases-loop-number
-decreases-loop-number g l = l.count - l.number
+abbrev pub decreases-loop-job : goal.decreases-loop-job
+decreases-loop-job g l = length l.batch.jobs - length l.places.done

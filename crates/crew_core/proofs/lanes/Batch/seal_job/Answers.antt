@@ -7,9 +7,9 @@ use Rattle.crew_core.proofs.lanes.Batch.seal_job.Goals as goal
 pub sealed_job-requires-clause-short : goal.sealed_job-requires-clause-short
 sealed_job-requires-clause-short c =
     let jobs = c.self.inside.jobs.now in
-    let n = c.args.number in
-    let job = c.index-self-number.result in
-    let low : n < length (map (λ j. j.items) jobs) = subst (λ js. n < length js) (sym (ap (λ b. b.jobs) c.self.view_is)) c.requires.number in
+    let n = c.args.job in
+    let job = c.index-self-job.result in
+    let low : n < length (map (λ j. j.items) jobs) = subst (λ js. n < length js) (sym (ap (λ b. b.jobs) c.self.view_is)) c.requires.job in
     let inside : n < length jobs = rw (length-map jobs (λ j. j.items)) at low in
     let same = get_or-map (λ j. j.items) jobs n job job.items inside ∙ sym c.as_slice.ensures.value in
     subst (λ l. length l ≤ 1099511627776) same (c.self.invariant.short n job.items low)
@@ -17,9 +17,9 @@ sealed_job-requires-clause-short c =
 pub returns : goal.returns
 returns c =
     let jobs = c.self.inside.jobs.now in
-    let n = c.args.number in
-    let job = c.index-self-number.result in
-    let low : n < length (map (λ j. j.items) jobs) = subst (λ js. n < length js) (sym (ap (λ b. b.jobs) c.self.view_is)) c.requires.number in
+    let n = c.args.job in
+    let job = c.index-self-job.result in
+    let low : n < length (map (λ j. j.items) jobs) = subst (λ js. n < length js) (sym (ap (λ b. b.jobs) c.self.view_is)) c.requires.job in
     let inside : n < length jobs = rw (length-map jobs (λ j. j.items)) at low in
     let same = get_or-map (λ j. j.items) jobs n job [] inside ∙ sym c.as_slice.ensures.value in
     subst (λ b. IsStep b.key (get_or b.jobs n []) c.args.lane c.args.seat.now c.sealed_job.new.seat c.sealed_job.result) c.self.view_is

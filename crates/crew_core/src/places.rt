@@ -1,0 +1,112 @@
+//! What the lanes of a batch have done, in places that were made before the first of them started, and all of it put in
+//! the order of the jobs once they have ended: each lane has drawn its jobs in the order of their numbers, so the next
+//! job is always the first that some lane has left.
+ghost use Rattle.std.specs.Prelude.{◌≡◌, ◌↔◌, ℕ, ◌<◌, ◌≤◌, ◌++◌, [], ◌∷◌, length, All, IfOk, IsTrue};
+ghost use Rattle.std.specs.Prelude.{vec_len, vec_capacity};
+ghost use Rattle.crew_core.specs.Places.{AreDrawn, AreInOrder, BeginsWith, done_at, done_of};
+
+use crate::MAX_JOBS;
+use crate::outcome::Outcome;
+use std::alloc::{AllocError, Global};
+use std::collections::VecDeque;
+use std::marker::Model;
+
+/// A job that a lane has done: its number, and what became of it.
+#[derive(Drop)]
+pub(crate) struct Done {
+    pub(crate) job: u32,
+    pub(crate) outcome: Outcome,
+}
+
+/// What one lane has done, in the order in which it did it, in room that was made beforehand.
+#[derive(Drop)]
+pub(crate) struct Places {
+    done: VecDeque<Done>,
+}
+
+impl Model for Places {
+    ghost use Rattle.std.specs.VecDeque.{deque_capacity};
+    ghost use Rattle.crew_core.specs.Places.{PlacesView};
+
+    ghost Value = { PlacesView };
+
+    ghost view = { λ p. record { done = p.done.items; room = deque_capacity p.done } };
+}
+
+impl Places {
+    // Room for so many jobs.
+    fn new(alloc: Global, room: usize) -> Result<Places, AllocError>
+        ensures { IfOk result (λ places. (places.done ≡ []) × (room ≤ places.room)) }
+    {
+        let done = VecDeque::with_capacity(alloc, room)?;
+        Ok(Places { done })
+    }
+
+    /// Adds a job that is done, in room that is there.
+    pub(crate) fn put(&mut self, done: Done)
+        requires { length self.old.done < self.old.room }
+        ensures { self.new ≡ record self.old { done = self.old.done ++ done ∷ [] } }
+    {
+        self.done.push_back_reserved(done);
+    }
+
+    // Whether the first is the job of this number.
+    fn begins_with(&self, job: u32) -> bool
+        ensures { IsTrue result ↔ BeginsWith job self.now.done }
+    {
+        match self.done.front() {
+            Some(done) => done.job == job,
+            None => false,
+        }
+    }
+
+    // Takes out the outcome of the first, which is that of the job of this number.
+    fn take(&mut self, _job: u32) -> Outcome
+        requires { BeginsWith _job self.old.done }
+        ensures { self.old.done ≡ done_of _job result ∷ self.new.done }
+    {
+        match self.done.pop_front() {
+            Some(Done { job: _, outcome }) => outcome,
+            None => unreachable!(),
+        }
+    }
+}
+
+/// Places for each lane, with room for so many jobs.
+pub(crate) fn all_places(alloc: Global, room: usize, lanes: u32) -> Result<Vec<Places>, AllocError>
+    ensures { IfOk result (λ all. (vec_len all ≡ lanes)
+        × All (λ places. (places.done ≡ []) × (room ≤ places.room)) all.items) }
+{
+    let mut all = Vec::with_capacity(alloc, lanes as usize)?;
+    for _ in 0..lanes {
+        all.push(Places::new(alloc, room)?)?;
+    }
+    Ok(all)
+}
+
+// The lane that has this job left as its first.
+fn lane_with(places: &[Places], job: u32) -> usize
+    requires { (lane : ℕ) × (lane < length places.now) × BeginsWith job (done_at places.now lane) }
+    ensures below { result < length places.now }
+    ensures first { BeginsWith job (done_at places.now result) }
+{
+    for lane in 0..places.len() {
+        if places[lane].begins_with(job) {
+            return lane;
+        }
+    }
+    unreachable!()
+}
+
+/// Puts the outcomes of all lanes in the order of their jobs, into room that is there.
+pub(crate) fn put_in_order(outcomes: &mut Vec<Outcome>, places: &mut [Places], jobs: u32)
+    requires room { (vec_len outcomes.old ≡ 0) × (jobs ≤ vec_capacity outcomes.old) }
+    requires drawn { AreDrawn jobs places.old }
+    ensures { AreInOrder jobs places.old outcomes.new.items }
+{
+    for job in 0..jobs {
+        let lane = lane_with(places, job);
+        let outcome = places[lane].take(job);
+        outcomes.push_reserved(outcome);
+    }
+}

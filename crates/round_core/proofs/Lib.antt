@@ -1,0 +1,4 @@
+pub mod ValueLemmas
+pub mod PlaceLemmas
+pub mod AnswerLemmas
+pub mod LawLemmas

@@ -1,0 +1,6 @@
+pub mod Views
+pub mod Values
+pub mod Pieces
+pub mod Answer
+pub mod Parts
+pub mod Rooms

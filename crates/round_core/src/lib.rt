@@ -1,0 +1,17 @@
+//! Rounds: some chunks one behind the other, sealed, opened or checked piece by piece, and the pieces put on their
+//! places. No thread is started here, and nothing waits.
+//!
+//! A `Round` makes each of its pieces by its number. A `Bench` is the room in which one worker makes pieces, in any
+//! order, and `Places` takes the pieces of all benches, each onto its place. So it makes no difference to what stands
+//! there who made which piece, or when.
+#![tactic(auto)]
+
+pub mod bench;
+pub mod laws;
+mod piece;
+pub mod places;
+pub mod round;
+
+pub use crate::bench::Bench;
+pub use crate::places::Places;
+pub use crate::round::{Round, Task};

@@ -1,0 +1,202 @@
+//! A round: some chunks one behind the other, numbered from `first` on, each of which is sealed, opened or checked by
+//! its number, in any order.
+//!
+//! The nonce of a chunk encodes its number and whether it is the last of all. The last chunk of a round is that where
+//! the round's flag says so, and no other chunk of a round is. Nothing here takes memory.
+ghost use Rattle.std.specs.Prelude.{◌≡◌, ◌+◌, ◌^◌, ◌==◌, ◌&&◌, ◌<◌, ◌≤◌, [], length, slice_index_or, None, Some};
+ghost use Rattle.std.specs.Prelude.{vec_capacity};
+ghost use Rattle.std.specs.Bool.{OnTrue, OnFalse};
+ghost use Rattle.container_core.specs.Chunks.{chunk_count};
+ghost use Rattle.round_core.specs.Values.{parts_of, value_at, round_of};
+ghost use Rattle.round_core.specs.Parts.{body_bytes, room_of, part_size, least_part};
+
+use container_core::{CHUNK, Cut, Header, Key, SEALED, append_opened, append_sealed, check_chunk};
+use std::marker::Model;
+
+/// What is done to each chunk of a round.
+#[derive(Clone, Copy, PartialEq, Eq, Debug)]
+pub enum Task {
+    /// It is sealed.
+    Sealing,
+    /// It is opened.
+    Opening,
+    /// It is opened, and its plaintext isn't kept: only whether it checks.
+    Checking,
+}
+
+impl Task {
+    /// Bytes of room that a piece needs.
+    pub fn room(self) -> usize
+        ensures { result ≡ room_of self }
+    {
+        match self {
+            Task::Sealing => SEALED,
+            Task::Opening => CHUNK,
+            Task::Checking => 0,
+        }
+    }
+}
+
+/// Some chunks to be sealed, opened or checked under a key and a header. Contracts see what comes of each of them.
+#[derive(Drop)]
+pub struct Round<'a> {
+    task: Task,
+    key: &'a Key,
+    header: &'a Header,
+    first: u32,
+    last: bool,
+    cut: Cut,
+    body: &'a [u8],
+}
+
+impl<'a> Model for Round<'a> {
+    ghost use Rattle.round_core.specs.Views.{RoundView};
+    ghost use Rattle.round_core.specs.Values.{values_of};
+    ghost use Rattle.round_core.specs.Parts.{IsCut};
+
+    ghost Value = { RoundView };
+
+    ghost view = { λ r. record {
+      task = r.task;
+      first = r.first;
+      values = values_of r.task r.key.now r.header.now r.first r.last r.body.now;
+    } };
+
+    ghost invariant = { λ r. IsCut r.task r.first r.cut r.body.now };
+}
+
+// The part of a body that the piece of this number is made of.
+fn part_at(task: Task, cut: Cut, body: &[u8], number: u32) -> &[u8]
+    requires number { number < chunk_count cut }
+    requires body { length body.now ≡ body_bytes task cut }
+    ensures part { result.now ≡ slice_index_or (parts_of task body.now) number [] }
+    ensures enough { least_part task ≤ length result.now }
+    ensures small { length result.now ≤ part_size task }
+{
+    match task {
+        Task::Sealing => cut.chunk_of(body, number),
+        Task::Opening | Task::Checking => cut.sealed_of(body, number),
+    }
+}
+
+// Whether the chunk of this number, of so many, is the last of all.
+fn is_last(number: u32, count: u32, last: bool) -> bool
+    requires { number < count }
+    ensures { result ≡ ((number + 1 == count) && last) }
+{
+    number + 1 == count && last
+}
+
+// Makes what comes of one part, and answers whether anything does.
+fn make_value(
+    task: Task,
+    key: &Key,
+    header: &Header,
+    number: u32,
+    last: bool,
+    part: &[u8],
+    out: &mut Vec<u8>,
+) -> bool
+    requires enough { least_part task ≤ length part.now }
+    requires small { length part.now ≤ part_size task }
+    requires empty { out.old.items ≡ [] }
+    requires room { room_of task ≤ vec_capacity out.old }
+    ensures made { OnTrue result (value_at task key.now header.now number last part.now ≡ Some out.new.items) }
+    ensures refused { OnFalse result ((value_at task key.now header.now number last part.now ≡ None)
+        × (out.new.items ≡ [])) }
+    ensures capacity { vec_capacity out.old ≤ vec_capacity out.new }
+{
+    match task {
+        Task::Sealing => {
+            append_sealed(out, key, header, number, last, part);
+            true
+        }
+        Task::Opening => append_opened(out, key, header, number, last, part),
+        Task::Checking => check_chunk(key, header, number, last, part),
+    }
+}
+
+impl<'a> Round<'a> {
+    /// The round of a body: of a plaintext whose chunks are sealed, or of sealed chunks that are opened or checked.
+    /// `first` is the number of its first chunk, `last` says whether its last chunk is the last of all, and `cut` is
+    /// the cut of so many plaintext bytes as it has.
+    pub fn new(
+        task: Task,
+        key: &'a Key,
+        header: &'a Header,
+        first: u32,
+        last: bool,
+        cut: Cut,
+        body: &'a [u8],
+    ) -> Round<'a>
+        requires numbers { first + chunk_count cut ≤ 2 ^ 32 }
+        requires body { length body.now ≡ body_bytes task cut }
+        ensures { result ≡ round_of task key.now header.now first last body.now }
+    {
+        Round {
+            task,
+            key,
+            header,
+            first,
+            last,
+            cut,
+            body,
+        }
+    }
+
+    /// What is done to each chunk.
+    pub fn task(&self) -> Task
+        ensures { result ≡ self.now.task }
+    {
+        self.task
+    }
+
+    /// The number of its first chunk.
+    pub fn first(&self) -> u32
+        ensures { result ≡ self.now.first }
+    {
+        self.first
+    }
+
+    /// The number of the chunk of which the piece of this number, counted from 0 within the round, is made.
+    pub fn chunk(&self, number: u32) -> u32
+        requires { number < length self.now.values }
+        ensures { result ≡ self.now.first + number }
+    {
+        self.first + number
+    }
+
+    /// How many pieces there are: one for each chunk, and at least one.
+    pub fn count(&self) -> u32
+        ensures count { result ≡ length self.now.values }
+        ensures some { 0 < result }
+        ensures numbers { self.now.first + result ≤ 2 ^ 32 }
+    {
+        self.cut.count()
+    }
+
+    /// Makes the piece of this number, counted from 0 within the round, in room that the caller made for it: its chunk
+    /// sealed, with its tag behind it, or opened, or nothing where it is only checked. Answers whether the chunk
+    /// checks, which each does that is sealed; nothing is written where it doesn't. Takes no memory.
+    pub fn make(&self, number: u32, out: &mut Vec<u8>) -> bool
+        requires number { number < length self.now.values }
+        requires empty { out.old.items ≡ [] }
+        requires room { room_of self.now.task ≤ vec_capacity out.old }
+        ensures made { OnTrue result (slice_index_or self.now.values number None ≡ Some out.new.items) }
+        ensures refused { OnFalse result ((slice_index_or self.now.values number None ≡ None)
+            × (out.new.items ≡ [])) }
+        ensures capacity { vec_capacity out.old ≤ vec_capacity out.new }
+    {
+        let part = part_at(self.task, self.cut, self.body, number);
+        let last = is_last(number, self.cut.count(), self.last);
+        make_value(
+            self.task,
+            self.key,
+            self.header,
+            self.first + number,
+            last,
+            part,
+            out,
+        )
+    }
+}

@@ -1,0 +1,17 @@
+//! Workers over the rounds of `round_core`: so many, each with room of its own, draw the pieces of a round one by one and
+//! make them, while the caller's thread does a chore beside them.
+//!
+//! `rounds` has the crew, `gate` what every worker passes before each piece.
+#![tactic(auto)]
+
+pub mod gate;
+pub mod rounds;
+mod workers;
+
+pub use crate::gate::{Free, Gate};
+pub use crate::rounds::Crew;
+
+/// The most workers of one sealing or opening.
+pub const MAX_WORKERS: u32 = 16;
+/// The most chunks of a round of a sealing.
+pub const MAX_WINDOW: u32 = 256;

@@ -1,0 +1,141 @@
+//! Rounds made by a crew: so many workers, each with room for all pieces of a round, which is made before any starts.
+//!
+//! `Crew::make` makes the pieces of a round, in whatever order, and `Crew::put` puts them on their places. For a round
+//! it starts its threads and allocates the one word from which the numbers are drawn; without that word the caller's
+//! thread works alone. So once a crew is there, neither answers that memory was refused; a chore may.
+ghost use Rattle.std.specs.Prelude.{◌≡◌, ◌<◌, ◌≤◌, [], length, map, All, IfOk};
+ghost use Rattle.round_core.specs.Parts.{room_of};
+ghost use Rattle.round_core.specs.Pieces.{all_made, emptied, Covers, IsPiece};
+ghost use Rattle.worker_core.specs.Crew.{AreWorked, HasMade, IsOfCrew, IsReady, idle};
+
+use crate::MAX_WORKERS;
+use crate::gate::Gate;
+use crate::workers::make_round;
+use round_core::{Bench, Places, Round};
+use std::alloc::{AllocError, Global};
+use std::marker::Model;
+use std::thread::Threads;
+
+/// So many workers with their room. Contracts see how many there are, for how many pieces of how many bytes each has
+/// room, and the pieces that were made and not put on their places yet.
+#[derive(Drop)]
+pub struct Crew {
+    room: u32,
+    size: usize,
+    benches: Vec<Bench>,
+}
+
+impl Model for Crew {
+    ghost use Rattle.std.specs.Prelude.{◌<◌, ◌≤◌, length, All};
+    ghost use Rattle.round_core.specs.Pieces.{all_made};
+    ghost use Rattle.worker_core.specs.Crew.{CrewView, IsOfCrew};
+
+    ghost Value = { CrewView };
+
+    ghost view = { λ c. record {
+      workers = length c.benches.items;
+      room = c.room;
+      size = c.size;
+      made = all_made c.benches.items;
+    } };
+
+    ghost invariant = { λ c. (0 < length c.benches.items) × (length c.benches.items ≤ 16)
+        × All (IsOfCrew c.room c.size) c.benches.items };
+}
+
+// Benches for so many workers, each with room for so many pieces of so many bytes.
+fn benches_of(alloc: Global, workers: u32, room: u32, size: usize) -> Result<Vec<Bench>, AllocError>
+    ensures count { IfOk result (λ benches. length benches.items ≡ workers) }
+    ensures each { IfOk result (λ benches. All (IsOfCrew room size) benches.items) }
+    ensures made { IfOk result (λ benches. all_made benches.items ≡ []) }
+{
+    let mut benches = Vec::with_capacity(alloc, workers as usize)?;
+    for _n in 0..workers {
+        benches.push(Bench::new(alloc, room, size)?)?;
+    }
+    Ok(benches)
+}
+
+// Makes the pieces of a round on benches that have none, and room for all.
+fn make_on<R: Threads + Sync, G: Gate + Sync, C: FnMut() -> A, A>(
+    rt: &R,
+    alloc: Global,
+    round: &Round,
+    benches: &mut Vec<Bench>,
+    gate: &G,
+    chore: &mut C,
+) -> A
+    requires workers { (0 < length benches.old.items) × (length benches.old.items ≤ MAX_WORKERS) }
+    requires ready { All (IsReady round.now) benches.old.items }
+    requires chore { C.pre chore.old }
+    ensures chore { C.step chore.old result chore.new }
+    ensures made { Covers round.now benches.new.items }
+    ensures worked { AreWorked round.now benches.old.items benches.new.items }
+{
+    make_round(rt, alloc, round, benches.as_mut_slice(), gate, chore)
+}
+
+// Puts the pieces of a round from benches that have them all onto their places.
+fn put_from(round: &Round, benches: &mut Vec<Bench>, places: &mut Places)
+    requires room { length round.now.values ≤ places.old.room }
+    requires sizes { All (λ bench. bench.size ≡ places.old.size) benches.old.items }
+    requires pieces { All (IsPiece round.now) (all_made benches.old.items) }
+    requires all { Covers round.now benches.old.items }
+    ensures values { places.new.values ≡ round.now.values }
+    ensures benches { benches.new.items ≡ map emptied benches.old.items }
+    ensures room { places.new.room ≡ places.old.room }
+    ensures size { places.new.size ≡ places.old.size }
+{
+    places.take(round, benches.as_mut_slice());
+}
+
+impl Crew {
+    /// So many workers, each with room for so many pieces of `size` bytes. `AllocError` where memory was refused.
+    pub fn new(alloc: Global, workers: u32, room: u32, size: usize) -> Result<Crew, AllocError>
+        requires { (0 < workers) × (workers ≤ MAX_WORKERS) }
+        ensures { IfOk result (λ crew. crew ≡ idle workers room size) }
+    {
+        let benches = benches_of(alloc, workers, room, size)?;
+        Ok(Crew {
+            room,
+            size,
+            benches,
+        })
+    }
+
+    /// Makes all pieces of a round, each by the worker that draws its number, while the caller's thread, worker 0, does
+    /// a chore first and then draws as the others do. Each worker passes the gate before each piece. A worker that can't
+    /// be started makes nothing, and where memory for the numbers' word is refused the caller's thread makes all.
+    pub fn make<R: Threads + Sync, G: Gate + Sync, C: FnMut() -> A, A>(
+        &mut self,
+        rt: &R,
+        alloc: Global,
+        round: &Round,
+        gate: &G,
+        chore: &mut C,
+    ) -> A
+        requires idle { self.old.made ≡ [] }
+        requires room { length round.now.values ≤ self.old.room }
+        requires size { room_of round.now.task ≤ self.old.size }
+        requires chore { C.pre chore.old }
+        ensures chore { C.step chore.old result chore.new }
+        ensures made { HasMade round.now self.new.made }
+        ensures room { self.new.room ≡ self.old.room }
+        ensures size { self.new.size ≡ self.old.size }
+    {
+        make_on(rt, alloc, round, &mut self.benches, gate, chore)
+    }
+
+    /// Puts the pieces of a round, which are all there, on their places, and has none left. Takes no memory.
+    pub fn put(&mut self, round: &Round, places: &mut Places)
+        requires made { HasMade round.now self.old.made }
+        requires room { length round.now.values ≤ places.old.room }
+        requires size { places.old.size ≡ self.old.size }
+        ensures values { places.new.values ≡ round.now.values }
+        ensures idle { self.new.made ≡ [] }
+        ensures room { (self.new.room ≡ self.old.room) × (places.new.room ≡ places.old.room) }
+        ensures size { (self.new.size ≡ self.old.size) × (places.new.size ≡ places.old.size) }
+    {
+        put_from(round, &mut self.benches, places);
+    }
+}

@@ -1,0 +1,5 @@
+//! Tests of `worker_core`: rounds of a container by crews of 1 to 16 workers, against what `container_core` seals.
+#![tactic(auto)]
+
+#[cfg(test)]
+mod rounds;
