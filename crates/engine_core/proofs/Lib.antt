@@ -1,1 +1,5 @@
 pub mod EngineLemmas
+pub mod OpeningRounds
+pub mod PieceLemmas
+pub mod ReadingLemmas
+pub mod SealingRounds

@@ -1,16 +1,18 @@
 -- What the contracts of the engines cite: what an engine did with its reader, and what with its writer.
-use Rattle.std.specs.Prelude.{◌≡◌, ◌≢◌, ℕ, ◌+◌, ◌<◌, ◌≤◌, Bool, true, false, List, length, Option, Result, Ok, Err}
+use Rattle.std.specs.Prelude.{◌≡◌, ◌≢◌, ℕ, ◌+◌, ◌*◌, ◌<◌, ◌≤◌, ◌++◌, Bool, true, false, List, [], ◌∷◌, length, Option}
+use Rattle.std.specs.Prelude.{Result, Ok, Err}
 use Rattle.std.specs.Prelude.{IfOk, IfErr, OnOk, OnErr, IfSome}
-use Rattle.container_core.specs.Chunks.{container_length}
-use Rattle.container_core.specs.Container.{container}
+use Rattle.container_core.specs.Chunks.{chunk_size, chunks, container_length}
+use Rattle.container_core.specs.Container.{container, header_of}
 use Rattle.container_core.specs.declared.fault.OpenFault.{OpenFault}
 use Rattle.container_core.specs.declared.fault.OpenFault.TheVariants as opening_fault
 use Rattle.container_core.specs.declared.fault.SealFault.{SealFault}
 use Rattle.container_core.specs.declared.fault.SealFault.TheVariants as sealing_fault
 use Rattle.container_core.specs.Faults.{IsOfBytes}
 use Rattle.container_core.specs.Opening.{opening}
+use Rattle.container_core.specs.Stream.{stream_by}
 use Rattle.io_core.specs.Reads.{ConsumesExactly, ConsumesUpTo}
-use Rattle.io_core.specs.Streams.{Appends, AppendsFront, IsAtEnd, Keeps, LacksSome, counted}
+use Rattle.io_core.specs.Streams.{Appends, AppendsFront, Consumes, IsAtEnd, Keeps, LacksSome, counted}
 
 -- whether a sealing ended by a failed read
 abbrev pub seal_read_failed : {A : Type 0} → Result A SealFault → Bool
@@ -63,7 +65,6 @@ pub record HasReadPlain {A : Type 0} (most : ℕ) (left left' : Option (List ℕ
     (result : Result A SealFault) : Type 0 where
   -- nothing is left unread
   pub end : OnOk result (IsAtEnd left')
-  pub all_read : result ≡ Err sealing_fault.Write → IsAtEnd left'
   -- an input that is too long has more bytes, of which one past the longest was read
   pub more : result ≡ Err sealing_fault.TooLong → IfSome left (λ input. most < length input)
   pub too_long : result ≡ Err sealing_fault.TooLong → ConsumesExactly left left' (most + 1)
@@ -83,6 +84,43 @@ pub record HasWrittenContainer (key prefix : List ℕ) (most : ℕ) (left taken 
       → IfSome left (λ input. AppendsFront taken taken' (container key prefix input))
   pub short : result ≡ Err sealing_fault.Write
       → IfSome left (λ input. LacksSome taken taken' (container key prefix input))
+  -- a failed write is Write, and no other fault is
+  pub write : failures' ≡ counted (seal_write_failed result) failures
+  -- the answer is the input's length
+  pub length : IfOk result (λ n. IfSome left (λ input. n ≡ length input))
+
+-- the container of some plaintext that begins with what was read begins with what was written
+abbrev pub BeginsContainer : List ℕ → List ℕ → Option (List ℕ) → Option (List ℕ) → Option (List ℕ) → Option (List ℕ)
+    → Type 0
+BeginsContainer key prefix left left' taken taken' = (read : List ℕ) × (more : List ℕ)
+    × Consumes left left' read × AppendsFront taken taken' (container key prefix (read ++ more))
+
+-- what is written once these bytes are sealed in full rounds, none of which is the last: nothing before the first
+abbrev pub rounds_so_far : List ℕ → List ℕ → List ℕ → List ℕ
+rounds_so_far key header [] = []
+rounds_so_far key header (byte ∷ bytes) = header ++ stream_by key header 0 false (chunks (byte ∷ bytes))
+
+-- what was read is some full rounds, which were written whole, and the round in hand, which was dropped; the byte behind
+-- each of those rounds is within the limit
+abbrev pub DropsRound : List ℕ → List ℕ → ℕ → ℕ → Option (List ℕ) → Option (List ℕ) → Option (List ℕ) → Option (List ℕ)
+    → Type 0
+DropsRound key prefix most window left left' taken taken' = (past : List ℕ) × (held : List ℕ) × (rounds : ℕ)
+    × Consumes left left' (past ++ held) × (length past ≡ rounds * (window * chunk_size))
+    × (0 < length past → length past < most) × (0 < length held) × (length held ≤ window * chunk_size + 1)
+    × Appends taken taken' (rounds_so_far key (header_of key prefix) past)
+
+-- What an engine that seals in rounds of so many chunks did with its writer.
+pub record HasWrittenRounds (key prefix : List ℕ) (most window : ℕ) (left left' taken taken' : Option (List ℕ))
+    (failures failures' : Option ℕ) (result : Result ℕ SealFault) : Type 0 where
+  -- what was written is the container of the whole input
+  pub written : OnOk result (IfSome left (λ input. Appends taken taken' (container key prefix input)))
+  pub within : OnOk result (IfSome left (λ input. length input ≤ most))
+  -- at a fault it begins the container of some plaintext that begins with what was read
+  pub begun : OnErr result (BeginsContainer key prefix left left' taken taken')
+  -- of an input that is too long the rounds before the one in hand were written
+  pub dropped : result ≡ Err sealing_fault.TooLong → DropsRound key prefix most window left left' taken taken'
+  -- memory is refused before anything was written
+  pub unwritten : result ≡ Err sealing_fault.OutOfMemory → Keeps taken taken'
   -- a failed write is Write, and no other fault is
   pub write : failures' ≡ counted (seal_write_failed result) failures
   -- the answer is the input's length

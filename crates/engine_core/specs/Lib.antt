@@ -1,2 +1,4 @@
 pub mod Engine
+pub mod Rounds
 pub mod Status
+pub mod Windows

@@ -7,6 +7,7 @@ ghost use Rattle.std.specs.Prelude.{◌≡◌, ◌≢◌, ◌≤◌, Ok, Err, If
 ghost use Rattle.container_core.specs.Opening.{opening};
 ghost use Rattle.engine_core.specs.Engine.{HasReadPlain, HasWrittenContainer, HasReadContainer, HasWrittenPlain};
 ghost use Rattle.engine_core.specs.Engine.{OpensTo};
+ghost use Rattle.io_core.specs.Streams.{IsAtEnd};
 
 use crate::reading::{read_container, read_plain};
 use container_core::{Key, MAX_PLAIN, OpenFault, SealFault, open, seal};
@@ -28,6 +29,7 @@ pub fn seal_one<R: Source, W: Sink>(
     requires { max_bytes ≤ MAX_PLAIN }
     ensures reads { HasReadPlain max_bytes (R.left reader.old) (R.left reader.new)
         (R.failures reader.old) (R.failures reader.new) result }
+    ensures all_read { result ≡ Err SealFault.Write → IsAtEnd (R.left reader.new) }
     ensures writes { HasWrittenContainer key.now prefix max_bytes (R.left reader.old)
         (W.taken writer.old) (W.taken writer.new) (W.failures writer.old) (W.failures writer.new) result }
 {

@@ -1,4 +1,4 @@
-//! What the engines share: an input is read whole, and a reader's fault becomes the engine's.
+//! Reading the whole of an input, a plaintext or a container: a reader's fault becomes the engine's.
 ghost use Rattle.std.specs.Prelude.{◌≢◌, ℕ, ◌≤◌, List, vec_len, Err, IfOk};
 ghost use Rattle.container_core.specs.Chunks.{container_length};
 ghost use Rattle.io_core.specs.Streams.{Consumes};

@@ -1,27 +1,67 @@
-//! The engines of `engine` with any number of workers: the answer, what is read and what is written are those of one
+//! The engines of `engine` with any number of workers, a window of the file at a time: the answers are those of one
 //! thread.
 //!
-//! The whole input is read before anything is written. Where the input is sealed, the grant comes back spent: sealed
-//! with `Ok`, else void.
+//! A container is written as its plaintext is read, and the grant comes back spent: sealed with `Ok`, else void. Nothing
+//! of a container's plaintext is written before all was checked.
 ghost use Rattle.std.specs.Prelude.{◌≡◌, ◌≢◌, ◌<◌, ◌≤◌, Ok, Err, IfOk, OnOk, OnErr, IfSome};
 ghost use Rattle.container_core.specs.Opening.{opening};
 ghost use Rattle.crew_core.specs.Spending.{spent_as};
 ghost use Rattle.journal_core.specs.declared.entry.Way.TheVariants.{Sealed, Void};
 ghost use Rattle.ledger_core.specs.Range.{prefix_of};
-ghost use Rattle.engine_core.specs.Engine.{HasReadPlain, HasWrittenContainer, HasReadContainer, HasWrittenPlain};
+ghost use Rattle.engine_core.specs.Engine.{HasReadPlain, HasWrittenRounds, HasReadContainer, HasWrittenPlain};
 ghost use Rattle.engine_core.specs.Engine.{OpensTo};
 
-use crate::reading::{read_container, read_plain};
+use crate::sealing::seal_rounds;
+use crate::windows::open_rounds;
 use container_core::{Key, MAX_PLAIN, OpenFault, SealFault};
-use crew_core::{Gate, MAX_WORKERS, open_whole, seal_whole};
+use crew_core::{Gate, MAX_WINDOW, MAX_WORKERS};
 use ledger_core::{Failed, Grant, Sink, Source, Spent, write_all};
+use round_core::Task;
 use std::alloc::Global;
 use std::thread::Threads;
 
 /// Reads all of an input of at most `max_bytes` bytes (2^40 at most) and writes its container under a key and a grant's
-/// prefix, sealed by 1 to 16 workers. Answers the input's length. `TooLong` where a byte more was read, and nothing
-/// past it is; at `TooLong`, `OutOfMemory` and `Read` nothing was written; at `Write` the whole input was read, and a
-/// beginning of its container was written, and not the whole.
+/// prefix, sealed by 1 to 16 workers in rounds of `window` chunks (1 to 256): while one is sealed, the one before is
+/// written and the one behind is read. Answers the input's length. `TooLong` where a byte more was read, and nothing
+/// past it is; the round in hand is dropped then, and those before it were written. At every fault what was written
+/// begins the container of some plaintext that begins with what was read, and at `OutOfMemory` it is nothing. Memory is
+/// taken before the first chunk is sealed: two windows of plaintext, a window of sealed chunks, and as many for each
+/// worker; and one word for each round, without which the caller's thread seals it alone.
+pub fn run_seal_by<T: Threads + Sync, R: Source, W: Sink, G: Gate + Sync>(
+    rt: &T,
+    alloc: Global,
+    key: &Key,
+    grant: Grant,
+    reader: &mut R,
+    writer: &mut W,
+    max_bytes: u64,
+    workers: u32,
+    window: u32,
+    gate: &G,
+) -> (Result<u64, SealFault>, Spent)
+    requires max_bytes { max_bytes ≤ MAX_PLAIN }
+    requires workers { (0 < workers) × (workers ≤ MAX_WORKERS) }
+    requires window { (0 < window) × (window ≤ MAX_WINDOW) }
+    ensures reads { HasReadPlain max_bytes (R.left reader.old) (R.left reader.new)
+        (R.failures reader.old) (R.failures reader.new) result.0 }
+    ensures writes { HasWrittenRounds key.now (prefix_of grant.device grant.number) max_bytes window
+        (R.left reader.old) (R.left reader.new) (W.taken writer.old) (W.taken writer.new)
+        (W.failures writer.old) (W.failures writer.new) result.0 }
+
+    // The grant is spent.
+    ensures sealed { OnOk result.0 (result.1 ≡ spent_as grant Sealed) }
+    ensures void { OnErr result.0 (result.1 ≡ spent_as grant Void) }
+{
+    let prefix = grant.prefix();
+    match seal_rounds(
+        rt, alloc, key, prefix, reader, writer, max_bytes, workers, window, gate,
+    ) {
+        Ok(bytes) => (Ok(bytes), grant.used()),
+        Err(fault) => (Err(fault), grant.waste()),
+    }
+}
+
+/// `run_seal_by` in rounds of 16 chunks.
 pub fn run_seal<T: Threads + Sync, R: Source, W: Sink, G: Gate + Sync>(
     rt: &T,
     alloc: Global,
@@ -37,30 +77,21 @@ pub fn run_seal<T: Threads + Sync, R: Source, W: Sink, G: Gate + Sync>(
     requires workers { (0 < workers) × (workers ≤ MAX_WORKERS) }
     ensures reads { HasReadPlain max_bytes (R.left reader.old) (R.left reader.new)
         (R.failures reader.old) (R.failures reader.new) result.0 }
-    ensures writes { HasWrittenContainer key.now (prefix_of grant.device grant.number) max_bytes (R.left reader.old)
-        (W.taken writer.old) (W.taken writer.new) (W.failures writer.old) (W.failures writer.new) result.0 }
-
-    // The grant is spent.
+    ensures writes { HasWrittenRounds key.now (prefix_of grant.device grant.number) max_bytes 16
+        (R.left reader.old) (R.left reader.new) (W.taken writer.old) (W.taken writer.new)
+        (W.failures writer.old) (W.failures writer.new) result.0 }
     ensures sealed { OnOk result.0 (result.1 ≡ spent_as grant Sealed) }
     ensures void { OnErr result.0 (result.1 ≡ spent_as grant Void) }
 {
-    let plain = match read_plain(alloc, reader, max_bytes) {
-        Ok(plain) => plain,
-        Err(fault) => return (Err(fault), grant.waste()),
-    };
-    let (sealed, spent) = seal_whole(rt, alloc, key, grant, plain.as_slice(), workers, gate);
-    let Ok(bytes) = sealed else {
-        return (Err(SealFault::OutOfMemory), spent);
-    };
-    match write_all(writer, bytes.as_slice()) {
-        Ok(()) => (Ok(plain.len() as u64), spent),
-        Err(Failed) => (Err(SealFault::Write), spent.spoil()),
-    }
+    run_seal_by(
+        rt, alloc, key, grant, reader, writer, max_bytes, workers, 16, gate,
+    )
 }
 
 /// Reads a container and checks it by 1 to 16 workers. Answers its plaintext, which has at most `max_bytes` bytes (2^40
 /// at most), or the first fault of the container. Of an input that is too long one byte past the longest container is
-/// read.
+/// read. It takes the memory of the plaintext, whose room doubles as it grows, of two windows of 16 sealed chunks, and of
+/// 16 chunks of plaintext and as many for each worker.
 pub fn run_plain<T: Threads + Sync, R: Source, G: Gate + Sync>(
     rt: &T,
     alloc: Global,
@@ -78,11 +109,21 @@ pub fn run_plain<T: Threads + Sync, R: Source, G: Gate + Sync>(
     ensures reads { HasReadContainer key.now max_bytes (R.left reader.old) (R.left reader.new)
         (R.failures reader.old) (R.failures reader.new) result }
 {
-    let bytes = match read_container(alloc, reader, max_bytes) {
-        Ok(bytes) => bytes,
-        Err(fault) => return Err(fault),
-    };
-    open_whole(rt, alloc, key, bytes.as_slice(), workers, gate)
+    let mut out = Vec::new(alloc);
+    match open_rounds(
+        rt,
+        alloc,
+        Task::Opening,
+        key,
+        reader,
+        max_bytes,
+        workers,
+        &mut out,
+        gate,
+    ) {
+        Ok(_) => Ok(out),
+        Err(fault) => Err(fault),
+    }
 }
 
 /// Reads a container and writes its plaintext, once every chunk was checked: `run_plain`, and the writing. Answers the
@@ -112,7 +153,8 @@ pub fn run_open<T: Threads + Sync, R: Source, W: Sink, G: Gate + Sync>(
     }
 }
 
-/// Reads a container and checks it, as `run_open` does, without writing anything.
+/// Reads a container and checks it, as `run_open` does, without writing anything. It takes the memory of two windows,
+/// whatever the container's length.
 pub fn run_verify<T: Threads + Sync, R: Source, G: Gate + Sync>(
     rt: &T,
     alloc: Global,
@@ -129,6 +171,17 @@ pub fn run_verify<T: Threads + Sync, R: Source, G: Gate + Sync>(
     ensures reads { HasReadContainer key.now max_bytes (R.left reader.old) (R.left reader.new)
         (R.failures reader.old) (R.failures reader.new) result }
 {
-    let opened = run_plain(rt, alloc, key, reader, max_bytes, workers, gate)?;
-    Ok(opened.len() as u64)
+    // What is only checked has no bytes.
+    let mut none = Vec::new(alloc);
+    open_rounds(
+        rt,
+        alloc,
+        Task::Checking,
+        key,
+        reader,
+        max_bytes,
+        workers,
+        &mut none,
+        gate,
+    )
 }

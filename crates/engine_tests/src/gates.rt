@@ -4,7 +4,7 @@ ghost use Rattle.std.specs.Prelude.{◌<◌, ◌≤◌};
 
 use container_core::{Key, seal};
 use crew_core::{Gate, MAX_WORKERS};
-use crew_tests::{COUNTING, Meeting, Recorder, grant_of, pattern, zeros};
+use crew_tests::{COUNTING, Late, Meeting, Recorder, grant_of, pattern, zeros};
 use engine_core::{run_open, run_plain, run_seal, run_verify};
 use io_memory::{FromMemory, Schedule, ToMemory};
 use std::alloc::Global;
@@ -113,17 +113,30 @@ fn one_worker_meets_nobody(rt: HostRuntime) -> Result<(), Fail> {
 }
 
 #[test]
-fn each_worker_passes_with_its_deal(rt: HostRuntime) -> Result<(), Fail> {
+fn all_workers_pass_with_each_piece_once(rt: HostRuntime) -> Result<(), Fail> {
     let plain = pattern(rt.alloc(), 17 * 65_536 + 1)?;
     for engine in ENGINES {
         for workers in [1, 4, 16] {
             let gate = Recorder::new(rt.alloc(), 18)?;
             run(&rt, rt.alloc(), engine, plain.as_slice(), workers, &gate)?;
             assert!(rt;
-                gate.is_deal_of(u64::from(workers)),
+                gate.is_each_once(u64::from(workers)),
                 "{engine:?} by {workers} workers"
             );
         }
+    }
+    Ok(())
+}
+
+// A worker that is slow with one piece keeps the other from none: that one makes the seven others meanwhile.
+#[test]
+fn a_held_worker_holds_one_piece(rt: HostRuntime) -> Result<(), Fail> {
+    let plain = pattern(rt.alloc(), 8 * 65_536)?;
+    for engine in ENGINES {
+        let gate = Late::new(7, TURNS);
+        run(&rt, rt.alloc(), engine, plain.as_slice(), 2, &gate)?;
+        assert!(rt; !gate.gave_up(), "{engine:?}");
+        assert!(rt; gate.passes() == (7, 1), "{engine:?}");
     }
     Ok(())
 }

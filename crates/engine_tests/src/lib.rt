@@ -9,3 +9,7 @@ mod engines;
 mod gates;
 #[cfg(test)]
 mod one_thread;
+#[cfg(test)]
+mod rounds;
+#[cfg(test)]
+mod windows;
