@@ -1,28 +1,31 @@
 -- What one run leaves in the files, the next run finds there.
 use Rattle.std.proofs.Common.{◌≡◌, inl, inr, ℕ, List, [], ◌∷◌, ◌+◌, ◌≤◌, Some, sym, ap, subst, ◌∙◌, arith}
-use Rattle.std.proofs.Math.Logic.{∥∥₁_map}
+use Rattle.std.proofs.Math.Logic.{∥∥₁_elim, ∥∥₁_map}
 use Rattle.std.specs.Prelude.{slice_get}
 use Rattle.sqlite_disk.specs.declared.Disk.{Ghosts}
 use Rattle.sqlite_disk.specs.declared.Files.{Files}
 use Rattle.sqlite_trees.specs.declared.store.Store as trees
+use Rattle.sqlite_trees.specs.Tree.{Trees}
 use Rattle.sqlite_wal.specs.Files.{outcomes}
 use Rattle.sqlite_wal.specs.Reads.{AreClean}
 use Rattle.sqlite_wal.specs.Recovery.{Image}
 use Rattle.sqlite_wal.proofs.LogLemmas.{SeenMayStay}
 use Rattle.sqlite_store.specs.declared.store.FileStore.{FileStore}
 use Rattle.sqlite_store.specs.FileStore as store
-use Rattle.sqlite_store.specs.Laws.{stays_at}
+use Rattle.sqlite_store.specs.Laws.{settled_at, stays_at}
+use Rattle.sqlite.specs.Closing.{IsCopied}
 use Rattle.sqlite.specs.Effect.{Database}
-use Rattle.sqlite.specs.Files.{file_state, over_files}
+use Rattle.sqlite.specs.Files.{HoldsDatabase, file_state, over_files}
 use Rattle.sqlite.specs.Held.{Held, IsConnected, state}
-use Rattle.sqlite.specs.State.{State, HasCleanDisk}
+use Rattle.sqlite.specs.Start.{FindsIn}
+use Rattle.sqlite.specs.State.{State, HasCleanDisk, Opens}
 use Rattle.sqlite.proofs.Theorems.{opens_again}
-use Rattle.ranges_core.specs.Lasting.{Begins, Keeps, Last}
+use Rattle.ranges_core.specs.Lasting.{Begins, Keeps, Last, StillLast}
 use Rattle.ranges_core.specs.Reservations.{Lists, Holds, TakenRange, next_of, no_lists}
 use Rattle.ranges_core.proofs.Behind.{behind, in_front}
 use Rattle.ranges_core.proofs.Lasting.{next_run}
 use Rattle.reserve_core.specs.Folded.{AreFolded, LeftBy}
-use Rattle.reserve_core.specs.NextRun.{AreIn, IsFound, PassesOn, PassOn}
+use Rattle.reserve_core.specs.NextRun.{AreIn, IsFound, PassesOn, PassInTurn}
 
 -- ---- what a keeper shows that was made of what was found
 
@@ -94,14 +97,44 @@ module _ {D : Type 0} {g : Ghosts D} where
       let may = by.released.quiet.outcomes _ (stays_at by.store stays folded.is_open) in
       subst (Keeps before) same (last (store.view by.store).committed may)
 
+  -- a crash leaves of an open connection that found the files' database just that database
+  opened_lasts : (files : Image) (found : Held (FileStore D g)) (before : Lists) → SeenMayStay g → FindsIn files (file_state found)
+      → Opens (file_state found) → (it : (db : Trees) × HoldsDatabase files db × Keeps before db) → Last (file_state found) before
+  opened_lasts files found before stays finds opens it trees may =
+      subst (Keeps before) (sym (settled_at found.store stays trees opens.is_open may ∙ finds.holds it.0 it.1)) it.2
+
+  pub opened_leaves : (files later : Image) (found last : Held (FileStore D g)) → SeenMayStay g → FindsIn files (file_state found)
+      → Opens (file_state found) → StillLast over_files found last → HasCleanDisk (file_state last)
+      → IsConnected (store.view last.store) (store.recovers last.store) last.schema last.saved last.in_transaction
+      → (store.state last.store).may_leave later → PassesOn files later
+  opened_leaves files later found last stays finds opens still clean kept may before are =
+      ∥∥₁_elim are squash₁ (λ it. crash_leaves last before clean kept (still clean before (opened_lasts files found before stays finds opens it)) later may)
+
+  close_leaves : (last : Held (FileStore D g)) (left : Files D) (before : Lists) → SeenMayStay g → IsCopied last left
+      → Last (file_state last) before → (later : Image) → outcomes g left.log left.db later
+      → AreIn before later × AreIn before (record later { log = [] })
+  close_leaves last left before stays copied lasts later may =
+      let kept = (file_state last).committed.trees in
+      let has : Keeps before kept = lasts kept (stays_at last.store stays copied.was_open) in
+      let alone = copied.left later may in
+      (∥∥₁_map alone.both (λ it. (kept, it, has)), ∥∥₁_map alone.alone (λ it. (kept, it, has)))
+
+  pub closed_leaves : (files later : Image) (found last : Held (FileStore D g)) (left : Files D) → SeenMayStay g
+      → FindsIn files (file_state found) → Opens (file_state found) → StillLast over_files found last → IsCopied last left
+      → outcomes g left.log left.db later → PassesOn files later × PassesOn files (record later { log = [] })
+  closed_leaves files later found last left stays finds opens still copied may =
+      let both : (before : Lists) → (it : (db : Trees) × HoldsDatabase files db × Keeps before db) → AreIn before later × AreIn before (record later { log = [] })
+      = λ before it. close_leaves last left before stays copied (still copied.was_clean before (opened_lasts files found before stays finds opens it)) later may in
+      (λ before are. ∥∥₁_elim are squash₁ (λ it. (both before it).0), λ before are. ∥∥₁_elim are squash₁ (λ it. (both before it).1))
+
 -- ---- from run to run
 
-pub passed : (files last : Image) (between : List Image) → PassOn files between last → PassesOn files last
+pub passed : (files last : Image) (between : List Image) → PassInTurn files between last → PassesOn files last
 passed files last [] on = on
 passed files last (next ∷ more) on = λ before are. passed next last more on.1 before (on.0 before are)
 
 pub reserves_behind : {S : Type 0} (g : trees.Ghosts S) (files last : Image) (between : List Image) (keeper : Held S) (before lists : Lists)
-    → AreIn before files → PassOn files between last → IsFound g last keeper → Holds (state g keeper).now lists
+    → AreIn before files → PassInTurn files between last → IsFound g last keeper → Holds (state g keeper).now lists
     → (key : List ℕ) (device i : ℕ) (range : TakenRange) → slice_get (before key device) i ≡ Some range
     → range.lo + range.size ≤ next_of (lists key device)
 reserves_behind g files last between keeper before lists are on found hold key device i range at =

@@ -19,9 +19,9 @@ abbrev pub PassesOn : Image → Image → Type 0
 PassesOn files later = (before : Lists) → AreIn before files → AreIn before later
 
 -- each passes it on to the next: what the runs between the first files and the last left
-abbrev pub PassOn : Image → List Image → Image → Type 0
-PassOn files [] last = PassesOn files last
-PassOn files (next ∷ more) last = PassesOn files next × PassOn next more last
+abbrev pub PassInTurn : Image → List Image → Image → Type 0
+PassInTurn files [] last = PassesOn files last
+PassInTurn files (next ∷ more) last = PassesOn files next × PassInTurn next more last
 
 -- A keeper was made of what a connection found in the files.
 pub record IsFound {S : Type 0} (g : Ghosts S) (files : Image) (keeper : Held S) : Type 0 where

@@ -85,8 +85,9 @@ impl<S: Alter> Keeper<S> {
     ///
     /// Once it answers `Ok` they are reserved for good, over crashes too. A crash during the call leaves the lists from
     /// before, or those with the new range. Every refusal changes nothing, and names the first that holds of: no
-    /// number, over 65,535 numbers, fewer left than asked for. `Store` comes where the database refuses a statement or
-    /// memory is refused. Where a fault of the disk shut the connection, the files are as after a crash.
+    /// number, over 65,535 numbers, fewer left than asked for; or it is `Store`, where the database failed before the
+    /// last of these could be told, refuses a statement, or memory is refused. Where a fault of the disk shut the
+    /// connection, the files are as after a crash.
     pub fn reserve(
         &mut self,
         key_id: &[u8; 32],
@@ -95,6 +96,7 @@ impl<S: Alter> Keeper<S> {
     ) -> Result<Range, ReserveFault>
         ensures zero { (result ≡ Err ReserveFault.ZeroCount) ↔ (count ≡ 0) }
         ensures many { (result ≡ Err ReserveFault.TooMany) ↔ (Range.MAX_SIZE < count) }
+        ensures asked { IfOk result (λ r. (r.device ≡ device) × (r.size ≡ count)) }
         ensures spent { HasCleanDisk (state S.Store self.new) → (lists : Lists)
             → Holds (state S.Store self.old).now lists
             → let next = next_of (lists key_id.now device) in IfErr result (λ e. (left : _)
@@ -103,8 +105,7 @@ impl<S: Alter> Keeper<S> {
         ensures sound { HasCleanDisk (state S.Store self.new) → result ≢ Err ReserveFault.BadStore }
         ensures appends { HasCleanDisk (state S.Store self.new) → (lists : Lists)
             → Holds (state S.Store self.old).now lists
-            → IfOk result (λ r. (r.device ≡ device) × (r.lo ≡ next_of (lists key_id.now device)) × (r.size ≡ count)
-            × (r.lo + count ≤ NUMBERS)
+            → IfOk result (λ r. (r.lo ≡ next_of (lists key_id.now device)) × (r.lo + count ≤ NUMBERS)
             × Holds (state S.Store self.new).now (with_range lists key_id.now device count)) }
         ensures live { HasCleanDisk (state S.Store self.new)
             → OnOk result (IsTrue (state S.Store self.old).is_open × IsTrue (state S.Store self.new).is_open) }

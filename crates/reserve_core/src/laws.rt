@@ -3,13 +3,15 @@ ghost use Rattle.std.specs.Prelude.{◌≡◌, ◌+◌, ◌≤◌, ℕ, List, []
 ghost use Rattle.sqlite.specs.Effect.{Database, IsDatabase};
 ghost use Rattle.sqlite.specs.Files.{file_state, over_files};
 ghost use Rattle.sqlite.specs.Held.{Held, IsConnected, state};
-ghost use Rattle.sqlite.specs.State.{HasCleanDisk};
+ghost use Rattle.sqlite.specs.Closing.{IsCopied};
+ghost use Rattle.sqlite.specs.Start.{FindsIn};
+ghost use Rattle.sqlite.specs.State.{HasCleanDisk, Opens};
 ghost use Rattle.sqlite_store.specs.FileStore as store;
 ghost use Rattle.sqlite_wal.specs.Files.{outcomes};
 ghost use Rattle.sqlite_wal.specs.Reads.{AreClean};
 ghost use Rattle.sqlite_wal.specs.Recovery.{Image};
 ghost use Rattle.reserve_core.specs.Folded.{AreFolded, LeftBy};
-ghost use Rattle.reserve_core.specs.NextRun.{AreIn, IsFound, PassesOn, PassOn};
+ghost use Rattle.reserve_core.specs.NextRun.{AreIn, IsFound, PassesOn, PassInTurn};
 ghost use Rattle.ranges_core.specs.Lasting.{Begins, Keeps, Last, LeavesOnlyThis, StillLast};
 ghost use Rattle.ranges_core.specs.Reservations.{AreApart, Holds, Lists, Opened, TakenRange, next_of};
 
@@ -66,6 +68,22 @@ pub fn the_next_keeper_has_the_ranges<T: Alter>()
         → IsFound T.Store files keeper → Holds (state T.Store keeper).now lists → Begins before lists }
 {}
 
+/// A run passes on what the files hold, from the moment at which its connection stands and as long as one stands: where it
+/// is cut off before its keeper is made, where that is refused and the connection is let go, and at any call of the keeper.
+pub fn a_connection_passes_on_what_it_found<D: Disk + Drop>()
+    ensures { (files later : Image) (found last : _) → FindsIn files (file_state {g = D.Disk} found)
+        → Opens (file_state found) → StillLast over_files found last → HasCleanDisk (file_state last)
+        → IsConnected (store.view last.store) (store.recovers last.store) last.schema last.saved last.in_transaction
+        → (store.state last.store).may_leave later → PassesOn files later }
+{}
+
+/// So does one whose connection was closed (`Connection::close_files`), and then also without the log.
+pub fn a_closed_connection_passes_on_what_it_found<D: Disk + Drop>()
+    ensures { (files later : Image) (found last : _) (left : Files D) → FindsIn files (file_state {g = D.Disk} found)
+        → Opens (file_state found) → StillLast over_files found last → IsCopied last left
+        → outcomes D.Disk left.log left.db later → PassesOn files later × PassesOn files (record later { log = [] }) }
+{}
+
 /// A run passes on what it found, at whatever moment after its opening it is cut off.
 pub fn a_run_passes_on_what_it_found<D: Disk + Drop>()
     ensures { (files later : Image) (keeper last : _) → IsFound (over_files {g = D.Disk}) files keeper
@@ -87,7 +105,7 @@ pub fn a_folded_run_passes_on_what_it_found<D: Disk + Drop>()
 /// at which a later run's keeper begins to reserve lies behind that range.
 pub fn a_later_run_reserves_behind<T: Alter>()
     ensures { (files last : Image) (between : List Image) (keeper : Held T) (before lists : Lists)
-        → AreIn before files → PassOn files between last → IsFound T.Store last keeper
+        → AreIn before files → PassInTurn files between last → IsFound T.Store last keeper
         → Holds (state T.Store keeper).now lists → (key : List ℕ) (device i : ℕ) (range : TakenRange)
         → slice_get (before key device) i ≡ Some range → range.lo + range.size ≤ next_of (lists key device) }
 {}

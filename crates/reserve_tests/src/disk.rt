@@ -1,6 +1,6 @@
 //! The two files of a ledger, in memory, and a disk that stops.
 use crate::store::{ID, has_taken, reserve};
-use reserve_core::Keeper;
+use reserve_core::{Fold, Keeper};
 use sqlite::{Alter, Connection, FileStore, Files, Leftover, Options};
 use sqlite_disk::{Crash, Disk, Fuse, Memory};
 use std::alloc::Global;
@@ -45,8 +45,40 @@ pub fn fused(alloc: Global, which: Which, calls: u64) -> Files<Stopping> {
     }
 }
 
+/// What is done over a connection. It is written over any store, since a function that names the store over files costs
+/// far more to prove.
+pub trait Run {
+    type Answer: Drop;
+
+    /// What it answers, and what it leaves.
+    fn over<S: Fold>(self, conn: Connection<S>) -> (Self::Answer, Rest<S>);
+}
+
+/// What is left of a connection's store.
+pub enum Rest<S: Fold> {
+    Open(S),
+    Folded(S::Left),
+    /// It was let go of.
+    Nothing,
+}
+
+/// What a run over these files answers, if they open, and the files that are left, with the log as it is.
+pub fn run_over<D: Disk + Drop, R: Run + Drop>(
+    alloc: Global,
+    files: Files<D>,
+    run: R,
+) -> (Option<R::Answer>, Option<Files<D>>) {
+    match connect(alloc, files) {
+        Ok(conn) => {
+            let (answer, rest) = run.over(conn);
+            (Some(answer), files_of(rest))
+        }
+        Err(files) => (None, Some(files)),
+    }
+}
+
 /// A connection over these files, or the files.
-pub fn connect<D: Disk + Drop>(
+fn connect<D: Disk + Drop>(
     alloc: Global,
     files: Files<D>,
 ) -> Result<Connection<FileStore<D>>, Files<D>> {
@@ -67,9 +99,12 @@ fn few_pages() -> Options {
     options
 }
 
-/// The files of a connection, with the log as it is.
-pub fn files_of<D: Disk + Drop>(conn: Connection<FileStore<D>>) -> Files<D> {
-    Leftover::Store(conn.into_store()).into_files()
+fn files_of<D: Disk + Drop>(rest: Rest<FileStore<D>>) -> Option<Files<D>> {
+    match rest {
+        Rest::Open(store) => Some(Leftover::Store(store).into_files()),
+        Rest::Folded(files) => Some(files),
+        Rest::Nothing => None,
+    }
 }
 
 /// What the next run finds of these files.

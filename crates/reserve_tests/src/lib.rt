@@ -9,6 +9,7 @@ mod faults;
 mod folds;
 #[cfg(test)]
 mod stops;
-pub mod store;
+#[cfg(test)]
+mod store;
 #[cfg(test)]
 mod tests;

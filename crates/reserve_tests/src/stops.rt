@@ -1,11 +1,8 @@
 //! Runs whose disk stops: from some call on one of the two files answers errors alone, so that each call is the first to fail once.
-use crate::disk::{
-    Left, Stopping, Which, begins_with, connect, files_of, found, fused, has_both_or_none,
-};
+use crate::disk::{Left, Rest, Run, Which, begins_with, found, fused, has_both_or_none, run_over};
 use crate::store::{ID, keeper, reserve};
-use reserve_core::Keeper;
-use sqlite::{Connection, FileStore, Files};
-use sqlite_disk::Memory;
+use reserve_core::{Fold, Keeper};
+use sqlite::{Alter, Connection};
 use std::alloc::Global;
 use std::test::*;
 
@@ -38,7 +35,7 @@ struct Count {
 }
 
 /// How many ranges were given before the first refusal. `None` where a range was another.
-fn reserve_each(keeper: &mut Keeper<FileStore<Stopping>>) -> Option<usize> {
+fn reserve_each<S: Alter>(keeper: &mut Keeper<S>) -> Option<usize> {
     for at in 0..3usize {
         match reserve(keeper, &ID, 1, COUNTS[at]) {
             Ok(range) if range == (BEGINS[at], COUNTS[at]) => {}
@@ -49,37 +46,46 @@ fn reserve_each(keeper: &mut Keeper<FileStore<Stopping>>) -> Option<usize> {
     Some(3)
 }
 
-fn run_on(
-    conn: Connection<FileStore<Stopping>>,
-) -> Option<(Told, Connection<FileStore<Stopping>>)> {
-    match Keeper::open(conn) {
-        Ok(keeper) => {
-            let mut keeper = keeper;
-            let answered = reserve_each(&mut keeper)?;
-            let told = Told {
-                has_keeper: true,
-                answered,
-            };
-            Some((told, keeper.release()))
-        }
-        Err((_, conn)) => Some((NOTHING, conn)),
-    }
-}
+/// Reserves the ranges. `None` where one was another.
+#[derive(Clone, Copy)]
+struct Reserves;
 
-/// A run over these files, and the files that it leaves.
-fn run_over(alloc: Global, files: Files<Stopping>) -> Option<(Told, Files<Stopping>)> {
-    match connect(alloc, files) {
-        Ok(conn) => {
-            let (told, conn) = run_on(conn)?;
-            Some((told, files_of(conn)))
+impl Run for Reserves {
+    type Answer = Option<Told>;
+
+    fn over<S: Fold>(self, conn: Connection<S>) -> (Option<Told>, Rest<S>) {
+        match Keeper::open(conn) {
+            Ok(keeper) => {
+                let mut keeper = keeper;
+                let told = match reserve_each(&mut keeper) {
+                    Some(answered) => Some(Told {
+                        has_keeper: true,
+                        answered,
+                    }),
+                    None => None,
+                };
+                (told, Rest::Open(keeper.release().into_store()))
+            }
+            Err((_, conn)) => (Some(NOTHING), Rest::Open(conn.into_store())),
         }
-        Err(files) => Some((NOTHING, files)),
     }
 }
 
 /// Whether the files have what a run told, and at most one range more, with no table or both; and give the next number.
-fn has_what_was_told(alloc: Global, told: Told, files: Files<Memory>) -> Option<bool> {
-    let mut conn = connect(alloc, files).ok()?;
+#[derive(Clone, Copy)]
+struct Shows {
+    told: Told,
+}
+
+impl Run for Shows {
+    type Answer = Option<bool>;
+
+    fn over<S: Fold>(self, conn: Connection<S>) -> (Option<bool>, Rest<S>) {
+        (shows_what_was_told(conn, self.told), Rest::Nothing)
+    }
+}
+
+fn shows_what_was_told<S: Alter + Drop>(mut conn: Connection<S>, told: Told) -> Option<bool> {
     let has_tables = has_both_or_none(&mut conn)?;
     let mut keeper = keeper(conn).ok()?;
     if told.has_keeper && !has_tables {
@@ -106,19 +112,31 @@ fn has_what_was_told(alloc: Global, told: Told, files: Files<Memory>) -> Option<
     Some(begins_with(&mut keeper, &RANGES[..more], after))
 }
 
-/// Stops after 0 calls, 1 call and so on until a run is given all three ranges, and looks at what each leaves. It tells how many
-/// runs were stopped; `None` where a range is missing or another.
+/// What a run told whose disk stops after so many calls. `None` where what it leaves lacks a range, or has another.
+fn told_before(alloc: Global, which: Which, left: Left, calls: u64) -> Option<Told> {
+    let (told, files) = run_over(alloc, fused(alloc, which, calls), Reserves);
+    let told = match told {
+        Some(told) => told?,
+        None => NOTHING,
+    };
+    let files = found(alloc, files?, left)?;
+    let (shown, _) = run_over(alloc, files, Shows { told });
+    if matches!(shown, Some(Some(true))) {
+        Some(told)
+    } else {
+        None
+    }
+}
+
+/// Stops after 0 calls, 1 call and so on until a run is given all three ranges, and looks at what each leaves. It tells
+/// how many runs were stopped; `None` where a range is missing or another.
 fn stop_each(alloc: Global, which: Which, left: Left) -> Option<Count> {
     let mut count = Count {
         opening: 0,
         reserving: 0,
     };
     for calls in 0..1_000u64 {
-        let (told, files) = run_over(alloc, fused(alloc, which, calls))?;
-        let files = found(alloc, files, left)?;
-        if !has_what_was_told(alloc, told, files)? {
-            return None;
-        }
+        let told = told_before(alloc, which, left, calls)?;
         if told.answered >= 3 {
             return Some(count);
         }

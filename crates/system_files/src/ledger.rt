@@ -1,5 +1,5 @@
 //! The ledger file.
-ghost use Rattle.std.specs.Prelude.{◌≡◌, IfOk};
+ghost use Rattle.std.specs.Prelude.{◌≡◌, ◌≢◌, false, [], IfOk};
 ghost use Rattle.sqlite_wal.specs.Files.{image_at};
 ghost use Rattle.sqlite.specs.Files.{file_state, over_files};
 ghost use Rattle.sqlite.specs.State.{HasCleanDisk};
@@ -45,7 +45,7 @@ pub struct LedgerPath<'a> {
 /// `CannotOpen` comes for a log (PATH-wal) that doesn't go with the file: beside no file any that isn't empty, and beside an
 /// empty file any but one that was only begun, since that file was lost or put elsewhere, and the database would begin anew
 /// over it, from number 0; and one with pages with which the file has fewer numbers of some key and device than without it, as
-/// far as the file alone is a ledger and memory suffices to read it. `NotThere` comes where there is no file, or an empty one,
+/// far as the file alone is a ledger, or for which memory to tell this is refused. `NotThere` comes where there is no file, or an empty one,
 /// and none may be made. A file of one byte counts as empty, since the database begins its file with a single 0.
 pub fn may_open<R: Files + AllocGlobal>(
     rt: &R,
@@ -96,7 +96,8 @@ pub fn open_ledger<S: Start>(
     start: S,
 ) -> Result<LedgerFile<FileStore<FileFrom<S>>>, LedgerFault>
     ensures found { IfOk result (λ file. (keeper : _) × (file ≡ LedgerFile.Kept keeper)
-        × (HasCleanDisk (file_state keeper) → IsFound over_files (image_at S.Start) keeper)) }
+        × (HasCleanDisk (file_state keeper) → (it : IsFound over_files (image_at S.Start) keeper)
+        × (ledger.now.may_make ≡ false → (file_state it.connection).now.schema.tables ≢ []))) }
 {
     let Ok(connection) = Connection::open_from(rt, ledger.path, false, start) else {
         return Err(LedgerFault::CannotOpen);

@@ -1,5 +1,5 @@
 //! The log that a database keeps beside its file (PATH-wal), and whether it goes with the file.
-use sqlite::{Connection, FileStore, Files as DiskFiles, Options, params};
+use sqlite::{Connection, Error, ErrorCode, FileStore, Files as DiskFiles, Options, params};
 use sqlite_disk::{Disk, Memory};
 use std::alloc::{AllocError, Global};
 use std::fs;
@@ -37,7 +37,7 @@ pub(crate) fn log_is_begun<R: Files + AllocGlobal>(rt: &R, log: &str, bytes: Opt
 
 // Whether a log of this length only adds to a ledger file: with it no key and device has fewer numbers than without. That of a run
 // that was cut off does; another ledger's needn't. Where the file alone is no ledger, as where a run was killed while it copied its
-// log, there is nothing to compare. Nothing is opened but in memory.
+// log, there is nothing to compare. Where memory is refused it doesn't count as one that only adds. Nothing is opened but in memory.
 pub(crate) fn log_adds<R: Files + AllocGlobal>(
     rt: &R,
     path: &str,
@@ -51,31 +51,50 @@ pub(crate) fn log_adds<R: Files + AllocGlobal>(
     let (Ok(db), Ok(log)) = (fs::read(rt, path), fs::read(rt, log)) else {
         return false;
     };
-    let Some(mut alone) = opened(rt.alloc(), &[], db.as_slice()) else {
-        return true;
+    let mut alone = match opened(rt.alloc(), &[], db.as_slice()) {
+        Ok(Some(alone)) => alone,
+        Ok(None) => return true,
+        Err(_) => return false,
     };
     match opened(rt.alloc(), log.as_slice(), db.as_slice()) {
-        Some(mut both) => keeps_marks(&mut alone, &mut both),
-        None => false,
+        Ok(Some(mut both)) => keeps_marks(&mut alone, &mut both),
+        _ => false,
     }
 }
 
-// A database of these bytes, in memory.
-fn opened(alloc: Global, log: &[u8], db: &[u8]) -> Option<Connection<FileStore<Memory>>> {
+// A database of these bytes, in memory, where they are one.
+fn opened(
+    alloc: Global,
+    log: &[u8],
+    db: &[u8],
+) -> Result<Option<Connection<FileStore<Memory>>>, AllocError> {
     let log = copied(alloc, log)?;
     let db = copied(alloc, db)?;
     if !log.may_be_used() || !db.may_be_used() {
-        return None;
+        return Err(AllocError);
     }
-    Connection::open_files(alloc, DiskFiles { log, db }, Options::new(0)).ok()
+    match Connection::open_files(alloc, DiskFiles { log, db }, Options::new(0)) {
+        Ok(connection) => Ok(Some(connection)),
+        Err(refused) if is_for_memory(&refused.0) => Err(AllocError),
+        Err(_) => Ok(None),
+    }
 }
 
-fn copied(alloc: Global, bytes: &[u8]) -> Option<Memory> {
+// A disk in memory fails where memory is refused, and for nothing else.
+fn is_for_memory(error: &Error) -> bool {
+    matches!(
+        error,
+        Error::SqliteFailure(ErrorCode::OutOfMemory | ErrorCode::SystemIoFailure)
+    )
+}
+
+// A file in memory writes all that it has memory for.
+fn copied(alloc: Global, bytes: &[u8]) -> Result<Memory, AllocError> {
     let mut file = Memory::new(alloc);
-    if !bytes.is_empty() {
-        file.write_at(0, bytes).ok()?;
+    if !bytes.is_empty() && file.write_at(0, bytes).is_err() {
+        return Err(AllocError);
     }
-    Some(file)
+    Ok(file)
 }
 
 // Whether each key and device of the one ledger has its numbers in the other.
@@ -83,8 +102,9 @@ fn keeps_marks(
     one: &mut Connection<FileStore<Memory>>,
     other: &mut Connection<FileStore<Memory>>,
 ) -> bool {
-    let Ok(marks) = one.query_all("SELECT key_id, device, next FROM mark", &[]) else {
-        return true;
+    let marks = match one.query_all("SELECT key_id, device, next FROM mark", &[]) {
+        Ok(marks) => marks,
+        Err(error) => return !is_for_memory(&error),
     };
     for mark in &marks {
         let (Ok(key), Ok(device), Ok(next)) = (
