@@ -3,13 +3,16 @@ ghost use Rattle.std.specs.Prelude.{◌<◌, ◌≤◌, ◌≡◌, IfOk, length}
 
 use clap::{Arg, ArgAction, ArgMatches, Command, Error, value_parser};
 use container_core::MAX_PLAIN;
-use crew_core::{MAX_LANES, MAX_WORKERS};
+use crew_core::{MAX_LANES, MAX_WINDOW, MAX_WORKERS};
 use ledger_core::Device;
 use std::alloc::Global;
 use thiserror::Error as ThisError;
 
 /// Plaintext bytes of a file where no limit is given: 1 GiB.
 pub const DEFAULT_MAX_BYTES: u64 = 1 << 30;
+
+/// Chunks of a round where no other number is given.
+const DEFAULT_WINDOW: u32 = 16;
 
 /// What stands at the end of the program's help.
 const SEALER_HELP: &str =
@@ -19,12 +22,13 @@ Behind a command, --help tells its options and what it prints.";
 /// What stands at the end of the help of `open` and `verify`.
 const FILES_HELP: &str =
     "A line on standard output tells of each FILE. Exit status: 0 where none failed, 1 where some did, 2 where
-nothing was done, or a line could not be written. A FILE is held in memory whole.";
+nothing was done, or a line could not be written. open holds a FILE's plaintext in memory, verify a few megabytes of it.";
 
 /// What stands at the end of the help of `seal`.
 const SEAL_HELP: &str =
     "A line on standard output tells of each FILE. Exit status: 0 where none failed, 1 where some did, 2 where
-standard error tells why, or a line could not be written. FILEs are held in memory whole; at most 65535 a run.
+standard error tells why, or a line could not be written. By several lanes FILEs are held in memory whole; at most
+65535 a run.
 
 A key is made by `openssl rand -hex 32`. Back up the key and the sealed files. Keep one ledger file for each key and
 device number, and never use a copy of it, nor one that was restored: where it was lost or put back take a new device number,
@@ -134,6 +138,14 @@ fn seal_command<'a>(alloc: Global) -> Result<Command<'a>, Error> {
         .value_parser(value_parser!(u32).range(1..=MAX_LANES as i64))
         .default_value("1")
         .help("Files sealed side by side, 1 to 16; above 1 only with one worker");
+    let window = Arg::new(alloc, "window")
+        .long("window")
+        .value_name("N")
+        .value_parser(value_parser!(u32).range(1..=MAX_WINDOW as i64))
+        .default_value("16")
+        .help(
+            "Chunks of 64 KiB that are sealed at a time, 1 to 256; of no effect with more than one lane",
+        );
     let journal = Arg::new(alloc, "journal")
         .long("journal")
         .value_name("F")
@@ -144,7 +156,7 @@ fn seal_command<'a>(alloc: Global) -> Result<Command<'a>, Error> {
         "Seals each FILE to FILE.stm, each under a number of its own",
     )?;
     let command = command.arg(ledger)?.arg(no_new_ledger)?.arg(device)?;
-    let command = command.arg(lanes)?.arg(journal)?;
+    let command = command.arg(lanes)?.arg(window)?.arg(journal)?;
     Ok(command.after_help(SEAL_HELP))
 }
 
@@ -159,6 +171,7 @@ pub struct SealRequest<'m, 'a> {
     pub files: &'m [&'a str],
     pub workers: u32,
     pub lanes: u32,
+    pub window: u32,
     pub max_bytes: u64,
     pub journal: Option<&'a str>,
 }
@@ -178,6 +191,7 @@ pub fn seal_request<'m, 'a>(matches: &'m ArgMatches<'a>) -> Result<SealRequest<'
     ensures files { IfOk result (λ request. 0 < length request.files.now) }
     ensures workers { IfOk result (λ request. (0 < request.workers) × (request.workers ≤ MAX_WORKERS)) }
     ensures lanes { IfOk result (λ request. (0 < request.lanes) × (request.lanes ≤ MAX_LANES)) }
+    ensures window { IfOk result (λ request. (0 < request.window) × (request.window ≤ MAX_WINDOW)) }
     ensures max_bytes { IfOk result (λ request. request.max_bytes ≤ MAX_PLAIN) }
 {
     let (Some(key), Some(ledger)) = (matches.get_str("key"), matches.get_str("ledger")) else {
@@ -206,9 +220,21 @@ pub fn seal_request<'m, 'a>(matches: &'m ArgMatches<'a>) -> Result<SealRequest<'
         files,
         workers,
         lanes,
+        window: window(matches),
         max_bytes: max_bytes(matches),
         journal: matches.get_str("journal"),
     })
+}
+
+// The number of chunks of a round, which the command line has tested.
+fn window(matches: &ArgMatches<'_>) -> u32
+    ensures { (0 < result) × (result ≤ MAX_WINDOW) }
+{
+    matches
+        .get_one::<u32>("window")
+        .unwrap_or(DEFAULT_WINDOW)
+        .max(1)
+        .min(MAX_WINDOW)
 }
 
 // The number of lanes, which the command line has tested.

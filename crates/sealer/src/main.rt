@@ -4,7 +4,7 @@
 //! journal file, or of the program's own reading and writing.
 #![tactic(auto)]
 
-ghost use Rattle.std.specs.Prelude.{◌≡◌, ◌⊎◌, ◌<◌, ◌≤◌, ℕ, Bool, List, length, map, IfOk, if◌then◌else◌};
+ghost use Rattle.std.specs.Prelude.{◌≡◌, ◌⊎◌, ◌<◌, ◌≤◌, ℕ, Bool, List, length, map, ◌≢◌, IfOk, OnErr, if◌then◌else◌};
 ghost use Rattle.sha2.specs.Sha256.{sha256};
 ghost use Rattle.journal_core.specs.declared.entry.Entry.{Entry};
 ghost use Rattle.journal_core.specs.Journal.{terms_of};
@@ -14,14 +14,14 @@ ghost use Rattle.sqlite_wal.specs.Files.{image_at};
 ghost use Rattle.sqlite.specs.Files.{file_state, over_files};
 ghost use Rattle.sqlite.specs.State.{HasCleanDisk};
 ghost use Rattle.reserve_core.specs.NextRun.{IsFound};
-ghost use Rattle.sealer_core.specs.Sealing.{FoldsFiles, HasSealed, IsWritten};
+ghost use Rattle.sealer_core.specs.Sealing.{FoldsFiles, HasSealed, IsWritten, ReservesFilesOnce};
 
 use clap::{ArgMatches, Error};
 use command_line::{command, max_bytes, seal_request, workers};
 use container_core::Key;
 use ledger_core::{FromRead, Sink, ToWrite};
 use sealer_core::{
-    Folder, KeyFault, LedgerFile, MAX_BYTES, MAX_LANES, MAX_WORKERS, OpenOptions, Outs,
+    Folder, KeyFault, LedgerFile, MAX_BYTES, MAX_LANES, MAX_WINDOW, MAX_WORKERS, OpenOptions, Outs,
     SealOptions, open_all, read_key, run_audit, seal_all, verify_all,
 };
 use sqlite::{FileFrom, FileStore, Start, Wary};
@@ -136,6 +136,7 @@ fn seal<R: Files + AllocGlobal + Eprint + Threads + Sync, O: Write + Drop, E: Wr
         files: request.files,
         workers: request.workers,
         lanes: request.lanes,
+        window: request.window,
         max_bytes: request.max_bytes,
     };
     let mut out = Outs {
@@ -182,12 +183,17 @@ fn seal_from<
 ) -> Result<(u8, LedgerFile<FileStore<FileFrom<S>>>), LedgerFault>
     requires files { 0 < length options.now.files.now }
     requires workers { (0 < options.now.workers) × (options.now.workers ≤ MAX_WORKERS) }
+    requires window { (0 < options.now.window) × (options.now.window ≤ MAX_WINDOW) }
     requires lanes { (0 < options.now.lanes) × (options.now.lanes ≤ MAX_LANES) }
     requires max_bytes { options.now.max_bytes ≤ MAX_BYTES }
-    // The ledger file was opened as it was found. Then no file was touched; or the files were sealed over a range that was reserved
-    // there and that the file has without its log, with one legal history, which the journal tells.
+    ensures status { IfOk result (λ r. r.0 ≤ 2) }
+    // The ledger file was opened as it was found, and at most one range appended to it. Then no output was touched; or the
+    // files were sealed over a range that was reserved there and that the file has without its log, with one legal history,
+    // which the journal tells.
     ensures run { IfOk result (λ r. (keeper : _)
         × (HasCleanDisk (file_state keeper) → IsFound over_files (image_at S.Start) keeper)
+        × ReservesFilesOnce LedgerFile.Kept LedgerFile.Folded (sha256 key.now) options.now.device
+        (length options.now.files.now) (LedgerFile.Kept keeper) r.1
         × (((r.0 ≡ 2) × (F.steps folder.new ≡ F.steps folder.old) × (out.new.lines ≡ out.old.lines)
         × (out.new.journal ≡ out.old.journal))
         ⊎ ((range : Numbers) × (history : List Entry) × (told : ℕ) × (written : Bool)
@@ -199,6 +205,9 @@ fn seal_from<
         × IsWritten J.taken (journal_text (terms_of range options.now.lanes) history) written
         out.old.journal out.new.journal
         × (r.0 ≡ (if written then told else 2))))) }
+    ensures complaint { IfOk result (λ r. r.0 ≢ 2 → out.new.faults ≡ out.old.faults) }
+    // The ledger file can't be used: no input or output was touched, no line and no journal written.
+    ensures unopened { OnErr result ((folder.new ≡ folder.old) × (out.new ≡ out.old)) }
 {
     let mut file = open_ledger(host, ledger, start)?;
     let status = seal_all(rt, rt.alloc(), key, &mut file, folder, options, out);

@@ -13,7 +13,7 @@ use Rattle.sqlite.specs.Held.{Held}
 use Rattle.ranges_core.specs.Reservations.{Lists, Holds, next_of, taken_range, with_range}
 use Rattle.ranges_core.proofs.Behind.{own_range}
 use Rattle.ranges_core.proofs.Lasting.{last_of}
-use Rattle.reserve_core.specs.NextRun.{AreIn, IsFound, PassOn}
+use Rattle.reserve_core.specs.NextRun.{AreIn, IsFound, PassInTurn}
 use Rattle.reserve_core.proofs.NextRun.{IsFolded, fold_clean, fold_keeps, fold_leaves, reserves_behind}
 use Rattle.sealer_core.specs.Sealing.{IsReserved}
 
@@ -27,7 +27,7 @@ module _ {D : Type 0} {g : Ghosts D} where
       let after = with_range lists key device count in
       let clean = fold_clean mid left by honest in
       let shown = reserved.appended clean lists hold in
-      let last = last_of (file_state mid) after (reserved.lasts clean) shown.3 in
+      let last = last_of (file_state mid) after (reserved.lasts clean) shown.1 in
       fold_leaves mid left after by honest (fold_keeps mid left after stays by honest last) files may
 
   -- its numbers are these
@@ -36,10 +36,10 @@ module _ {D : Type 0} {g : Ghosts D} where
       → AreClean g left.log left.db → (range.lo ≡ next_of (lists key device)) × (range.size ≡ count)
   range_is key device count range was mid left lists hold reserved by honest =
       let shown = reserved.appended (fold_clean mid left by honest) lists hold in
-      (shown.1, shown.2)
+      (shown.0, reserved.asked.1)
 
   pub comes_behind : (key : List ℕ) (device count : ℕ) (files last : Image) (between : List Image) (keeper : Held (FileStore D g))
-      (before lists : Lists) → AreIn (with_range before key device count) files → PassOn files between last → IsFound over_files last keeper
+      (before lists : Lists) → AreIn (with_range before key device count) files → PassInTurn files between last → IsFound over_files last keeper
       → Holds (file_state keeper).now lists → next_of (before key device) + count ≤ next_of (lists key device)
   comes_behind key device count files last between keeper before lists are on found hold =
       reserves_behind over_files files last between keeper (with_range before key device count) lists are on found hold key device

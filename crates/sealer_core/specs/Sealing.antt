@@ -14,7 +14,7 @@ use Rattle.ledger_core.specs.declared.fault.IssueFault.{IssueFault}
 use Rattle.ledger_core.specs.declared.fault.IssueFault.TheVariants as issue_fault
 use Rattle.ledger_core.specs.Shared.{SeatView}
 use Rattle.reserve_core.specs.Reservations.{Lists, Holds, next_of, with_range}
-use Rattle.reserve_core.specs.Folded.{AreFolded, LeftBy}
+use Rattle.reserve_core.specs.Folded.{AreFolded, AreLeft, LeftBy}
 use Rattle.reserve_core.specs.Lasting.{StillLast}
 use Rattle.sqlite_disk.specs.declared.Disk as disk
 use Rattle.sqlite_disk.specs.declared.Files.{Files}
@@ -154,12 +154,12 @@ pub record AreNumbered (range : Numbers) (lines : List FileLine) : Type 0 where
 
 -- ---- a run
 
--- A range of so many numbers was reserved: where the database holds lists, it stands at the end of that of the key id
--- and device, and every crash leaves it there.
+-- A range of so many numbers of the device was reserved: where the database holds lists, it stands at the end of that of the
+-- key id and device, and every crash leaves it there.
 pub record IsReserved (key_id : List ℕ) (device count : ℕ) (old new : State) (range : Numbers) : Type 0 where
+  pub asked : (range.device ≡ device) × (range.size ≡ count)
   pub appended : HasCleanDisk new → (lists : Lists) → Holds old.now lists
-      → (range.device ≡ device) × (range.lo ≡ next_of (lists key_id device)) × (range.size ≡ count)
-      × Holds new.now (with_range lists key_id device count)
+      → (range.lo ≡ next_of (lists key_id device)) × Holds new.now (with_range lists key_id device count)
   pub lasts : HasCleanDisk new → (trees : Trees) → new.may_leave trees → trees ≡ new.now.trees
 
 -- At most one range of so many numbers is appended to the lists.
@@ -182,6 +182,11 @@ ReservesOnce g kept folded is_left key_id device count old new =
     (was : _) → old ≡ kept was → (mid : _) × AppendsOnce key_id device count (state g was) (state g mid)
     × CrashesAround key_id device count (state g was) (state g mid) × StillLast g was mid
     × ((new ≡ kept mid) ⊎ ((left : _) × (new ≡ folded left) × LeftBy g is_left mid left))
+
+-- so over files
+abbrev pub ReservesFilesOnce : {D F : Type 0} {g : disk.Ghosts D} → (Held (FileStore D g) → F) → (Files D → F) → List ℕ → ℕ
+    → ℕ → F → F → Type 0
+ReservesFilesOnce kept folded = ReservesOnce over_files kept folded AreLeft
 
 -- It appended a range, whatever outlived a crash still does, and it was folded: the file has all this without its log.
 abbrev pub FoldsARange : {S L F : Type 0} → Ghosts S → (Held S → F) → (L → F) → (S → L → Type 0) → List ℕ → ℕ → ℕ

@@ -15,8 +15,8 @@ ghost use Rattle.sealer_core.specs.Sealing.{line_of, creations_of, removals_of};
 use crate::sealing::SealOptions;
 use command_core::{FileFault, FileOutcome, Folder, FolderFault, MAX_BYTES, tell};
 use container_core::{Key, SealFault};
-use crew_core::{Free, MAX_WORKERS};
-use engine_core::run_seal;
+use crew_core::{Free, MAX_WINDOW, MAX_WORKERS};
+use engine_core::run_seal_by;
 use ledger_core::{Grant, IssueFault, Ledger, Seat, Sink, Source, Spent};
 use std::alloc::Global;
 use std::thread::Threads;
@@ -67,10 +67,12 @@ fn seal_next<T: Threads + Sync, R: Source, W: Sink>(
     writer: &mut W,
     max_bytes: u64,
     workers: u32,
+    window: u32,
 ) -> FileOutcome
     requires ours { seat.old.ledger ≡ ledger.now.ledger }
     requires max_bytes { max_bytes ≤ MAX_BYTES }
     requires workers { (0 < workers) × (workers ≤ MAX_WORKERS) }
+    requires window { (0 < window) × (window ≤ MAX_WINDOW) }
     ensures outcome { IsOfNumber result }
     ensures sealed { IfSealed result (λ number bytes. IfSome (R.left reader.old) (λ input. (bytes ≡ length input)
         × Appends (W.taken writer.old) (W.taken writer.new)
@@ -84,8 +86,8 @@ fn seal_next<T: Threads + Sync, R: Source, W: Sink>(
         Err(fault) => return FileOutcome::Failed(fault),
     };
     let number = grant.number();
-    let (sealed, spent) = run_seal(
-        rt, alloc, key, grant, reader, writer, max_bytes, workers, &Free,
+    let (sealed, spent) = run_seal_by(
+        rt, alloc, key, grant, reader, writer, max_bytes, workers, window, &Free,
     );
     settle_of_file(ledger, seat, spent);
     match sealed {
@@ -106,10 +108,12 @@ fn seal_file<T: Threads + Sync, F: Folder>(
     name: &str,
     max_bytes: u64,
     workers: u32,
+    window: u32,
 ) -> FileOutcome
     requires ours { seat.old.ledger ≡ ledger.now.ledger }
     requires max_bytes { max_bytes ≤ MAX_BYTES }
     requires workers { (0 < workers) × (workers ≤ MAX_WORKERS) }
+    requires window { (0 < window) × (window ≤ MAX_WINDOW) }
     ensures outcome { IsOfSealing result }
     ensures steps { F.steps folder.new ≡ stepped (F.steps folder.old)
         (creations_of (line_of name.now result) ++ removals_of (line_of name.now result)) }
@@ -138,6 +142,7 @@ fn seal_file<T: Threads + Sync, F: Folder>(
         &mut writer,
         max_bytes,
         workers,
+        window,
     );
     if let FileOutcome::Failed(_) = outcome {
         let _ = folder.remove(output.as_str());
@@ -160,6 +165,7 @@ pub(crate) fn seal_one_lane<T: Threads + Sync, F: Folder, W: Sink>(
     requires fresh { seat.old.mine ≡ [] }
     requires max_bytes { options.now.max_bytes ≤ MAX_BYTES }
     requires workers { (0 < options.now.workers) × (options.now.workers ≤ MAX_WORKERS) }
+    requires window { (0 < options.now.window) × (options.now.window ≤ MAX_WINDOW) }
     ensures same { IsSameSeat seat.old seat.new }
     ensures sealed { AreSealed 1 (map (λ name. name.now) options.now.files.now) seat.new.mine result
         (W.taken lines.old) (W.taken lines.new) (W.failures lines.old) (W.failures lines.new) (F.steps folder.old)
@@ -177,6 +183,7 @@ pub(crate) fn seal_one_lane<T: Threads + Sync, F: Folder, W: Sink>(
             name,
             options.max_bytes,
             options.workers,
+            options.window,
         );
         status = tell(alloc, lines, status, name, outcome);
     }

@@ -17,9 +17,10 @@ pub use command_core::{
     FileFault, FileOutcome, Folder, FolderFault, KeyFault, Line, MAX_BYTES, OpenOptions, Outs,
     open_all, read_key, verify_all,
 };
-pub use crew_core::{MAX_LANES, MAX_WORKERS};
+pub use crew_core::{MAX_LANES, MAX_WINDOW, MAX_WORKERS};
 pub use engine_core::{
-    open_one, run_audit, run_open, run_plain, run_seal, run_verify, seal_one, verify_one,
+    open_one, run_audit, run_open, run_plain, run_seal, run_seal_by, run_verify, seal_one,
+    verify_one,
 };
 pub use life_core as laws;
 pub use reserve_core::LedgerFile;

@@ -5,7 +5,7 @@ ghost use Rattle.sqlite.specs.Files.{over_files};
 ghost use Rattle.sqlite_wal.specs.Files.{outcomes};
 ghost use Rattle.sqlite_wal.specs.Reads.{AreClean};
 ghost use Rattle.sqlite_wal.specs.Recovery.{Image};
-ghost use Rattle.reserve_core.specs.NextRun.{IsFound, PassOn};
+ghost use Rattle.reserve_core.specs.NextRun.{IsFound, PassInTurn};
 ghost use Rattle.sealer_core.specs.Sealing.{FoldsFiles};
 
 use reserve_core::LedgerFile;
@@ -22,7 +22,7 @@ pub fn runs_are_apart<D: Disk + Drop, E: Disk + Drop>()
         → IsFound (over_files {g = D.Disk}) start was
         → FoldsFiles LedgerFile.Kept LedgerFile.Folded key_id device count (LedgerFile.Kept was) new one
         → new ≡ LedgerFile.Folded left → AreClean D.Disk left.log left.db → outcomes D.Disk left.log left.db files
-        → PassOn files between last ⊎ PassOn (record files { log = [] }) between last
+        → PassInTurn files between last ⊎ PassInTurn (record files { log = [] }) between last
         → IsFound (over_files {g = E.Disk}) last now
         → FoldsFiles LedgerFile.Kept LedgerFile.Folded key_id device more (LedgerFile.Kept now) newer other
         → newer ≡ LedgerFile.Folded rest → AreClean E.Disk rest.log rest.db

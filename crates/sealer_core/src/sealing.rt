@@ -5,7 +5,7 @@
 ghost use Rattle.std.specs.Prelude.{◌≡◌, ◌≢◌, ◌⊎◌, ℕ, Bool, ◌<◌, ◌≤◌, List, length, map, IsTrue, IfOk, OnErr, is_ok};
 ghost use Rattle.std.specs.Prelude.{if◌then◌else◌};
 ghost use Rattle.sha2.specs.Sha256.{sha256};
-ghost use Rattle.sqlite.specs.Held.{state};
+ghost use Rattle.sqlite.specs.Held.{Held, state};
 ghost use Rattle.journal_core.specs.declared.entry.Entry.{Entry};
 ghost use Rattle.journal_core.specs.Journal.{terms_of};
 ghost use Rattle.journal_core.specs.Range.{Numbers};
@@ -22,7 +22,7 @@ use crate::lane::seal_one_lane;
 use crate::trouble::{RunFault, complain};
 use command_core::{Folder, MAX_BYTES, Outs};
 use container_core::Key;
-use crew_core::{MAX_LANES, MAX_WORKERS};
+use crew_core::{MAX_LANES, MAX_WINDOW, MAX_WORKERS};
 use ledger_core::{Device, Ledger, Range, Seat, Sink};
 use reserve_core::{Fold, Keeper, LedgerFile, ReserveFault};
 use sqlite::Alter;
@@ -44,6 +44,8 @@ pub struct SealOptions<'a> {
     /// How many files are sealed at once: 1 to 16. With more than one, so many inputs and containers are in memory at a
     /// time.
     pub lanes: u32,
+    /// How many chunks of a file are sealed at a time by one lane: 1 to 256. With more than one lane it has no effect.
+    pub window: u32,
     /// The greatest number of plaintext bytes of a file: at most 2^40.
     pub max_bytes: u64,
 }
@@ -81,6 +83,7 @@ fn reserve_for<S: Fold>(
         device files file.old file.new) }
     ensures once { ReservesOnce S.Store LedgerFile.Kept LedgerFile.Folded S.is_left (sha256 key.now) device files
         file.old file.new }
+    ensures other { ((k : Held S) → file.old ≢ LedgerFile.Kept k) → file.new ≡ file.old }
 {
     let range = match file {
         LedgerFile::Kept(keeper) => reserve_by(keeper, key, device, files)?,
@@ -107,6 +110,7 @@ fn open_ledger<S: Fold>(
         × (r.1.items ≡ fresh_seats r.0.ledger r.0.terms lanes)) }
     ensures once { ReservesOnce S.Store LedgerFile.Kept LedgerFile.Folded S.is_left (sha256 key.now) device files
         file.old file.new }
+    ensures other { ((k : Held S) → file.old ≢ LedgerFile.Kept k) → file.new ≡ file.old }
 {
     let range = match reserve_for(file, key, device, files) {
         Ok(range) => range,
@@ -135,6 +139,7 @@ fn seal_files<T: Threads + Sync, F: Folder, W: Sink>(
     requires fresh { seats.old ≡ fresh_seats ledger.now.ledger ledger.now.terms options.now.lanes }
     requires max_bytes { options.now.max_bytes ≤ MAX_BYTES }
     requires workers { (0 < options.now.workers) × (options.now.workers ≤ MAX_WORKERS) }
+    requires window { (0 < options.now.window) × (options.now.window ≤ MAX_WINDOW) }
     ensures all { AreAllSeats ledger.now seats.new }
     ensures sealed { AreSealed ledger.now.terms.seats (map (λ name. name.now) options.now.files.now)
         (operations_of seats.new) result
@@ -167,6 +172,7 @@ fn work_ledger<T: Threads + Sync, F: Folder, W: Sink, J: Sink>(
     requires fresh { seats.items ≡ fresh_seats ledger.ledger ledger.terms options.now.lanes }
     requires max_bytes { options.now.max_bytes ≤ MAX_BYTES }
     requires workers { (0 < options.now.workers) × (options.now.workers ≤ MAX_WORKERS) }
+    requires window { (0 < options.now.window) × (options.now.window ≤ MAX_WINDOW) }
     ensures { (history : List Entry)
         × HasSealed (map (λ name. name.now) options.now.files.now) ledger.terms history result.0
         (W.taken lines.old) (W.taken lines.new) (W.failures lines.old) (W.failures lines.new) (F.steps folder.old)
@@ -214,6 +220,7 @@ pub fn seal_all<
 ) -> u8
     requires files { 0 < length options.now.files.now }
     requires workers { (0 < options.now.workers) × (options.now.workers ≤ MAX_WORKERS) }
+    requires window { (0 < options.now.window) × (options.now.window ≤ MAX_WINDOW) }
     requires lanes { (0 < options.now.lanes) × (options.now.lanes ≤ MAX_LANES) }
     requires max_bytes { options.now.max_bytes ≤ MAX_BYTES }
     ensures status { result ≤ 2 }
@@ -235,6 +242,8 @@ pub fn seal_all<
     // what a fold left.
     ensures once { ReservesOnce S.Store LedgerFile.Kept LedgerFile.Folded S.is_left (sha256 key.now)
         options.now.device (length options.now.files.now) file.old file.new }
+    // A ledger file that has no keeper stays as it is.
+    ensures other { ((k : Held S) → file.old ≢ LedgerFile.Kept k) → file.new ≡ file.old }
 {
     let opened = open_ledger(
         alloc,

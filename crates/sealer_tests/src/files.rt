@@ -1,11 +1,15 @@
 //! `open_all` and `verify_all`. The containers are those of Python's `cryptography`, under the key 00 01 .. 1f, device
 //! 1 and number 0; the lines are written by hand.
+ghost use Rattle.std.specs.Prelude.{◌<◌};
+
 use crate::runs::{COUNTING, EMPTY, SECRET, folder_of, has_bytes, opens, verifies};
 use container_core::{Key, seal};
 use folder_memory::{MemoryFolder, Pace};
 use io_memory::Schedule;
 use std::alloc::Global;
+use std::process::Abort;
 use std::test::*;
+use std::thread::Threads;
 
 #[test]
 fn a_file_is_opened_and_another_name_is_refused(rt: HostRuntime) -> Result<(), Fail> {
@@ -81,11 +85,18 @@ fn folder_of_faults(alloc: Global) -> Result<MemoryFolder, Fail> {
         ("key", 17),
         ("tag", 47),
     ] {
-        let mut altered = SECRET;
-        altered[place] ^= 1;
-        folder.put(name, &altered)?;
+        put_altered(&mut folder, name, place)?;
     }
     Ok(folder)
+}
+
+fn put_altered(folder: &mut MemoryFolder, name: &str, place: usize) -> Result<(), Fail>
+    requires { place < 48 }
+{
+    let mut altered = SECRET;
+    altered[place] ^= 1;
+    folder.put(name, &altered)?;
+    Ok(())
 }
 
 #[test]
@@ -128,31 +139,35 @@ fn each_fault_of_a_container_has_its_text(rt: HostRuntime) -> Result<(), Fail> {
     )
 }
 
+// The one file of the folder is opened, with this line, by readers that fail by this schedule.
+fn opens_by<R: AllocGlobal + Threads + Sync + Abort>(
+    rt: &R,
+    folder: &mut MemoryFolder,
+    schedule: Schedule,
+    status: u8,
+    line: &[u8],
+) -> Result<(), Fail> {
+    folder.pace_readers(Pace { most: 9, schedule });
+    let files = ["a.stm"];
+    opens(rt, folder, &files, 8, Schedule::Never, status, line)
+}
+
 #[test]
 fn a_reader_that_fails_is_read_failed(rt: HostRuntime) -> Result<(), Fail> {
     let mut folder = folder_of(rt.alloc(), &[("a.stm", &SECRET)])?;
     for schedule in [Schedule::Bytes(30), Schedule::Bytes(48), Schedule::Call(3)] {
-        folder.pace_readers(Pace { most: 9, schedule });
-        opens(
+        opens_by(
             &rt,
             &mut folder,
-            &["a.stm"],
-            8,
-            Schedule::Never,
+            schedule,
             1,
             b"failed a.stm: read failed\n",
         )?;
         assert!(rt; !folder.has("a"));
     }
-    folder.pace_readers(Pace {
-        most: 9,
-        schedule: Schedule::Never,
-    });
-    opens(
+    opens_by(
         &rt,
         &mut folder,
-        &["a.stm"],
-        8,
         Schedule::Never,
         0,
         b"opened a.stm bytes 8\n",

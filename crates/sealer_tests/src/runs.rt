@@ -94,9 +94,13 @@ pub(crate) fn journal_of(out: &MemoryOuts) -> &[u8] {
 
 pub(crate) fn compare(rt: &impl Abort, status: u8, out: &MemoryOuts, told: &Told) {
     assert_eq!(rt; status, told.status);
-    assert_eq!(rt; out.lines.bytes(), told.lines);
-    assert_eq!(rt; out.faults.bytes(), told.faults);
-    assert_eq!(rt; journal_of(out), told.journal);
+    is_text(rt, out.lines.bytes(), told.lines);
+    is_text(rt, out.faults.bytes(), told.faults);
+    is_text(rt, journal_of(out), told.journal);
+}
+
+fn is_text(rt: &impl Abort, found: &[u8], wanted: &[u8]) {
+    assert_eq!(rt; found, wanted);
 }
 
 // Whether the audit of this journal writes this line, and finds it legal.
@@ -146,6 +150,7 @@ pub(crate) fn seal_over<R: AllocGlobal + Threads + Sync, S: Fold>(
         files,
         workers,
         lanes,
+        window: 16,
         max_bytes,
     };
     seal_all(

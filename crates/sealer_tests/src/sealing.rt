@@ -8,8 +8,11 @@ use crate::runs::{
 };
 use folder_memory::{MemoryFolder, Pace};
 use io_memory::Schedule;
+use reserve_core::{Fold, LedgerFile};
 use std::alloc::Global;
+use std::process::Abort;
 use std::test::*;
+use std::thread::Threads;
 
 // The tables of a ledger file, and rows that leave one number of device 1 under the key 00 01 .. 1f, whose SHA-256 is
 // named.
@@ -230,61 +233,55 @@ fn without_a_journal_the_files_are_sealed(rt: HostRuntime) -> Result<(), Fail> {
     Ok(())
 }
 
+// Two files are too many, and one takes the last number.
+fn seals_the_last<R: AllocGlobal + Threads + Sync + Abort, S: Fold>(
+    rt: &R,
+    file: &mut LedgerFile<S>,
+    folder: &mut MemoryFolder,
+) -> Result<(), Fail> {
+    let refused = tells(2, b"", b"ledger: 1 numbers left\n", b"");
+    seals_over(rt, file, folder, &["a", "a"], 8, &refused)?;
+    assert!(rt; !folder.has("a.stm"));
+    let sealed = tells(
+        0,
+        b"sealed a file 4294967295 bytes 0\n",
+        b"",
+        b"range 1 4294967295 1 1\n0 issue 4294967295\n0 sealed 4294967295\n",
+    );
+    seals_over(rt, file, folder, &["a"], 8, &sealed)
+}
+
 #[test]
 fn where_too_few_numbers_are_left_no_file_is_touched(rt: HostRuntime) -> Result<(), Fail> {
     let mut folder = folder_of(rt.alloc(), &[("a", b"")])?;
     let mut file = ledger_after(rt.alloc(), NEARLY_SPENT)?;
-    seals_over(
-        &rt,
-        &mut file,
-        &mut folder,
-        &["a", "a"],
-        8,
-        &tells(2, b"", b"ledger: 1 numbers left\n", b""),
-    )?;
-    assert!(rt; !folder.has("a.stm"));
-    seals_over(
-        &rt,
-        &mut file,
-        &mut folder,
-        &["a"],
-        8,
-        &tells(
-            0,
-            b"sealed a file 4294967295 bytes 0\n",
-            b"",
-            b"range 1 4294967295 1 1\n0 issue 4294967295\n0 sealed 4294967295\n",
-        ),
-    )
+    seals_the_last(&rt, &mut file, &mut folder)
+}
+
+// One file is sealed, and then there is no keeper for another.
+fn seals_once<R: AllocGlobal + Threads + Sync + Abort, S: Fold>(
+    rt: &R,
+    file: &mut LedgerFile<S>,
+    folder: &mut MemoryFolder,
+) -> Result<(), Fail> {
+    let sealed = tells(
+        0,
+        b"sealed a file 0 bytes 0\n",
+        b"",
+        b"range 1 0 1 1\n0 issue 0\n0 sealed 0\n",
+    );
+    seals_over(rt, file, folder, &["a"], 8, &sealed)?;
+    let refused = tells(2, b"", b"ledger: store failed\n", b"");
+    seals_over(rt, file, folder, &["b"], 8, &refused)?;
+    assert!(rt; !folder.has("b.stm"));
+    Ok(())
 }
 
 #[test]
 fn a_ledger_file_that_was_folded_reserves_no_more(rt: HostRuntime) -> Result<(), Fail> {
     let mut folder = folder_of(rt.alloc(), &[("a", b""), ("b", b"")])?;
     let mut file = ledger_after(rt.alloc(), "")?;
-    seals_over(
-        &rt,
-        &mut file,
-        &mut folder,
-        &["a"],
-        8,
-        &tells(
-            0,
-            b"sealed a file 0 bytes 0\n",
-            b"",
-            b"range 1 0 1 1\n0 issue 0\n0 sealed 0\n",
-        ),
-    )?;
-    seals_over(
-        &rt,
-        &mut file,
-        &mut folder,
-        &["b"],
-        8,
-        &tells(2, b"", b"ledger: store failed\n", b""),
-    )?;
-    assert!(rt; !folder.has("b.stm"));
-    Ok(())
+    seals_once(&rt, &mut file, &mut folder)
 }
 
 #[test]

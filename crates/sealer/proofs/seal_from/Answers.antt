@@ -1,6 +1,7 @@
 use Rattle.sealer.proofs.seal_from.Goals as goal
 
-pub returns : goal.returns
-returns g c =
+pub returns-clause-run : goal.returns-clause-run
+returns-clause-run g c =
     let found = c.in_ok-file.ensures.found in
-    record { run = (found.0, found.2, rw (← found.1) c.seal_all-status.ensures.run) }
+    let sealed = c.seal_all-status.ensures in
+    (found.0, λ clean. (found.2 clean).0, rw (← found.1) sealed.once, rw (← found.1) sealed.run)

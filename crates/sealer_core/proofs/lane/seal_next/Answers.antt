@@ -7,10 +7,10 @@ returns-in-Err-clause-accounts g c = λ name lines a. after_failure lines _ _ na
 
 pub returns-in-Ok-sealed-clause-accounts : goal.returns-in-Ok-sealed-clause-accounts
 returns-in-Ok-sealed-clause-accounts g c = λ name lines a.
-    after_run lines c.args.seat.now _ _ name c.in-Ok.grant c.run_seal-sealed.result.1 _ _ c.in-Ok.ensures.granted.0 (search rules) (search rules)
+    after_run lines c.args.seat.now _ _ name c.in-Ok.grant c.run_seal_by-sealed.result.1 _ _ c.in-Ok.ensures.granted.0 (search rules) (search rules)
     c.settle_of_file.ensures.settled a
 
 pub returns-in-Err-sealed-clause-accounts : goal.returns-in-Err-sealed-clause-accounts
 returns-in-Err-sealed-clause-accounts g c = λ name lines a.
-    after_fault lines c.args.seat.now _ _ name c.in-Ok.grant c.run_seal-sealed.result.1 _ c.in-Ok.ensures.granted.0 (search rules)
+    after_fault lines c.args.seat.now _ _ name c.in-Ok.grant c.run_seal_by-sealed.result.1 _ c.in-Ok.ensures.granted.0 (search rules)
     c.settle_of_file.ensures.settled a

@@ -7,10 +7,11 @@ use Rattle.sealer_core.proofs.sealing.reserve_by.Goals as goal
 
 pub returns-in-Ok-clause-reserved : goal.returns-in-Ok-clause-reserved
 returns-in-Ok-clause-reserved g c = record {
+  asked = c.in-Ok.ensures.asked;
   appended = λ clean lists hold.
       let e = c.in-Ok.ensures.appends clean lists hold in
-      subst (λ (k : List ℕ). (c.in-Ok.range.device ≡ c.args.device) × (c.in-Ok.range.lo ≡ next_of (lists k c.args.device)) × (c.in-Ok.range.size ≡ c.args.files)
-      × Holds (state g.S.Store c.reserve.new.self).now (with_range lists k c.args.device c.args.files)) c.id.ensures (e.0, e.1, e.2, e.4);
+      subst (λ (k : List ℕ). (c.in-Ok.range.lo ≡ next_of (lists k c.args.device))
+      × Holds (state g.S.Store c.reserve.new.self).now (with_range lists k c.args.device c.args.files)) c.id.ensures (e.0, e.2);
   lasts = λ clean trees left. c.in-Ok.ensures.lasts clean trees left;
 }
 
@@ -25,4 +26,4 @@ returns-in-Err-clause-crash g c =
     → Holds (state g.S.Store c.args.keeper.now).now lists → (db : Database) × Holds db (with_range lists k c.args.device c.args.files) × (trees ≡ db.trees))) c.id.ensures c.reserve.ensures.crash
 
 pub returns-in-Ok-clause-once : goal.returns-in-Ok-clause-once
-returns-in-Ok-clause-once g c = λ clean live lists hold. inr ((returns-in-Ok-clause-reserved g c).appended clean lists hold).3
+returns-in-Ok-clause-once g c = λ clean live lists hold. inr ((returns-in-Ok-clause-reserved g c).appended clean lists hold).1
