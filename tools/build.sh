@@ -12,9 +12,9 @@ built() { # CRATE..: each in turn
     done
 }
 echo 'proving and building: some minutes' >&2
-built chacha_core poly_core aead_core container_core piece_core &
+built chacha_core poly_core aead_core container_core claim_core round_core worker_core piece_core &
 containers=$!
-built io_core journal_core ranges_core reserve_core || { wait; exit 1; }
+built io_core window_core journal_core ranges_core reserve_core || { wait; exit 1; }
 wait "$containers" || exit 1
 built ledger_core crew_core engine_core command_core life_core sealer_core command_line system_files || exit 1
 (cd crates/sealer && rt run --jobs 2 ${1:+--cpu "$1"} -- --help) > "$log/sealer" 2>&1 || { cat "$log/sealer"; exit 1; }

@@ -520,6 +520,9 @@ run seal --key "$key" --ledger life/lost --device 1 life/first
 wants log-of-a-lost-ledger 2 '' 'ledger: cannot open'
 is the-left-log-stays cmp -s life/lost-wal life/kept-wal
 is no-lost-ledger-was-made no test -e life/lost
+run seal --key "$key" --ledger life/links/lost --device 1 life/first
+wants log-of-a-lost-ledger-by-a-link 2 '' 'ledger: cannot open'
+is no-lost-ledger-was-made-by-a-link no test -e life/lost
 
 (trap '' XFSZ; ulimit -f 8; exec "$sealer" seal --key "$key" --ledger life/ledger --device 5 life/waits) > out 2> err
 status=$?
@@ -572,6 +575,7 @@ wants more-lanes-than-16 2 '' "begins error: invalid value '17' for '--lanes <N>
 run seal --help
 wants seal-help 0 'begins Seals each FILE to FILE.stm' ''
 is help-of-lanes grep -q 'above 1 only with one worker' out
+is help-of-window grep -q 'of no effect with more than one lane' out
 run seal --key "$key" --device 1 life/waits
 wants no-ledger 2 '' 'begins error: the following required arguments were not provided:
   --ledger <F>'
@@ -585,6 +589,10 @@ done
 for value in 0 17; do
     seals "--lanes=$value" life/waits
     wants "lanes $value" 2 '' "begins error: invalid value '$value' for '--lanes <N>'"
+done
+for value in 0 257 x; do
+    seals "--window=$value" life/waits
+    wants "window $value" 2 '' "begins error: invalid value '$value' for '--window <N>'"
 done
 seals
 wants seal-no-file 2 '' 'begins error: the following required arguments were not provided:
@@ -606,8 +614,8 @@ unnumbered
 wants lanes 1 "$(for i in 1 2 3 4 5 6 7 8 9; do echo "sealed life/lanes/$i bytes $(wc -c < "life/lanes/$i")"; done)
 failed life/lanes/none: cannot open" ''
 is lanes-terms test "$(head -1 life/lanes/journal)" = 'range 9 0 10 4'
-# Of the groups of 4, 4 and 1 each lane issues for one file: so often did each seat issue.
-is lanes-issue-each test "$(sed -n 's/ issue .*//p' life/lanes/journal | sort | uniq -c | tr -s ' ' | tr '\n' ';')" = ' 3 0; 2 1; 2 2; 2 3;'
+# For each file a number is issued once, by whichever lane drew it.
+is lanes-issue-each test "$(grep -c ' issue [0-9]' life/lanes/journal)" = 9
 run audit < life/lanes/journal
 wants lanes-journal 0 'legal: 9 granted, 9 sealed, 0 void, 0 open, 0 refused' ''
 for i in 1 2 3 4 5 6 7 8 9; do
@@ -715,6 +723,80 @@ for i in 1 2 3 4 5 6 7 8 9 10; do
 done
 run seal --key "$key" --ledger /dev/null --device 1 life/numbers
 wants device-as-ledger 2 '' 'ledger: cannot open'
+
+# A file of 42 chunks: in rounds of any number of chunks it becomes the container that Python's `cryptography` makes.
+mkdir life/windows
+number=0
+for window in 1 2 16 256; do
+    seq 1 400000 > "life/windows/$window"
+    run seal --key "$key" --ledger life/windows/ledger --device 3 --workers 3 --window "$window" "life/windows/$window"
+    wants "window $window" 0 "sealed life/windows/$window file $number bytes 2688895" ''
+    if has cryptography; then
+        python3 "$here/tools/seal_container.py" "$key" 3 "$number" "life/windows/$window" life/windows/wanted
+        is "window-$window-container" cmp -s life/windows/wanted "life/windows/$window.stm"
+    fi
+    number=$((number + 1))
+done
+run verify --key "$key" --workers 4 life/windows/1.stm
+wants windows-good 0 'good life/windows/1.stm bytes 2688895' ''
+rm life/windows/1
+run open --key "$key" --workers 4 life/windows/1.stm
+wants windows-opened 0 'opened life/windows/1.stm bytes 2688895' ''
+is windows-opened-whole cmp -s life/windows/1 life/windows/2
+seq 1 400000 > life/windows/long
+run seal --key "$key" --ledger life/windows/ledger --device 3 --max-bytes 2688894 life/windows/long
+wants windows-too-long 1 'failed life/windows/long: too long' ''
+is windows-too-long-leaves-none no test -e life/windows/long.stm
+run seal --key "$key" --ledger life/windows/ledger --device 3 --lanes 2 --window 1 life/windows/long
+wants windows-and-lanes 0 'sealed life/windows/long file 5 bytes 2688895' ''
+rm life/windows/1
+printf 'x' | dd of=life/windows/1.stm bs=1 seek=$((24 + 17 * 65552 + 5)) conv=notrunc 2>/dev/null
+run verify --key "$key" life/windows/1.stm
+wants window-2-damaged 1 'failed life/windows/1.stm: chunk 17 does not check' ''
+run open --key "$key" --workers 2 life/windows/1.stm
+wants window-2-damaged-open 1 'failed life/windows/1.stm: chunk 17 does not check' ''
+is window-2-damaged-writes-nothing no test -e life/windows/1
+
+# A pipe gives three chunks and a byte, and then nothing more: in rounds of one chunk two were written by then, in rounds of 16 none.
+for window in 1 16 none; do
+    pipe=life/windows/pipe$window
+    mkfifo "$pipe"
+    exec 8<> "$pipe"
+    "$sealer" seal --key "$key" --ledger "$pipe.ledger" --device 1 $([ "$window" = none ] || echo "--window=$window") "$pipe" > out 2> err &
+    held=$!
+    head -c 196609 /dev/zero >&8
+    written=0
+    [ "$window" = 1 ] && written=$((24 + 2 * 65552))
+    for _ in $(seq 200); do [ "$(stat -c %s "$pipe.stm" 2>/dev/null)" = "$written" ] && break; sleep 0.05; done
+    sleep 0.5
+    is "window-$window-held" test "$(stat -c %s "$pipe.stm")" = "$written"
+    kill -9 "$held"
+    wait "$held" 2>/dev/null
+    exec 8>&-
+done
+
+# A file of 4 GiB (with no block on the disk) is sealed and verified in 256 MiB of addresses, where there is room for its container: on
+# the disk, or in memory that is free.
+large=
+free=$(sed -n 's/^MemAvailable: *\([0-9]*\) kB$/\1/p' /proc/meminfo)
+for place in "$room" /dev/shm; do
+    [ "$place" = /dev/shm ] && [ "${free:-0}" -lt 8000000 ] && continue
+    [ "$(df --output=avail -B 1M "$place" 2>/dev/null | tail -n 1)" -gt 6000 ] 2>/dev/null && { large=$place; break; }
+done
+if [ -n "$large" ]; then
+    large=$(mktemp -d "$large/sealer.XXXXXX")
+    trap 'umount "$room/small" 2>/dev/null; rm -rf "$room" "$large"' EXIT
+    truncate -s 4G "$large/zeros"
+    narrow() { (ulimit -v 262144; exec "$sealer" "$@") > "$room/out" 2> "$room/err"; status=$?; }
+    narrow seal --key "$key" --ledger "$large/ledger" --device 1 --workers 2 --max-bytes 4294967296 "$large/zeros"
+    wants four-gigabytes 0 "sealed $large/zeros file 0 bytes 4294967296" ''
+    narrow verify --key "$key" --workers 2 --max-bytes 4294967296 "$large/zeros.stm"
+    wants four-gigabytes-good 0 "good $large/zeros.stm bytes 4294967296" ''
+    rm -rf "$large"
+else
+    echo 'left out: a file of 4 GiB, since neither the folder of temporary files nor free memory has room for its container'
+    [ -z "${CI:-}" ] || bad=1
+fi
 
 # Three chunks and more, sealed by Python's `cryptography`, where that is there.
 if has cryptography; then
