@@ -121,18 +121,3 @@ before_have_bytes (Some bytes ∷ values) n zero e below = (bytes, refl)
 before_have_bytes (Some bytes ∷ values) n (suc k) e below =
     let (m, is, next) = some_under (first_refused values) n e in
     before_have_bytes values m k is (omega arith)
-
--- one piece more
-pub joined_more : (values : List (Option (List ℕ))) (n : ℕ) (bytes : List ℕ) → n < length values
-    → get_or values n None ≡ Some bytes
-    → joined (take (n + 1) values) ≡ joined (take n values) ++ bytes
-joined_more [] n bytes at is = absurd (omega arith)
-joined_more (None ∷ values) zero bytes at is = cc
-joined_more (Some first ∷ values) zero bytes at is = let same : first ≡ bytes = cc in rw same (append-nil bytes)
-joined_more (None ∷ values) (suc n) bytes at is =
-    let next : suc n + 1 ≡ suc (n + 1) = omega arith in
-    rw next (joined_more values n bytes (omega arith) is)
-joined_more (Some first ∷ values) (suc n) bytes at is =
-    let next : suc n + 1 ≡ suc (n + 1) = omega arith in
-    rw next (ap (λ rest. first ++ rest) (joined_more values n bytes (omega arith) is)
-    ∙ sym (append_assoc first (joined (take n values)) bytes))

@@ -2,3 +2,4 @@ pub mod ValueLemmas
 pub mod PlaceLemmas
 pub mod AnswerLemmas
 pub mod LawLemmas
+pub mod AppendLemmas

@@ -77,13 +77,7 @@ pub made_from : (benches : List BenchView) (i : ℕ) (d : BenchView) → i < len
     → all_made (drop i benches) ≡ (get_or benches i d).made ++ all_made (drop (i + 1) benches)
 made_from benches i d at = rw (drop-cons benches i d at, add-one) refl
 
-pub all_made-append : (front rest : List BenchView) → all_made (front ++ rest) ≡ all_made front ++ all_made rest
-all_made-append [] rest = refl
-all_made-append (bench ∷ front) rest =
-    ap (λ made. bench.made ++ made) (all_made-append front rest)
-    ∙ sym (append_assoc bench.made (all_made front) (all_made rest))
-
-pub times-append : (x : ℕ) (xs ys : List ℕ) → times x (xs ++ ys) ≡ times x xs + times x ys
+times-append : (x : ℕ) (xs ys : List ℕ) → times x (xs ++ ys) ≡ times x xs + times x ys
 times-append x [] ys = omega arith
 times-append x (y ∷ xs) ys = let rest = times-append x xs ys in omega arith
 

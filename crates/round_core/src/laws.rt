@@ -1,14 +1,12 @@
 //! What follows of the definitions alone, each law the contract of a function that does nothing.
-ghost use Rattle.std.specs.Prelude.{◌≡◌, ℕ, ◌+◌, ◌==◌, ◌&&◌, ◌++◌, ◌<◌, Bool, List, [], length, take, slice_index_or};
+ghost use Rattle.std.specs.Prelude.{◌≡◌, ℕ, ◌+◌, ◌==◌, ◌&&◌, ◌<◌, Bool, List, [], length, slice_index_or};
 ghost use Rattle.std.specs.Prelude.{Option, None, Some};
 ghost use Rattle.container_core.specs.Chunks.{chunks, sealed_chunks};
 ghost use Rattle.container_core.specs.Stream.{stream_by};
 ghost use Rattle.container_core.specs.Opening.{unsealed_by};
 ghost use Rattle.round_core.specs.declared.round.Task.{Task};
 ghost use Rattle.round_core.specs.declared.round.Task.TheVariants.{Sealing, Opening, Checking};
-ghost use Rattle.round_core.specs.Views.{RoundView, BenchView};
 ghost use Rattle.round_core.specs.Values.{parts_of, value_at, values_of};
-ghost use Rattle.round_core.specs.Pieces.{times, IsPiece, piece_of, all_made};
 ghost use Rattle.round_core.specs.Answer.{joined, first_refused, answer, named};
 
 /// A round has a piece for each chunk, in order: the chunk sealed, opened or checked under its number, as the last of
@@ -53,19 +51,4 @@ pub fn refused_pieces()
         → (n < length values) × (slice_index_or values n None ≡ None) }
     ensures before { (values : List (Option (List ℕ))) (n k : ℕ) → first_refused values ≡ Some n → k < n
         → (bytes : List ℕ) × (slice_index_or values k None ≡ Some bytes) }
-{}
-
-/// The bytes of one piece more stand behind those of the pieces before it.
-pub fn pieces_join()
-    ensures { (values : List (Option (List ℕ))) (n : ℕ) (bytes : List ℕ) → n < length values
-        → slice_index_or values n None ≡ Some bytes
-        → joined (take (n + 1) values) ≡ joined (take n values) ++ bytes }
-{}
-
-/// The round's piece of a number is a piece of the round. The pieces of two rows of benches are those of the one and
-/// those of the other, and a number stands there as often as in both.
-pub fn benches_add_up()
-    ensures piece { (round : RoundView) (n : ℕ) → n < length round.values → IsPiece round (piece_of round n) }
-    ensures made { (front rest : List BenchView) → all_made (front ++ rest) ≡ all_made front ++ all_made rest }
-    ensures times { (x : ℕ) (front rest : List ℕ) → times x (front ++ rest) ≡ times x front + times x rest }
 {}

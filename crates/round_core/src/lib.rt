@@ -6,6 +6,7 @@
 //! there who made which piece, or when.
 #![tactic(auto)]
 
+mod append;
 pub mod bench;
 pub mod laws;
 mod piece;

@@ -3,9 +3,8 @@
 
 /// A gate, shared by all workers or lanes. A crew's workers draw the pieces of a round, and the lanes of a batch their
 /// jobs: a gate that holds one holds up the piece or job that it has drawn, and may hold it until others have passed
-/// with all others of that round or batch, and not until one has passed in a later round. `crew_core::seal_whole` and
-/// `open_whole` deal their pieces: there a gate may hold a worker until others have passed with their first piece, and
-/// not until one has passed with a later one.
+/// with all others of that round or batch, and not until one has passed in a later round. Where no thread can be
+/// started, or the word of a round finds no memory, a worker is alone: a gate that waits for another has to give up.
 pub trait Gate {
     /// Called by a worker right before it makes a piece: the worker's number, from 0 on, and the number of the piece's
     /// chunk. In a batch called by the lane that has drawn a job, once for each job, right before it issues a number:

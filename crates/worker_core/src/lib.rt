@@ -13,5 +13,7 @@ pub use crate::rounds::Crew;
 
 /// The most workers of one sealing or opening.
 pub const MAX_WORKERS: u32 = 16;
-/// The most chunks of a round of a sealing.
+/// The most chunks of a round of a file.
 pub const MAX_WINDOW: u32 = 256;
+/// The chunks of a round of a file where no other number is asked for: 1 MiB.
+pub const DEFAULT_WINDOW: u32 = 16;

@@ -120,6 +120,7 @@ impl Crew {
         requires chore { C.pre chore.old }
         ensures chore { C.step chore.old result chore.new }
         ensures made { HasMade round.now self.new.made }
+        ensures workers { self.new.workers ≡ self.old.workers }
         ensures room { self.new.room ≡ self.old.room }
         ensures size { self.new.size ≡ self.old.size }
     {
@@ -133,6 +134,7 @@ impl Crew {
         requires size { places.old.size ≡ self.old.size }
         ensures values { places.new.values ≡ round.now.values }
         ensures idle { self.new.made ≡ [] }
+        ensures workers { self.new.workers ≡ self.old.workers }
         ensures room { (self.new.room ≡ self.old.room) × (places.new.room ≡ places.old.room) }
         ensures size { (self.new.size ≡ self.old.size) × (places.new.size ≡ places.old.size) }
     {

@@ -1,6 +1,6 @@
 //! The workers of a round. Each has a bench of its own, draws the numbers of its pieces from the claims that all share,
 //! and makes them there until no number is left. The caller's thread is worker 0: it does a chore first, and then draws
-//! as the others do, so a slow worker, or a long chore, holds up one piece alone.
+//! as the others do, so a slow worker holds up one piece alone.
 ghost use Rattle.std.specs.Prelude.{◌≡◌, ℕ, ◌+◌, ◌-◌, ◌*◌, ◌<◌, ◌≤◌, ◌++◌, [], ◌∷◌, length, map, All, IfOk};
 ghost use Rattle.std.specs.Thread.{IsSync};
 ghost use Rattle.claim_core.specs.Claims.{IsOf, newcomer};

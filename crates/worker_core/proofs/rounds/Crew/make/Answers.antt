@@ -23,3 +23,6 @@ returns-clause-made g c = record {
   pieces = worked_pieces _ _ _ c.make_on.ensures.worked;
   all = c.make_on.ensures.made.each;
 }
+
+pub returns-clause-workers : goal.returns-clause-workers
+returns-clause-workers g c = worked_length _ _ _ c.make_on.ensures.worked ∙ ap (λ (v : CrewView). v.workers) c.self.view_is

@@ -18,3 +18,7 @@ invariant_of-self c =
 
 pub returns-clause-idle : goal.returns-clause-idle
 returns-clause-idle c = ap all_made c.put_from.ensures.benches ∙ emptied_made c.self.inside.benches.items
+
+pub returns-clause-workers : goal.returns-clause-workers
+returns-clause-workers c =
+    ap length c.put_from.ensures.benches ∙ emptied_length c.self.inside.benches.items ∙ ap (λ (v : CrewView). v.workers) c.self.view_is
