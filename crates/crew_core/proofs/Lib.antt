@@ -1,4 +1,4 @@
-pub mod DealLemmas
+pub mod RoundLemmas
 pub mod StepLemmas
 pub mod OrderLemmas
 pub mod LaneLemmas

@@ -1,5 +1,5 @@
 pub mod Spending
-pub mod Deal
+pub mod Rounds
 pub mod Batch
 pub mod Lanes
 pub mod Places

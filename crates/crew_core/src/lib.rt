@@ -1,22 +1,23 @@
 //! Sealing and opening by several workers, with the answer of one thread.
 //!
-//! `seal_whole` and `open_whole` deal the pieces of a `Work` to workers beforehand: of k workers, number w makes the
-//! pieces w, w + k, w + 2k and so on. The caller's thread is worker 0. The workers share nothing that changes but the
-//! gate. Works, pieces and shelves are those of `piece_core`.
+//! `seal_whole`, `seal_round` and `open_whole` make the pieces of a body round by round, each piece by the worker that
+//! draws its number. The caller's thread is worker 0. The workers share nothing that changes but the word from which
+//! numbers are drawn, and the gate. `seal_batch` draws its jobs in the same way. Works, pieces and shelves are those of
+//! `piece_core`.
 #![tactic(auto)]
 
 pub mod batch;
-mod crew;
 mod lanes;
 pub mod outcome;
 mod places;
+mod rounds;
 pub mod whole;
 
 pub use crate::batch::seal_batch;
 pub use crate::outcome::Outcome;
-pub use crate::whole::{open_whole, seal_whole};
+pub use crate::whole::{open_whole, seal_round, seal_whole};
 pub use piece_core::{Kind, Piece, PutFault, Shelf, ShelfFault, Work};
-pub use worker_core::{Free, Gate, MAX_WINDOW, MAX_WORKERS};
+pub use worker_core::{DEFAULT_WINDOW, Free, Gate, MAX_WINDOW, MAX_WORKERS};
 
 /// The most lanes of a batch.
 pub const MAX_LANES: u32 = 16;

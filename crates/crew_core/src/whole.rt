@@ -1,38 +1,64 @@
-//! A whole container sealed or opened by several workers. Where there are more than one and at least seven chunks, one
-//! thread more runs for as long as it takes to make the shelf.
-ghost use Rattle.std.specs.Prelude.{◌≡◌, ◌≢◌, ◌<◌, ◌≤◌, ◌⊎◌, None, length, Ok, Err, IfOk, IfErr, OnOk, OnErr};
-ghost use Rattle.std.specs.Bool.{OnTrue, OnFalse};
+//! A whole container sealed or opened by several workers, and a round of one sealed.
+ghost use Rattle.std.specs.Prelude.{◌≡◌, ◌≢◌, ℕ, ◌+◌, ◌*◌, ◌^◌, ◌<◌, ◌≤◌, ◌++◌, ◌⊎◌, List, true, false, None, length, Ok, Err};
+ghost use Rattle.std.specs.Prelude.{IfOk, IfErr, OnOk, OnErr};
+ghost use Rattle.container_core.specs.Chunks.{chunk_count, chunks};
 ghost use Rattle.container_core.specs.Container.{container};
 ghost use Rattle.container_core.specs.Opening.{early_fault, opening};
+ghost use Rattle.container_core.specs.Stream.{stream, stream_by};
 ghost use Rattle.crew_core.specs.Spending.{spent_as};
 ghost use Rattle.journal_core.specs.declared.entry.Way.TheVariants.{Sealed, Void};
 ghost use Rattle.ledger_core.specs.Range.{prefix_of};
 
 use crate::MAX_WORKERS;
-use crate::crew::work_whole;
-use container_core::laws::opening_faults;
-use container_core::{Key, MAX_PLAIN, OpenFault};
+use crate::rounds::{Rooms, open_rounds, seal_rounds};
+use container_core::laws::{chunks_by_number, opening_faults, rounds_of_a_stream, rounds_open};
+use container_core::{
+    CHUNK, Cut, HEADER, Header, Key, MAX_PLAIN, OpenFault, begin, container_bytes,
+};
 use ledger_core::{Grant, Spent};
-use piece_core::Work;
-use piece_core::laws::wholes_of_works;
+use round_core::Task;
 use std::alloc::{AllocError, Global};
 use std::thread::Threads;
-use worker_core::Gate;
+use worker_core::{Gate, MAX_WINDOW};
 
-// Whether memory was refused.
-fn is_refusal(fault: OpenFault) -> bool
-    ensures yes { OnTrue result (fault ≡ OpenFault.OutOfMemory) }
-    ensures no { OnFalse result (fault ≢ OpenFault.OutOfMemory) }
+// Chunks sealed, behind what stands in front of them. All memory but the claim word of a round is taken before the first is
+// sealed.
+fn sealed_behind<R: Threads + Sync, G: Gate + Sync>(
+    rt: &R,
+    alloc: Global,
+    front: &[u8],
+    key: &Key,
+    header: &Header,
+    first: u32,
+    last: bool,
+    plain: &[u8],
+    workers: u32,
+    gate: &G,
+) -> Result<Vec<u8>, AllocError>
+    requires front { length front.now ≤ HEADER }
+    requires plain { length plain.now ≤ MAX_PLAIN }
+    requires numbers { first + chunk_count (length plain.now) ≤ 2 ^ 32 }
+    requires workers { (0 < workers) × (workers ≤ MAX_WORKERS) }
+    ensures { IfOk result (λ out. out.items ≡ front.now ++ stream_by key.now header.now first last (chunks plain.now)) }
 {
-    match fault {
-        OpenFault::OutOfMemory => true,
-        _ => false,
+    let bytes = plain.len() as u64;
+    let rooms = Rooms::new(alloc, Task::Sealing, Cut::of(bytes).count(), workers)?;
+    let behind = container_bytes(bytes) as usize - HEADER;
+    let mut out = Vec::with_capacity(alloc, front.len() + behind)?;
+    match out.extend_from_slice(front) {
+        Ok(()) => {}
+        Err(AllocError) => unreachable!(),
     }
+    seal_rounds(
+        rt, alloc, key, header, first, last, plain, rooms, &mut out, gate,
+    );
+    Ok(out)
 }
 
 /// Seals a plaintext of at most 2^40 bytes under the prefix of a grant, by 1 to 16 workers, of which the caller's
 /// thread is the first. The answer is the container, whatever the number of workers and the gate; or that memory was
-/// refused, to the caller or to a worker. The grant comes back spent: sealed with the container, void without one.
+/// refused, before any chunk was sealed. The grant comes back spent: sealed with the container, void without one. Beside
+/// the container it takes room for 64 chunks, or as many as there are, and for as many again for each worker.
 pub fn seal_whole<R: Threads + Sync, G: Gate + Sync>(
     rt: &R,
     alloc: Global,
@@ -49,25 +75,74 @@ pub fn seal_whole<R: Threads + Sync, G: Gate + Sync>(
     ensures sealed { OnOk result.0 (result.1 ≡ spent_as grant Sealed) }
     ensures void { OnErr result.0 (result.1 ≡ spent_as grant Void) }
 {
-    // The whole of the work is the container.
-    wholes_of_works();
-    let work = Work::sealing(key, grant.prefix(), plain);
-    match work_whole(rt, alloc, &work, workers, gate) {
+    // All chunks are a round that is the last.
+    rounds_of_a_stream();
+    let header = Header::of(key, grant.prefix());
+    match sealed_behind(
+        rt,
+        alloc,
+        &header.bytes(),
+        key,
+        &header,
+        0,
+        true,
+        plain,
+        workers,
+        gate,
+    ) {
         Ok(bytes) => (Ok(bytes), grant.used()),
-        Err(fault) => {
-            // A sealing has no chunk that doesn't check.
-            if !is_refusal(fault) {
-                unreachable!()
-            }
-            (Err(AllocError), grant.waste())
-        }
+        Err(AllocError) => (Err(AllocError), grant.waste()),
     }
+}
+
+/// Seals a part of STREAM, at most 256 chunks numbered from `first` on, by 1 to 16 workers, of which the caller's thread
+/// is the first. With `last` its last chunk is the last of all, and the answer is STREAM of the chunks. Without it the
+/// part has whole chunks, and the answer is what each STREAM begins with that begins with these chunks and goes on. A part
+/// without a byte is that of an empty plaintext alone: numbered 0, and the last. Numbers end below 2^32. `AllocError` where
+/// memory was refused, before any chunk was sealed; it takes as much as `seal_whole`. No grant is spent here: that under one
+/// header each number is sealed once, and one chunk as the last, is the caller's part.
+pub fn seal_round<R: Threads + Sync, G: Gate + Sync>(
+    rt: &R,
+    alloc: Global,
+    key: &Key,
+    header: &Header,
+    first: u32,
+    last: bool,
+    plain: &[u8],
+    workers: u32,
+    gate: &G,
+) -> Result<Vec<u8>, AllocError>
+    requires few { length plain.now ≤ MAX_WINDOW * CHUNK }
+    requires numbers { first + chunk_count (length plain.now) ≤ 2 ^ 32 }
+    requires whole { last ≡ false → length plain.now ≡ chunk_count (length plain.now) * CHUNK }
+    requires empty { length plain.now ≡ 0 → first ≡ 0 }
+    requires workers { (0 < workers) × (workers ≤ MAX_WORKERS) }
+    ensures last { IfOk result (λ out. last ≡ true → out.items ≡ stream key.now header.now first (chunks plain.now)) }
+    ensures begins { IfOk result (λ out. last ≡ false → (more : List (List ℕ)) → 0 < length more
+        → stream key.now header.now first (chunks plain.now ++ more)
+        ≡ out.items ++ stream key.now header.now (first + chunk_count (length plain.now)) more) }
+{
+    // STREAM is a round that is the last, and two rounds, one behind the other, are one.
+    rounds_of_a_stream();
+    chunks_by_number();
+    sealed_behind(
+        rt,
+        alloc,
+        &[],
+        key,
+        header,
+        first,
+        last,
+        plain,
+        workers,
+        gate,
+    )
 }
 
 /// Opens a container under a key by 1 to 16 workers, of which the caller's thread is the first. The answer is that of
 /// `container_core::open`, whatever the number of workers and the gate: the plaintext, or the first fault of those from
-/// `TooLong` to `Forged` of the least chunk that doesn't check; or `OutOfMemory` where memory was refused, to the
-/// caller or to a worker.
+/// `TooLong` to `Forged` of the least chunk that doesn't check; or `OutOfMemory` where memory was refused, before any
+/// chunk was opened. Beside the plaintext it takes as much as `seal_whole` beside the container.
 pub fn open_whole<R: Threads + Sync, G: Gate + Sync>(
     rt: &R,
     alloc: Global,
@@ -84,12 +159,22 @@ pub fn open_whole<R: Threads + Sync, G: Gate + Sync>(
     // Memory is taken only where neither the length nor the header has a fault.
     ensures memory { result ≡ Err OpenFault.OutOfMemory → early_fault key.now MAX_PLAIN container.now ≡ None }
 {
-    // No early fault is one of memory, and the whole of the work is what opening answers.
+    // No early fault is one of memory, and all chunks are a round that is the last.
     opening_faults();
-    wholes_of_works();
-    let work = match Work::opening(key, container) {
-        Ok(work) => work,
+    rounds_open();
+    let (header, cut) = match begin(key, container) {
+        Ok(begun) => begun,
         Err(fault) => return Err(fault),
     };
-    work_whole(rt, alloc, &work, workers, gate)
+    let (_, body) = container.split_at(HEADER);
+    let Ok(rooms) = Rooms::new(alloc, Task::Opening, cut.count(), workers) else {
+        return Err(OpenFault::OutOfMemory);
+    };
+    let Ok(mut out) = Vec::with_capacity(alloc, cut.plain() as usize) else {
+        return Err(OpenFault::OutOfMemory);
+    };
+    match open_rounds(rt, alloc, key, &header, cut, body, rooms, &mut out, gate) {
+        Ok(()) => Ok(out),
+        Err(chunk) => Err(OpenFault::Forged { chunk }),
+    }
 }

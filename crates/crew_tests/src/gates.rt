@@ -1,8 +1,8 @@
 //! What a gate sees of the workers.
 ghost use Rattle.std.specs.Prelude.{◌<◌, ◌≤◌, length};
 
-use crate::sealed::{ZEROS, opens_to, sealed};
-use crate::{COUNTING, Meeting, Recorder, pattern, zeros};
+use crate::sealed::{EIGHT, ZEROS, opens_to, sealed};
+use crate::{COUNTING, Late, Meeting, Recorder, pattern, zeros};
 use container_core::{Key, MAX_PLAIN};
 use crew_core::{Gate, MAX_WORKERS, Shelf, Work};
 use sha2::{Digest, Sha256};
@@ -117,8 +117,8 @@ fn three_workers_are_no_four(rt: HostRuntime) -> Result<(), Fail> {
     Ok(())
 }
 
-// Whether so many workers pass with the pieces of their deals, each once, as they seal so many chunks and open them.
-fn are_dealt<R: Threads + Sync>(
+// Whether each piece is passed once, as so many workers seal so many chunks and open them.
+fn are_passed_once<R: Threads + Sync>(
     rt: &R,
     alloc: Global,
     plain: &[u8],
@@ -133,28 +133,54 @@ fn are_dealt<R: Threads + Sync>(
     let opening = Recorder::new(alloc, chunks)?;
     let opens = opens_to(rt, alloc, bytes.as_slice(), plain, workers, &opening)?;
     let workers = u64::from(workers);
-    Ok(opens && sealing.is_deal_of(workers) && opening.is_deal_of(workers))
+    Ok(opens && sealing.is_each_once(workers) && opening.is_each_once(workers))
 }
 
 #[test]
-fn each_worker_passes_with_its_deal(rt: HostRuntime) -> Result<(), Fail> {
+fn each_piece_is_passed_once(rt: HostRuntime) -> Result<(), Fail> {
     let plain = pattern(rt.alloc(), 1_114_113)?;
     // 1, 4, 7, 10, 13 and 16.
     for third in 0..6 {
         let workers = 3 * third + 1;
-        let dealt = are_dealt(&rt, rt.alloc(), plain.as_slice(), 18, workers)?;
-        assert!(rt; dealt, "{workers} workers");
+        let once = are_passed_once(&rt, rt.alloc(), plain.as_slice(), 18, workers)?;
+        assert!(rt; once, "{workers} workers");
     }
     Ok(())
 }
 
-// More pieces a worker than one round has.
+// More pieces than two rounds of 64 have.
 #[test]
-fn each_piece_is_passed_once_in_many_rounds(rt: HostRuntime) -> Result<(), Fail> {
-    let plain = pattern(rt.alloc(), 99 * 65_536 + 1)?;
+fn each_piece_is_passed_once_in_three_rounds(rt: HostRuntime) -> Result<(), Fail> {
+    let plain = pattern(rt.alloc(), 128 * 65_536 + 1)?;
     for workers in 2..4 {
-        let dealt = are_dealt(&rt, rt.alloc(), plain.as_slice(), 100, workers)?;
-        assert!(rt; dealt, "{workers} workers");
+        let once = are_passed_once(&rt, rt.alloc(), plain.as_slice(), 129, workers)?;
+        assert!(rt; once, "{workers} workers");
     }
+    Ok(())
+}
+
+// A worker that is held holds one piece: the other one makes the seven others, and nobody waits for ever. With a share
+// dealt beforehand it would pass four times, and the gate give up.
+#[test]
+fn a_held_worker_holds_one_piece(rt: HostRuntime) -> Result<(), Fail> {
+    let plain = pattern(rt.alloc(), 524_288)?;
+    let sealing = Late::new(7, TURNS);
+    let bytes = sealed(&rt, rt.alloc(), 0, plain.as_slice(), 2, &sealing)?;
+    assert!(rt; !sealing.gave_up());
+    assert_eq!(rt; sealing.passes(), (7, 1));
+    assert_eq!(rt; Sha256::digest(bytes.as_slice()), EIGHT);
+    let opening = Late::new(7, TURNS);
+    assert!(rt;
+        opens_to(
+            &rt,
+            rt.alloc(),
+            bytes.as_slice(),
+            plain.as_slice(),
+            2,
+            &opening
+        )?
+    );
+    assert!(rt; !opening.gave_up());
+    assert_eq!(rt; opening.passes(), (7, 1));
     Ok(())
 }

@@ -2,8 +2,8 @@
 use crew_core::Gate;
 use std::sync::atomic::{AtomicU64, Ordering};
 
-/// For two workers or lanes. It holds lane 0 until lane 1 has come with a job, and lane 1 until lane 0 has passed so many times.
-/// It gives up after so many turns.
+/// For two workers or lanes. It holds number 0 until number 1 has come, and number 1 until number 0 has passed so many
+/// times. It gives up after so many turns.
 #[derive(Drop)]
 pub struct Late {
     others: u64,

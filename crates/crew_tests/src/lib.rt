@@ -12,6 +12,8 @@ pub mod meeting;
 pub mod plain;
 pub mod recorder;
 #[cfg(test)]
+mod rounds;
+#[cfg(test)]
 mod sealed;
 #[cfg(test)]
 mod shelves;

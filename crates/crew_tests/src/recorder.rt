@@ -27,20 +27,6 @@ impl Recorder {
         })
     }
 
-    /// Whether each piece was passed once, by the worker with the remainder of its number by the number of workers, and
-    /// no other piece was.
-    pub fn is_deal_of(&self, workers: u64) -> bool {
-        for (piece, word) in self.words.iter().enumerate() {
-            let worker = (piece as u64).checked_rem(workers).unwrap_or(0);
-            if word.load(Ordering::SeqCst) != PASS + worker {
-                return false;
-            }
-        }
-        self.strange.load(Ordering::SeqCst) == 0
-    }
-}
-
-impl Recorder {
     /// Whether each piece was passed once, by one of so many workers, and no other piece was.
     pub fn is_each_once(&self, workers: u64) -> bool {
         for word in self.words.iter() {

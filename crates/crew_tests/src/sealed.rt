@@ -24,13 +24,13 @@ const EMPTY: [u8; 32] = [
 ];
 
 // 524,288 bytes of the pattern, file 0: eight full chunks, 524,440 bytes.
-const EIGHT: [u8; 32] = [
+pub const EIGHT: [u8; 32] = [
     0xd0, 0x43, 0x45, 0xf9, 0x6f, 0x03, 0x74, 0xa9, 0x91, 0x59, 0xd9, 0x6a, 0x0a, 0x2d, 0xc3, 0xaf,
     0x5e, 0xd7, 0x99, 0xe1, 0xa3, 0x27, 0x4b, 0xeb, 0xb1, 0x43, 0x30, 0x32, 0x92, 0xcc, 0x6b, 0x50,
 ];
 
 // 1,114,113 bytes of the pattern, file 258: 18 chunks, the last of one byte, 1,114,425 bytes.
-const EIGHTEEN: [u8; 32] = [
+pub const EIGHTEEN: [u8; 32] = [
     0x72, 0x41, 0xd5, 0x9b, 0xb0, 0x99, 0x37, 0xdd, 0x38, 0x25, 0x07, 0x61, 0x97, 0x91, 0x91, 0x80,
     0x15, 0x9d, 0x2d, 0x11, 0x54, 0x18, 0x75, 0x4c, 0xbb, 0xb1, 0x3f, 0xc3, 0x97, 0x62, 0x97, 0x0a,
 ];
@@ -180,8 +180,8 @@ fn eighteen_chunks_under_another_number(rt: HostRuntime) -> Result<(), Fail> {
 // 65,537 zero bytes that no allocation is asked for.
 static ZERO_BYTES: [u8; 65_537] = [0; 65_537];
 
-// Where a growth is refused, to the caller or to a worker, the helpers see OutOfMemory, and that the number is void;
-// they call again.
+// Where a growth is refused the helpers see it, `OutOfMemory` of an opening, and that the number is void; they call again.
+// Where it is the claim word's, the caller's thread makes the round alone.
 #[test]
 fn a_refused_growth_is_out_of_memory(rt: HostRuntime) -> Result<(), Fail> {
     let bytes = sealed(&rt, rt.alloc(), 0, &ZERO_BYTES, 2, &Free)?;

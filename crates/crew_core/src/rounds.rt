@@ -1,0 +1,211 @@
+//! A body sealed or opened in rounds: while the crew makes one, the caller's thread appends the bytes of the one before,
+//! and then draws pieces as the others do.
+//!
+//! The room of the crew is made before the first piece is, and so is that of the whole, by the caller: from then on
+//! nothing answers that memory was refused. Each round asks for one word more, and does without it.
+ghost use Rattle.std.specs.Prelude.{◌≡◌, ◌+◌, ◌*◌, ◌^◌, ◌<◌, ◌≤◌, ◌++◌, ℕ, [], length, min, true, Ok, Err};
+ghost use Rattle.std.specs.Prelude.{vec_len, vec_capacity, IfOk, IfErr, OnOk};
+ghost use Rattle.container_core.specs.declared.fault.OpenFault.TheVariants.{Forged};
+ghost use Rattle.container_core.specs.Chunks.{body_length, chunk_count, chunks, sealed_chunks};
+ghost use Rattle.container_core.specs.Opening.{unsealed_by};
+ghost use Rattle.container_core.specs.Stream.{stream_by};
+ghost use Rattle.round_core.specs.Answer.{answer, joined, named};
+ghost use Rattle.round_core.specs.Parts.{room_of};
+ghost use Rattle.crew_core.specs.Rounds.{CanMake};
+ghost use Rattle.worker_core.specs.Crew.{idle};
+
+use container_core::laws::{chunks_by_number, rounds_of_a_stream, rounds_open};
+use container_core::{CHUNK, Cut, Header, Key, MAX_PLAIN, SEALED};
+use round_core::laws::{pieces_by_number, refused_pieces, rounds_are_opened, rounds_are_sealed};
+use round_core::{Places, Round, Task};
+use std::alloc::{AllocError, Global};
+use std::thread::Threads;
+use worker_core::{Crew, Gate, MAX_WORKERS};
+
+// Chunks of a round that isn't the last: 4 MiB, sealed in some 5 ms by one worker, where a thread starts in less than
+// 0.1 ms.
+const ROUND: u32 = 64;
+
+// A crew, and the places of a round.
+#[derive(Drop)]
+pub(crate) struct Rooms {
+    crew: Crew,
+    places: Places,
+}
+
+impl Rooms {
+    // The room for a body of so many chunks, for no more workers than a round has pieces. `AllocError` where memory was
+    // refused.
+    pub(crate) fn new(
+        alloc: Global,
+        task: Task,
+        chunks: u32,
+        workers: u32,
+    ) -> Result<Rooms, AllocError>
+        requires chunks { 0 < chunks }
+        requires workers { (0 < workers) × (workers ≤ MAX_WORKERS) }
+        ensures crew { IfOk result (λ rooms. rooms.crew
+            ≡ idle (min workers (min ROUND chunks)) (min ROUND chunks) (room_of task)) }
+        ensures ready { IfOk result (λ rooms. CanMake task (min ROUND chunks) rooms.crew rooms.places) }
+        ensures empty { IfOk result (λ rooms. rooms.places.values ≡ []) }
+    {
+        let pieces = chunks.min(ROUND);
+        let crew = Crew::new(alloc, workers.min(pieces), pieces, task.room())?;
+        let places = Places::new(alloc, pieces, task.room())?;
+        Ok(Rooms { crew, places })
+    }
+}
+
+// Appends the bytes of the pieces on their places, for which there is room.
+fn append_pieces(out: &mut Vec<u8>, places: &Places)
+    requires room { vec_len out.old + length (joined places.now.values) ≤ vec_capacity out.old }
+    ensures items { out.new.items ≡ out.old.items ++ joined places.now.values }
+    ensures room { vec_capacity out.old ≤ vec_capacity out.new }
+{
+    match places.append_to(out) {
+        Ok(()) => {}
+        Err(AllocError) => unreachable!(),
+    }
+}
+
+// Makes a round, and puts its pieces on their places, from which those of the round before are appended.
+fn make_round<R: Threads + Sync, G: Gate + Sync>(
+    rt: &R,
+    alloc: Global,
+    round: &Round,
+    rooms: &mut Rooms,
+    out: &mut Vec<u8>,
+    gate: &G,
+)
+    requires ready { CanMake round.now.task (length round.now.values) rooms.old.crew rooms.old.places }
+    requires room { vec_len out.old + length (joined rooms.old.places.values) ≤ vec_capacity out.old }
+    ensures values { rooms.new.places.values ≡ round.now.values }
+    ensures items { out.new.items ≡ out.old.items ++ joined rooms.old.places.values }
+    ensures room { vec_capacity out.old ≤ vec_capacity out.new }
+    ensures ready { (task : Task) (pieces : ℕ) → CanMake task pieces rooms.old.crew rooms.old.places
+        → CanMake task pieces rooms.new.crew rooms.new.places }
+{
+    let Rooms { crew, places } = rooms;
+    let waiting = &*places;
+    let mut chore = ||
+        requires { vec_len out.now + length (joined waiting.now.values) ≤ vec_capacity out.now }
+        ensures items { out.exit.now.items ≡ out.entry.now.items ++ joined waiting.entry.now.values }
+        ensures room { vec_capacity out.entry.now ≤ vec_capacity out.exit.now }
+    { append_pieces(out, waiting) };
+    crew.make(rt, alloc, round, gate, &mut chore);
+    crew.put(round, places);
+}
+
+// Appends the chunks of a plaintext sealed, the first of which has this number; the flag says whether its last chunk is
+// the last of all. The room for them is there.
+pub(crate) fn seal_rounds<R: Threads + Sync, G: Gate + Sync>(
+    rt: &R,
+    alloc: Global,
+    key: &Key,
+    header: &Header,
+    first: u32,
+    last: bool,
+    plain: &[u8],
+    mut rooms: Rooms,
+    out: &mut Vec<u8>,
+    gate: &G,
+)
+    requires plain { length plain.now ≤ MAX_PLAIN }
+    requires numbers { first + chunk_count (length plain.now) ≤ 2 ^ 32 }
+    requires ready { CanMake Task.Sealing (min ROUND (chunk_count (length plain.now))) rooms.crew rooms.places }
+    requires empty { rooms.places.values ≡ [] }
+    requires room { vec_len out.old + body_length (length plain.now) ≤ vec_capacity out.old }
+    ensures { out.new.items ≡ out.old.items ++ stream_by key.now header.now first last (chunks plain.now) }
+{
+    // Rounds one behind the other are STREAM, and the pieces of a round its part of it.
+    rounds_of_a_stream();
+    rounds_are_sealed();
+    pieces_by_number();
+    chunks_by_number();
+    let size = ROUND as usize * CHUNK;
+    let mut number = first;
+    let mut rest = plain;
+    'rounds: while rest.len() > size {
+        let (bytes, more) = rest.split_at(size);
+        let cut = Cut::of(size as u64);
+        let round = Round::new(Task::Sealing, key, header, number, false, cut, bytes);
+        make_round(rt, alloc, &round, &mut rooms, out, gate);
+        number += ROUND;
+        rest = more;
+    }
+    let cut = Cut::of(rest.len() as u64);
+    let round = Round::new(Task::Sealing, key, header, number, last, cut, rest);
+    make_round(rt, alloc, &round, &mut rooms, out, gate);
+    append_pieces(out, &rooms.places);
+}
+
+// Whether all pieces of a round of an opening check, the first of which has this number in the whole; or the least that
+// doesn't.
+fn checked(places: &Places, first: u32) -> Result<(), u32>
+    requires numbers { first + length places.now.values ≤ 2 ^ 32 }
+    ensures ok { OnOk result (named first (answer places.now.values) ≡ Ok (joined places.now.values)) }
+    ensures err { IfErr result (λ chunk. named first (answer places.now.values) ≡ Err (Forged chunk)) }
+{
+    refused_pieces();
+    match places.first_refused() {
+        None => Ok(()),
+        Some(number) => Err(first + number),
+    }
+}
+
+// Appends the plaintext of sealed chunks, cut so and numbered from 0 on, or names the least of them that doesn't check.
+// The room for it is there.
+pub(crate) fn open_rounds<R: Threads + Sync, G: Gate + Sync>(
+    rt: &R,
+    alloc: Global,
+    key: &Key,
+    header: &Header,
+    cut: Cut,
+    body: &[u8],
+    mut rooms: Rooms,
+    out: &mut Vec<u8>,
+    gate: &G,
+) -> Result<(), u32>
+    requires plain { cut ≤ MAX_PLAIN }
+    requires body { length body.now ≡ body_length cut }
+    requires ready { CanMake Task.Opening (min ROUND (chunk_count cut)) rooms.crew rooms.places }
+    requires empty { (rooms.places.values ≡ []) × (out.old.items ≡ []) }
+    requires room { cut ≤ vec_capacity out.old }
+    ensures opened { OnOk result
+        (unsealed_by key.now header.now 0 true (sealed_chunks body.now) ≡ Ok out.new.items) }
+    ensures refused { IfErr result (λ chunk.
+        unsealed_by key.now header.now 0 true (sealed_chunks body.now) ≡ Err (Forged chunk)) }
+{
+    // Rounds one behind the other open as all chunks do, and the pieces of a round as its chunks.
+    rounds_open();
+    rounds_are_opened();
+    pieces_by_number();
+    chunks_by_number();
+    let size = ROUND as usize * SEALED;
+    let step = ROUND as u64 * CHUNK as u64;
+    let mut plain = cut.plain();
+    let mut number = 0;
+    let mut rest = body;
+    'rounds: while rest.len() > size {
+        let (bytes, more) = rest.split_at(size);
+        let cut = Cut::of(step);
+        let round = Round::new(Task::Opening, key, header, number, false, cut, bytes);
+        make_round(rt, alloc, &round, &mut rooms, out, gate);
+        match checked(&rooms.places, number) {
+            Ok(()) => {}
+            Err(chunk) => return Err(chunk),
+        }
+        number += ROUND;
+        plain -= step;
+        rest = more;
+    }
+    let cut = Cut::of(plain);
+    let round = Round::new(Task::Opening, key, header, number, true, cut, rest);
+    make_round(rt, alloc, &round, &mut rooms, out, gate);
+    match checked(&rooms.places, number) {
+        Ok(()) => {}
+        Err(chunk) => return Err(chunk),
+    }
+    append_pieces(out, &rooms.places);
+    Ok(())
+}
