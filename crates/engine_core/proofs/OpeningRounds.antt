@@ -1,15 +1,14 @@
 -- Opening in rounds: what opened so far, and what is in hand.
-use Rattle.std.proofs.Common.{◌≡◌, ℕ, zero, suc, ◌+◌, ◌*◌, ◌<◌, ◌≤◌, ◌⊎◌, inl, inr, Bool, true, false, List, [], ◌∷◌, ◌++◌}
-use Rattle.std.proofs.Common.{length, take, drop, get_or, Option, Some, None, Result, Ok, Err, IfSome, refl, ap, sym, subst, ◌∙◌}
+use Rattle.std.proofs.Common.{◌≡◌, ℕ, zero, suc, ◌+◌, ◌*◌, ◌<◌, ◌≤◌, ◌⊎◌, inl, inr, true, false, List, [], ◌∷◌, ◌++◌}
+use Rattle.std.proofs.Common.{length, take, drop, get_or, Option, Some, None, Result, Err, IfSome, refl, ap, sym, subst, ◌∙◌}
 use lib.Seq.{take-suc}
 use Rattle.std.proofs.Common.{◌-◌, arith, append_assoc, append-nil, length-append, length-take-le, replicate}
 use Rattle.std.proofs.lemmas.List.{take_at, take_all, drop_at, length-replicate}
 use Rattle.std.proofs.Math.Nat.{eq-or-lt_of_le}
 use Rattle.std.proofs.KnownBytes.{Consumes-trans}
-use Rattle.io_core.specs.Streams.{Consumes, IsAtEnd}
-use Rattle.io_core.specs.Reads.{ConsumesUpTo}
+use Rattle.io_core.specs.Streams.{Consumes}
 use Rattle.container_core.specs.declared.fault.OpenFault.{OpenFault}
-use Rattle.container_core.specs.declared.fault.OpenFault.TheVariants.{TooLong, Read, Write}
+use Rattle.container_core.specs.declared.fault.OpenFault.TheVariants.{Read, Write}
 use Rattle.container_core.specs.Chunks.{sealed_chunks, body_length, chunk_count, container_length}
 use Rattle.container_core.specs.Faults.{IsOfBytes}
 use Rattle.container_core.specs.Opening.{unsealed, unsealed_by, behind, unless, first_fault, early_fault, opening}
@@ -164,19 +163,19 @@ not_read Read own = absurd own
 not_read _ own = refl
 
 -- a full round of a body
-pub body-round : (task : Task) (held : List ℕ) → (task ≡ Sealing → ⊥) → 1048832 ≤ length held
-    → length (take 1048832 held) ≡ body_bytes task 1048576
-body-round Sealing held not full = absurd (not refl)
-body-round Opening held not full = length-take-le 1048832 held full
-body-round Checking held not full = length-take-le 1048832 held full
+pub body-round : (task : Task) (chunks : ℕ) (held : List ℕ) → (task ≡ Sealing → ⊥) → 0 < chunks → chunks * 65552 ≤ length held
+    → length (take (chunks * 65552) held) ≡ body_bytes task (chunks * 65536)
+body-round Sealing chunks held not some full = absurd (not refl)
+body-round Opening chunks held not some full = length-take-le (chunks * 65552) held full ∙ omega arith
+body-round Checking chunks held not some full = length-take-le (chunks * 65552) held full ∙ omega arith
 
 -- its pieces, by their number
-pub count-round : (task : Task) (body : List ℕ) → (task ≡ Sealing → ⊥) → length body ≡ 1048832
+pub count-round : (task : Task) (chunks : ℕ) (body : List ℕ) → (task ≡ Sealing → ⊥) → 0 < chunks → length body ≡ chunks * 65552
     → ((n : ℕ) → length body ≡ body_length n → length (sealed_chunks body) ≡ chunk_count n)
-    → length (parts_of task body) ≡ 16
-count-round Sealing body not full count = absurd (not refl)
-count-round Opening body not full count = count 1048576 full
-count-round Checking body not full count = count 1048576 full
+    → length (parts_of task body) ≡ chunks
+count-round Sealing chunks body not some full count = absurd (not refl)
+count-round Opening chunks body not some full count = count (chunks * 65536) (full ∙ omega arith) ∙ omega arith
+count-round Checking chunks body not some full count = count (chunks * 65536) (full ∙ omega arith) ∙ omega arith
 
 -- ---- one round more
 

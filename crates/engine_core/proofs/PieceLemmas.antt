@@ -1,8 +1,6 @@
 -- What the pieces of a round that is opened or checked say of the round.
-use Rattle.std.proofs.Common.{◌≡◌, ℕ, suc, ◌+◌, ◌<◌, Bool, List, [], ◌∷◌, ◌++◌, length, take, get_or}
-use Rattle.std.proofs.Common.{Option, Some, None, Result, Ok, Err, refl, ap, sym, ◌∙◌, arith, append_assoc}
-use lib.Seq.{take-suc}
-use Rattle.container_core.specs.declared.fault.OpenFault.{OpenFault}
+use Rattle.std.proofs.Common.{◌≡◌, ℕ, ◌+◌, Bool, List}
+use Rattle.std.proofs.Common.{Option, Some, None, Ok, Err, refl, ap, sym, ◌∙◌}
 use Rattle.container_core.specs.declared.fault.OpenFault.TheVariants.{Forged}
 use Rattle.container_core.specs.Chunks.{sealed_chunks}
 use Rattle.container_core.specs.Opening.{unsealed_by}
@@ -11,26 +9,6 @@ use Rattle.round_core.specs.declared.round.Task.TheVariants.{Sealing, Opening, C
 use Rattle.round_core.specs.Answer.{joined, first_refused, unless_refused, answer, named}
 use Rattle.round_core.specs.Values.{values_of}
 use Rattle.engine_core.specs.Windows.{OpensRound}
-
-joined-append : (xs ys : List (Option (List ℕ))) → joined (xs ++ ys) ≡ joined xs ++ joined ys
-joined-append [] ys = refl
-joined-append (None ∷ xs) ys = joined-append xs ys
-joined-append (Some b ∷ xs) ys = ap (λ (l : List ℕ). b ++ l) (joined-append xs ys) ∙ sym (append_assoc b (joined xs) (joined ys))
-
--- what was appended so far, and one more piece, which has bytes or none
-pub appended-more : (values : List (Option (List ℕ))) (n : ℕ) (v : Option (List ℕ)) (before old new : List ℕ) → n < length values
-    → v ≡ get_or values n None → old ≡ before ++ joined (take n values) → new ≡ old ++ joined (v ∷ [])
-    → new ≡ before ++ joined (take (n + 1) values)
-appended-more values n v before old new below is so_far more =
-    let next : n + 1 ≡ suc n = omega arith in
-    let grown : joined (take (n + 1) values) ≡ joined (take n values) ++ joined (v ∷ []) =
-    ap (λ (k : ℕ). joined (take k values)) next
-    ∙ ap joined (take-suc values n None below)
-    ∙ joined-append (take n values) (get_or values n None ∷ [])
-    ∙ ap (λ (o : Option (List ℕ)). joined (take n values) ++ joined (o ∷ [])) (sym is) in
-    more ∙ ap (λ (l : List ℕ). l ++ joined (v ∷ [])) so_far
-    ∙ append_assoc before (joined (take n values)) (joined (v ∷ []))
-    ∙ ap (λ (l : List ℕ). before ++ l) (sym grown)
 
 -- what is answered to a round is what its chunks open to
 abbrev IsAnswer : List ℕ → List ℕ → ℕ → Bool → List ℕ → List (Option (List ℕ)) → Type 0

@@ -1,11 +1,11 @@
 -- Sealing in rounds: what was read, written, waits to be written, and is in hand.
-use Rattle.std.proofs.Common.{◌≡◌, ℕ, zero, suc, ◌+◌, ◌*◌, ◌<◌, ◌≤◌, Bool, true, false, List, [], ◌∷◌, ◌++◌, length, take}
+use Rattle.std.proofs.Common.{◌≡◌, ℕ, suc, ◌+◌, ◌*◌, ◌<◌, ◌≤◌, Bool, true, false, List, [], ◌∷◌, ◌++◌, length, take}
 use Rattle.std.proofs.Common.{get_or, drop, take-append-drop, Option, Some, None, Result, Ok, Err, OnOk, OnErr, IfSome, is_err, inl, inr, ◌⊎◌, refl, ap, ap₂, sym, subst, ◌∙◌, arith}
 use Rattle.std.proofs.Common.{append_assoc, append-nil, length-append}
-use lib.Seq.{take-suc, take_all}
+use lib.Seq.{take-suc}
 use Rattle.std.proofs.Math.Nat.{mul_assoc}
-use Rattle.std.proofs.KnownBytes.{Appends-nil, Appends-trans, Consumes-nil, Consumes-trans}
-use Rattle.io_core.specs.Streams.{Consumes, Appends, AppendsFront, IsAtEnd, Keeps}
+use Rattle.std.proofs.KnownBytes.{Appends-trans, Consumes-nil, Consumes-trans}
+use Rattle.io_core.specs.Streams.{Consumes, Appends, AppendsFront, IsAtEnd}
 use Rattle.io_core.specs.Reads.{ConsumesUpTo}
 use Rattle.container_core.specs.Chunks.{chunks}
 use Rattle.container_core.specs.Container.{header_of, container}
@@ -14,7 +14,7 @@ use Rattle.round_core.specs.Answer.{joined}
 use Rattle.container_core.specs.declared.fault.SealFault.{SealFault}
 use Rattle.container_core.specs.declared.fault.SealFault.TheVariants.{TooLong, OutOfMemory, Read as ReadFailed, Write as WriteFailed}
 use Rattle.io_core.specs.Streams.{counted}
-use Rattle.engine_core.specs.Engine.{BeginsContainer, DropsRound, rounds_so_far, HasReadPlain, HasWrittenRounds, seal_read_failed, seal_write_failed}
+use Rattle.engine_core.specs.Engine.{BeginsContainer, rounds_so_far, HasReadPlain, HasWrittenRounds, seal_read_failed, seal_write_failed}
 use Rattle.engine_core.specs.Rounds.{bytes_of}
 
 -- what stands before the pieces of the round in hand: the header, before the first

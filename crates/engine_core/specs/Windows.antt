@@ -1,5 +1,5 @@
 -- Inside: what the functions tell each other that open in rounds.
-use Rattle.std.specs.Prelude.{◌≡◌, ◌⊎◌, ℕ, ◌+◌, ◌-◌, ◌*◌, ◌<◌, ◌≤◌, ◌++◌, Bool, List, [], ◌∷◌, All, length, take, Option, Some}
+use Rattle.std.specs.Prelude.{◌≡◌, ◌⊎◌, ℕ, ◌+◌, ◌-◌, ◌*◌, ◌<◌, ◌≤◌, ◌++◌, Bool, List, [], ◌∷◌, length, take, Option, Some}
 use Rattle.std.specs.Prelude.{Result, Ok, OnOk, OnErr, IfErr}
 use Rattle.container_core.specs.Chunks.{header_size, container_length, sealed_chunks}
 use Rattle.container_core.specs.declared.fault.OpenFault.{OpenFault}

@@ -1,13 +1,15 @@
 //! The engines: sealing, opening and verifying from any reader to any writer, and the audit of a journal.
 //!
 //! `engine` has those of one thread, `run` those with workers, whose answers are the same. `reading` has
-//! what is read whole before anything is written, `sealing` what seals a window at a time, `windows` what opens or checks.
+//! what is read whole before anything is written, `sealing` what seals a window at a time, `windows` what opens or checks,
+//! and `rooms` the room of both.
 //! `auditor` has the audit.
 #![tactic(auto)]
 
 pub mod auditor;
 pub mod engine;
 pub mod reading;
+mod rooms;
 pub mod run;
 mod sealing;
 mod windows;
@@ -15,4 +17,7 @@ mod windows;
 pub use crate::auditor::run_audit;
 pub use crate::engine::{open_one, seal_one, verify_one};
 pub use crate::reading::read_plain;
-pub use crate::run::{run_open, run_plain, run_seal, run_seal_by, run_verify};
+pub use crate::run::{
+    run_open, run_open_by, run_plain, run_plain_by, run_seal, run_seal_by, run_verify,
+    run_verify_by,
+};

@@ -14,7 +14,7 @@ ghost use Rattle.engine_core.specs.Engine.{OpensTo};
 use crate::sealing::seal_rounds;
 use crate::windows::open_rounds;
 use container_core::{Key, MAX_PLAIN, OpenFault, SealFault};
-use crew_core::{Gate, MAX_WINDOW, MAX_WORKERS};
+use crew_core::{DEFAULT_WINDOW, Gate, MAX_WINDOW, MAX_WORKERS};
 use ledger_core::{Failed, Grant, Sink, Source, Spent, write_all};
 use round_core::Task;
 use std::alloc::Global;
@@ -61,7 +61,7 @@ pub fn run_seal_by<T: Threads + Sync, R: Source, W: Sink, G: Gate + Sync>(
     }
 }
 
-/// `run_seal_by` in rounds of 16 chunks.
+/// `run_seal_by` in rounds of `DEFAULT_WINDOW` chunks, 16.
 pub fn run_seal<T: Threads + Sync, R: Source, W: Sink, G: Gate + Sync>(
     rt: &T,
     alloc: Global,
@@ -77,21 +77,69 @@ pub fn run_seal<T: Threads + Sync, R: Source, W: Sink, G: Gate + Sync>(
     requires workers { (0 < workers) × (workers ≤ MAX_WORKERS) }
     ensures reads { HasReadPlain max_bytes (R.left reader.old) (R.left reader.new)
         (R.failures reader.old) (R.failures reader.new) result.0 }
-    ensures writes { HasWrittenRounds key.now (prefix_of grant.device grant.number) max_bytes 16
+    ensures writes { HasWrittenRounds key.now (prefix_of grant.device grant.number) max_bytes DEFAULT_WINDOW
         (R.left reader.old) (R.left reader.new) (W.taken writer.old) (W.taken writer.new)
         (W.failures writer.old) (W.failures writer.new) result.0 }
     ensures sealed { OnOk result.0 (result.1 ≡ spent_as grant Sealed) }
     ensures void { OnErr result.0 (result.1 ≡ spent_as grant Void) }
 {
     run_seal_by(
-        rt, alloc, key, grant, reader, writer, max_bytes, workers, 16, gate,
+        rt,
+        alloc,
+        key,
+        grant,
+        reader,
+        writer,
+        max_bytes,
+        workers,
+        DEFAULT_WINDOW,
+        gate,
     )
 }
 
-/// Reads a container and checks it by 1 to 16 workers. Answers its plaintext, which has at most `max_bytes` bytes (2^40
-/// at most), or the first fault of the container. Of an input that is too long one byte past the longest container is
-/// read. It takes the memory of the plaintext, whose room doubles as it grows, of two windows of 16 sealed chunks, and of
-/// 16 chunks of plaintext and as many for each worker.
+/// Reads a container and checks it by 1 to 16 workers, in rounds of `window` chunks (1 to 256): while one is opened, the
+/// plaintext of the one before is taken and the one behind is read. Answers its plaintext, which has at most `max_bytes`
+/// bytes (2^40 at most), or the first fault of the container. Of an input that is too long one byte past the longest
+/// container is read. It takes the memory of the plaintext, whose room doubles as it grows, of two windows of sealed
+/// chunks, and of a window of plaintext and as much for each worker.
+pub fn run_plain_by<T: Threads + Sync, R: Source, G: Gate + Sync>(
+    rt: &T,
+    alloc: Global,
+    key: &Key,
+    reader: &mut R,
+    max_bytes: u64,
+    workers: u32,
+    window: u32,
+    gate: &G,
+) -> Result<Vec<u8>, OpenFault>
+    requires max_bytes { max_bytes ≤ MAX_PLAIN }
+    requires workers { (0 < workers) × (workers ≤ MAX_WORKERS) }
+    requires window { (0 < window) × (window ≤ MAX_WINDOW) }
+    ensures plaintext { IfOk result (λ out.
+        IfSome (R.left reader.old) (λ input. opening key.now max_bytes input ≡ Ok out.items)) }
+    ensures no_write { result ≢ Err OpenFault.Write }
+    ensures reads { HasReadContainer key.now max_bytes (R.left reader.old) (R.left reader.new)
+        (R.failures reader.old) (R.failures reader.new) result }
+{
+    let mut out = Vec::new(alloc);
+    match open_rounds(
+        rt,
+        alloc,
+        Task::Opening,
+        key,
+        reader,
+        max_bytes,
+        workers,
+        window,
+        &mut out,
+        gate,
+    ) {
+        Ok(_) => Ok(out),
+        Err(fault) => Err(fault),
+    }
+}
+
+/// `run_plain_by` in rounds of `DEFAULT_WINDOW` chunks, 16.
 pub fn run_plain<T: Threads + Sync, R: Source, G: Gate + Sync>(
     rt: &T,
     alloc: Global,
@@ -109,26 +157,40 @@ pub fn run_plain<T: Threads + Sync, R: Source, G: Gate + Sync>(
     ensures reads { HasReadContainer key.now max_bytes (R.left reader.old) (R.left reader.new)
         (R.failures reader.old) (R.failures reader.new) result }
 {
-    let mut out = Vec::new(alloc);
-    match open_rounds(
-        rt,
-        alloc,
-        Task::Opening,
-        key,
-        reader,
-        max_bytes,
-        workers,
-        &mut out,
-        gate,
-    ) {
-        Ok(_) => Ok(out),
-        Err(fault) => Err(fault),
+    let window = DEFAULT_WINDOW;
+    run_plain_by(rt, alloc, key, reader, max_bytes, workers, window, gate)
+}
+
+/// Reads a container and writes its plaintext, once every chunk was checked: `run_plain_by`, and the writing. Answers the
+/// plaintext's length, or the first fault of the container. At every fault but `Write` nothing was written; at `Write`
+/// the whole input was read, and a beginning of its plaintext was written, and not the whole.
+pub fn run_open_by<T: Threads + Sync, R: Source, W: Sink, G: Gate + Sync>(
+    rt: &T,
+    alloc: Global,
+    key: &Key,
+    reader: &mut R,
+    writer: &mut W,
+    max_bytes: u64,
+    workers: u32,
+    window: u32,
+    gate: &G,
+) -> Result<u64, OpenFault>
+    requires max_bytes { max_bytes ≤ MAX_PLAIN }
+    requires workers { (0 < workers) × (workers ≤ MAX_WORKERS) }
+    requires window { (0 < window) × (window ≤ MAX_WINDOW) }
+    ensures reads { HasReadContainer key.now max_bytes (R.left reader.old) (R.left reader.new)
+        (R.failures reader.old) (R.failures reader.new) result }
+    ensures writes { HasWrittenPlain key.now max_bytes (R.left reader.old)
+        (W.taken writer.old) (W.taken writer.new) (W.failures writer.old) (W.failures writer.new) result }
+{
+    let plain = run_plain_by(rt, alloc, key, reader, max_bytes, workers, window, gate)?;
+    match write_all(writer, plain.as_slice()) {
+        Ok(()) => Ok(plain.len() as u64),
+        Err(Failed) => Err(OpenFault::Write),
     }
 }
 
-/// Reads a container and writes its plaintext, once every chunk was checked: `run_plain`, and the writing. Answers the
-/// plaintext's length, or the first fault of the container. At every fault but `Write` nothing was written; at `Write`
-/// the whole input was read, and a beginning of its plaintext was written, and not the whole.
+/// `run_open_by` in rounds of `DEFAULT_WINDOW` chunks, 16.
 pub fn run_open<T: Threads + Sync, R: Source, W: Sink, G: Gate + Sync>(
     rt: &T,
     alloc: Global,
@@ -146,15 +208,49 @@ pub fn run_open<T: Threads + Sync, R: Source, W: Sink, G: Gate + Sync>(
     ensures writes { HasWrittenPlain key.now max_bytes (R.left reader.old)
         (W.taken writer.old) (W.taken writer.new) (W.failures writer.old) (W.failures writer.new) result }
 {
-    let plain = run_plain(rt, alloc, key, reader, max_bytes, workers, gate)?;
-    match write_all(writer, plain.as_slice()) {
-        Ok(()) => Ok(plain.len() as u64),
-        Err(Failed) => Err(OpenFault::Write),
-    }
+    let window = DEFAULT_WINDOW;
+    run_open_by(
+        rt, alloc, key, reader, writer, max_bytes, workers, window, gate,
+    )
 }
 
-/// Reads a container and checks it, as `run_open` does, without writing anything. It takes the memory of two windows,
+/// Reads a container and checks it, as `run_open_by` does, without writing anything. It takes the memory of two windows,
 /// whatever the container's length.
+pub fn run_verify_by<T: Threads + Sync, R: Source, G: Gate + Sync>(
+    rt: &T,
+    alloc: Global,
+    key: &Key,
+    reader: &mut R,
+    max_bytes: u64,
+    workers: u32,
+    window: u32,
+    gate: &G,
+) -> Result<u64, OpenFault>
+    requires max_bytes { max_bytes ≤ MAX_PLAIN }
+    requires workers { (0 < workers) × (workers ≤ MAX_WORKERS) }
+    requires window { (0 < window) × (window ≤ MAX_WINDOW) }
+    ensures length { IfOk result (λ n. IfSome (R.left reader.old) (λ input. OpensTo key.now max_bytes input n)) }
+    ensures no_write { result ≢ Err OpenFault.Write }
+    ensures reads { HasReadContainer key.now max_bytes (R.left reader.old) (R.left reader.new)
+        (R.failures reader.old) (R.failures reader.new) result }
+{
+    // What is only checked has no bytes.
+    let mut none = Vec::new(alloc);
+    open_rounds(
+        rt,
+        alloc,
+        Task::Checking,
+        key,
+        reader,
+        max_bytes,
+        workers,
+        window,
+        &mut none,
+        gate,
+    )
+}
+
+/// `run_verify_by` in rounds of `DEFAULT_WINDOW` chunks, 16.
 pub fn run_verify<T: Threads + Sync, R: Source, G: Gate + Sync>(
     rt: &T,
     alloc: Global,
@@ -171,17 +267,6 @@ pub fn run_verify<T: Threads + Sync, R: Source, G: Gate + Sync>(
     ensures reads { HasReadContainer key.now max_bytes (R.left reader.old) (R.left reader.new)
         (R.failures reader.old) (R.failures reader.new) result }
 {
-    // What is only checked has no bytes.
-    let mut none = Vec::new(alloc);
-    open_rounds(
-        rt,
-        alloc,
-        Task::Checking,
-        key,
-        reader,
-        max_bytes,
-        workers,
-        &mut none,
-        gate,
-    )
+    let window = DEFAULT_WINDOW;
+    run_verify_by(rt, alloc, key, reader, max_bytes, workers, window, gate)
 }

@@ -15,16 +15,17 @@ ghost use Rattle.round_core.specs.Values.{round_of, values_of};
 ghost use Rattle.engine_core.specs.Engine.{HasReadPlain, HasWrittenRounds, seal_read_failed};
 ghost use Rattle.engine_core.specs.Rounds.{CanSeal, HasSealedOn, bytes_of};
 
+use crate::rooms::{Rooms, byte_behind};
 use container_core::laws::{chunks_by_number, rounds_of_a_stream};
-use container_core::{CHUNK, Cut, Header, Key, MAX_PLAIN, SEALED, SealFault};
+use container_core::{CHUNK, Cut, Header, Key, MAX_PLAIN, SealFault};
 use io_core::{Failed, Sink, Source, write_all};
 use round_core::laws::{pieces_by_number, rounds_are_sealed};
 use round_core::{Places, Round, Task};
-use std::alloc::Global;
+use std::alloc::{AllocError, Global};
 use std::mem;
 use std::thread::Threads;
 use window_core::Window;
-use worker_core::{Crew, Gate, MAX_WINDOW, MAX_WORKERS};
+use worker_core::{Gate, MAX_WINDOW, MAX_WORKERS};
 
 // Writes the piece of this number.
 fn write_piece<W: Sink>(writer: &mut W, places: &Places, number: u32) -> Result<(), Failed>
@@ -83,15 +84,6 @@ fn turn<R: Source, W: Sink>(
     }
 }
 
-// The room of a sealing: two windows, of which the first has what is at hand, the workers, and the places of a round.
-#[derive(Drop)]
-struct Rooms {
-    current: Window,
-    next: Window,
-    crew: Crew,
-    places: Places,
-}
-
 // Reads the first round of an input, of which at most so many bytes are read, and makes the room of its sealing in
 // rounds of `window` chunks: but for the first window no more than an input of one round needs.
 fn begin<R: Source>(
@@ -125,21 +117,10 @@ fn begin<R: Source>(
     }
     let bytes = current.held().len();
     let pieces = Cut::of(bytes.min(size) as u64).count();
-    let Ok(next) = Window::new(alloc, bytes) else {
-        return Err(SealFault::OutOfMemory);
-    };
-    let Ok(crew) = Crew::new(alloc, workers.min(pieces), pieces, SEALED) else {
-        return Err(SealFault::OutOfMemory);
-    };
-    let Ok(places) = Places::new(alloc, pieces, SEALED) else {
-        return Err(SealFault::OutOfMemory);
-    };
-    Ok(Rooms {
-        current,
-        next,
-        crew,
-        places,
-    })
+    match Rooms::new(alloc, Task::Sealing, current, pieces, workers) {
+        Ok(rooms) => Ok(rooms),
+        Err(AllocError) => Err(SealFault::OutOfMemory),
+    }
 }
 
 // The full round that a window has, where a byte was seen behind it.
@@ -169,14 +150,6 @@ fn full_round<'a>(
         Cut::of(size as u64),
         bytes,
     )
-}
-
-// The byte behind a full round.
-fn byte_behind(window: &Window, size: usize) -> u8
-    requires { size < length window.now.held }
-    ensures { result ≡ slice_index window.now.held size }
-{
-    window.held()[size]
 }
 
 // Seals a full round, while the one before is written and the next one is read, whose first byte was seen.

@@ -5,7 +5,7 @@
 //! with a fault is read to its end, or to one byte past the longest: that its length is wrong comes before a chunk that
 //! doesn't check.
 ghost use Rattle.std.specs.Prelude.{◌≡◌, ◌≢◌, ◌⊎◌, ℕ, ◌+◌, ◌-◌, ◌*◌, ◌^◌, ◌<◌, ◌≤◌, ◌++◌, Bool, true, false, List, [], ◌∷◌, length, take, min};
-ghost use Rattle.std.specs.Prelude.{slice_index, vec_len, Ok, Err, IfOk, IfErr, OnOk, OnErr, IfSome, is_err};
+ghost use Rattle.std.specs.Prelude.{slice_index, Ok, Err, IfOk, IfErr, OnOk, OnErr, IfSome, is_err};
 ghost use Rattle.container_core.specs.Chunks.{body_length, chunk_count, container_length};
 ghost use Rattle.container_core.specs.Faults.{IsOfBytes};
 ghost use Rattle.io_core.specs.Reads.{ConsumesUpTo};
@@ -17,6 +17,7 @@ ghost use Rattle.round_core.specs.Values.{round_of, values_of};
 ghost use Rattle.round_core.specs.Answer.{joined};
 ghost use Rattle.engine_core.specs.Windows.{ReadsOn, IsNamed, HasTurned, OpensRound, IsReady, Answers};
 
+use crate::rooms::{Rooms, byte_behind};
 use container_core::laws::{chunks_by_number, rounds_open};
 use container_core::{
     CHUNK, Cut, HEADER, Header, Key, MAX_PLAIN, OpenFault, SEALED, begin_within, container_bytes,
@@ -29,14 +30,7 @@ use std::alloc::{AllocError, Global};
 use std::mem;
 use std::thread::Threads;
 use window_core::Window;
-use worker_core::{Crew, Gate, MAX_WORKERS};
-
-// Chunks of a round that isn't the last.
-const WINDOW: u32 = 16;
-// Their bytes in a container.
-const ROUND: usize = WINDOW as usize * SEALED;
-// And in a plaintext.
-const PLAIN: u64 = WINDOW as u64 * CHUNK as u64;
+use worker_core::{Gate, MAX_WINDOW, MAX_WORKERS};
 
 // Bytes that are read at once where they are dropped.
 const DROPPED: usize = 1 << 14;
@@ -93,18 +87,6 @@ fn refuse<R: Source>(
     }
 }
 
-// Appends the pieces of a round.
-fn gather(out: &mut Vec<u8>, places: &Places) -> Result<(), AllocError>
-    ensures { OnOk result (out.new.items ≡ out.old.items ++ joined places.now.values) }
-{
-    'gathering: for number in 0..places.count() {
-        if let Some(bytes) = places.piece(number) {
-            out.extend_from_slice(bytes)?;
-        }
-    }
-    Ok(())
-}
-
 // Takes the plaintext of the round before, and reads the next one on behind the byte of it that was seen.
 fn turn<R: Source>(
     reader: &mut R,
@@ -118,7 +100,7 @@ fn turn<R: Source>(
     ensures { HasTurned (R.left reader.old) (R.left reader.new) (R.failures reader.old) (R.failures reader.new)
         out.old.items out.new.items places.now.values next.old next.new ahead upto result }
 {
-    if gather(out, places).is_err() {
+    if places.append_to(out).is_err() {
         return Err(OpenFault::OutOfMemory);
     }
     next.begin_with(ahead);
@@ -153,68 +135,53 @@ fn checked(places: &Places, task: Task, first: u32) -> Result<(), OpenFault>
 }
 
 // For how many chunks of a container's body there is to be room, where so many bytes are at hand.
-fn pieces_of(bytes: usize) -> u32
+fn pieces_of(bytes: usize, window: u32) -> u32
+    requires window { (0 < window) × (window ≤ MAX_WINDOW) }
     ensures some { 0 < result }
-    ensures few { result ≤ WINDOW }
-    ensures enough { min ROUND bytes ≤ result * SEALED }
+    ensures few { result ≤ window }
+    ensures enough { min (window * SEALED) bytes ≤ result * SEALED }
 {
-    (bytes.min(ROUND).saturating_sub(1) / SEALED + 1) as u32
+    (bytes.min(window as usize * SEALED).saturating_sub(1) / SEALED + 1) as u32
 }
 
-// The room of an opening: two windows, of which the first has what is at hand, the workers, and the places of a round.
-#[derive(Drop)]
-struct Rooms {
-    current: Window,
-    next: Window,
-    crew: Crew,
-    places: Places,
-}
-
-// Reads the first round of a container's body that has at most so many bytes, and makes the room of its opening: for a
-// body of one round no more than it needs.
+// Reads the first round of a container's body, of which at most so many bytes are read, and makes the room of its opening
+// in rounds of `window` chunks: but for the first window no more than a body of one round needs.
 fn begin<R: Source>(
     alloc: Global,
     task: Task,
     reader: &mut R,
     most: usize,
+    window: u32,
     workers: u32,
 ) -> Result<Rooms, OpenFault>
     requires workers { (0 < workers) × (workers ≤ MAX_WORKERS) }
+    requires window { (0 < window) × (window ≤ MAX_WINDOW) }
     ensures held { IfOk result (λ rooms. Consumes (R.left reader.old) (R.left reader.new) rooms.current.held) }
-    ensures within { IfOk result (λ rooms. length rooms.current.held ≤ min most (ROUND + 1)) }
-    ensures end { IfOk result (λ rooms. length rooms.current.held < min most (ROUND + 1)
+    ensures within { IfOk result (λ rooms. length rooms.current.held ≤ min most (window * SEALED + 1)) }
+    ensures end { IfOk result (λ rooms. length rooms.current.held < min most (window * SEALED + 1)
         → IsAtEnd (R.left reader.new)) }
     ensures lost { OnErr result (ConsumesUpTo (R.left reader.old) (R.left reader.new) most) }
     ensures fault { IfErr result (λ fault. (fault ≡ OpenFault.OutOfMemory) ⊎ (fault ≡ OpenFault.Read)) }
     ensures count { R.failures reader.new ≡ counted (open_read_failed result) (R.failures reader.old) }
-    ensures window { IfOk result (λ rooms. ROUND + 1 ≤ rooms.current.room) }
+    ensures window { IfOk result (λ rooms. window * SEALED + 1 ≤ rooms.current.room) }
     ensures next { IfOk result (λ rooms. length rooms.current.held ≤ rooms.next.room) }
-    ensures ready { IfOk result (λ rooms. IsReady task (min ROUND (length rooms.current.held)) rooms.crew rooms.places) }
+    ensures ready { IfOk result (λ rooms. IsReady task (min (window * SEALED) (length rooms.current.held))
+        rooms.crew rooms.places) }
     ensures places { IfOk result (λ rooms. rooms.places.values ≡ []) }
 {
-    let Ok(mut current) = Window::new(alloc, ROUND + 1) else {
+    let size = window as usize * SEALED;
+    let Ok(mut current) = Window::new(alloc, size + 1) else {
         return Err(OpenFault::OutOfMemory);
     };
-    if current.fill(reader, most.min(ROUND + 1)).is_err() {
+    if current.fill(reader, most.min(size + 1)).is_err() {
         return Err(OpenFault::Read);
     }
     let bytes = current.held().len();
-    let pieces = pieces_of(bytes);
-    let Ok(next) = Window::new(alloc, bytes) else {
-        return Err(OpenFault::OutOfMemory);
-    };
-    let Ok(crew) = Crew::new(alloc, workers.min(pieces), pieces, task.room()) else {
-        return Err(OpenFault::OutOfMemory);
-    };
-    let Ok(places) = Places::new(alloc, pieces, task.room()) else {
-        return Err(OpenFault::OutOfMemory);
-    };
-    Ok(Rooms {
-        current,
-        next,
-        crew,
-        places,
-    })
+    let pieces = pieces_of(bytes, window);
+    match Rooms::new(alloc, task, current, pieces, workers) {
+        Ok(rooms) => Ok(rooms),
+        Err(AllocError) => Err(OpenFault::OutOfMemory),
+    }
 }
 
 // The full round that a window has, where a byte was seen behind it.
@@ -223,26 +190,21 @@ fn full_round<'a>(
     key: &'a Key,
     header: &'a Header,
     first: u32,
+    chunks: u32,
     window: &'a Window,
 ) -> Round<'a>
     requires task { task ≢ Task.Sealing }
-    requires numbers { first + WINDOW ≤ 2 ^ 32 }
-    requires full { ROUND < length window.now.held }
-    ensures round { result ≡ round_of task key.now header.now first false (take ROUND window.now.held) }
-    ensures count { length result.values ≡ WINDOW }
+    requires chunks { (0 < chunks) × (chunks ≤ MAX_WINDOW) }
+    requires numbers { first + chunks ≤ 2 ^ 32 }
+    requires full { chunks * SEALED < length window.now.held }
+    ensures round { result ≡ round_of task key.now header.now first false (take (chunks * SEALED) window.now.held) }
+    ensures count { length result.values ≡ chunks }
 {
     pieces_by_number();
     chunks_by_number();
-    let (bytes, _) = window.held().split_at(ROUND);
-    Round::new(task, key, header, first, false, Cut::of(PLAIN), bytes)
-}
-
-// The byte behind a full round.
-fn byte_behind(window: &Window) -> u8
-    requires { ROUND < length window.now.held }
-    ensures { result ≡ slice_index window.now.held ROUND }
-{
-    window.held()[ROUND]
+    let (bytes, _) = window.held().split_at(chunks as usize * SEALED);
+    let cut = Cut::of(u64::from(chunks) * CHUNK as u64);
+    Round::new(task, key, header, first, false, cut, bytes)
 }
 
 // Opens a full round, while the plaintext of the one before is taken and the next one is read, behind the byte of it that
@@ -254,6 +216,7 @@ fn open_full<T: Threads + Sync, R: Source, G: Gate + Sync>(
     key: &Key,
     header: &Header,
     first: u32,
+    chunks: u32,
     rooms: &mut Rooms,
     reader: &mut R,
     out: &mut Vec<u8>,
@@ -261,17 +224,18 @@ fn open_full<T: Threads + Sync, R: Source, G: Gate + Sync>(
     gate: &G,
 ) -> Result<(), OpenFault>
     requires task { task ≢ Task.Sealing }
-    requires numbers { first + WINDOW ≤ 2 ^ 32 }
-    requires full { ROUND < length rooms.old.current.held }
+    requires chunks { (0 < chunks) × (chunks ≤ MAX_WINDOW) }
+    requires numbers { first + chunks ≤ 2 ^ 32 }
+    requires full { chunks * SEALED < length rooms.old.current.held }
     requires upto { (0 < upto) × (upto ≤ rooms.old.next.room) }
-    requires ready { IsReady task ROUND rooms.old.crew rooms.old.places }
+    requires ready { IsReady task (chunks * SEALED) rooms.old.crew rooms.old.places }
     ensures values { OnOk result (rooms.new.places.values
-        ≡ values_of task key.now header.now first false (take ROUND rooms.old.current.held)) }
-    ensures count { OnOk result (length rooms.new.places.values ≡ WINDOW) }
+        ≡ values_of task key.now header.now first false (take (chunks * SEALED) rooms.old.current.held)) }
+    ensures count { OnOk result (length rooms.new.places.values ≡ chunks) }
     ensures turned { HasTurned (R.left reader.old) (R.left reader.new) (R.failures reader.old) (R.failures reader.new)
         out.old.items out.new.items rooms.old.places.values rooms.old.next rooms.new.current
-        (slice_index rooms.old.current.held ROUND) upto result }
-    ensures ready { IsReady task ROUND rooms.new.crew rooms.new.places }
+        (slice_index rooms.old.current.held (chunks * SEALED)) upto result }
+    ensures ready { IsReady task (chunks * SEALED) rooms.new.crew rooms.new.places }
     ensures room { rooms.new.next ≡ rooms.old.current }
 {
     let Rooms {
@@ -280,8 +244,8 @@ fn open_full<T: Threads + Sync, R: Source, G: Gate + Sync>(
         crew,
         places,
     } = rooms;
-    let ahead = byte_behind(current);
-    let round = full_round(task, key, header, first, current);
+    let ahead = byte_behind(current, chunks as usize * SEALED);
+    let round = full_round(task, key, header, first, chunks, current);
     let waiting = &*places;
     let behind = &mut *next;
     let mut chore = || -> Result<(), OpenFault>
@@ -335,7 +299,7 @@ fn open_last<T: Threads + Sync, G: Gate + Sync>(
     let waiting = &*places;
     let mut chore = || -> Result<(), AllocError>
         ensures { OnOk result (out.exit.now.items ≡ out.entry.now.items ++ joined waiting.entry.now.values) }
-    { gather(out, waiting) };
+    { waiting.append_to(out) };
     if crew.make(rt, alloc, &round, gate, &mut chore).is_err() {
         return Err(OpenFault::OutOfMemory);
     }
@@ -344,7 +308,7 @@ fn open_last<T: Threads + Sync, G: Gate + Sync>(
         Ok(()) => {}
         Err(fault) => return Err(fault),
     }
-    match gather(out, places) {
+    match places.append_to(out) {
         Ok(()) => Ok(()),
         Err(AllocError) => Err(OpenFault::OutOfMemory),
     }
@@ -361,6 +325,7 @@ fn open_body<T: Threads + Sync, R: Source, G: Gate + Sync>(
     reader: &mut R,
     max_bytes: u64,
     workers: u32,
+    window: u32,
     out: &mut Vec<u8>,
     gate: &G,
 ) -> Result<u64, OpenFault>
@@ -368,6 +333,7 @@ fn open_body<T: Threads + Sync, R: Source, G: Gate + Sync>(
     requires header { length header.now ≡ HEADER }
     requires max_bytes { max_bytes ≤ MAX_PLAIN }
     requires workers { (0 < workers) × (workers ≤ MAX_WORKERS) }
+    requires window { (0 < window) × (window ≤ MAX_WINDOW) }
     requires empty { out.old.items ≡ [] }
     ensures opened { IfOk result (λ n. (plain : List ℕ) × (n ≡ length plain)
         × Answers key.now header.now max_bytes (R.left reader.old) (R.left reader.new) (Ok plain)
@@ -382,16 +348,17 @@ fn open_body<T: Threads + Sync, R: Source, G: Gate + Sync>(
     rounds_open();
     let image = header.bytes();
     let limit = container_bytes(max_bytes) as usize + 1;
-    let mut rooms = match begin(alloc, task, reader, limit - HEADER, workers) {
+    let size = window as usize * SEALED;
+    let mut rooms = match begin(alloc, task, reader, limit - HEADER, window, workers) {
         Ok(rooms) => rooms,
         Err(fault) => return Err(fault),
     };
     let mut total = HEADER + rooms.current.held().len();
     let mut first = 0;
-    'rounds: while total < limit && rooms.current.held().len() > ROUND {
-        let upto = (limit - total).min(ROUND) + 1;
+    'rounds: while total < limit && rooms.current.held().len() > size {
+        let upto = (limit - total).min(size) + 1;
         match open_full(
-            rt, alloc, task, key, header, first, &mut rooms, reader, out, upto, gate,
+            rt, alloc, task, key, header, first, window, &mut rooms, reader, out, upto, gate,
         ) {
             Ok(()) => {}
             Err(fault) => return Err(fault),
@@ -401,7 +368,7 @@ fn open_body<T: Threads + Sync, R: Source, G: Gate + Sync>(
             Ok(()) => {}
             Err(fault) => return Err(refuse(key, &image, reader, total, max_bytes, fault)),
         }
-        first += WINDOW;
+        first += window;
     }
     let cut = match begin_within(key, &image, total as u64, max_bytes) {
         Ok((_, cut)) => cut,
@@ -413,7 +380,7 @@ fn open_body<T: Threads + Sync, R: Source, G: Gate + Sync>(
     }
 }
 
-/// Opens all that the reader has left in rounds, by 1 to 16 workers, appends its plaintext where the task is `Opening`,
+/// Opens all that the reader has left in rounds of `window` chunks, by 1 to 16 workers, appends its plaintext where the task is `Opening`,
 /// and answers how many bytes that has; or the first fault of the container. A failure leaves some of the plaintext.
 /// Of an input that is too long one byte past the longest container is read.
 pub(crate) fn open_rounds<T: Threads + Sync, R: Source, G: Gate + Sync>(
@@ -424,12 +391,14 @@ pub(crate) fn open_rounds<T: Threads + Sync, R: Source, G: Gate + Sync>(
     reader: &mut R,
     max_bytes: u64,
     workers: u32,
+    window: u32,
     out: &mut Vec<u8>,
     gate: &G,
 ) -> Result<u64, OpenFault>
     requires task { task ≢ Task.Sealing }
     requires max_bytes { max_bytes ≤ MAX_PLAIN }
     requires workers { (0 < workers) × (workers ≤ MAX_WORKERS) }
+    requires window { (0 < window) × (window ≤ MAX_WINDOW) }
     requires empty { out.old.items ≡ [] }
     ensures length { IfOk result (λ n. IfSome (R.left reader.old) (λ input. OpensTo key.now max_bytes input n)) }
     ensures plaintext { OnOk result (task ≡ Task.Opening
@@ -446,7 +415,7 @@ pub(crate) fn open_rounds<T: Threads + Sync, R: Source, G: Gate + Sync>(
     let front = &image[..n];
     match read_header(key, front) {
         Ok(header) => open_body(
-            rt, alloc, task, key, &header, reader, max_bytes, workers, out, gate,
+            rt, alloc, task, key, &header, reader, max_bytes, workers, window, out, gate,
         ),
         // A header that is cut short is all that there is.
         Err(fault) if n < HEADER => Err(fault),

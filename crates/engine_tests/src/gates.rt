@@ -128,7 +128,7 @@ fn all_workers_pass_with_each_piece_once(rt: HostRuntime) -> Result<(), Fail> {
     Ok(())
 }
 
-// A worker that is slow with one piece keeps the other from none: that one makes the seven others meanwhile.
+// A worker that is slow with one piece keeps no other waiting: the second worker makes the seven others meanwhile.
 #[test]
 fn a_held_worker_holds_one_piece(rt: HostRuntime) -> Result<(), Fail> {
     let plain = pattern(rt.alloc(), 8 * 65_536)?;

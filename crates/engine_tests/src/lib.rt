@@ -10,6 +10,10 @@ mod gates;
 #[cfg(test)]
 mod one_thread;
 #[cfg(test)]
+mod overlap;
+#[cfg(test)]
 mod rounds;
+#[cfg(test)]
+mod tables;
 #[cfg(test)]
 mod windows;

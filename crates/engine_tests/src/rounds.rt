@@ -111,7 +111,7 @@ fn gives_the_container<T: Threads + Sync>(rt: &T, alloc: Global, plain: &[u8]) -
 {
     let whole = container_of(alloc, plain)?;
     let bytes = plain.len() as u64;
-    for (window, workers) in [(1, 1), (2, 1), (2, 4), (16, 3), (256, 1), (256, 4)] {
+    for (window, workers) in [(1, 4), (2, 1), (2, 4), (16, 3), (256, 1), (256, 4)] {
         let asked = steady(bytes, workers, window);
         if !ends_as(rt, alloc, plain, asked, Ok(bytes), whole.as_slice())? {
             return Ok(false);

@@ -2,9 +2,9 @@
 ghost use Rattle.std.specs.Prelude.{◌<◌, ◌≤◌};
 
 use container_core::{CHUNK, HEADER, Key, OpenFault, SEALED, seal};
-use crew_core::{Free, MAX_WORKERS};
+use crew_core::{Free, MAX_WINDOW, MAX_WORKERS};
 use crew_tests::{COUNTING, flip, pattern};
-use engine_core::{run_open, run_plain, run_verify};
+use engine_core::{run_open_by, run_plain, run_plain_by, run_verify, run_verify_by};
 use io_memory::{FromMemory, Schedule, ToMemory};
 use std::alloc::Global;
 use std::test::Fail;
@@ -28,23 +28,35 @@ fn forty_chunks(alloc: Global) -> Result<Vec<u8>, Fail> {
     Ok(bytes)
 }
 
-// Why these bytes don't verify, by so many workers, where opening them says the same and writes nothing.
-fn fault_of<R: Threads + Sync>(
+// Why these bytes don't verify, by so many workers in windows of so many chunks, where opening them says the same and
+// writes nothing.
+fn fault_in<R: Threads + Sync>(
     rt: &R,
     alloc: Global,
     bytes: &[u8],
     max_bytes: u64,
     workers: u32,
+    window: u32,
 ) -> Result<OpenFault, Fail>
     requires max_bytes { max_bytes ≤ 1099511627776 }
     requires workers { (0 < workers) × (workers ≤ MAX_WORKERS) }
+    requires window { (0 < window) × (window ≤ MAX_WINDOW) }
 {
     let key = Key::new(COUNTING);
     let mut reader = FromMemory::new(bytes, 100_000, Schedule::Never);
-    let verified = run_verify(rt, alloc, &key, &mut reader, max_bytes, workers, &Free);
+    let verified = run_verify_by(
+        rt,
+        alloc,
+        &key,
+        &mut reader,
+        max_bytes,
+        workers,
+        window,
+        &Free,
+    );
     let mut reader = FromMemory::new(bytes, MOST, Schedule::Never);
     let mut writer = ToMemory::new(alloc, 64, MOST, Schedule::Never)?;
-    let opened = run_open(
+    let opened = run_open_by(
         rt,
         alloc,
         &key,
@@ -52,6 +64,7 @@ fn fault_of<R: Threads + Sync>(
         &mut writer,
         max_bytes,
         workers,
+        window,
         &Free,
     );
     if verified != opened {
@@ -64,6 +77,24 @@ fn fault_of<R: Threads + Sync>(
         Ok(_) => Err("it verifies".into()),
         Err(fault) => Ok(fault),
     }
+}
+
+// The same, which has to be one answer, in windows of 16 chunks and of one.
+pub(crate) fn fault_of<R: Threads + Sync>(
+    rt: &R,
+    alloc: Global,
+    bytes: &[u8],
+    max_bytes: u64,
+    workers: u32,
+) -> Result<OpenFault, Fail>
+    requires max_bytes { max_bytes ≤ 1099511627776 }
+    requires workers { (0 < workers) × (workers ≤ MAX_WORKERS) }
+{
+    let fault = fault_in(rt, alloc, bytes, max_bytes, workers, 16)?;
+    if fault_in(rt, alloc, bytes, max_bytes, workers, 1)? != fault {
+        return Err("another window says something else".into());
+    }
+    Ok(fault)
 }
 
 #[test]
@@ -152,22 +183,42 @@ fn a_container_that_is_too_long_comes_before_its_header(rt: HostRuntime) -> Resu
     Ok(())
 }
 
+// Whether a container opens to this plaintext and verifies, by so many workers in windows of so many chunks.
+fn opens_in<R: Threads + Sync>(
+    rt: &R,
+    alloc: Global,
+    bytes: &[u8],
+    plain: &[u8],
+    workers: u32,
+    window: u32,
+) -> Result<bool, Fail>
+    requires workers { (0 < workers) × (workers ≤ MAX_WORKERS) }
+    requires window { (0 < window) × (window ≤ MAX_WINDOW) }
+{
+    let key = Key::new(COUNTING);
+    let mut reader = FromMemory::new(bytes, 70_001, Schedule::Never);
+    let opened = run_plain_by(rt, alloc, &key, &mut reader, LIMIT, workers, window, &Free)?;
+    let mut reader = FromMemory::new(bytes, MOST, Schedule::Never);
+    let verified = run_verify_by(rt, alloc, &key, &mut reader, LIMIT, workers, window, &Free)?;
+    Ok(opened.as_slice() == plain && verified == plain.len() as u64)
+}
+
 #[test]
 fn whole_windows_open(rt: HostRuntime) -> Result<(), Fail> {
     let key = Key::new(COUNTING);
     for length in [16 * CHUNK - 1, 16 * CHUNK, 16 * CHUNK + 1, 32 * CHUNK] {
         let plain = pattern(rt.alloc(), length)?;
         let bytes = seal(rt.alloc(), &key, PREFIX, plain.as_slice())?;
-        for workers in [1, 3] {
-            let mut reader = FromMemory::new(bytes.as_slice(), 70_001, Schedule::Never);
-            let opened = run_plain(&rt, rt.alloc(), &key, &mut reader, LIMIT, workers, &Free)?;
-            assert!(rt;
-                opened.as_slice() == plain.as_slice(),
-                "{length} by {workers}"
-            );
-            let mut reader = FromMemory::new(bytes.as_slice(), MOST, Schedule::Never);
-            let verified = run_verify(&rt, rt.alloc(), &key, &mut reader, LIMIT, workers, &Free)?;
-            assert!(rt; verified == length as u64, "{length} by {workers}");
+        for (workers, window) in [(1, 16), (3, 16), (2, 1), (4, 5), (3, 256)] {
+            let opens = opens_in(
+                &rt,
+                rt.alloc(),
+                bytes.as_slice(),
+                plain.as_slice(),
+                workers,
+                window,
+            )?;
+            assert!(rt; opens, "{length} by {workers} in {window}");
         }
     }
     Ok(())

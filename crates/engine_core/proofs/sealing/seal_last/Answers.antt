@@ -1,9 +1,9 @@
-use Rattle.std.proofs.Common.{rules, ◌≡◌, ◌++◌, true, false, is_err, subst, ap, sym}
+use Rattle.std.proofs.Common.{rules, ◌≡◌, ◌++◌, true, false, is_err, subst}
 use Rattle.io_core.specs.Streams.{Appends, AppendsFront}
 use Rattle.round_core.specs.declared.round.Task.TheVariants.{Sealing}
 use Rattle.round_core.specs.Answer.{joined}
 use Rattle.round_core.specs.Values.{values_of}
-use Rattle.engine_core.proofs.SealingRounds.{behind_begun, front_begun, err_holds, ok_holds, last_begun}
+use Rattle.engine_core.proofs.SealingRounds.{front_begun, err_holds, ok_holds, last_begun}
 use Rattle.engine_core.proofs.sealing.seal_last.Goals as goal
 
 pub returns-then-is_err-clause-err : goal.returns-then-is_err-clause-err

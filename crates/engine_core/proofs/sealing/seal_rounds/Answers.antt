@@ -1,10 +1,10 @@
-use Rattle.std.proofs.Common.{rules, suc, ◌≡◌, ◌⊎◌, ℕ, true, false, ◌+◌, ◌-◌, ◌*◌, ◌<◌, ◌≤◌, List, [], ◌∷◌, ◌++◌, length, take, min, get_or, inl, inr, refl, sym, ap, ◌∙◌, subst, arith, length-append, length-take-le, Result, Ok, Err}
+use Rattle.std.proofs.Common.{rules, suc, ◌≡◌, ℕ, true, false, ◌+◌, ◌*◌, ◌<◌, ◌≤◌, [], ◌++◌, length, take, get_or, inl, inr, refl, sym, ap, ◌∙◌, subst, arith, length-append, length-take-le, Result}
 use Rattle.std.proofs.KnownBytes.{Appends-nil, Consumes-trans, Appends-trans}
 use Rattle.container_core.specs.Chunks.{chunks}
 use Rattle.container_core.specs.Stream.{stream_by}
 use Rattle.container_core.specs.declared.fault.SealFault.{SealFault}
 use Rattle.container_core.specs.declared.fault.SealFault.TheVariants.{TooLong, Write}
-use Rattle.io_core.specs.Streams.{Consumes, Appends, IsAtEnd}
+use Rattle.io_core.specs.Streams.{IsAtEnd}
 use Rattle.round_core.specs.Answer.{joined}
 use Rattle.engine_core.specs.Engine.{HasReadPlain, HasWrittenRounds}
 use Rattle.engine_core.proofs.OpeningRounds.{ahead-of, consumed-next}

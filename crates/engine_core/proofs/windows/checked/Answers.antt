@@ -1,4 +1,4 @@
-use Rattle.std.proofs.Common.{rules, ◌≡◌, ◌<◌, Some, length, sym}
+use Rattle.std.proofs.Common.{rules, ◌≡◌, Some, sym}
 use Rattle.round_core.specs.Answer.{first_refused}
 use Rattle.engine_core.proofs.PieceLemmas.{checked-none, checked-some}
 use Rattle.engine_core.proofs.windows.checked.Goals as goal

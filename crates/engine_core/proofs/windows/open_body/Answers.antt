@@ -1,14 +1,13 @@
-use Rattle.std.proofs.Common.{rules, suc, ◌≡◌, ◌+◌, ◌-◌, Option, true, false, ◌*◌, ◌<◌, ◌≤◌, ◌++◌, ℕ, List, [], ◌∷◌, length, take, get_or, Result, Ok, Err, refl, sym, ap, ap₂, ◌∙◌}
-use Rattle.std.proofs.Common.{subst, arith, length-append, length-take-le, append_assoc}
+use Rattle.std.proofs.Common.{rules, suc, ◌≡◌, ◌+◌, ◌-◌, Option, true, false, ◌*◌, ◌<◌, ◌≤◌, ◌++◌, ℕ, List, [], length, take, get_or, Ok, Err, refl, sym, ap, ap₂, ◌∙◌}
+use Rattle.std.proofs.Common.{arith, length-append, length-take-le}
 use Rattle.std.proofs.KnownBytes.{Consumes-trans}
-use Rattle.container_core.specs.Chunks.{container_length, body_length, chunk_count}
-use Rattle.container_core.specs.Faults.{IsOfBytes}
+use Rattle.container_core.specs.Chunks.{container_length, body_length}
 use Rattle.io_core.specs.Streams.{Consumes, IsAtEnd}
 use Rattle.round_core.specs.Answer.{joined}
 use Rattle.engine_core.specs.Windows.{ReadsOn}
 use Rattle.engine_core.proofs.OpeningRounds.{opens-begin, opens-round, ahead-of, consumed-next, answers-refused, body-rest}
 use Rattle.engine_core.proofs.OpeningRounds.{answers-last, opens-last, answers-early, early-of_bytes, not_read, not_write, some-left, Refuses, Splits}
-use Rattle.engine_core.proofs.windows.open_body.Goals.{then-rounds-test+else-held-gt-ROUND, else-rounds-test}
+use Rattle.engine_core.proofs.windows.open_body.Goals.{then-rounds-test+else-held-size, else-rounds-test}
 use Rattle.engine_core.proofs.windows.open_body.Goals as goal
 
 pub rounds-init : goal.rounds-init
@@ -40,7 +39,7 @@ returns-in-Err-open_full-clause-bound g c =
 pub checked-requires-clause-numbers : goal.checked-requires-clause-numbers
 checked-requires-clause-numbers g c =
     let before = c.rounds.invariant in
-    let count : length c.open_full.new.rooms.places.values ≡ 16 = c.in-Ok-open_full.ensures.count in
+    let count : length c.open_full.new.rooms.places.values ≡ c.args.window = c.in-Ok-open_full.ensures.count in
     omega (arith, before.total.0, before.total.1)
 
 pub returns-in-Err-checked-clause-refused : goal.returns-in-Err-checked-clause-refused
@@ -50,16 +49,16 @@ returns-in-Err-checked-clause-refused g c = λ own.
     let header = c.args.header.now in
     let first = c.rounds.first in
     let old = c.rounds.rooms.current.held in
-    let bytes = take 1048832 old in
+    let bytes = take (c.args.window * 65552) old in
     let held = c.open_full.new.rooms.current.held in
     let turned = c.in-Ok-open_full.ensures.turned.read in
-    let full : length bytes ≡ 16 * 65552 = length-take-le 1048832 old (search rules) in
-    let many : length old ≡ 1048833 = search rules in
-    let split = ahead-of old 1048832 many in
-    let consumed = consumed-next _ _ _ before.past old bytes turned.0 held (get_or old 1048832 0) split turned.2 before.consumed turned.1 in
+    let full : length bytes ≡ c.args.window * 65552 = length-take-le (c.args.window * 65552) old (search rules) in
+    let many : length old ≡ c.args.window * 65552 + 1 = search rules in
+    let split = ahead-of old (c.args.window * 65552) many in
+    let consumed = consumed-next _ _ _ before.past old bytes turned.0 held (get_or old (c.args.window * 65552) 0) split turned.2 before.consumed turned.1 in
     let refused = c.in-Err-checked.ensures.refused key header bytes false c.in-Ok-open_full.ensures.values in
     let refuses : Refuses key header first bytes c.in-Err-checked.fault =
-    λ rest some. c.rounds_open.ensures.refused key header first true bytes rest 16 c.in-Err-checked.fault full (omega arith) some refused in
+    λ rest some. c.rounds_open.ensures.refused key header first true bytes rest c.args.window c.in-Err-checked.fault full c.requires.window.0 some refused in
     let named = c.refuse.ensures.named own in
     let past = length-append before.past bytes in
     let all = length-append (before.past ++ bytes) held in
@@ -76,7 +75,7 @@ returns-in-Err-checked-clause-bound g c =
     let old = c.rounds.rooms.current.held in
     let turned = c.in-Ok-open_full.ensures.turned.read in
     let lost = c.refuse.ensures.bound in
-    let many : length old ≡ 1048833 = search rules in
+    let many : length old ≡ c.args.window * 65552 + 1 = search rules in
     let within : c.rounds.total + (length c.held-in-rounds-2.result.now - 1) ≤ container_length c.args.max_bytes + 1 = search rules in
     let done = length-append before.past old in
     let more = length-append (before.past ++ old) turned.0 in
@@ -95,23 +94,23 @@ rounds-preserved g c =
     let header = c.args.header.now in
     let first = c.rounds.first in
     let old = c.rounds.rooms.current.held in
-    let bytes = take 1048832 old in
+    let bytes = take (c.args.window * 65552) old in
     let held = c.open_full.new.rooms.current.held in
     let turned = c.in-Ok-open_full.ensures.turned.read in
-    let full : length bytes ≡ 16 * 65552 = length-take-le 1048832 old (search rules) in
-    let many : length old ≡ 1048833 = search rules in
-    let split = ahead-of old 1048832 many in
+    let full : length bytes ≡ c.args.window * 65552 = length-take-le (c.args.window * 65552) old (search rules) in
+    let many : length old ≡ c.args.window * 65552 + 1 = search rules in
+    let split = ahead-of old (c.args.window * 65552) many in
     let opened = c.in-Ok-checked.ensures.opened key header bytes false c.in-Ok-open_full.ensures.values in
-    let splits : Splits key header first 16 bytes opened.plain =
-    λ rest some. c.rounds_open.ensures.opened key header first true bytes rest opened.plain 16 full (omega arith) some opened.opens in
+    let splits : Splits key header first c.args.window bytes opened.plain =
+    λ rest some. c.rounds_open.ensures.opened key header first true bytes rest opened.plain c.args.window full c.requires.window.0 some opened.opens in
     let past = length-append before.past bytes in
     let now : length c.held-in-rounds-2.result.now ≡ length held = search rules in
     let next : length held ≡ suc (length turned.0) = ap length turned.2 in
     record {
       past = before.past ++ bytes;
       plain = before.plain ++ opened.plain;
-      consumed = consumed-next _ _ _ before.past old bytes turned.0 held (get_or old 1048832 0) split turned.2 before.consumed turned.1;
-      opens = opens-round key header first 16 before.past before.plain bytes opened.plain splits before.opens;
+      consumed = consumed-next _ _ _ before.past old bytes turned.0 held (get_or old (c.args.window * 65552) 0) split turned.2 before.consumed turned.1;
+      opens = opens-round key header first c.args.window before.past before.plain bytes opened.plain splits before.opens;
       kept = λ opening. ap₂ ◌++◌ (before.kept opening ∙ sym c.in-Ok-open_full.ensures.turned.gathered) (sym (opened.kept opening));
       long = omega (arith, before.long);
       total = (omega (arith, before.total.0, now), search rules);
@@ -136,7 +135,7 @@ returns-in-Err-begin_within-clause-refused g c = λ own.
     let count : c.rounds.total ≡ 24 + (length before.past + length held) = omega (arith, before.total.0, before.long) in
     let end : c.rounds.total < container_length c.args.max_bytes + 1 → IsAtEnd (g.R.Source.left c.rounds.reader) =
     elim c.rounds-test.branch [
-      | then-rounds-test+else-held-gt-ROUND w ↦ λ below. before.end (search rules) (search rules)
+      | then-rounds-test+else-held-size w ↦ λ below. before.end (search rules) (search rules)
       | else-rounds-test w ↦ λ below. absurd (search rules)
     ] in
     let reads = early_reads c.rounds.total (container_length c.args.max_bytes + 1) _ _ before.past held before.consumed count (search rules) end in
@@ -181,7 +180,7 @@ returns-in-Ok-open_last-clause-opened g c =
     let count : c.rounds.total ≡ 24 + (length before.past + length held) = omega (arith, before.total.0, before.long) in
     let end : c.rounds.total < container_length c.args.max_bytes + 1 → IsAtEnd (g.R.Source.left c.rounds.reader) =
     elim c.rounds-test.branch [
-      | then-rounds-test+else-held-gt-ROUND w ↦ λ below. before.end (search rules) (search rules)
+      | then-rounds-test+else-held-size w ↦ λ below. before.end (search rules) (search rules)
       | else-rounds-test w ↦ λ below. absurd (search rules)
     ] in
     let reads = early_reads c.rounds.total (container_length c.args.max_bytes + 1) _ _ before.past held before.consumed count (search rules) end in
@@ -208,7 +207,7 @@ returns-clause-refused g c = λ own.
     let count : c.rounds.total ≡ 24 + (length before.past + length held) = omega (arith, before.total.0, before.long) in
     let end : c.rounds.total < container_length c.args.max_bytes + 1 → IsAtEnd (g.R.Source.left c.rounds.reader) =
     elim c.rounds-test.branch [
-      | then-rounds-test+else-held-gt-ROUND w ↦ λ below. before.end (search rules) (search rules)
+      | then-rounds-test+else-held-size w ↦ λ below. before.end (search rules) (search rules)
       | else-rounds-test w ↦ λ below. absurd (search rules)
     ] in
     let reads = early_reads c.rounds.total (container_length c.args.max_bytes + 1) _ _ before.past held before.consumed count (search rules) end in

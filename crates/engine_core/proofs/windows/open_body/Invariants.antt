@@ -16,11 +16,11 @@ invariant-rounds g l = record {
   kept : l.task ≡ Opening → plain ≡ l.out.items ++ joined l.rooms.places.values;
   long : length past ≡ l.first * 65552;
   total : (l.total ≡ 24 + (l.first * 65552 + length l.rooms.current.held)) × (l.total ≤ l.limit);
-  held : length l.rooms.current.held ≤ 1048833;
-  end : l.total < l.limit → length l.rooms.current.held ≤ 1048832 → IsAtEnd (g.R.Source.left l.reader);
+  held : length l.rooms.current.held ≤ l.fn.window * 65552 + 1;
+  end : l.total < l.limit → length l.rooms.current.held ≤ l.fn.window * 65552 → IsAtEnd (g.R.Source.left l.reader);
   some : 0 < l.first → 0 < length l.rooms.current.held;
-  room : (1048833 ≤ l.rooms.current.room) × (1048832 < length l.rooms.current.held → 1048833 ≤ l.rooms.next.room);
-  ready : IsReady l.task (min 1048832 (length l.rooms.current.held)) l.rooms.crew l.rooms.places;
+  room : (l.fn.window * 65552 + 1 ≤ l.rooms.current.room) × (l.fn.window * 65552 < length l.rooms.current.held → l.fn.window * 65552 + 1 ≤ l.rooms.next.room);
+  ready : IsReady l.task (min (l.fn.window * 65552) (length l.rooms.current.held)) l.rooms.crew l.rooms.places;
   count : g.R.Source.failures l.reader ≡ g.R.Source.failures l.fn.reader;
 }
 

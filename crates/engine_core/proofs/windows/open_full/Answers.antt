@@ -1,5 +1,4 @@
-use Rattle.std.proofs.Common.{rules, subst, ℕ, ◌≡◌}
-use Rattle.engine_core.specs.Windows.{HasTurned}
+use Rattle.std.proofs.Common.{rules, ◌≡◌}
 use Rattle.engine_core.proofs.windows.open_full.Goals as goal
 
 pub returns-clause-turned : goal.returns-clause-turned

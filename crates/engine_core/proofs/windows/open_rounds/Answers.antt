@@ -1,5 +1,4 @@
-use Rattle.std.proofs.Common.{rules, ◌≡◌, ℕ, ◌-◌, ◌+◌, List, Some, length, take, sym, ap, ◌∙◌, subst, arith, length-take-le}
-use Rattle.container_core.specs.Opening.{header_fault}
+use Rattle.std.proofs.Common.{rules, ◌≡◌, length, take, sym, subst}
 use Rattle.io_core.specs.Streams.{Consumes}
 use Rattle.engine_core.proofs.OpeningRounds.{not_write}
 use Rattle.engine_core.proofs.ReadingLemmas.{header-of_bytes, read-front, read-short, read-refused, read-opened, length-opened, plain-opened}

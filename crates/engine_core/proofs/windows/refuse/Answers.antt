@@ -1,6 +1,5 @@
-use Rattle.std.proofs.Common.{rules, ◌≡◌, inl, ap, ◌∙◌, sym, Bool, arith}
+use Rattle.std.proofs.Common.{rules, inl}
 use Rattle.container_core.specs.Faults.{IsOfBytes}
-use Rattle.io_core.specs.Streams.{counted}
 use Rattle.engine_core.proofs.OpeningRounds.{early-of_bytes, not_read}
 use Rattle.engine_core.proofs.windows.refuse.Goals as goal
 

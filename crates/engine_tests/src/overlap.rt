@@ -1,0 +1,169 @@
+//! A file is read while it is worked: a reader that goes on only once a second worker has begun isn't kept waiting.
+ghost use Rattle.std.specs.Prelude.{◌<◌, ◌≤◌};
+
+use container_core::{CHUNK, HEADER, Key, OpenFault, SEALED, SealFault, seal};
+use crew_core::{Gate, MAX_WORKERS};
+use crew_tests::{COUNTING, grant_of, pattern};
+use engine_core::{run_plain_by, run_seal_by, run_verify_by};
+use io_core::FromRead;
+use io_memory::{Schedule, ToMemory};
+use std::alloc::Global;
+use std::io;
+use std::io::{ErrorKind, Read};
+use std::sync::atomic::{AtomicU64, Ordering};
+use std::test::Fail;
+use std::thread::Threads;
+
+// Device 1, file 0.
+const PREFIX: [u8; 7] = [0, 0, 1, 0, 0, 0, 0];
+
+// How often the reader looks for the second worker.
+const TURNS: u64 = 1_000_000_000;
+
+// A gate that counts the passes of all workers but the caller's thread.
+#[derive(Drop)]
+struct Others {
+    passes: AtomicU64,
+}
+
+impl Gate for Others {
+    fn pass(&self, worker: u32, _piece: u32) {
+        if worker > 0 {
+            self.passes.fetch_add(1, Ordering::SeqCst);
+        }
+    }
+}
+
+// A reader that gives the bytes up to a place, and those behind it once another worker has passed the gate. It fails
+// after so many turns without.
+#[derive(Drop)]
+struct Held<'a> {
+    bytes: &'a [u8],
+    place: usize,
+    from: usize,
+    others: &'a Others,
+    turns: u64,
+}
+
+impl Held<'_> {
+    // Whether another worker has passed the gate, or does so within the turns.
+    fn meets(&self) -> bool {
+        for _turn in 0..self.turns {
+            if self.others.passes.load(Ordering::SeqCst) > 0 {
+                return true;
+            }
+        }
+        false
+    }
+}
+
+impl Read for Held<'_> {
+    fn read(&mut self, buf: &mut [u8]) -> io::Result<usize> {
+        if self.place >= self.from && !self.meets() {
+            return Err(ErrorKind::WouldBlock.into());
+        }
+        let end = if self.place < self.from {
+            self.from.min(self.bytes.len())
+        } else {
+            self.bytes.len()
+        };
+        let n = end.saturating_sub(self.place).min(buf.len());
+        let Some(part) = self.bytes.get(self.place..self.place + n) else {
+            return Ok(0);
+        };
+        buf[..n].copy_from_slice(part);
+        self.place += n;
+        Ok(n)
+    }
+}
+
+// Seals five chunks in rounds of two, where all behind the first round and a byte is held.
+fn seal_held<T: Threads + Sync>(
+    rt: &T,
+    alloc: Global,
+    workers: u32,
+    turns: u64,
+) -> Result<Result<u64, SealFault>, Fail>
+    requires workers { (0 < workers) × (workers ≤ MAX_WORKERS) }
+{
+    let plain = pattern(alloc, 5 * CHUNK)?;
+    let others = Others {
+        passes: AtomicU64::new(0),
+    };
+    let mut reader = FromRead(Held {
+        bytes: plain.as_slice(),
+        place: 0,
+        from: 2 * CHUNK + 1,
+        others: &others,
+        turns,
+    });
+    let mut writer = ToMemory::new(alloc, 1 << 20, usize::MAX, Schedule::Never)?;
+    let key = Key::new(COUNTING);
+    let grant = grant_of(alloc, 0).ok_or("no grant")?;
+    let (result, _) = run_seal_by(
+        rt,
+        alloc,
+        &key,
+        grant,
+        &mut reader,
+        &mut writer,
+        1 << 20,
+        workers,
+        2,
+        &others,
+    );
+    Ok(result)
+}
+
+// Verifies the container of five chunks likewise, or opens it.
+fn verify_held<T: Threads + Sync>(
+    rt: &T,
+    alloc: Global,
+    opens: bool,
+    workers: u32,
+    turns: u64,
+) -> Result<Result<u64, OpenFault>, Fail>
+    requires workers { (0 < workers) × (workers ≤ MAX_WORKERS) }
+{
+    let key = Key::new(COUNTING);
+    let plain = pattern(alloc, 5 * CHUNK)?;
+    let bytes = seal(alloc, &key, PREFIX, plain.as_slice())?;
+    let others = Others {
+        passes: AtomicU64::new(0),
+    };
+    let mut reader = FromRead(Held {
+        bytes: bytes.as_slice(),
+        place: 0,
+        from: HEADER + 2 * SEALED + 1,
+        others: &others,
+        turns,
+    });
+    if !opens {
+        return Ok(run_verify_by(rt, alloc, &key, &mut reader, 1 << 20, workers, 2, &others));
+    }
+    match run_plain_by(rt, alloc, &key, &mut reader, 1 << 20, workers, 2, &others) {
+        Ok(plain) => Ok(Ok(plain.len() as u64)),
+        Err(fault) => Ok(Err(fault)),
+    }
+}
+
+#[test]
+fn a_round_is_sealed_while_the_next_one_is_read(rt: HostRuntime) -> Result<(), Fail> {
+    let sealed = seal_held(&rt, rt.alloc(), 2, TURNS)?;
+    assert!(rt; sealed == Ok(327_680));
+    // That the test can fail: by one worker nothing is done beside the reading.
+    let alone = seal_held(&rt, rt.alloc(), 1, 1000)?;
+    assert!(rt; alone == Err(SealFault::Read));
+    Ok(())
+}
+
+#[test]
+fn a_round_is_opened_while_the_next_one_is_read(rt: HostRuntime) -> Result<(), Fail> {
+    for opens in [false, true] {
+        let done = verify_held(&rt, rt.alloc(), opens, 2, TURNS)?;
+        assert!(rt; done == Ok(327_680));
+        let alone = verify_held(&rt, rt.alloc(), opens, 1, 1000)?;
+        assert!(rt; alone == Err(OpenFault::Read));
+    }
+    Ok(())
+}
