@@ -3,16 +3,13 @@ ghost use Rattle.std.specs.Prelude.{◌<◌, ◌≤◌, ◌≡◌, IfOk, length}
 
 use clap::{Arg, ArgAction, ArgMatches, Command, Error, value_parser};
 use container_core::MAX_PLAIN;
-use crew_core::{MAX_LANES, MAX_WINDOW, MAX_WORKERS};
+use crew_core::{DEFAULT_WINDOW, MAX_LANES, MAX_WINDOW, MAX_WORKERS};
 use ledger_core::Device;
 use std::alloc::Global;
 use thiserror::Error as ThisError;
 
 /// Plaintext bytes of a file where no limit is given: 1 GiB.
 pub const DEFAULT_MAX_BYTES: u64 = 1 << 30;
-
-/// Chunks of a round where no other number is given.
-const DEFAULT_WINDOW: u32 = 16;
 
 /// What stands at the end of the program's help.
 const SEALER_HELP: &str =
@@ -137,7 +134,7 @@ fn seal_command<'a>(alloc: Global) -> Result<Command<'a>, Error> {
         .value_name("N")
         .value_parser(value_parser!(u32).range(1..=MAX_LANES as i64))
         .default_value("1")
-        .help("Files sealed side by side, 1 to 16; above 1 only with one worker");
+        .help("Files sealed side by side at most, 1 to 16; above 1 only with one worker");
     let window = Arg::new(alloc, "window")
         .long("window")
         .value_name("N")

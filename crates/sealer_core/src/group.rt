@@ -212,8 +212,26 @@ fn end_group<F: Folder, L: Sink>(
     status
 }
 
-// Seals the jobs of a group side by side, each by a seat of its own. Where memory for the outcomes is refused there is
-// none.
+// Bytes of a job that is worth a lane, at least. To seal fewer takes less time than to start a thread.
+const LANE_BYTES: usize = 1 << 15;
+
+// By how many lanes a group of jobs is sealed: as many as it has jobs that are worth one, and at least one where there is
+// any.
+fn lanes_for(jobs: &[Vec<u8>]) -> u32
+    requires few { length jobs.now ≤ MAX_LANES }
+    ensures within { result ≤ length jobs.now }
+    ensures some { 0 < length jobs.now → 0 < result }
+{
+    let mut worth: usize = 0;
+    for job in jobs {
+        if job.len() >= LANE_BYTES {
+            worth = worth.saturating_add(1);
+        }
+    }
+    worth.max(1).min(jobs.len()) as u32
+}
+
+// Seals the jobs of a group, each lane by a seat of its own. Where memory for the outcomes is refused there is none.
 fn seal_jobs<T: Threads + Sync>(
     rt: &T,
     alloc: Global,
@@ -233,7 +251,7 @@ fn seal_jobs<T: Threads + Sync>(
     ensures accounts { (lines : List FileLine) → Accounts lines (operations_of seats.old)
         → AreHeld lines result.items (operations_of seats.new) }
 {
-    let lanes = jobs.len() as u32;
+    let lanes = lanes_for(jobs);
     if lanes == 0 {
         return VecDeque::new(alloc);
     }

@@ -19,8 +19,8 @@ pub use command_core::{
 };
 pub use crew_core::{MAX_LANES, MAX_WINDOW, MAX_WORKERS};
 pub use engine_core::{
-    open_one, run_audit, run_open, run_plain, run_seal, run_seal_by, run_verify, seal_one,
-    verify_one,
+    open_one, run_audit, run_open, run_open_by, run_plain, run_plain_by, run_seal, run_seal_by,
+    run_verify, run_verify_by, seal_one, verify_one,
 };
 pub use life_core as laws;
 pub use reserve_core::LedgerFile;

@@ -41,8 +41,8 @@ pub struct SealOptions<'a> {
     pub files: &'a [&'a str],
     /// The number of workers that seal a file: 1 to 16. With more than one lane each file is sealed by its lane alone.
     pub workers: u32,
-    /// How many files are sealed at once: 1 to 16. With more than one, so many inputs and containers are in memory at a
-    /// time.
+    /// How many files are sealed at once, at most: 1 to 16. With more than one, so many inputs and containers are in memory
+    /// at a time, and a group is sealed by as many lanes as it has files of 32 KiB and more, by one at least.
     pub lanes: u32,
     /// How many chunks of a file are sealed at a time by one lane: 1 to 256. With more than one lane it has no effect.
     pub window: u32,

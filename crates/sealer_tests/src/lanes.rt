@@ -67,10 +67,17 @@ fn holds(
     Ok(opened.as_slice() == plain && sealed.as_slice().starts_with(&begin))
 }
 
+// Two texts of a group, so large that each is worth a lane.
+static ONES: [u8; 40_000] = [1; 40_000];
+
+static TWOS: [u8; 40_000] = [2; 40_000];
+
 // The numbers of the first two files, if the lines of three are in order.
 fn first_two(lines: &[u8]) -> Option<(u8, u8)> {
-    let in_order = b"sealed a file 0 bytes 1\nsealed b file 1 bytes 2\nsealed c file 2 bytes 3\n";
-    let swapped = b"sealed a file 1 bytes 1\nsealed b file 0 bytes 2\nsealed c file 2 bytes 3\n";
+    let in_order =
+        b"sealed a file 0 bytes 40000\nsealed b file 1 bytes 40000\nsealed c file 2 bytes 3\n";
+    let swapped =
+        b"sealed a file 1 bytes 40000\nsealed b file 0 bytes 40000\nsealed c file 2 bytes 3\n";
     if lines == in_order.as_slice() {
         Some((0, 1))
     } else if lines == swapped.as_slice() {
@@ -91,8 +98,8 @@ fn has_three(alloc: Global, folder: &MemoryFolder, out: &MemoryOuts) -> Result<b
         out.faults.bytes().is_empty()
             && journal.starts_with(b"range 1 0 3 2\n")
             && is_legal(alloc, journal, line)?
-            && holds(alloc, folder, "a.stm", first, b"1")?
-            && holds(alloc, folder, "b.stm", second, b"22")?
+            && holds(alloc, folder, "a.stm", first, &ONES)?
+            && holds(alloc, folder, "b.stm", second, &TWOS)?
             && holds(alloc, folder, "c.stm", 2, b"333")?,
     )
 }
@@ -110,7 +117,7 @@ fn seals_three<R: AllocGlobal + Threads + Sync + Abort>(
 
 #[test]
 fn two_lanes_share_a_group_and_a_third_file_follows(rt: HostRuntime) -> Result<(), Fail> {
-    let mut folder = folder_of(rt.alloc(), &[("a", b"1"), ("b", b"22"), ("c", b"333")])?;
+    let mut folder = folder_of(rt.alloc(), &[("a", &ONES), ("b", &TWOS), ("c", b"333")])?;
     seals_three(&rt, &mut folder)
 }
 

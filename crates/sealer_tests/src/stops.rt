@@ -1,86 +1,35 @@
 //! `seal_all` over the two files of a ledger: the next run goes on without the log of the first; and a disk stops, one of the two files
 //! failing from some call on. Each call in turn is the first to fail, until a run has no stop.
-use crate::runs::{
-    COUNTING, EMPTY, MemoryOuts, folder_of, has_bytes, seal_over, seals_over, steady_outs, tells,
-};
+use crate::runs::{COUNTING, EMPTY, has_bytes, seal_over, seals_over, steady_outs, tells};
 use container_core::{Key, open};
 use folder_memory::MemoryFolder;
 use reserve_core::{Fold, Keeper, LedgerFile};
-use sqlite::{Connection, Files, Options};
+use sqlite::{Connection, FileStore, Files, Options};
 use sqlite_disk::{Disk, Fuse, Memory};
 use std::alloc::Global;
 use std::process::Abort;
 use std::test::*;
 use std::thread::Threads;
 
-// What is done over the connection of a ledger file. It is written over any store, since a function that names the
-// store over files costs far more to prove.
-trait Run {
-    type Answer;
-
-    // What it answers, and what a fold left.
-    fn over<S: Fold>(self, conn: Connection<S>) -> (Self::Answer, Option<S::Left>);
-}
-
-// A run over these files, if they open. Its database has little memory, which is filled each time that one is opened.
-fn run_over<D: Disk + Drop, R: Run + Drop>(
-    alloc: Global,
-    files: Files<D>,
-    run: R,
-) -> Option<(R::Answer, Option<Files<D>>)> {
+// The ledger over these files. Its database has little memory, which is filled each time that one is opened.
+fn ledger_over<D: Disk + Drop>(alloc: Global, files: Files<D>) -> Option<LedgerFile<FileStore<D>>> {
     if !files.may_be_used() {
         return None;
     }
     let mut options = Options::new(1);
     options.cache_pages = 50;
     options.spill_pages = 50;
-    match Connection::open_files(alloc, files, options) {
-        Ok(conn) => Some(run.over(conn)),
-        Err(_) => None,
-    }
-}
-
-fn ledger_over<S: Fold>(conn: Connection<S>) -> Option<LedgerFile<S>> {
-    match Keeper::open(conn) {
-        Ok(keeper) => Some(LedgerFile::Kept(keeper)),
-        Err(_) => None,
-    }
-}
-
-// What a fold left of a ledger file.
-fn left_of<S: Fold>(file: LedgerFile<S>) -> Option<S::Left> {
-    match file {
-        LedgerFile::Folded(left) => Some(left),
-        LedgerFile::Kept(_) | LedgerFile::Gone => None,
-    }
+    let conn = Connection::open_files(alloc, files, options).ok()?;
+    let keeper = Keeper::open(conn).ok()?;
+    Some(LedgerFile::Kept(keeper))
 }
 
 // ---- the next run
 
-// Seals one file of three.
-#[derive(Drop)]
-struct First<'a, T> {
-    rt: &'a T,
-    folder: &'a mut MemoryFolder,
-}
-
-impl<T: AllocGlobal + Threads + Sync + Abort> Run for First<'_, T> {
-    type Answer = Result<(), Fail>;
-
-    fn over<S: Fold>(self, conn: Connection<S>) -> (Result<(), Fail>, Option<S::Left>) {
-        let Some(file) = ledger_over(conn) else {
-            return (Err("no ledger".into()), None);
-        };
-        let mut file = file;
-        let told = seals_first(self.rt, self.folder, &mut file);
-        (told, left_of(file))
-    }
-}
-
-fn seals_first<R: AllocGlobal + Threads + Sync + Abort, S: Fold>(
+fn runs_first<R: AllocGlobal + Threads + Sync + Abort, S: Fold>(
     rt: &R,
-    folder: &mut MemoryFolder,
     file: &mut LedgerFile<S>,
+    folder: &mut MemoryFolder,
 ) -> Result<(), Fail> {
     seals_over(
         rt,
@@ -109,44 +58,40 @@ fn has_number_3(alloc: Global, folder: &MemoryFolder, plain: &[u8]) -> Result<bo
     Ok(&sealed.as_slice()[10..17] == [0, 0, 1, 0, 0, 0, 3].as_slice() && opened.as_slice() == plain)
 }
 
+// The database file of a ledger that was folded.
+fn database_of(file: LedgerFile<FileStore<Memory>>) -> Option<Memory> {
+    match file {
+        LedgerFile::Kept(_kept) => None,
+        LedgerFile::Folded(files) => {
+            let Files { log: _log, db } = files;
+            Some(db)
+        }
+        LedgerFile::Gone => None,
+    }
+}
+
 // The database file that the first run leaves.
-fn file_of_first_run<T: AllocGlobal + Threads + Sync + Abort>(
-    rt: &T,
+fn file_of_first_run<R: AllocGlobal + Threads + Sync + Abort>(
+    rt: &R,
     folder: &mut MemoryFolder,
 ) -> Result<Memory, Fail> {
     let files = Files {
         log: Memory::new(rt.alloc()),
         db: Memory::new(rt.alloc()),
     };
-    let (told, left) = run_over(rt.alloc(), files, First { rt, folder }).ok_or("no database")?;
-    told?;
-    let Files { log: _log, db } = left.ok_or("not folded")?;
-    Ok(db)
+    let mut file = ledger_over(rt.alloc(), files).ok_or("no ledger")?;
+    runs_first(rt, &mut file, folder)?;
+    Ok(database_of(file).ok_or("not folded")?)
 }
 
-// Seals one file more.
-#[derive(Drop)]
-struct Second<'a, T> {
-    rt: &'a T,
-    folder: &'a mut MemoryFolder,
-}
-
-impl<T: AllocGlobal + Threads + Sync + Abort> Run for Second<'_, T> {
-    type Answer = Result<(), Fail>;
-
-    fn over<S: Fold>(self, conn: Connection<S>) -> (Result<(), Fail>, Option<S::Left>) {
-        match ledger_over(conn) {
-            Some(file) => (goes_on(self.rt, self.folder, file), None),
-            None => (Err("no ledger".into()), None),
-        }
-    }
-}
-
-fn goes_on<R: AllocGlobal + Threads + Sync + Abort, S: Fold>(
+// The second run, over that file and an empty log.
+fn goes_on<R: AllocGlobal + Threads + Sync + Abort>(
     rt: &R,
     folder: &mut MemoryFolder,
-    mut file: LedgerFile<S>,
+    db: Memory,
 ) -> Result<(), Fail> {
+    let log = Memory::new(rt.alloc());
+    let mut file = ledger_over(rt.alloc(), Files { log, db }).ok_or("no ledger")?;
     seals_over(
         rt,
         &mut file,
@@ -162,18 +107,6 @@ fn goes_on<R: AllocGlobal + Threads + Sync + Abort, S: Fold>(
     )
 }
 
-// The second run over the database file alone.
-fn goes_on_without_log<T: AllocGlobal + Threads + Sync + Abort>(
-    rt: &T,
-    folder: &mut MemoryFolder,
-) -> Result<(), Fail> {
-    let db = file_of_first_run(rt, folder)?;
-    let log = Memory::new(rt.alloc());
-    let run = Second { rt, folder };
-    let (told, _) = run_over(rt.alloc(), Files { log, db }, run).ok_or("no database")?;
-    told
-}
-
 #[test]
 fn a_second_run_without_the_log_goes_on_behind_the_numbers_of_the_first(
     rt: HostRuntime,
@@ -182,7 +115,8 @@ fn a_second_run_without_the_log_goes_on_behind_the_numbers_of_the_first(
     folder.put("a", b"")?;
     let plain = vec![in rt.alloc(); 7u8; 65_537]?;
     folder.put("b", plain.as_slice())?;
-    goes_on_without_log(&rt, &mut folder)?;
+    let db = file_of_first_run(&rt, &mut folder)?;
+    goes_on(&rt, &mut folder, db)?;
     assert!(rt; has_number_3(rt.alloc(), &folder, plain.as_slice())?);
     Ok(())
 }
@@ -201,53 +135,31 @@ enum End {
     Other,
 }
 
-// Seals one file of no bytes.
-#[derive(Drop)]
-struct OneFile<'a, T> {
-    rt: &'a T,
-}
-
-impl<T: AllocGlobal + Threads + Sync> Run for OneFile<'_, T> {
-    type Answer = Result<End, Fail>;
-
-    fn over<S: Fold>(self, conn: Connection<S>) -> (Result<End, Fail>, Option<S::Left>) {
-        let Some(file) = ledger_over(conn) else {
-            return (Ok(End::Unopened), None);
-        };
-        let mut file = file;
-        (end_over(self.rt, &mut file), None)
-    }
-}
-
 fn end_over<R: AllocGlobal + Threads + Sync, S: Fold>(
     rt: &R,
     file: &mut LedgerFile<S>,
 ) -> Result<End, Fail> {
-    let mut folder = folder_of(rt.alloc(), &[("a", b"")])?;
+    let mut folder = MemoryFolder::new(rt.alloc());
+    folder.put("a", b"")?;
     let mut out = steady_outs(rt.alloc())?;
     let status = seal_over(rt, file, &mut folder, &["a"], &mut out, 8, 1, 1);
-    Ok(end_told(status, &folder, &out))
-}
-
-// What status, outputs and folder tell together.
-fn end_told(status: u8, folder: &MemoryFolder, out: &MemoryOuts) -> End {
     let faults = out.faults.bytes();
-    if status == 0 && faults.is_empty() && has_bytes(folder, "a.stm", &EMPTY) {
-        End::Sealed
+    if status == 0 && faults.is_empty() && has_bytes(&folder, "a.stm", &EMPTY) {
+        Ok(End::Sealed)
     } else if status == 2
         && faults == b"ledger: store failed\n".as_slice()
         && out.lines.bytes().is_empty()
         && !folder.has("a.stm")
     {
-        End::Refused
+        Ok(End::Refused)
     } else {
-        End::Other
+        Ok(End::Other)
     }
 }
 
 // The end of a run whose files fail each call after so many.
-fn end_of<T: AllocGlobal + Threads + Sync>(
-    rt: &T,
+fn end_of<R: AllocGlobal + Threads + Sync>(
+    rt: &R,
     log_calls: u64,
     db_calls: u64,
 ) -> Result<End, Fail> {
@@ -255,14 +167,14 @@ fn end_of<T: AllocGlobal + Threads + Sync>(
         log: Fuse::new(Memory::new(rt.alloc()), log_calls),
         db: Fuse::new(Memory::new(rt.alloc()), db_calls),
     };
-    match run_over(rt.alloc(), files, OneFile { rt }) {
-        Some((end, _)) => end,
+    match ledger_over(rt.alloc(), files) {
+        Some(mut file) => end_over(rt, &mut file),
         None => Ok(End::Unopened),
     }
 }
 
 // How many runs were refused before the first that sealed, where each ended in a way that is told.
-fn refused_before<T: AllocGlobal + Threads + Sync>(rt: &T, of_log: bool) -> Result<u32, Fail> {
+fn refused_before<R: AllocGlobal + Threads + Sync>(rt: &R, of_log: bool) -> Result<u32, Fail> {
     let mut refused = 0u32;
     for calls in 0..1000u64 {
         let end = if of_log {

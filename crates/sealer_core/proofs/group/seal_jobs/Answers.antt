@@ -1,4 +1,4 @@
-use Rattle.std.proofs.Common.{sym, subst, List, All, length}
+use Rattle.std.proofs.Common.{arith, sym, subst, List, All, length}
 use Rattle.crew_core.specs.declared.outcome.Outcome.{Outcome}
 use Rattle.crew_core.proofs.Callers.{all_after_batch}
 use Rattle.ledger_core.specs.Shared.{SeatView}
@@ -15,11 +15,11 @@ returns-in-Ok-clause-all g c = all_after_batch c.args.ledger.now c.args.seats.no
 
 pub returns-in-Ok-clause-held : goal.returns-in-Ok-clause-held
 returns-in-Ok-clause-held g c = subst (λ (l : List Outcome). All (IsHeld (length c.args.seats.now)) l) (sym c.from.ensures.0)
-    (outcomes_held _ _ _ (length c.args.seats.now) _ c.in-Ok.outcomes.items c.requires.few c.in-Ok.ensures.outcomes c.in-Ok.ensures.at_seats)
+    (outcomes_held _ _ _ (length c.args.seats.now) _ c.in-Ok.outcomes.items (omega (arith, c.lanes_for-lanes.ensures.within, c.requires.few)) c.in-Ok.ensures.outcomes c.in-Ok.ensures.at_seats)
 
 pub returns-in-Ok-clause-accounts : goal.returns-in-Ok-clause-accounts
 returns-in-Ok-clause-accounts g c = λ lines a. held_as lines c.in-Ok.outcomes.items c.from.result.items _ (sym c.from.ensures.0)
-    (after_batch c.args.seats.now c.seal_batch.new.seats c.in-Ok.outcomes.items lines c.seal_batch.auto.seats (among_seats _ _ _ _ c.requires.few c.in-Ok.ensures.at_seats) c.in-Ok.ensures.issued a)
+    (after_batch c.args.seats.now c.seal_batch.new.seats c.in-Ok.outcomes.items lines c.seal_batch.auto.seats (among_seats _ _ _ _ (omega (arith, c.lanes_for-lanes.ensures.within, c.requires.few)) c.in-Ok.ensures.at_seats) c.in-Ok.ensures.issued a)
 
 pub returns-in-Err-clause-accounts : goal.returns-in-Err-clause-accounts
 returns-in-Err-clause-accounts g c = λ lines a. subst (λ (v : List SeatView). AreHeld lines c.new-in-Err.result.items (operations_of v)) (sym c.in-Err.ensures.refused)
