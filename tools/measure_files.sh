@@ -1,6 +1,7 @@
 #!/bin/bash
-# Times sealing and opening of one file of 1 GiB, by workers, and of many files of one size, by lanes, beside `age` and `cp`: each in
-# turn, ROUNDS times over; prints of each the best wall seconds, and the user seconds and the peak memory of that run.
+# Times sealing, verifying and opening of one file of 1 GiB, by workers and windows, and sealing and opening of many files of one size,
+# by lanes, beside `age` and `cp`: each in turn, ROUNDS times over; prints of each the best wall seconds, and the user seconds and the peak
+# memory of that run.
 # usage: tools/measure_files.sh FOLDER [ROUNDS]    FOLDER: an empty folder, best in memory-backed storage, with 6 GiB free
 # `age` and GNU `time` are Debian's packages of these names.
 set -eu
@@ -28,6 +29,7 @@ timed() {
 }
 seals() { timed "$1" "$sealer" seal --key key --ledger ledger --device 1 "${@:2}"; }
 opens() { timed "$1" "$sealer" open --key key "${@:2}"; }
+verifies() { timed "$1" "$sealer" verify --key key "${@:2}"; }
 
 one_file() {
     timed 'cp, 1 GiB' cp big copy
@@ -35,8 +37,13 @@ one_file() {
     mv big kept
     for workers in 1 2 4; do
         mv kept big
+        for window in 4 64 256; do
+            seals "seal --workers $workers --window $window, 1 GiB" --workers $workers --window $window big
+            rm big.stm
+        done
         seals "seal --workers $workers, 1 GiB" --workers $workers big
         mv big kept
+        verifies "verify --workers $workers, 1 GiB" --workers $workers big.stm
         opens "open --workers $workers, 1 GiB" --workers $workers big.stm
         cmp big kept
         rm big big.stm
