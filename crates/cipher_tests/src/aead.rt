@@ -3,100 +3,161 @@
 use crate::vectors::{LENGTHS, ONE_TIME_KEYS, PAIRS};
 use aead_core::{check, open_in_place, seal_in_place};
 use chacha_core::block;
+use std::alloc::{AllocError, Global};
 use std::test::Fail;
-
-// The first 32 bytes of a block.
-fn front(block: &[u8; 64]) -> [u8; 32] {
-    let mut bytes = [0; 32];
-    bytes.copy_from_slice(&block[..32]);
-    bytes
-}
 
 #[test]
 fn one_time_keys_of_the_rfc(rt: HostRuntime) {
-    for (place, key, nonce, want) in ONE_TIME_KEYS {
-        assert_eq!(rt; front(&block(key, 0, nonce)), *want, "{place}");
+    for (place, key, nonce, want) in &ONE_TIME_KEYS {
+        assert!(rt;
+            block(key, 0, nonce).starts_with(want.as_slice()),
+            "{place}"
+        );
     }
+}
+
+// Whether a text under associated data is sealed with this tag, and its ciphertext checks and opens to it. Leaves the
+// ciphertext.
+fn has_tag(
+    alloc: Global,
+    key: &[u8; 32],
+    nonce: &[u8; 12],
+    aad: &[u8],
+    text: &mut [u8],
+    want: &[u8; 16],
+) -> Result<bool, AllocError> {
+    if text.len() > 10_000 {
+        return Ok(false);
+    }
+    let plain = text.to_vec(alloc)?;
+    let tag = seal_in_place(key, nonce, aad, text);
+    if tag != *want || !check(key, nonce, aad, text, want) || text.len() > 10_000 {
+        return Ok(false);
+    }
+    let mut opened = text.to_vec(alloc)?;
+    if opened.len() > 10_000 {
+        return Ok(false);
+    }
+    Ok(open_in_place(key, nonce, aad, &mut opened, want) && opened.as_slice() == plain.as_slice())
 }
 
 #[test]
 fn pairs_of_the_rfc(rt: HostRuntime) -> Result<(), Fail> {
-    for (place, key, nonce, aad, plain, ciphertext, want) in PAIRS {
+    for (place, key, nonce, aad, plain, ciphertext, want) in &PAIRS {
         let mut text = plain.to_vec(rt.alloc())?;
-        assert!(rt; text.len() < 1000);
-        let tag = seal_in_place(key, nonce, aad, &mut text);
-        assert_eq!(rt; text.as_slice(), ciphertext, "{place}");
-        assert_eq!(rt; tag, *want, "{place}");
-        assert!(rt; check(key, nonce, aad, ciphertext, want), "{place}");
-        assert!(rt; open_in_place(key, nonce, aad, &mut text, &tag), "{place}");
-        assert_eq!(rt; text.as_slice(), plain, "{place}, opened");
+        let is_sealed = has_tag(rt.alloc(), key, nonce, aad, &mut text, want)?;
+        assert!(rt; is_sealed && text.as_slice() == *ciphertext, "{place}");
     }
     Ok(())
+}
+
+// The first pair of the RFC: what it is sealed under, its ciphertext and its tag.
+#[derive(Clone, Copy)]
+struct Pair {
+    key: &'static [u8; 32],
+    nonce: &'static [u8; 12],
+    aad: &'static [u8],
+    ciphertext: &'static [u8],
+    tag: &'static [u8; 16],
+}
+
+fn first_pair() -> Pair {
+    let (_, key, nonce, aad, _, ciphertext, tag) = &PAIRS[0];
+    Pair {
+        key,
+        nonce,
+        aad,
+        ciphertext,
+        tag,
+    }
+}
+
+// Whether a text stays shut under this tag and associated data, by both calls, and is as it was behind them.
+fn stays_shut(pair: Pair, aad: &[u8], text: &mut Vec<u8>, tag: &[u8; 16]) -> bool {
+    if text.len() != 114 || check(pair.key, pair.nonce, aad, text, tag) {
+        return false;
+    }
+    !open_in_place(pair.key, pair.nonce, aad, text, tag)
+        && text.len() == 114
+        && text.as_slice() == pair.ciphertext
+}
+
+// Whether the pair stays shut where its tag is wrong in any one byte.
+fn stays_shut_by_each_tag(pair: Pair, text: &mut Vec<u8>) -> bool {
+    for i in 0..16usize {
+        let mut other = *pair.tag;
+        other[i] ^= 1;
+        if !stays_shut(pair, pair.aad, text, &other) {
+            return false;
+        }
+    }
+    true
 }
 
 // A tag that is wrong in one byte doesn't open, nor do other associated data or another text, and
 // the text stays as it was.
 #[test]
 fn altered_pairs_stay_shut(rt: HostRuntime) -> Result<(), Fail> {
-    let (_, key, nonce, aad, _, ciphertext, tag) = PAIRS[0];
-    let mut text = ciphertext.to_vec(rt.alloc())?;
-    assert!(rt; text.len() == 114);
-    for i in 0..16usize {
-        let mut other = *tag;
-        other[i] ^= 1;
-        assert!(rt;
-            !open_in_place(key, nonce, aad, &mut text, &other),
-            "byte {i} of the tag"
-        );
-        assert_eq!(rt; text.as_slice(), ciphertext);
-    }
-    assert!(rt;
-        !open_in_place(key, nonce, b"", &mut text, tag),
-        "no associated data"
-    );
-    assert_eq!(rt; text.as_slice(), ciphertext);
-    text[100] ^= 128;
-    assert!(rt;
-        !open_in_place(key, nonce, aad, &mut text, tag),
-        "another text"
-    );
-    text[100] ^= 128;
-    assert_eq!(rt; text.as_slice(), ciphertext);
-    assert!(rt; open_in_place(key, nonce, aad, &mut text, tag));
+    let pair = first_pair();
+    let mut text = pair.ciphertext.to_vec(rt.alloc())?;
+    assert!(rt; stays_shut_by_each_tag(pair, &mut text));
+    assert!(rt; stays_shut(pair, b"", &mut text, pair.tag));
     Ok(())
 }
 
-// Each altered byte of the tag and of the ciphertext, and other associated data, make `check` false.
+// Whether a text that differs from the ciphertext in one byte doesn't open, and stays as it was.
+fn is_refused_without(pair: Pair, text: &mut Vec<u8>, place: usize) -> bool {
+    if text.len() != 114 || place >= 114 {
+        return false;
+    }
+    text[place] ^= 128;
+    if check(pair.key, pair.nonce, pair.aad, text, pair.tag)
+        || open_in_place(pair.key, pair.nonce, pair.aad, text, pair.tag)
+        || text.len() != 114
+    {
+        return false;
+    }
+    text[place] ^= 128;
+    text.as_slice() == pair.ciphertext
+}
+
+// Whether that holds of each byte.
+fn is_refused_without_each_byte(pair: Pair, text: &mut Vec<u8>) -> bool {
+    for place in 0..114usize {
+        if !is_refused_without(pair, text, place) {
+            return false;
+        }
+    }
+    true
+}
+
+fn is_refused_without_its_first_byte(pair: Pair) -> bool {
+    match pair.ciphertext.split_first() {
+        Some((_, rest)) => !check(pair.key, pair.nonce, pair.aad, rest, pair.tag),
+        None => false,
+    }
+}
+
+// Each altered byte of the ciphertext, and a shorter one, make both calls refuse; the pair itself opens.
 #[test]
-fn check_sees_each_altered_byte(rt: HostRuntime) -> Result<(), Fail> {
-    let (_, key, nonce, aad, _, ciphertext, tag) = PAIRS[0];
-    assert!(rt; ciphertext.len() == 114);
-    assert!(rt; check(key, nonce, aad, ciphertext, tag));
-    for i in 0..16usize {
-        let mut other = *tag;
-        other[i] ^= 1;
-        assert!(rt;
-            !check(key, nonce, aad, ciphertext, &other),
-            "byte {i} of the tag"
-        );
-    }
-    let mut text = ciphertext.to_vec(rt.alloc())?;
-    for i in 0..114usize {
-        assert!(rt; i < text.len());
-        text[i] ^= 128;
-        assert!(rt; !check(key, nonce, aad, &text, tag), "byte {i} of the text");
-        text[i] ^= 128;
-    }
-    assert!(rt; check(key, nonce, aad, &text, tag));
-    assert!(rt;
-        !check(key, nonce, b"", ciphertext, tag),
-        "no associated data"
-    );
-    assert!(rt;
-        !check(key, nonce, aad, &ciphertext[1..], tag),
-        "the first byte cut off"
-    );
+fn each_altered_byte_is_seen(rt: HostRuntime) -> Result<(), Fail> {
+    let pair = first_pair();
+    let mut text = pair.ciphertext.to_vec(rt.alloc())?;
+    assert!(rt; is_refused_without_each_byte(pair, &mut text));
+    assert!(rt; check(pair.key, pair.nonce, pair.aad, &text, pair.tag));
+    assert!(rt; is_refused_without_its_first_byte(pair));
     Ok(())
+}
+
+// So many bytes, of which byte i is `step` times i, modulo 256.
+fn multiples(alloc: Global, len: usize, step: u8) -> Result<Vec<u8>, AllocError> {
+    let mut bytes = Vec::with_capacity(alloc, len)?;
+    let mut byte = 0u8;
+    for _i in 0..len {
+        bytes.push(byte)?;
+        byte = byte.wrapping_add(step);
+    }
+    Ok(bytes)
 }
 
 #[test]
@@ -106,32 +167,13 @@ fn tags_at_and_between_multiples_of_16(rt: HostRuntime) -> Result<(), Fail> {
         key[i as usize] = i;
     }
     let nonce = b"\x40\x41\x42\x43\x44\x45\x46\x47\x48\x49\x4a\x4b";
-    for (aad_len, len, want) in LENGTHS {
-        let mut aad = Vec::new(rt.alloc());
-        for i in 0..aad_len {
-            aad.push((i % 256 * 5 % 256) as u8)?;
-        }
-        let mut text = Vec::new(rt.alloc());
-        for i in 0..len {
-            text.push((i % 256 * 7 % 256) as u8)?;
-        }
-        assert!(rt; text.len() <= 10_000);
-        let plain = text.to_vec(rt.alloc())?;
-        assert_eq!(rt;
-            seal_in_place(&key, nonce, &aad, &mut text),
-            *want,
-            "{aad_len} and {len}"
-        );
+    for (aad, len, want) in &LENGTHS {
+        let aad = multiples(rt.alloc(), *aad, 5)?;
+        let mut text = multiples(rt.alloc(), *len, 7)?;
         assert!(rt;
-            check(&key, nonce, &aad, &text, want),
-            "{aad_len} and {len}"
+            has_tag(rt.alloc(), &key, nonce, &aad, &mut text, want)?,
+            "{len}"
         );
-        assert!(rt; text.len() <= 10_000);
-        assert!(rt;
-            open_in_place(&key, nonce, &aad, &mut text, want),
-            "{aad_len} and {len}"
-        );
-        assert_eq!(rt; text.as_slice(), plain.as_slice(), "{aad_len} and {len}");
     }
     Ok(())
 }

@@ -1,91 +1,122 @@
 //! ChaCha20 over the vectors of RFC 8439, and a text against its joined blocks.
 
-use crate::vectors::{BLOCKS, QUARTERS, TEXTS};
+use crate::vectors::{BLOCK_KEY, BLOCK_NONCE, BLOCKS, QUARTERS, TEXTS};
 use chacha_core::{apply, block, quarter};
-use std::alloc::Global;
+use std::alloc::{AllocError, Global};
 use std::test::Fail;
 
 #[test]
 fn quarter_rounds_of_the_rfc(rt: HostRuntime) {
-    for (place, [a, b, c, d], [e, f, g, h]) in QUARTERS {
-        assert_eq!(rt; quarter(a, b, c, d), (e, f, g, h), "{place}");
+    for (place, words, want) in &QUARTERS {
+        let [a, b, c, d] = *words;
+        let [e, f, g, h] = *want;
+        assert!(rt; quarter(a, b, c, d) == (e, f, g, h), "{place}");
     }
 }
 
 #[test]
 fn blocks_of_the_rfc(rt: HostRuntime) {
-    for (place, key, counter, nonce, want) in BLOCKS {
-        assert_eq!(rt; block(key, counter, nonce), *want, "{place}");
+    for (place, key, counter, nonce, want) in &BLOCKS {
+        assert!(rt; block(key, *counter, nonce) == **want, "{place}");
     }
 }
 
-#[test]
-fn texts_of_the_rfc(rt: HostRuntime) -> Result<(), Fail> {
-    for (place, key, nonce, first, plain, want) in TEXTS {
-        let mut text = plain.to_vec(rt.alloc())?;
-        assert!(rt; text.len() < 1000);
-        assert!(rt; first < 1000);
-        apply(key, nonce, first, &mut text);
-        assert_eq!(rt; text.as_slice(), want, "{place}");
-        apply(key, nonce, first, &mut text);
-        assert_eq!(rt; text.as_slice(), plain, "{place}, back");
-    }
-    Ok(())
-}
-
-// The blocks one behind the other, from this counter on.
-fn joined(
+// Whether a text becomes `want`, and `want` the text again.
+fn gives(
     alloc: Global,
     key: &[u8; 32],
     nonce: &[u8; 12],
     first: u32,
-    count: u32,
-) -> Result<Vec<u8>, Fail> {
+    plain: &[u8],
+    want: &[u8],
+) -> Result<bool, AllocError> {
+    if plain.len() > 10_000 || first > u32::MAX - 10_000 {
+        return Ok(false);
+    }
+    let mut text = plain.to_vec(alloc)?;
+    apply(key, nonce, first, &mut text);
+    let is_sealed = text.as_slice() == want;
+    if text.len() != plain.len() {
+        return Ok(false);
+    }
+    apply(key, nonce, first, &mut text);
+    Ok(is_sealed && text.as_slice() == plain)
+}
+
+#[test]
+fn texts_of_the_rfc(rt: HostRuntime) -> Result<(), Fail> {
+    for (place, key, nonce, first, plain, want) in &TEXTS {
+        assert!(rt;
+            gives(rt.alloc(), key, nonce, *first, plain, want)?,
+            "{place}"
+        );
+    }
+    Ok(())
+}
+
+// The blocks of `BLOCK_KEY` and `BLOCK_NONCE` one behind the other, from this counter on.
+fn joined(alloc: Global, first: u32, count: u32) -> Result<Vec<u8>, AllocError> {
     let mut stream = Vec::new(alloc);
     for i in 0..count {
-        stream.extend_from_slice(&block(key, first.wrapping_add(i), nonce))?;
+        stream.extend_from_slice(&block(BLOCK_KEY, first.wrapping_add(i), BLOCK_NONCE))?;
     }
     Ok(stream)
+}
+
+// The XOR of a text with as many bytes of a stream.
+fn xored(alloc: Global, text: &[u8], stream: &[u8]) -> Result<Vec<u8>, AllocError> {
+    let mut bytes = Vec::with_capacity(alloc, text.len())?;
+    for (byte, key) in text.iter().zip(stream.iter()) {
+        bytes.push(*byte ^ *key)?;
+    }
+    Ok(bytes)
+}
+
+// Whether each beginning of a text is enciphered as its XOR with the stream from block 1 on, and back.
+fn is_xored_at_each_length(alloc: Global, plain: &[u8], stream: &[u8]) -> Result<bool, AllocError> {
+    for len in 0..plain.len() + 1 {
+        let (text, _) = plain.split_at(len);
+        let want = xored(alloc, text, stream)?;
+        if !gives(alloc, BLOCK_KEY, BLOCK_NONCE, 1, text, &want)? {
+            return Ok(false);
+        }
+    }
+    Ok(true)
 }
 
 // For each length to 1,025, two groups of eight blocks and a byte, `apply` is the XOR with the blocks
 // one behind the other, and twice gives the text back.
 #[test]
 fn apply_is_the_xor_with_joined_blocks(rt: HostRuntime) -> Result<(), Fail> {
-    let (_, key, _, nonce, _) = BLOCKS[0];
-    let stream = joined(rt.alloc(), key, nonce, 1, 17)?;
     let mut plain = Vec::new(rt.alloc());
-    for _round in 0..5 {
-        for i in 0..205u8 {
-            plain.push(i)?;
-        }
+    for i in 0..1025u32 {
+        plain.push((i % 205) as u8)?;
     }
-    for len in 0..1026usize {
-        assert!(rt; len <= plain.len());
-        let mut text = plain[..len].to_vec(rt.alloc())?;
-        apply(key, nonce, 1, &mut text);
-        for ((had, now), byte) in plain.iter().zip(text.iter()).zip(stream.iter()) {
-            assert_eq!(rt; *now, *had ^ *byte, "length {len}");
-        }
-        apply(key, nonce, 1, &mut text);
-        assert_eq!(rt; text.as_slice(), &plain[..len], "length {len}, back");
-    }
+    let stream = joined(rt.alloc(), 1, 17)?;
+    assert!(rt; is_xored_at_each_length(rt.alloc(), &plain, &stream)?);
     Ok(())
+}
+
+// Whether zeros that are enciphered from this counter on are what the blocks begin with.
+fn is_front_of_blocks(
+    alloc: Global,
+    zeros: &mut [u8],
+    first: u32,
+    count: u32,
+) -> Result<bool, AllocError> {
+    let stream = joined(alloc, first, count)?;
+    if u64::from(first) + zeros.len().div_ceil(64) as u64 > 1 << 32 {
+        return Ok(false);
+    }
+    apply(BLOCK_KEY, BLOCK_NONCE, first, zeros);
+    Ok(stream.as_slice().starts_with(zeros))
 }
 
 // The last eight blocks that the counter allows, whole and cut, which go by a group.
 #[test]
 fn apply_reaches_the_last_counter_in_lanes(rt: HostRuntime) -> Result<(), Fail> {
-    let (_, key, _, nonce, _) = BLOCKS[0];
-    let stream = joined(rt.alloc(), key, nonce, 4_294_967_288, 8)?;
-    let mut whole = [0; 512];
-    apply(key, nonce, 4_294_967_288, &mut whole);
-    assert_eq!(rt; whole.as_slice(), stream.as_slice());
-    let mut cut = [0; 500];
-    apply(key, nonce, 4_294_967_288, &mut cut);
-    for (now, byte) in cut.iter().zip(stream.iter()) {
-        assert_eq!(rt; *now, *byte, "cut");
-    }
+    assert!(rt; is_front_of_blocks(rt.alloc(), &mut [0; 512], 4_294_967_288, 8)?);
+    assert!(rt; is_front_of_blocks(rt.alloc(), &mut [0; 500], 4_294_967_288, 8)?);
     Ok(())
 }
 
@@ -93,11 +124,7 @@ fn apply_reaches_the_last_counter_in_lanes(rt: HostRuntime) -> Result<(), Fail> 
 // 32 bits.
 #[test]
 fn apply_reaches_the_last_counter_behind_a_group(rt: HostRuntime) -> Result<(), Fail> {
-    let (_, key, _, nonce, _) = BLOCKS[0];
-    let stream = joined(rt.alloc(), key, nonce, 4_294_967_285, 11)?;
-    let mut text = [0; 704];
-    apply(key, nonce, 4_294_967_285, &mut text);
-    assert_eq!(rt; text.as_slice(), stream.as_slice());
+    assert!(rt; is_front_of_blocks(rt.alloc(), &mut [0; 704], 4_294_967_285, 11)?);
     Ok(())
 }
 
@@ -105,31 +132,15 @@ fn apply_reaches_the_last_counter_behind_a_group(rt: HostRuntime) -> Result<(), 
 // bits.
 #[test]
 fn apply_reaches_the_last_counter_block_by_block(rt: HostRuntime) -> Result<(), Fail> {
-    let (_, key, _, nonce, _) = BLOCKS[0];
-    let mut three = [0; 192];
-    apply(key, nonce, 4_294_967_293, &mut three);
-    assert_eq!(rt;
-        three.as_slice(),
-        joined(rt.alloc(), key, nonce, 4_294_967_293, 3)?.as_slice()
-    );
-    let mut four = [0; 256];
-    apply(key, nonce, 4_294_967_292, &mut four);
-    assert_eq!(rt;
-        four.as_slice(),
-        joined(rt.alloc(), key, nonce, 4_294_967_292, 4)?.as_slice()
-    );
+    assert!(rt; is_front_of_blocks(rt.alloc(), &mut [0; 192], 4_294_967_293, 3)?);
+    assert!(rt; is_front_of_blocks(rt.alloc(), &mut [0; 256], 4_294_967_292, 4)?);
     Ok(())
 }
 
 // The last block that the counter allows, whole and cut.
 #[test]
-fn apply_reaches_the_last_counter(rt: HostRuntime) {
-    let (_, key, _, nonce, _) = BLOCKS[0];
-    let last = block(key, u32::MAX, nonce);
-    let mut text = [0; 64];
-    apply(key, nonce, u32::MAX, &mut text);
-    assert_eq!(rt; text, last);
-    let mut front = [0; 5];
-    apply(key, nonce, u32::MAX, &mut front);
-    assert_eq!(rt; front.as_slice(), &last[..5]);
+fn apply_reaches_the_last_counter(rt: HostRuntime) -> Result<(), Fail> {
+    assert!(rt; is_front_of_blocks(rt.alloc(), &mut [0; 64], u32::MAX, 1)?);
+    assert!(rt; is_front_of_blocks(rt.alloc(), &mut [0; 5], u32::MAX, 1)?);
+    Ok(())
 }

@@ -1,19 +1,42 @@
 //! Poly1305 over the vectors of RFC 8439, and messages in pieces.
 
-use crate::vectors::{LONG_TAG, TAGS};
+use crate::vectors::{LONG_TAG, POLY_KEY, POLY_TAG, TAGS};
 use poly_core::{Mac, same};
+use std::alloc::{AllocError, Global};
 use std::test::Fail;
 
-fn tag(key: &[u8; 32], message: &[u8]) -> [u8; 16] {
+// The tag of a message that is absorbed in these two pieces.
+fn tag_of(key: &[u8; 32], front: &[u8], rest: &[u8]) -> [u8; 16] {
     let mut mac = Mac::new(key);
-    mac.absorb(message);
+    mac.absorb(front);
+    mac.absorb(rest);
     mac.finish()
+}
+
+// Whether a message in two pieces has this tag, wherever it is cut.
+fn has_tag_at_each_cut(key: &[u8; 32], message: &[u8], want: &[u8; 16]) -> bool {
+    for cut in 0..message.len() + 1 {
+        let (front, rest) = message.split_at(cut);
+        if tag_of(key, front, rest) != *want {
+            return false;
+        }
+    }
+    true
+}
+
+// The bytes i % 251 for i below 1,100.
+fn long_message(alloc: Global) -> Result<Vec<u8>, AllocError> {
+    let mut message = Vec::with_capacity(alloc, 1100)?;
+    for i in 0..1100u32 {
+        message.push((i % 251) as u8)?;
+    }
+    Ok(message)
 }
 
 #[test]
 fn tags_of_the_rfc(rt: HostRuntime) {
-    for (place, key, message, want) in TAGS {
-        assert_eq!(rt; tag(key, message), *want, "{place}");
+    for (place, key, message, want) in &TAGS {
+        assert!(rt; tag_of(key, message, b"") == **want, "{place}");
     }
 }
 
@@ -21,89 +44,65 @@ fn tags_of_the_rfc(rt: HostRuntime) {
 // message.
 #[test]
 fn cuts_make_no_difference(rt: HostRuntime) {
-    let (_, key, message, want) = TAGS[0];
-    assert_eq!(rt; message.len(), 34);
-    for cut in 0..35usize {
-        assert!(rt; cut <= message.len());
-        let mut mac = Mac::new(key);
-        mac.absorb(&message[..cut]);
-        mac.absorb(&message[cut..]);
-        assert_eq!(rt; mac.finish(), *want, "cut at {cut}");
-    }
+    let message = b"Cryptographic Forum Research Group";
+    assert!(rt; has_tag_at_each_cut(POLY_KEY, message, POLY_TAG));
     let empty = *b"\x01\x03\x80\x8a\xfb\x0d\xb2\xfd\x4a\xbf\xf6\xaf\x41\x49\xf5\x1b";
-    assert_eq!(rt; tag(key, b""), empty);
+    assert!(rt; tag_of(POLY_KEY, b"", b"") == empty);
 }
 
 // A message of 1,100 bytes in two pieces, at each cut.
 #[test]
 fn cuts_of_a_long_message_make_no_difference(rt: HostRuntime) -> Result<(), Fail> {
-    let (_, key, _, _) = TAGS[0];
-    let mut message = Vec::new(rt.alloc());
-    for i in 0..1100u32 {
-        message.push((i % 251) as u8)?;
-    }
-    for cut in 0..1101usize {
-        assert!(rt; cut <= message.len());
-        let mut mac = Mac::new(key);
-        mac.absorb(&message[..cut]);
-        mac.absorb(&message[cut..]);
-        assert_eq!(rt; mac.finish(), *LONG_TAG, "cut at {cut}");
-    }
+    let message = long_message(rt.alloc())?;
+    assert!(rt; has_tag_at_each_cut(POLY_KEY, &message, LONG_TAG));
     Ok(())
 }
 
 // The same message in pieces of 64 bytes, whose blocks go one by one.
 #[test]
 fn short_pieces_give_the_same_tag(rt: HostRuntime) -> Result<(), Fail> {
-    let (_, key, _, _) = TAGS[0];
-    let mut message = Vec::new(rt.alloc());
-    for i in 0..1100u32 {
-        message.push((i % 251) as u8)?;
-    }
-    let mut mac = Mac::new(key);
+    let message = long_message(rt.alloc())?;
+    let mut mac = Mac::new(POLY_KEY);
     for piece in message.chunks(64) {
         mac.absorb(piece);
     }
-    assert_eq!(rt; mac.finish(), *LONG_TAG);
+    assert!(rt; mac.finish() == *LONG_TAG);
     Ok(())
+}
+
+// Whether a padded message has the tag of the message with these zeros behind it.
+fn pads_by(message: &[u8], zeros: &[u8]) -> bool {
+    let mut padded = Mac::new(POLY_KEY);
+    padded.absorb(message);
+    padded.pad();
+    padded.finish() == tag_of(POLY_KEY, message, zeros)
 }
 
 // Zeros up to a multiple of 16 bytes, and none at a multiple.
 #[test]
 fn pad_adds_zeros(rt: HostRuntime) {
-    let (_, key, message, _) = TAGS[0];
-    let zeros = [0; 48];
-    assert_eq!(rt; message.len(), 34);
-    for (len, whole) in [
-        (0, 0),
-        (1, 16),
-        (15, 16),
-        (16, 16),
-        (17, 32),
-        (32, 32),
-        (34, 48),
-    ] {
-        assert!(rt; len <= message.len());
-        assert!(rt; len <= whole);
-        assert!(rt; whole <= 48);
-        let mut padded = Mac::new(key);
-        padded.absorb(&message[..len]);
-        padded.pad();
-        let mut plain = Mac::new(key);
-        plain.absorb(&message[..len]);
-        plain.absorb(&zeros[..whole - len]);
-        assert_eq!(rt; padded.finish(), plain.finish(), "{len} bytes");
+    assert!(rt; pads_by(b"", b""));
+    assert!(rt; pads_by(b"C", &[0; 15]));
+    assert!(rt; pads_by(b"Cryptographic F", &[0; 1]));
+    assert!(rt; pads_by(b"Cryptographic Fo", b""));
+    assert!(rt; pads_by(b"Cryptographic For", &[0; 15]));
+    assert!(rt; pads_by(b"Cryptographic Forum Research Gro", b""));
+    assert!(rt; pads_by(b"Cryptographic Forum Research Group", &[0; 14]));
+}
+
+// Whether `same` sees a change of any one byte, on either side.
+fn sees_each_byte(tag: &[u8; 16]) -> bool {
+    for i in 0..16usize {
+        let mut other = *tag;
+        other[i] ^= 1;
+        if same(tag, &other) || same(&other, tag) {
+            return false;
+        }
     }
+    same(tag, tag)
 }
 
 #[test]
 fn same_sees_each_byte(rt: HostRuntime) {
-    let (_, _, _, tag) = TAGS[0];
-    assert!(rt; same(tag, tag));
-    for i in 0..16usize {
-        let mut other = *tag;
-        other[i] ^= 1;
-        assert!(rt; !same(tag, &other), "byte {i}");
-        assert!(rt; !same(&other, tag), "byte {i}");
-    }
+    assert!(rt; sees_each_byte(POLY_TAG));
 }

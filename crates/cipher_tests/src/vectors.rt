@@ -45,7 +45,7 @@ const FIRST_ZERO_BLOCK: &[u8; 64] =
     \xb2\xee\x65\x86";
 
 /// Four words, and their quarter round.
-pub(crate) const QUARTERS: [(&str, [u32; 4], [u32; 4]); 2] = [
+pub(crate) static QUARTERS: [(&str, [u32; 4], [u32; 4]); 2] = [
     (
         "2.1.1",
         [0x1111_1111, 0x0102_0304, 0x9b8d_6f43, 0x0123_4567],
@@ -58,13 +58,18 @@ pub(crate) const QUARTERS: [(&str, [u32; 4], [u32; 4]); 2] = [
     ),
 ];
 
+/// The key and the nonce of 2.3.2.
+pub(crate) const BLOCK_KEY: &[u8; 32] = COUNTING_KEY;
+
+pub(crate) const BLOCK_NONCE: &[u8; 12] = b"\x00\x00\x00\x09\x00\x00\x00\x4a\x00\x00\x00\x00";
+
 /// A key, a counter and a nonce, and their block.
-pub(crate) const BLOCKS: [(&str, &[u8; 32], u32, &[u8; 12], &[u8; 64]); 6] = [
+pub(crate) static BLOCKS: [(&str, &[u8; 32], u32, &[u8; 12], &[u8; 64]); 6] = [
     (
         "2.3.2",
-        COUNTING_KEY,
+        BLOCK_KEY,
         1,
-        b"\x00\x00\x00\x09\x00\x00\x00\x4a\x00\x00\x00\x00",
+        BLOCK_NONCE,
         b"\x10\xf1\xe7\xe4\xd1\x3b\x59\x15\x50\x0f\xdd\x1f\xa3\x20\x71\xc4\xc7\xd1\xf4\xc7\
         \x33\xc0\x68\x03\x04\x22\xaa\x9a\xc3\xd4\x6c\x4e\xd2\x82\x64\x46\x07\x9f\xaa\x09\
         \x14\xc2\xd7\x05\xd9\x8b\x02\xa2\xb5\x12\x9c\xd1\xde\x16\x4e\xb9\xcb\xd0\x83\xe8\
@@ -115,7 +120,7 @@ pub(crate) const BLOCKS: [(&str, &[u8; 32], u32, &[u8; 12], &[u8; 64]); 6] = [
 ];
 
 /// A key, a nonce, the first counter and a text, and the text enciphered.
-pub(crate) const TEXTS: [(&str, &[u8; 32], &[u8; 12], u32, &[u8], &[u8]); 4] = [
+pub(crate) static TEXTS: [(&str, &[u8; 32], &[u8; 12], u32, &[u8], &[u8]); 4] = [
     (
         "2.4.2",
         COUNTING_KEY,
@@ -172,14 +177,21 @@ pub(crate) const TEXTS: [(&str, &[u8; 32], &[u8; 12], u32, &[u8], &[u8]); 4] = [
     ),
 ];
 
+/// The key and the tag of 2.5.2.
+pub(crate) const POLY_KEY: &[u8; 32] =
+    b"\x85\xd6\xbe\x78\x57\x55\x6d\x33\x7f\x44\x52\xfe\x42\xd5\x06\xa8\x01\x03\x80\x8a\
+    \xfb\x0d\xb2\xfd\x4a\xbf\xf6\xaf\x41\x49\xf5\x1b";
+
+pub(crate) const POLY_TAG: &[u8; 16] =
+    b"\xa8\x06\x1d\xc1\x30\x51\x36\xc6\xc2\x2b\x8b\xaf\x0c\x01\x27\xa9";
+
 /// A key and a message, and their tag.
-pub(crate) const TAGS: [(&str, &[u8; 32], &[u8], &[u8; 16]); 12] = [
+pub(crate) static TAGS: [(&str, &[u8; 32], &[u8], &[u8; 16]); 12] = [
     (
         "2.5.2",
-        b"\x85\xd6\xbe\x78\x57\x55\x6d\x33\x7f\x44\x52\xfe\x42\xd5\x06\xa8\x01\x03\x80\x8a\
-        \xfb\x0d\xb2\xfd\x4a\xbf\xf6\xaf\x41\x49\xf5\x1b",
+        POLY_KEY,
         b"Cryptographic Forum Research Group",
-        b"\xa8\x06\x1d\xc1\x30\x51\x36\xc6\xc2\x2b\x8b\xaf\x0c\x01\x27\xa9",
+        POLY_TAG,
     ),
     (
         "A.3 #1",
@@ -271,7 +283,7 @@ pub(crate) const LONG_TAG: &[u8; 16] =
     b"\x2f\x85\xc5\x5e\xb7\xeb\xac\x44\x9f\x80\x2e\x91\xa8\xfb\x99\x34";
 
 /// A key and a nonce, and their one-time key.
-pub(crate) const ONE_TIME_KEYS: [(&str, &[u8; 32], &[u8; 12], &[u8; 32]); 4] = [
+pub(crate) static ONE_TIME_KEYS: [(&str, &[u8; 32], &[u8; 12], &[u8; 32]); 4] = [
     (
         "2.6.2",
         COUNTING_KEY_FROM_80,
@@ -303,7 +315,7 @@ pub(crate) const ONE_TIME_KEYS: [(&str, &[u8; 32], &[u8; 12], &[u8; 32]); 4] = [
 ];
 
 /// A key, a nonce, associated data and a plaintext, and their ciphertext and tag.
-pub(crate) const PAIRS: [(&str, &[u8; 32], &[u8; 12], &[u8], &[u8], &[u8], &[u8; 16]); 2] = [
+pub(crate) static PAIRS: [(&str, &[u8; 32], &[u8; 12], &[u8], &[u8], &[u8], &[u8; 16]); 2] = [
     (
         "2.8.2",
         COUNTING_KEY_FROM_80,
@@ -348,7 +360,7 @@ pub(crate) const PAIRS: [(&str, &[u8; 32], &[u8; 12], &[u8], &[u8], &[u8], &[u8;
 /// Lengths of associated data and plaintext at and between the multiples of 16, and the tag, as OpenSSL
 /// gives it under the key 00 .. 1f and the nonce 40 .. 4b; byte i of the associated data is 5 * i and
 /// byte i of the plaintext is 7 * i, both modulo 256.
-pub(crate) const LENGTHS: [(usize, usize, &[u8; 16]); 16] = [
+pub(crate) static LENGTHS: [(usize, usize, &[u8; 16]); 16] = [
     (
         0,
         0,
