@@ -1,7 +1,8 @@
 //! The command line.
 ghost use Rattle.std.specs.Prelude.{◌<◌, ◌≤◌, ◌≡◌, IfOk, length};
 
-use clap::{Arg, ArgAction, ArgMatches, Command, Error, value_parser};
+use crate::options::{FILE_ROWS, SEAL_ROWS, with_rows};
+use clap::{ArgMatches, Command, Error};
 use container_core::MAX_PLAIN;
 use crew_core::{DEFAULT_WINDOW, MAX_LANES, MAX_WINDOW, MAX_WORKERS};
 use ledger_core::Device;
@@ -59,37 +60,9 @@ pub fn command<'a>(alloc: Global) -> Result<Command<'a>, Error> {
     Ok(sealer)
 }
 
-// What every command over files takes.
+// A command over files.
 fn file_command<'a>(alloc: Global, name: &'a str, about: &'a str) -> Result<Command<'a>, Error> {
-    let key = Arg::new(alloc, "key")
-        .long("key")
-        .value_name("F")
-        .required(true)
-        .help("The key file: 64 hex digits, then nothing or one end of line");
-    let workers = Arg::new(alloc, "workers")
-        .long("workers")
-        .value_name("N")
-        .value_parser(value_parser!(u32).range(1..=MAX_WORKERS as i64))
-        .default_value("1")
-        .help("Workers on one file, side by side, 1 to 16");
-    let max_bytes = Arg::new(alloc, "max-bytes")
-        .long("max-bytes")
-        .value_name("N")
-        .value_parser(value_parser!(u64).range(0..=MAX_PLAIN as i64))
-        .default_value("1073741824")
-        .help("A FILE of more plaintext bytes is refused, 0 to 1099511627776");
-    let files = Arg::new(alloc, "FILE")
-        .required(true)
-        .num_args(1..)
-        .action(ArgAction::Append)
-        .help("The files, whose lines stand in this order");
-    let command = Command::new(alloc, name)
-        .about(about)
-        .arg(key)?
-        .arg(workers)?
-        .arg(max_bytes)?
-        .arg(files)?;
-    Ok(command)
+    with_rows(alloc, Command::new(alloc, name).about(about), &FILE_ROWS)
 }
 
 /// The number of workers, which the command line has tested.
@@ -114,47 +87,12 @@ pub fn max_bytes(matches: &ArgMatches<'_>) -> u64
 }
 
 fn seal_command<'a>(alloc: Global) -> Result<Command<'a>, Error> {
-    let ledger = Arg::new(alloc, "ledger")
-        .long("ledger")
-        .value_name("F")
-        .required(true)
-        .help("The ledger file, which is made where there is none");
-    let no_new_ledger = Arg::new(alloc, "no-new-ledger")
-        .long("no-new-ledger")
-        .action(ArgAction::SetTrue)
-        .help("Refuse to make a ledger file: for every run but the first");
-    let device = Arg::new(alloc, "device")
-        .long("device")
-        .value_name("N")
-        .required(true)
-        .value_parser(value_parser!(u32).range(0..=Device::MAX as i64))
-        .help("The number of this ledger under this key, 0 to 16777215: no two ledgers share one");
-    let lanes = Arg::new(alloc, "lanes")
-        .long("lanes")
-        .value_name("N")
-        .value_parser(value_parser!(u32).range(1..=MAX_LANES as i64))
-        .default_value("1")
-        .help("Files sealed side by side at most, 1 to 16; above 1 only with one worker");
-    let window = Arg::new(alloc, "window")
-        .long("window")
-        .value_name("N")
-        .value_parser(value_parser!(u32).range(1..=MAX_WINDOW as i64))
-        .default_value("16")
-        .help(
-            "Chunks of 64 KiB that are sealed at a time, 1 to 256; of no effect with more than one lane",
-        );
-    let journal = Arg::new(alloc, "journal")
-        .long("journal")
-        .value_name("F")
-        .help("A new file for the run's journal");
     let command = file_command(
         alloc,
         "seal",
         "Seals each FILE to FILE.stm, each under a number of its own",
     )?;
-    let command = command.arg(ledger)?.arg(no_new_ledger)?.arg(device)?;
-    let command = command.arg(lanes)?.arg(window)?.arg(journal)?;
-    Ok(command.after_help(SEAL_HELP))
+    with_rows(alloc, command.after_help(SEAL_HELP), &SEAL_ROWS)
 }
 
 /// What `seal` is asked for.

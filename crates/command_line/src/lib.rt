@@ -4,6 +4,7 @@
 #![tactic(auto)]
 
 pub mod arguments;
+mod options;
 
 pub use crate::arguments::{
     DEFAULT_MAX_BYTES, SealRequest, SealUsage, command, max_bytes, seal_request, workers,

@@ -1,0 +1,158 @@
+//! What the commands take, a row for each option: its name, what its value may be, and its line in the help.
+
+use clap::{Arg, ArgAction, Command, Error, value_parser};
+use container_core::MAX_PLAIN;
+use crew_core::{MAX_LANES, MAX_WINDOW, MAX_WORKERS};
+use ledger_core::Device;
+use std::alloc::Global;
+
+// What an option takes.
+enum Takes {
+    // A path.
+    Path {
+        is_required: bool,
+    },
+    // A number in a range, and the one that stands where none is given. Without one it has to be given.
+    Number {
+        least: u32,
+        most: u32,
+        default: Option<&'static str>,
+    },
+    // A number of bytes up to the greatest of a plaintext, and the one that stands where none is given.
+    Bytes {
+        default: &'static str,
+    },
+    // Nothing: it is given or not.
+    Nothing,
+    // The files of a command, one at least. Its name is no option's.
+    Files,
+}
+
+/// An option of a command, or its files.
+pub(crate) struct Row {
+    name: &'static str,
+    takes: Takes,
+    help: &'static str,
+}
+
+/// What every command over files takes.
+pub(crate) static FILE_ROWS: [Row; 4] = [
+    Row {
+        name: "key",
+        takes: Takes::Path { is_required: true },
+        help: "The key file: 64 hex digits, then nothing or one end of line",
+    },
+    Row {
+        name: "workers",
+        takes: Takes::Number {
+            least: 1,
+            most: MAX_WORKERS,
+            default: Some("1"),
+        },
+        help: "Workers on one file, side by side, 1 to 16",
+    },
+    Row {
+        name: "max-bytes",
+        takes: Takes::Bytes {
+            default: "1073741824",
+        },
+        help: "A FILE of more plaintext bytes is refused, 0 to 1099511627776",
+    },
+    Row {
+        name: "FILE",
+        takes: Takes::Files,
+        help: "The files, whose lines stand in this order",
+    },
+];
+
+/// What `seal` takes besides.
+pub(crate) static SEAL_ROWS: [Row; 6] = [
+    Row {
+        name: "ledger",
+        takes: Takes::Path { is_required: true },
+        help: "The ledger file, which is made where there is none",
+    },
+    Row {
+        name: "no-new-ledger",
+        takes: Takes::Nothing,
+        help: "Refuse to make a ledger file: for every run but the first",
+    },
+    Row {
+        name: "device",
+        takes: Takes::Number {
+            least: 0,
+            most: Device::MAX,
+            default: None,
+        },
+        help: "The number of this ledger under this key, 0 to 16777215: no two ledgers share one",
+    },
+    Row {
+        name: "lanes",
+        takes: Takes::Number {
+            least: 1,
+            most: MAX_LANES,
+            default: Some("1"),
+        },
+        help: "Files sealed side by side at most, 1 to 16; above 1 only with one worker",
+    },
+    Row {
+        name: "window",
+        takes: Takes::Number {
+            least: 1,
+            most: MAX_WINDOW,
+            default: Some("16"),
+        },
+        help: "Chunks of 64 KiB that are sealed at a time, 1 to 256; of no effect with more than one lane",
+    },
+    Row {
+        name: "journal",
+        takes: Takes::Path { is_required: false },
+        help: "A new file for the run's journal",
+    },
+];
+
+// A number in a range, with the one that stands where none is given.
+fn number<'a>(arg: Arg<'a>, least: u32, most: u32, default: Option<&'static str>) -> Arg<'a> {
+    let range = i64::from(least)..=i64::from(most);
+    let arg = arg
+        .value_name("N")
+        .value_parser(value_parser!(u32).range(range));
+    match default {
+        Some(text) => arg.default_value(text),
+        None => arg.required(true),
+    }
+}
+
+// The argument of a row.
+fn arg_of<'a>(alloc: Global, row: &Row) -> Arg<'a> {
+    let arg = Arg::new(alloc, row.name).help(row.help);
+    match &row.takes {
+        Takes::Files => arg.required(true).num_args(1..).action(ArgAction::Append),
+        Takes::Nothing => arg.long(row.name).action(ArgAction::SetTrue),
+        Takes::Path { is_required } => arg.long(row.name).value_name("F").required(*is_required),
+        Takes::Number {
+            least,
+            most,
+            default,
+        } => number(arg.long(row.name), *least, *most, *default),
+        Takes::Bytes { default } => arg
+            .long(row.name)
+            .value_name("N")
+            .value_parser(value_parser!(u64).range(0..=MAX_PLAIN as i64))
+            .default_value(default),
+    }
+}
+
+/// The command with what the rows say.
+pub(crate) fn with_rows<'a>(
+    alloc: Global,
+    command: Command<'a>,
+    rows: &[Row],
+) -> Result<Command<'a>, Error> {
+    let mut command = command;
+    for row in rows {
+        let longer = command.arg(arg_of(alloc, row))?;
+        command = longer;
+    }
+    Ok(command)
+}
