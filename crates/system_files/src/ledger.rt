@@ -2,12 +2,15 @@
 ghost use Rattle.std.specs.Prelude.{◌≡◌, ◌≢◌, false, [], IfOk};
 ghost use Rattle.sqlite_wal.specs.Files.{image_at};
 ghost use Rattle.sqlite.specs.Files.{file_state, over_files};
-ghost use Rattle.sqlite.specs.State.{HasCleanDisk};
+ghost use Rattle.sqlite.specs.Held.{state};
+ghost use Rattle.sqlite.specs.State.{HasCleanDisk, Survives};
+ghost use Rattle.reserve_core.specs.Lasting.{LeavesOnlyThis};
+ghost use Rattle.reserve_core.specs.Reservations.{Holds, Opened, no_lists};
 ghost use Rattle.reserve_core.specs.NextRun.{IsFound};
 
 use crate::log::{log_adds, log_beside, log_is_begun};
 use reserve_core::{Keeper, LedgerFile, ReserveFault};
-use sqlite::{Connection, FileFrom, FileStore, Start};
+use sqlite::{Alter, Connection, FileFrom, FileStore, Start};
 use sqlite_disk::Disk;
 use std::fs;
 use std::fs::OpenFile;
@@ -102,11 +105,27 @@ pub fn open_ledger<S: Start>(
     let Ok(connection) = Connection::open_from(rt, ledger.path, false, start) else {
         return Err(LedgerFault::CannotOpen);
     };
-    if !ledger.may_make && connection.schema().tables.is_empty() {
+    let keeper = keeper_over(connection, ledger.may_make)?;
+    Ok(LedgerFile::Kept(keeper))
+}
+
+// The keeper of a ledger that was opened. A database without tables is `NotThere` where none may be made.
+fn keeper_over<S: Alter + Drop>(
+    connection: Connection<S>,
+    may_make: bool,
+) -> Result<Keeper<S>, LedgerFault>
+    ensures tables { IfOk result (λ _. may_make ≡ false → (state S.Store connection).now.schema.tables ≢ []) }
+    ensures opened { IfOk result (λ k. HasCleanDisk (state S.Store k)
+        → Opened (state S.Store connection).now (state S.Store k).now) }
+    ensures crash { IfOk result (λ k. Survives (state S.Store connection) (state S.Store k)
+        (λ trees. (db : _) × Holds db no_lists × (trees ≡ db.trees))) }
+    ensures lasts { IfOk result (λ k. HasCleanDisk (state S.Store k) → LeavesOnlyThis S.Store k) }
+{
+    if !may_make && connection.schema().tables.is_empty() {
         return Err(LedgerFault::NotThere);
     }
     match Keeper::open(connection) {
-        Ok(keeper) => Ok(LedgerFile::Kept(keeper)),
+        Ok(keeper) => Ok(keeper),
         Err((ReserveFault::BadStore, _)) => Err(LedgerFault::NotLedger),
         Err(_) => Err(LedgerFault::CannotOpen),
     }
