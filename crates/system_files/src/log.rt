@@ -1,5 +1,5 @@
 //! The log that a database keeps beside its file (PATH-wal), and whether it goes with the file.
-use sqlite::{Connection, Error, ErrorCode, FileStore, Files as DiskFiles, Options, params};
+use sqlite::{Alter, Connection, Error, ErrorCode, FileStore, Files as DiskFiles, Options, params};
 use sqlite_disk::{Disk, Memory};
 use std::alloc::{AllocError, Global};
 use std::fs;
@@ -51,13 +51,21 @@ pub(crate) fn log_adds<R: Files + AllocGlobal>(
     let (Ok(db), Ok(log)) = (fs::read(rt, path), fs::read(rt, log)) else {
         return false;
     };
-    let mut alone = match opened(rt.alloc(), &[], db.as_slice()) {
-        Ok(Some(alone)) => alone,
-        Ok(None) => return true,
-        Err(_) => return false,
-    };
-    match opened(rt.alloc(), log.as_slice(), db.as_slice()) {
-        Ok(Some(mut both)) => keeps_marks(&mut alone, &mut both),
+    match opened(rt.alloc(), &[], db.as_slice()) {
+        Ok(Some(alone)) => is_kept_by(alone, opened(rt.alloc(), log.as_slice(), db.as_slice())),
+        Ok(None) => true,
+        Err(_) => false,
+    }
+}
+
+// Whether each key and device of the one ledger has its numbers in the other, where that could be opened.
+fn is_kept_by<S: Alter + Drop>(
+    one: Connection<S>,
+    other: Result<Option<Connection<S>>, AllocError>,
+) -> bool {
+    let mut one = one;
+    match other {
+        Ok(Some(mut other)) => keeps_marks(&mut one, &mut other),
         _ => false,
     }
 }
@@ -98,10 +106,7 @@ fn copied(alloc: Global, bytes: &[u8]) -> Result<Memory, AllocError> {
 }
 
 // Whether each key and device of the one ledger has its numbers in the other.
-fn keeps_marks(
-    one: &mut Connection<FileStore<Memory>>,
-    other: &mut Connection<FileStore<Memory>>,
-) -> bool {
+fn keeps_marks<S: Alter>(one: &mut Connection<S>, other: &mut Connection<S>) -> bool {
     let marks = match one.query_all("SELECT key_id, device, next FROM mark", &[]) {
         Ok(marks) => marks,
         Err(error) => return !is_for_memory(&error),
@@ -121,7 +126,7 @@ fn keeps_marks(
     true
 }
 
-fn next_in(ledger: &mut Connection<FileStore<Memory>>, key: &Vec<u8>, device: i64) -> Option<i64> {
+fn next_in<S: Alter>(ledger: &mut Connection<S>, key: &Vec<u8>, device: i64) -> Option<i64> {
     let found = ledger
         .query_row(
             "SELECT next FROM mark WHERE key_id = ?1 AND device = ?2",
