@@ -51,8 +51,13 @@ pub(crate) fn log_adds<R: Files + AllocGlobal>(
     let (Ok(db), Ok(log)) = (fs::read(rt, path), fs::read(rt, log)) else {
         return false;
     };
-    match opened(rt.alloc(), &[], db.as_slice()) {
-        Ok(Some(alone)) => is_kept_by(alone, opened(rt.alloc(), log.as_slice(), db.as_slice())),
+    adds(rt.alloc(), db.as_slice(), log.as_slice())
+}
+
+// The same of the bytes of both files.
+fn adds(alloc: Global, db: &[u8], log: &[u8]) -> bool {
+    match opened(alloc, &[], db) {
+        Ok(Some(alone)) => is_kept_by(alone, opened(alloc, log, db)),
         Ok(None) => true,
         Err(_) => false,
     }
