@@ -23,7 +23,7 @@ use Rattle.engine_core.specs.Engine.{open_read_failed}
 use Rattle.engine_core.specs.Windows.{ReadsOn, IsNamed, Answers}
 
 -- however a body goes on behind the rounds that opened, it opens to their plaintext, and then as what goes on does
-abbrev pub OpensBehind : List ℕ → List ℕ → ℕ → List ℕ → List ℕ → Type 0
+unfoldable pub OpensBehind : List ℕ → List ℕ → ℕ → List ℕ → List ℕ → Type 0
 OpensBehind key header first past plain = (rest : List ℕ) → 0 < length rest
     → unsealed_by key header 0 true (sealed_chunks (past ++ rest))
     ≡ behind plain (unsealed_by key header first true (sealed_chunks rest))
@@ -40,12 +40,14 @@ Refuses key header first bytes fault = (rest : List ℕ) → 0 < length rest
     → unsealed_by key header first true (sealed_chunks (bytes ++ rest)) ≡ Err fault
 
 pub opens-begin : (key header : List ℕ) → OpensBehind key header 0 [] []
+unfolding OpensBehind
 opens-begin key header rest some = sym (behind-nil (unsealed_by key header 0 true (sealed_chunks rest)))
 
 -- one more round opened
 pub opens-round : (key header : List ℕ) (first window : ℕ) (past plain bytes opened : List ℕ)
     → Splits key header first window bytes opened → OpensBehind key header first past plain
     → OpensBehind key header (first + window) (past ++ bytes) (plain ++ opened)
+unfolding OpensBehind
 opens-round key header first window past plain bytes opened splits before rest some =
     let long = length-append bytes rest in
     ap (λ (b : List ℕ). unsealed_by key header 0 true (sealed_chunks b)) (append_assoc past bytes rest)
@@ -57,6 +59,7 @@ opens-round key header first window past plain bytes opened splits before rest s
 pub opens-refused : (key header : List ℕ) (first : ℕ) (past plain bytes : List ℕ) (fault : OpenFault)
     → Refuses key header first bytes fault → OpensBehind key header first past plain
     → Refuses key header 0 (past ++ bytes) fault
+unfolding OpensBehind
 opens-refused key header first past plain bytes fault refuses before rest some =
     let long = length-append bytes rest in
     ap (λ (b : List ℕ). unsealed_by key header 0 true (sealed_chunks b)) (append_assoc past bytes rest)
@@ -68,6 +71,7 @@ pub opens-last : (key header : List ℕ) (first : ℕ) (past plain held : List �
     → 0 < length held → unsealed_by key header first true (sealed_chunks held) ≡ answer
     → OpensBehind key header first past plain
     → unsealed_by key header 0 true (sealed_chunks (past ++ held)) ≡ behind plain answer
+unfolding OpensBehind
 opens-last key header first past plain held answer some is before = before held some ∙ ap (λ (r : Result (List ℕ) OpenFault). behind plain r) is
 
 -- a header and a body

@@ -24,7 +24,7 @@ lead_of (byte ∷ past) header = []
 
 -- however the input goes on behind what was read, its container is what is done, and then STREAM of what is in hand and
 -- goes on
-abbrev pub Carries : List ℕ → List ℕ → List ℕ → ℕ → List ℕ → List ℕ → List ℕ → Type 0
+unfoldable pub Carries : List ℕ → List ℕ → List ℕ → ℕ → List ℕ → List ℕ → List ℕ → Type 0
 Carries key prefix header first read done held =
     (t : List ℕ) → container key prefix (read ++ t) ≡ done ++ stream_by key header first true (chunks (held ++ t))
 
@@ -37,7 +37,7 @@ Splits key header first window bytes = (rest : List ℕ) → 0 < length rest
 pub carry-begin : (key prefix header read : List ℕ) → header ≡ header_of key prefix
     → ((pieces : List (List ℕ)) → stream_by key header 0 true pieces ≡ stream key header 0 pieces)
     → Carries key prefix header 0 read ([] ++ header) read
-unfolding container
+unfolding container Carries
 carry-begin key prefix header read named whole t =
     ap (λ (h : List ℕ). h ++ stream key h 0 (chunks (read ++ t))) (sym named)
     ∙ ap (λ (s : List ℕ). header ++ s) (sym (whole (chunks (read ++ t))))
@@ -46,6 +46,7 @@ carry-begin key prefix header read named whole t =
 pub carry-last : (key prefix header : List ℕ) (first : ℕ) (read done held : List ℕ)
     → Carries key prefix header first read done held
     → container key prefix read ≡ done ++ stream_by key header first true (chunks held)
+unfolding Carries
 carry-last key prefix header first read done held before =
     ap (container key prefix) (sym (append-nil read))
     ∙ before []
@@ -56,6 +57,7 @@ pub begun : (key prefix header : List ℕ) (first : ℕ) (a b c d e f : Option (
     → Carries key prefix header first read ((written ++ waits) ++ lead) held
     → Consumes a b read → Consumes b c lost → Appends d e written → AppendsFront e f waits
     → BeginsContainer key prefix a c d f
+unfolding Carries
 begun key prefix header first a b c d e f read written waits lead held lost carries consumed more appended front =
     let rest = stream_by key header first true (chunks (held ++ lost)) in
     let tail = front.1.0 ++ (lead ++ rest) in
@@ -213,6 +215,7 @@ pub carry-next : (key prefix header : List ℕ) (first window : ℕ) (past old b
     → joined values ≡ stream_by key header first false (chunks bytes)
     → Carries key prefix header first (past ++ old) ((written ++ waits) ++ lead) old
     → Carries key prefix header (first + window) ((past ++ bytes) ++ held) (((written ++ waits) ++ (lead ++ joined values)) ++ []) held
+unfolding Carries
 carry-next key prefix header first window past old bytes read held written waits lead ahead values splits split next is before t =
     let done = written ++ waits in
     let round = stream_by key header first false (chunks bytes) in
