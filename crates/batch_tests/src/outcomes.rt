@@ -94,7 +94,7 @@ fn fault_of(outcome: &Outcome) -> Option<IssueFault> {
     }
 }
 
-pub fn number_of(outcome: &Outcome) -> Option<u32> {
+fn number_of(outcome: &Outcome) -> Option<u32> {
     match outcome {
         Outcome::Sealed {
             seat: _,
@@ -188,7 +188,7 @@ pub fn is_kept(outcome: &Outcome) -> bool {
     }
 }
 
-// The outcomes of a batch, at a gate, over a new ledger of so many numbers from `lo` on.
+// The outcomes of a batch at a gate, over a new ledger with a number for each job, from `lo` on.
 pub fn outcomes_of<R: Threads + Sync, G: Gate + Sync>(
     rt: &R,
     alloc: Global,
