@@ -3,6 +3,8 @@
 
 pub mod held;
 pub mod jobs;
+#[cfg(test)]
+mod outcomes;
 pub mod run;
 #[cfg(test)]
 mod tests;

@@ -1,41 +1,39 @@
 //! What no clause says of batches: that they succeed, that lanes run at once, and containers made elsewhere.
-ghost use Rattle.std.specs.Prelude.{◌≡◌, IfOk};
+ghost use Rattle.std.specs.Prelude.{◌≡◌, ◌<◌, ◌≤◌};
 
 use crate::held::Held;
 use crate::jobs::{jobs_of, texts};
+use crate::outcomes::{
+    all_sealed, are_numbered, at_seat, draw_one_each, faults, is_first_job_late, is_kept, key,
+    numbers, opened, outcomes_of, sealed, seat_of, spent_of,
+};
 use crate::run::Run;
-use container_core::{Key, open, seal};
-use crew_core::{Free, Outcome};
+use crew_core::{Free, MAX_LANES, Outcome};
 use crew_tests::{Late, Meeting};
 use io_memory::{FromMemory, Schedule, ToMemory};
-use ledger_core::{Device, IssueFault, Range, Spent, Tally, Way, audit, prefix};
+use ledger_core::{IssueFault, Journal, Tally, audit};
 use std::alloc::Global;
-use std::test::*;
+use std::test::Fail;
+use std::thread::Threads;
 
 // How often the first pass looks for a second, where two lanes are to meet.
 const TURNS: u64 = 1_000_000_000;
 
-// 00 01 .. 1f.
-const COUNTING: [u8; 32] = [
-    0, 1, 2, 3, 4, 5, 6, 7, 8, 9, 10, 11, 12, 13, 14, 15, 16, 17, 18, 19, 20, 21, 22, 23, 24, 25,
-    26, 27, 28, 29, 30, 31,
-];
-
-// The containers of no bytes, `a` and `bc` under that key, of device 1 and files 7, 8 and 9, by Python's
+// The containers of no bytes, `a` and `bc` under the key 00 01 .. 1f, of device 1 and files 7, 8 and 9, by Python's
 // `cryptography`.
-const SEVEN: [u8; 40] = [
+static SEVEN: [u8; 40] = [
     0x53, 0x54, 0x52, 0x4d, 0x53, 0x45, 0x41, 0x4c, 0x01, 0x10, 0x00, 0x00, 0x01, 0x00, 0x00, 0x00,
     0x07, 0x63, 0x0d, 0xcd, 0x29, 0x66, 0xc4, 0x33, 0x47, 0x44, 0xc4, 0xde, 0x8d, 0x8c, 0x35, 0xb3,
     0x63, 0x78, 0x70, 0xde, 0x7c, 0xfe, 0xc3, 0x20,
 ];
 
-const EIGHT: [u8; 41] = [
+static EIGHT: [u8; 41] = [
     0x53, 0x54, 0x52, 0x4d, 0x53, 0x45, 0x41, 0x4c, 0x01, 0x10, 0x00, 0x00, 0x01, 0x00, 0x00, 0x00,
     0x08, 0x63, 0x0d, 0xcd, 0x29, 0x66, 0xc4, 0x33, 0x89, 0x5d, 0x41, 0x07, 0x27, 0x29, 0x49, 0xf8,
     0x53, 0x21, 0x1e, 0x26, 0x45, 0xfc, 0x3c, 0x7a, 0xb6,
 ];
 
-const NINE: [u8; 42] = [
+static NINE: [u8; 42] = [
     0x53, 0x54, 0x52, 0x4d, 0x53, 0x45, 0x41, 0x4c, 0x01, 0x10, 0x00, 0x00, 0x01, 0x00, 0x00, 0x00,
     0x09, 0x63, 0x0d, 0xcd, 0x29, 0x66, 0xc4, 0x33, 0x60, 0xb6, 0xd0, 0xb1, 0x58, 0xf1, 0xbd, 0xf8,
     0xd3, 0xa1, 0xeb, 0x03, 0x38, 0xa9, 0x0b, 0xe3, 0x73, 0x22,
@@ -48,186 +46,93 @@ const NOTHING: Tally = Tally {
     void: 0,
 };
 
-// A refused allocation is the one that the run was asked for, so the same call finds memory at once.
-
-fn opened(alloc: Global, lo: u32, size: u32, seats: u32) -> Result<Run, Fail>
-    ensures { IfOk result (λ run. run.terms.seats ≡ seats) }
-{
-    let device = Device::new(1).ok_or("device")?;
-    let range = Range::new(device, lo, size)?;
-    match Run::open(alloc, range, seats) {
-        Err(_) => Ok(Run::open(alloc, range, seats)?),
-        Ok(run) => Ok(run),
-    }
-}
-
-// Whether the outcome is this job's container under a number that is spent as sealed, and opens to the job.
-fn is_sealed(alloc: Global, key: &Key, job: &[u8], outcome: &Outcome) -> Result<bool, Fail> {
-    let Outcome::Sealed {
-        seat: _,
-        bytes,
-        spent,
-    } = outcome
-    else {
-        return Ok(false);
-    };
-    let prefix = prefix(spent.device(), spent.number());
-    let whole = seal(alloc, key, prefix, job).ok().ok_or("no container")?;
-    let plain = open(alloc, key, bytes.as_slice()).ok().ok_or("not opened")?;
-    Ok(
-        spent.way() == Way::Sealed
-            && whole.as_slice() == bytes.as_slice()
-            && plain.as_slice() == job,
-    )
-}
-
-fn seat_of(outcome: &Outcome) -> u32 {
+// Whether the outcome is this container, sealed at seat 0.
+fn is_container(outcome: Option<&Outcome>, want: &[u8]) -> bool {
     match outcome {
-        Outcome::Sealed {
-            seat,
-            bytes: _,
-            spent: _,
-        } => *seat,
-        Outcome::Spoiled { seat, spent: _ } => *seat,
-        Outcome::Unissued { seat, fault: _ } => *seat,
-    }
-}
-
-// Whether each job has its container.
-fn all_sealed(
-    alloc: Global,
-    key: &Key,
-    jobs: &[Vec<u8>],
-    outcomes: &[Outcome],
-) -> Result<bool, Fail> {
-    let mut all = jobs.len() == outcomes.len();
-    for (job, outcome) in jobs.iter().zip(outcomes) {
-        all = is_sealed(alloc, key, job.as_slice(), outcome)? && all;
-    }
-    Ok(all)
-}
-
-// How many of the outcomes name this seat.
-fn at_seat(outcomes: &[Outcome], seat: u32) -> usize {
-    outcomes
-        .iter()
-        .filter(|outcome| seat_of(outcome) == seat)
-        .count()
-}
-
-fn fault_of(outcome: &Outcome) -> Option<IssueFault> {
-    match outcome {
-        Outcome::Unissued { seat: _, fault } => Some(*fault),
-        _ => None,
-    }
-}
-
-fn number_of(outcome: &Outcome) -> Option<u32> {
-    match outcome {
-        Outcome::Sealed {
-            seat: _,
-            bytes: _,
-            spent,
-        } => Some(spent.number()),
-        Outcome::Spoiled { seat: _, spent } => Some(spent.number()),
-        Outcome::Unissued { seat: _, fault: _ } => None,
+        Some(
+            Outcome::Sealed {
+                seat: 0,
+                bytes,
+                spent: _,
+            },
+        ) => bytes.as_slice() == want,
+        _ => false,
     }
 }
 
 #[test]
 fn containers_made_elsewhere(rt: HostRuntime) -> Result<(), Fail> {
-    let alloc = rt.alloc();
-    let key = Key::new(COUNTING);
-    let mut run = opened(alloc, 7, 3, 1)?;
-    let jobs = texts(alloc, &[b"".as_slice(), b"a".as_slice(), b"bc".as_slice()])?;
-    let outcomes = run.seal(&rt, alloc, &key, jobs.as_slice(), 1, &Free)?;
-    assert_eq!(rt; outcomes.len(), 3);
-    let wanted = [SEVEN.as_slice(), EIGHT.as_slice(), NINE.as_slice()];
-    for (outcome, want) in outcomes.iter().zip(wanted) {
-        let Outcome::Sealed {
-            seat: 0,
-            bytes,
-            spent: _,
-        } = outcome
-        else {
-            return Err("not sealed at seat 0".into());
-        };
-        assert!(rt; bytes.as_slice() == want);
-    }
+    let jobs = texts(
+        rt.alloc(),
+        &[b"".as_slice(), b"a".as_slice(), b"bc".as_slice()],
+    )?;
+    let jobs = jobs.as_slice();
+    let outcomes = outcomes_of(&rt, rt.alloc(), 7, 1, jobs, 1, &Free).ok_or("no outcomes")?;
+    assert!(rt; outcomes.len() == 3);
+    assert!(rt; is_container(outcomes.first(), &SEVEN));
+    assert!(rt; is_container(outcomes.get(1), &EIGHT));
+    assert!(rt; is_container(outcomes.get(2), &NINE));
     Ok(())
+}
+
+// Whether a gate that all of so many jobs have to meet gives up, and the outcomes, where each job passes it once and is
+// sealed.
+fn met<R: Threads + Sync>(
+    rt: &R,
+    alloc: Global,
+    count: u8,
+    seats: u32,
+    lanes: u32,
+    turns: u64,
+) -> Option<(bool, Vec<Outcome>)>
+    requires lanes { (0 < lanes) × (lanes ≤ MAX_LANES) × (lanes ≤ seats) }
+{
+    let wanted = u64::from(count);
+    let gate = Meeting::new(wanted, turns);
+    let outcomes = sealed(rt, alloc, count, seats, lanes, &gate)?;
+    if gate.passes() == wanted {
+        Some((gate.gave_up(), outcomes))
+    } else {
+        None
+    }
 }
 
 #[test]
 fn two_lanes_meet(rt: HostRuntime) -> Result<(), Fail> {
-    let alloc = rt.alloc();
-    let key = Key::new(COUNTING);
-    let mut run = opened(alloc, 0, 2, 2)?;
-    let jobs = jobs_of(alloc, 2)?;
-    let gate = Meeting::new(2, TURNS);
-    let outcomes = run.seal(&rt, alloc, &key, jobs.as_slice(), 2, &gate)?;
-    assert!(rt; !gate.gave_up());
-    assert_eq!(rt; gate.passes(), 2);
+    let (gave_up, outcomes) = met(&rt, rt.alloc(), 2, 2, 2, TURNS).ok_or("not sealed")?;
     let outcomes = outcomes.as_slice();
-    let sealed = all_sealed(alloc, &key, jobs.as_slice(), outcomes)?;
-    assert!(rt; sealed);
-    // Each lane drew one of the jobs.
-    assert_eq!(rt; (at_seat(outcomes, 0), at_seat(outcomes, 1)), (1, 1));
+    assert!(rt; !gave_up);
+    assert!(rt; draw_one_each(outcomes, 2));
     // 0 and 1, in either order.
-    let first = outcomes.first().and_then(number_of);
-    let second = outcomes.get(1).and_then(number_of);
-    assert!(rt; (first, second) == (Some(0), Some(1)) || (first, second) == (Some(1), Some(0)));
+    assert!(rt; are_numbered(outcomes, 0, 1) || are_numbered(outcomes, 1, 0));
     Ok(())
 }
 
 // A thread of its own for each lane that has a job: with fewer, four would not all be held at once.
 #[test]
 fn four_lanes_meet(rt: HostRuntime) -> Result<(), Fail> {
-    let alloc = rt.alloc();
-    let key = Key::new(COUNTING);
-    let mut run = opened(alloc, 0, 4, 16)?;
-    let jobs = jobs_of(alloc, 4)?;
-    let gate = Meeting::new(4, TURNS);
-    let outcomes = run.seal(&rt, alloc, &key, jobs.as_slice(), 16, &gate)?;
-    assert!(rt; !gate.gave_up());
-    assert_eq!(rt; gate.passes(), 4);
-    let outcomes = outcomes.as_slice();
-    let sealed = all_sealed(alloc, &key, jobs.as_slice(), outcomes)?;
-    assert!(rt; sealed);
-    for seat in 0..4 {
-        assert_eq!(rt; at_seat(outcomes, seat), 1);
-    }
+    let (gave_up, outcomes) = met(&rt, rt.alloc(), 4, 16, 16, TURNS).ok_or("not sealed")?;
+    assert!(rt; !gave_up);
+    assert!(rt; draw_one_each(outcomes.as_slice(), 4));
     Ok(())
 }
 
 // That the tests above can fail: two jobs on one lane, and the gate gives up.
 #[test]
 fn one_lane_meets_nobody(rt: HostRuntime) -> Result<(), Fail> {
-    let alloc = rt.alloc();
-    let key = Key::new(COUNTING);
-    let mut run = opened(alloc, 0, 2, 2)?;
-    let jobs = jobs_of(alloc, 2)?;
-    let gate = Meeting::new(2, 1000);
-    let outcomes = run.seal(&rt, alloc, &key, jobs.as_slice(), 1, &gate)?;
-    assert!(rt; gate.gave_up());
-    assert_eq!(rt; (gate.passes(), outcomes.len()), (2, 2));
+    let (gave_up, outcomes) = met(&rt, rt.alloc(), 2, 2, 1, 1000).ok_or("not sealed")?;
+    assert!(rt; gave_up && outcomes.len() == 2);
     Ok(())
 }
 
 // A lane that is held up holds up one job alone: lane 1 is held with its job until lane 0 has passed with all others.
 #[test]
 fn a_held_lane_holds_one_job(rt: HostRuntime) -> Result<(), Fail> {
-    let alloc = rt.alloc();
-    let key = Key::new(COUNTING);
-    let mut run = opened(alloc, 0, 8, 2)?;
-    let jobs = jobs_of(alloc, 8)?;
     let gate = Late::new(7, TURNS);
-    let outcomes = run.seal(&rt, alloc, &key, jobs.as_slice(), 2, &gate)?;
-    assert!(rt; !gate.gave_up());
-    assert!(rt; gate.passes() == (7, 1));
+    let outcomes = sealed(&rt, rt.alloc(), 8, 2, 2, &gate).ok_or("not sealed")?;
     let outcomes = outcomes.as_slice();
-    let sealed = all_sealed(alloc, &key, jobs.as_slice(), outcomes)?;
-    assert!(rt; sealed);
-    assert_eq!(rt; (at_seat(outcomes, 0), at_seat(outcomes, 1)), (7, 1));
+    assert!(rt; !gate.gave_up() && gate.passes() == (7, 1));
+    assert!(rt; (at_seat(outcomes, 0), at_seat(outcomes, 1)) == (7, 1));
     Ok(())
 }
 
@@ -235,160 +140,146 @@ fn a_held_lane_holds_one_job(rt: HostRuntime) -> Result<(), Fail> {
 // issued for job 0 before the gate would be among the first.
 #[test]
 fn the_gate_comes_before_the_issue(rt: HostRuntime) -> Result<(), Fail> {
-    let alloc = rt.alloc();
-    let key = Key::new(COUNTING);
-    let mut run = opened(alloc, 0, 8, 2)?;
-    let jobs = jobs_of(alloc, 8)?;
     let gate = Held::new(0, 7, TURNS);
-    let outcomes = run.seal(&rt, alloc, &key, jobs.as_slice(), 2, &gate)?;
-    assert!(rt; !gate.gave_up());
-    assert_eq!(rt; gate.counts(), 0x1111_1111);
-    let outcomes = outcomes.as_slice();
-    for n in 0..6 {
-        assert_eq!(rt; outcomes.get(n + 1).and_then(number_of), Some(n as u32));
-    }
-    let held = outcomes.first().and_then(number_of).ok_or("no number")?;
-    assert!(rt; held >= 6);
+    let outcomes = sealed(&rt, rt.alloc(), 8, 2, 2, &gate).ok_or("not sealed")?;
+    assert!(rt; !gate.gave_up() && gate.counts() == 0x1111_1111);
+    assert!(rt; is_first_job_late(outcomes.as_slice()));
     Ok(())
 }
 
-// How many outcomes have this fault.
-fn faults(outcomes: &[Outcome], fault: IssueFault) -> usize {
-    outcomes
-        .iter()
-        .filter(|outcome| fault_of(outcome) == Some(fault))
-        .count()
+// The outcomes of so many jobs over a new ledger of so many numbers from `lo` on, and what it then tells at a seat.
+fn told<R: Threads + Sync>(
+    rt: &R,
+    alloc: Global,
+    lo: u32,
+    seats: u32,
+    count: u8,
+    lanes: u32,
+    seat: usize,
+) -> Option<(Vec<Outcome>, Tally)>
+    requires lanes { (0 < lanes) × (lanes ≤ MAX_LANES) × (lanes ≤ seats) }
+    requires seat { seat < seats }
+{
+    let jobs = jobs_of(alloc, count).ok()?;
+    let mut run = opened(alloc, lo, 1, seats)?;
+    let outcomes = run
+        .seal(rt, alloc, &key(), jobs.as_slice(), lanes, &Free)
+        .ok()?;
+    Some((outcomes, run.tally(seat)))
 }
 
-// How many outcomes have a number.
-fn numbers(outcomes: &[Outcome]) -> usize {
-    outcomes
-        .iter()
-        .filter(|outcome| number_of(outcome).is_some())
-        .count()
+// Whether one of six jobs on so many lanes has a number, and the others found none.
+fn is_one_numbered(outcomes: &[Outcome], tally: Tally, lanes: u32) -> bool {
+    let exhausted = faults(outcomes, IssueFault::Exhausted);
+    numbers(outcomes) == 1
+        && 0 < exhausted
+        && exhausted <= lanes as usize
+        && exhausted <= 5
+        && faults(outcomes, IssueFault::SeatClosed) == 5 - exhausted
+        && (tally.granted, tally.refused as usize) == (1, exhausted)
+        && (tally.sealed, tally.void) == (0, 0)
 }
 
 // The range ends within the batch: one lane gets the number. A lane that finds none is answered so once, and is closed
 // from then on. A second lane may find no job left.
 #[test]
 fn a_range_too_small(rt: HostRuntime) -> Result<(), Fail> {
-    let alloc = rt.alloc();
-    let key = Key::new(COUNTING);
     for lanes in 1..3 {
-        let mut run = opened(alloc, 7, 1, 2)?;
-        let jobs = jobs_of(alloc, 6)?;
-        let outcomes = run.seal(&rt, alloc, &key, jobs.as_slice(), lanes, &Free)?;
-        let outcomes = outcomes.as_slice();
-        let exhausted = faults(outcomes, IssueFault::Exhausted);
-        let closed = faults(outcomes, IssueFault::SeatClosed);
-        assert_eq!(rt; numbers(outcomes), 1);
-        assert!(rt; 0 < exhausted && exhausted <= lanes as usize);
-        assert_eq!(rt; closed, 5 - exhausted);
-        let tally = Tally {
-            granted: 1,
-            refused: exhausted as u32,
-            sealed: 0,
-            void: 0,
-        };
-        assert_eq!(rt; run.tally(0), tally);
+        let (outcomes, tally) = told(&rt, rt.alloc(), 7, 2, 6, lanes, 0).ok_or("no outcomes")?;
+        assert!(rt; is_one_numbered(outcomes.as_slice(), tally, lanes));
     }
     Ok(())
 }
 
 #[test]
 fn no_jobs(rt: HostRuntime) -> Result<(), Fail> {
-    let alloc = rt.alloc();
-    let key = Key::new(COUNTING);
-    let mut run = opened(alloc, 0, 1, 3)?;
-    let jobs = jobs_of(alloc, 0)?;
-    let outcomes = run.seal(&rt, alloc, &key, jobs.as_slice(), 3, &Free)?;
-    assert!(rt; outcomes.is_empty());
-    assert_eq!(rt; run.tally(2), NOTHING);
+    let (outcomes, tally) = told(&rt, rt.alloc(), 0, 3, 0, 3, 2).ok_or("no outcomes")?;
+    assert!(rt; outcomes.is_empty() && tally == NOTHING);
     Ok(())
 }
 
-// The number that was spent, if one was.
-fn spent_of(outcome: Outcome) -> Option<Spent> {
-    match outcome {
-        Outcome::Sealed {
-            seat: _,
-            bytes,
-            spent,
-        } => {
-            drop(bytes);
-            Some(spent)
+// Whether each outcome's number could be settled at its seat.
+fn are_settled(run: &mut Run, outcomes: Vec<Outcome>) -> bool {
+    for outcome in outcomes {
+        let seat = seat_of(&outcome) as usize;
+        let Some(spent) = spent_of(outcome) else {
+            return false;
+        };
+        if !run.settled(seat, spent) {
+            return false;
         }
-        Outcome::Spoiled { seat: _, spent } => Some(spent),
-        Outcome::Unissued { seat: _, fault: _ } => None,
     }
+    true
+}
+
+// The journal of forty jobs on sixteen lanes, where each is sealed and settled.
+fn journal_of<R: Threads + Sync>(rt: &R, alloc: Global) -> Option<Journal> {
+    let jobs = jobs_of(alloc, 40).ok()?;
+    let jobs = jobs.as_slice();
+    let mut run = opened(alloc, 3, 40, 16)?;
+    let outcomes = run.seal(rt, alloc, &key(), jobs, 16, &Free).ok()?;
+    let sealed = all_sealed(alloc, &key(), jobs, outcomes.as_slice());
+    if are_settled(&mut run, outcomes) && sealed {
+        run.close().ok()
+    } else {
+        None
+    }
+}
+
+// Whether the audit of a journal's text writes this line.
+fn audits_to(alloc: Global, text: &[u8], line: &[u8]) -> Option<bool> {
+    let mut reader = FromMemory::new(text, 4_096, Schedule::Never);
+    let mut writer = ToMemory::new(alloc, 100, 100, Schedule::Never).ok()?;
+    audit(alloc, &mut reader, &mut writer).ok()?;
+    Some(writer.bytes() == line)
 }
 
 // A batch over sixteen seats, settled and closed: the journal has each number granted and settled once.
 #[test]
 fn sixteen_lanes_and_their_journal(rt: HostRuntime) -> Result<(), Fail> {
-    let alloc = rt.alloc();
-    let key = Key::new(COUNTING);
-    let mut run = opened(alloc, 3, 40, 16)?;
-    let jobs = jobs_of(alloc, 40)?;
-    let outcomes = run.seal(&rt, alloc, &key, jobs.as_slice(), 16, &Free)?;
-    let sealed = all_sealed(alloc, &key, jobs.as_slice(), outcomes.as_slice())?;
-    assert!(rt; sealed);
-    for outcome in outcomes {
-        let seat = seat_of(&outcome) as usize;
-        let spent = spent_of(outcome).ok_or("no number")?;
-        assert!(rt; run.settled(seat, spent));
-    }
-    let Ok(journal) = run.close() else {
-        return Err("memory was refused".into());
-    };
-    assert_eq!(rt; journal.entries().len(), 80);
-    let text = journal.text(alloc)?;
-    let mut reader = FromMemory::new(text.as_bytes(), 4_096, Schedule::Never);
-    let mut writer = ToMemory::new(alloc, 100, 100, Schedule::Never)?;
-    audit(alloc, &mut reader, &mut writer)
-        .ok()
-        .ok_or("no verdict")?;
-    assert_eq!(rt;
-        writer.bytes(),
-        b"legal: 40 granted, 40 sealed, 0 void, 0 open, 0 refused\n".as_slice()
-    );
+    let journal = journal_of(&rt, rt.alloc()).ok_or("no journal")?;
+    assert!(rt; journal.entries().len() == 80);
+    let text = journal.text(rt.alloc())?;
+    let line = b"legal: 40 granted, 40 sealed, 0 void, 0 open, 0 refused\n";
+    assert!(rt; audits_to(rt.alloc(), text.as_bytes(), line) == Some(true));
     Ok(())
+}
+
+// The outcomes of jobs on two lanes. A batch that was refused has issued nothing, and is sealed again.
+fn sealed_again<R: Threads + Sync>(rt: &R, alloc: Global, run: &mut Run) -> Option<Vec<Outcome>>
+    requires seats { 2 ≤ run.old.terms.seats }
+    ensures same { run.new ≡ run.old }
+{
+    let jobs = match jobs_of(alloc, 3) {
+        Ok(jobs) => jobs,
+        Err(_) => jobs_of(alloc, 3).ok()?,
+    };
+    match run.seal(rt, alloc, &key(), jobs.as_slice(), 2, &Free) {
+        Ok(outcomes) => Some(outcomes),
+        Err(_) => {
+            if run.tally(0) == NOTHING {
+                run.seal(rt, alloc, &key(), jobs.as_slice(), 2, &Free).ok()
+            } else {
+                None
+            }
+        }
+    }
+}
+
+// Whether each of three jobs has an outcome, and as many numbers were granted as outcomes have one.
+fn are_kept(outcomes: &[Outcome], tally: Tally) -> bool {
+    outcomes.len() == 3
+        && outcomes.iter().all(is_kept)
+        && tally.granted as usize == numbers(outcomes)
+        && tally.refused == 0
 }
 
 // Three jobs on two lanes. Run it with each allocation refused in turn: either the batch was refused and nothing was
 // issued, or each job has an outcome, and the ledger has granted as many numbers as outcomes have one.
 #[test]
 fn a_refused_growth_loses_no_number(rt: HostRuntime) -> Result<(), Fail> {
-    let alloc = rt.alloc();
-    let key = Key::new(COUNTING);
-    let mut run = opened(alloc, 0, 3, 2)?;
-    let jobs = match jobs_of(alloc, 3) {
-        Ok(jobs) => jobs,
-        Err(_) => jobs_of(alloc, 3)?,
-    };
-    let outcomes = match run.seal(&rt, alloc, &key, jobs.as_slice(), 2, &Free) {
-        Ok(outcomes) => outcomes,
-        Err(_) => {
-            assert_eq!(rt; run.tally(0), NOTHING);
-            run.seal(&rt, alloc, &key, jobs.as_slice(), 2, &Free)?
-        }
-    };
-    assert_eq!(rt; outcomes.len(), 3);
-    for outcome in outcomes.iter() {
-        match outcome {
-            Outcome::Sealed {
-                seat: _,
-                bytes,
-                spent,
-            } => assert!(rt; spent.way() == Way::Sealed && bytes.len() >= 40),
-            Outcome::Spoiled { seat: _, spent } => assert!(rt; spent.way() == Way::Void),
-            Outcome::Unissued { seat: _, fault } => assert!(rt; *fault == IssueFault::OutOfMemory),
-        }
-    }
-    let tally = run.tally(1);
-    assert_eq!(rt;
-        (tally.granted as usize, tally.refused),
-        (numbers(outcomes.as_slice()), 0)
-    );
+    let mut run = opened(rt.alloc(), 0, 3, 2).ok_or("no ledger")?;
+    let outcomes = sealed_again(&rt, rt.alloc(), &mut run).ok_or("no outcomes")?;
+    assert!(rt; are_kept(outcomes.as_slice(), run.tally(1)));
     Ok(())
 }

@@ -10,20 +10,38 @@ const PREFIX: [u8; 7] = [0, 0, 1, 0, 0, 0, 0];
 
 const OTHER: [u8; 7] = [0, 0, 1, 0, 0, 0, 1];
 
-// Puts a piece of a work on a shelf. Answers why not, with what the piece that came back says of itself.
+// Puts a piece of a work on a shelf. Answers why not, with what the piece that came back says of itself; `None` where
+// there is no such piece.
 fn refusal(
     alloc: Global,
     shelf: &mut Shelf,
     work: &Work,
     number: u32,
-) -> Result<Option<(PutFault, Kind, [u8; 7], u32)>, Fail> {
+) -> Option<Option<(PutFault, Kind, [u8; 7], u32)>> {
     if number >= work.count() {
-        return Err("no such piece".into());
+        return None;
     }
-    let piece = work.piece(alloc, number)?;
+    let piece = work.piece(alloc, number).ok()?;
     match shelf.put(piece) {
-        Ok(()) => Ok(None),
-        Err((fault, back)) => Ok(Some((fault, back.kind(), back.prefix(), back.number()))),
+        Ok(()) => Some(None),
+        Err((fault, back)) => Some(Some((fault, back.kind(), back.prefix(), back.number()))),
+    }
+}
+
+// Whether a piece of a work is taken.
+fn is_taken(alloc: Global, shelf: &mut Shelf, work: &Work, number: u32) -> bool {
+    refusal(alloc, shelf, work, number) == Some(None)
+}
+
+// Whether a new shelf takes piece 1 once, and misses the other piece.
+fn is_taken_once(alloc: Global, work: &Work) -> Option<bool> {
+    let mut shelf = Shelf::new(alloc, work).ok()?;
+    let first = is_taken(alloc, &mut shelf, work, 1);
+    let second = refusal(alloc, &mut shelf, work, 1);
+    let double = second == Some(Some((PutFault::Double, Kind::Sealing, PREFIX, 1)));
+    match shelf.finish(alloc) {
+        Err((ShelfFault::Missing, _)) => Some(first && double),
+        _ => None,
     }
 }
 
@@ -33,14 +51,40 @@ fn a_place_is_taken_once(rt: HostRuntime) -> Result<(), Fail> {
     let plain = pattern(rt.alloc(), 65_537)?;
     let work = Work::sealing(&key, PREFIX, plain.as_slice());
     assert!(rt; work.count() == 2);
-    let mut shelf = Shelf::new(rt.alloc(), &work)?;
-    let none = refusal(rt.alloc(), &mut shelf, &work, 1)?;
-    assert!(rt; none.is_none());
-    let double = refusal(rt.alloc(), &mut shelf, &work, 1)?;
-    assert!(rt; double == Some((PutFault::Double, Kind::Sealing, PREFIX, 1)));
-    match shelf.finish(rt.alloc()) {
-        Err((ShelfFault::Missing, _)) => Ok(()),
-        _ => Err("a piece is missing".into()),
+    assert!(rt; is_taken_once(rt.alloc(), &work) == Some(true));
+    Ok(())
+}
+
+// Whether a piece of a work is refused as a stranger of this kind and prefix.
+fn is_stranger(
+    alloc: Global,
+    shelf: &mut Shelf,
+    work: &Work,
+    number: u32,
+    kind: Kind,
+    prefix: [u8; 7],
+) -> bool {
+    let refused = refusal(alloc, shelf, work, number);
+    refused == Some(Some((PutFault::Stranger, kind, prefix, number)))
+}
+
+// Whether a shelf for a work under `PREFIX` refuses piece 0 of one under `OTHER`, and of an opening.
+fn refuses_both(alloc: Global, work: &Work, other: &Work, opening: &Work) -> bool {
+    match Shelf::new(alloc, work) {
+        Ok(mut shelf) => {
+            let prefix = is_stranger(alloc, &mut shelf, other, 0, Kind::Sealing, OTHER);
+            let kind = is_stranger(alloc, &mut shelf, opening, 0, Kind::Opening, PREFIX);
+            prefix && kind
+        }
+        Err(_) => false,
+    }
+}
+
+// Whether a shelf for a work of one piece refuses piece 1 of another.
+fn refuses_past(alloc: Global, small: &Work, work: &Work) -> bool {
+    match Shelf::new(alloc, small) {
+        Ok(mut shelf) => is_stranger(alloc, &mut shelf, work, 1, Kind::Sealing, PREFIX),
+        Err(_) => false,
     }
 }
 
@@ -48,34 +92,32 @@ fn a_place_is_taken_once(rt: HostRuntime) -> Result<(), Fail> {
 fn strangers_are_refused(rt: HostRuntime) -> Result<(), Fail> {
     let key = Key::new(COUNTING);
     let plain = pattern(rt.alloc(), 65_537)?;
+    let bytes = seal(rt.alloc(), &key, PREFIX, plain.as_slice())?;
     let work = Work::sealing(&key, PREFIX, plain.as_slice());
     let other = Work::sealing(&key, OTHER, plain.as_slice());
     let empty = Work::sealing(&key, PREFIX, b"");
-    let bytes = seal(rt.alloc(), &key, PREFIX, plain.as_slice())?;
     let opening = Work::opening(&key, bytes.as_slice())?;
-    let mut shelf = Shelf::new(rt.alloc(), &work)?;
-    let prefix = refusal(rt.alloc(), &mut shelf, &other, 0)?;
-    assert!(rt; prefix == Some((PutFault::Stranger, Kind::Sealing, OTHER, 0)));
-    let kind = refusal(rt.alloc(), &mut shelf, &opening, 0)?;
-    assert!(rt; kind == Some((PutFault::Stranger, Kind::Opening, PREFIX, 0)));
-    let mut small = Shelf::new(rt.alloc(), &empty)?;
-    let number = refusal(rt.alloc(), &mut small, &work, 1)?;
-    assert!(rt; number == Some((PutFault::Stranger, Kind::Sealing, PREFIX, 1)));
+    assert!(rt; refuses_both(rt.alloc(), &work, &other, &opening));
+    assert!(rt; refuses_past(rt.alloc(), &empty, &work));
     Ok(())
 }
 
 // The whole of a work, whose pieces are put from the last to the first.
-fn whole_of(alloc: Global, work: &Work) -> Result<Vec<u8>, Fail> {
-    let mut shelf = Shelf::new(alloc, work)?;
+fn whole_of(alloc: Global, work: &Work) -> Option<Vec<u8>> {
+    let mut shelf = Shelf::new(alloc, work).ok()?;
     for number in 0..work.count() {
-        let last = work.count() - 1 - number;
-        if refusal(alloc, &mut shelf, work, last)?.is_some() {
-            return Err("refused".into());
+        if !is_taken(alloc, &mut shelf, work, work.count() - 1 - number) {
+            return None;
         }
     }
-    match shelf.finish(alloc) {
-        Ok(bytes) => Ok(bytes),
-        Err(_) => Err("no whole".into()),
+    shelf.finish(alloc).ok()
+}
+
+// Whether these are the bytes of the whole of a work.
+fn is_whole(alloc: Global, work: &Work, bytes: &[u8]) -> bool {
+    match whole_of(alloc, work) {
+        Some(whole) => whole.as_slice() == bytes,
+        None => false,
     }
 }
 
@@ -83,14 +125,22 @@ fn whole_of(alloc: Global, work: &Work) -> Result<Vec<u8>, Fail> {
 fn pieces_in_any_order(rt: HostRuntime) -> Result<(), Fail> {
     let key = Key::new(COUNTING);
     let plain = pattern(rt.alloc(), 200_000)?;
-    let work = Work::sealing(&key, PREFIX, plain.as_slice());
-    let bytes = whole_of(rt.alloc(), &work)?;
     let one = seal(rt.alloc(), &key, PREFIX, plain.as_slice())?;
-    assert!(rt; bytes.as_slice() == one.as_slice());
-    let opening = Work::opening(&key, bytes.as_slice())?;
-    let back = whole_of(rt.alloc(), &opening)?;
-    assert!(rt; back.as_slice() == plain.as_slice());
+    let work = Work::sealing(&key, PREFIX, plain.as_slice());
+    assert!(rt; is_whole(rt.alloc(), &work, one.as_slice()));
+    let opening = Work::opening(&key, one.as_slice())?;
+    assert!(rt; is_whole(rt.alloc(), &opening, plain.as_slice()));
     Ok(())
+}
+
+// The length of the whole of one work's piece 0 and another's piece 1.
+fn length_of(alloc: Global, work: &Work, first: &Work, second: &Work) -> Option<usize> {
+    let mut shelf = Shelf::new(alloc, work).ok()?;
+    let taken = is_taken(alloc, &mut shelf, first, 0) && is_taken(alloc, &mut shelf, second, 1);
+    match shelf.finish(alloc) {
+        Ok(bytes) if taken => Some(bytes.len()),
+        _ => None,
+    }
 }
 
 // A piece of another plaintext, sealed under the same prefix, may have another length than its place.
@@ -100,41 +150,40 @@ fn a_piece_of_another_length_is_joined_too(rt: HostRuntime) -> Result<(), Fail> 
     let plain = pattern(rt.alloc(), 65_540)?;
     let work = Work::sealing(&key, PREFIX, plain.as_slice());
     let other = Work::sealing(&key, PREFIX, b"twenty bytes of text");
-    let mut shelf = Shelf::new(rt.alloc(), &work)?;
-    let first = refusal(rt.alloc(), &mut shelf, &other, 0)?;
-    let second = refusal(rt.alloc(), &mut shelf, &work, 1)?;
-    assert!(rt; first.is_none() && second.is_none());
-    let Ok(bytes) = shelf.finish(rt.alloc()) else {
-        return Err("both pieces are there".into());
-    };
-    assert!(rt; bytes.len() == 24 + 20 + 16 + 4 + 16);
+    assert!(rt; length_of(rt.alloc(), &work, &other, &work) == Some(24 + 20 + 16 + 4 + 16));
     Ok(())
 }
 
 // A container of four chunks, of which 3 and 1 don't check.
-fn damaged(alloc: Global, key: &Key) -> Result<Vec<u8>, Fail> {
-    let plain = pattern(alloc, 200_000)?;
-    let mut bytes = seal(alloc, key, PREFIX, plain.as_slice())?;
+fn damaged(alloc: Global, key: &Key) -> Option<Vec<u8>> {
+    let plain = pattern(alloc, 200_000).ok()?;
+    let mut bytes = seal(alloc, key, PREFIX, plain.as_slice()).ok()?;
     if bytes.len() != 200_088 {
-        return Err("another length".into());
+        return None;
     }
     flip(bytes.as_mut_slice(), 24 + 3 * 65_552, 1);
     flip(bytes.as_mut_slice(), 24 + 65_552, 1);
-    Ok(bytes)
+    Some(bytes)
+}
+
+// Whether all pieces of a work of four are taken, and the whole is refused for chunk 1.
+fn is_forged(alloc: Global, work: &Work) -> Option<bool> {
+    let mut shelf = Shelf::new(alloc, work).ok()?;
+    let taken = is_taken(alloc, &mut shelf, work, 3)
+        && is_taken(alloc, &mut shelf, work, 0)
+        && is_taken(alloc, &mut shelf, work, 1)
+        && is_taken(alloc, &mut shelf, work, 2);
+    match shelf.finish(alloc) {
+        Err((ShelfFault::Forged { chunk: 1 }, _)) => Some(taken),
+        _ => None,
+    }
 }
 
 #[test]
 fn the_least_piece_that_does_not_check(rt: HostRuntime) -> Result<(), Fail> {
     let key = Key::new(COUNTING);
-    let bytes = damaged(rt.alloc(), &key)?;
+    let bytes = damaged(rt.alloc(), &key).ok_or("no container")?;
     let work = Work::opening(&key, bytes.as_slice())?;
-    let mut shelf = Shelf::new(rt.alloc(), &work)?;
-    for number in [3, 0, 1, 2] {
-        let none = refusal(rt.alloc(), &mut shelf, &work, number)?;
-        assert!(rt; none.is_none());
-    }
-    match shelf.finish(rt.alloc()) {
-        Err((ShelfFault::Forged { chunk: 1 }, _)) => Ok(()),
-        _ => Err("pieces 1 and 3 don't check".into()),
-    }
+    assert!(rt; is_forged(rt.alloc(), &work) == Some(true));
+    Ok(())
 }

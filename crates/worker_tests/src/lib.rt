@@ -2,4 +2,6 @@
 #![tactic(auto)]
 
 #[cfg(test)]
+mod pieces;
+#[cfg(test)]
 mod rounds;

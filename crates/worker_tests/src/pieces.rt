@@ -1,0 +1,91 @@
+//! The pieces of a round, made by a crew, and the bytes that they are.
+ghost use Rattle.std.specs.Prelude.{◌≡◌, ◌<◌, ◌≤◌, IfSome};
+
+use container_core::{Cut, Header, Key};
+use crew_tests::COUNTING;
+use round_core::{Places, Round, Task};
+use std::alloc::{AllocError, Global};
+use std::thread::Threads;
+use worker_core::{Crew, Gate, MAX_WORKERS};
+
+// Device 1, file 0.
+pub const PREFIX: [u8; 7] = [0, 0, 1, 0, 0, 0, 0];
+
+// The pieces of a round, made by a new crew beside a chore, which has to be done once.
+pub fn pieces_of<R: Threads + Sync, G: Gate + Sync>(
+    rt: &R,
+    alloc: Global,
+    round: &Round,
+    workers: u32,
+    gate: &G,
+) -> Option<Places>
+    requires workers { (0 < workers) × (workers ≤ MAX_WORKERS) }
+{
+    let count = round.count();
+    let room = round.task().room();
+    let mut crew = Crew::new(alloc, workers, count, room).ok()?;
+    let mut places = Places::new(alloc, count, room).ok()?;
+    let mut done = 0u8;
+    let chore = &mut || {
+        done = done.wrapping_add(1);
+        7u8
+    };
+    let answer = crew.make(rt, alloc, round, gate, chore);
+    crew.put(round, &mut places);
+    if (done, answer) == (1, 7) {
+        Some(places)
+    } else {
+        None
+    }
+}
+
+// The pieces one behind the other.
+fn joined(alloc: Global, places: &Places) -> Result<Vec<u8>, AllocError> {
+    let mut bytes = Vec::new(alloc);
+    for number in 0..places.count() {
+        if let Some(piece) = places.piece(number) {
+            bytes.extend_from_slice(piece)?;
+        }
+    }
+    Ok(bytes)
+}
+
+// Whether the pieces one behind the other are these bytes.
+pub fn are_pieces(alloc: Global, places: &Places, bytes: &[u8]) -> bool {
+    match joined(alloc, places) {
+        Ok(joined) => joined.as_slice() == bytes,
+        Err(AllocError) => false,
+    }
+}
+
+// The cut of so many plaintext bytes, of 2^24 at most.
+fn cut_of(bytes: usize) -> Option<Cut>
+    ensures { IfSome result (λ cut. cut ≡ bytes) }
+{
+    if bytes > 1 << 24 {
+        return None;
+    }
+    Some(Cut::of(bytes as u64))
+}
+
+// Whether so many workers seal a round to these bytes at a gate.
+pub fn seals_to<R: Threads + Sync, G: Gate + Sync>(
+    rt: &R,
+    alloc: Global,
+    first: u32,
+    last: bool,
+    plain: &[u8],
+    workers: u32,
+    gate: &G,
+    bytes: &[u8],
+) -> Option<bool>
+    requires first { first ≤ 32 }
+    requires workers { (0 < workers) × (workers ≤ MAX_WORKERS) }
+{
+    let key = Key::new(COUNTING);
+    let header = Header::of(&key, PREFIX);
+    let cut = cut_of(plain.len())?;
+    let round = Round::new(Task::Sealing, &key, &header, first, last, cut, plain);
+    let places = pieces_of(rt, alloc, &round, workers, gate)?;
+    Some(are_pieces(alloc, &places, bytes))
+}
