@@ -15,7 +15,7 @@ pub enum Which {
 }
 
 /// What the next run finds of each file: all that was written, as where the program ends, or what was synced.
-#[derive(Clone, Copy, Debug)]
+#[derive(Clone, Copy)]
 pub enum Left {
     Written,
     /// As after a power cut.
@@ -24,14 +24,12 @@ pub enum Left {
     DatabaseSynced,
 }
 
-impl Left {
-    pub const ALL: [Left; 4] = [
-        Left::Written,
-        Left::Synced,
-        Left::LogSynced,
-        Left::DatabaseSynced,
-    ];
-}
+pub static ALL_LEFT: [Left; 4] = [
+    Left::Written,
+    Left::Synced,
+    Left::LogSynced,
+    Left::DatabaseSynced,
+];
 
 /// New files, of which one fails each call after so many.
 pub fn fused(alloc: Global, which: Which, calls: u64) -> Files<Stopping> {
@@ -47,8 +45,8 @@ pub fn fused(alloc: Global, which: Which, calls: u64) -> Files<Stopping> {
 
 /// What is done over a connection. It is written over any store, since a function that names the store over files costs
 /// far more to prove.
-pub trait Run {
-    type Answer: Drop;
+pub trait Run: Copy {
+    type Answer: Copy;
 
     /// What it answers, and what it leaves.
     fn over<S: Fold>(self, conn: Connection<S>) -> (Self::Answer, Rest<S>);
@@ -63,7 +61,7 @@ pub enum Rest<S: Fold> {
 }
 
 /// What a run over these files answers, if they open, and the files that are left, with the log as it is.
-pub fn run_over<D: Disk + Drop, R: Run + Drop>(
+pub fn run_over<D: Disk + Drop, R: Run>(
     alloc: Global,
     files: Files<D>,
     run: R,
@@ -75,6 +73,16 @@ pub fn run_over<D: Disk + Drop, R: Run + Drop>(
         }
         Err(files) => (None, Some(files)),
     }
+}
+
+/// The answer alone.
+pub fn answer_over<D: Disk + Drop, R: Run>(
+    alloc: Global,
+    files: Files<D>,
+    run: R,
+) -> Option<R::Answer> {
+    let (answer, _) = run_over(alloc, files, run);
+    answer
 }
 
 /// A connection over these files, or the files.
@@ -130,13 +138,17 @@ pub fn copy(alloc: Global, file: &Stopping) -> Option<Memory> {
 
 /// Whether both tables are there; `None` where one is.
 pub fn has_both_or_none<S: Alter>(conn: &mut Connection<S>) -> Option<bool> {
-    let has_mark = conn.prepare("SELECT next FROM mark").is_ok();
-    let has_taken = conn.prepare("SELECT lo FROM taken").is_ok();
+    let has_mark = is_prepared(conn, "SELECT next FROM mark");
+    let has_taken = is_prepared(conn, "SELECT lo FROM taken");
     if has_mark == has_taken {
         Some(has_mark)
     } else {
         None
     }
+}
+
+fn is_prepared<S: Alter>(conn: &mut Connection<S>, sql: &str) -> bool {
+    conn.prepare(sql).is_ok()
 }
 
 /// Whether device 1 has these ranges, and the next number is this one. If it has them that number is reserved.

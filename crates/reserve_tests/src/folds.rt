@@ -1,11 +1,13 @@
 //! The log copied into the ledger file: that file alone then has the ranges. Where the disk stops on the way the two files have them.
-use crate::disk::{Left, Rest, Run, Stopping, Which, begins_with, copy, found, fused, run_over};
+use crate::disk::{
+    ALL_LEFT, Left, Rest, Run, Stopping, Which, answer_over, begins_with, copy, found, fused,
+    run_over,
+};
 use crate::store::{ID, keeper, reserve};
 use reserve_core::{Fold, LedgerFile, ReserveFault};
 use sqlite::{Alter, Connection, Files};
 use sqlite_disk::Memory;
 use std::alloc::Global;
-use std::test::*;
 
 /// A ledger in which device 1 has the numbers 0 to 2, which is then folded so many times, at most twice.
 #[derive(Clone, Copy)]
@@ -14,7 +16,7 @@ struct Folds {
 }
 
 /// What the folds answered, and whether the ledger was folded in the end.
-#[derive(Drop)]
+#[derive(Clone, Copy)]
 struct Folded {
     first: Option<Result<(), ReserveFault>>,
     second: Option<Result<(), ReserveFault>>,
@@ -86,55 +88,81 @@ fn gives_next<S: Alter + Drop>(
 
 /// The same of a keeper of these files.
 fn goes_on(alloc: Global, files: Files<Memory>, ranges: &[(u32, u64)], next: u32) -> Option<bool> {
-    let (answer, _) = run_over(alloc, files, GoesOn { ranges, next });
-    answer?
+    answer_over(alloc, files, GoesOn { ranges, next })?
 }
 
-/// The database file beside an empty log.
-fn without_log(alloc: Global, files: &Files<Stopping>) -> Option<Files<Memory>> {
-    Some(Files {
-        log: Memory::new(alloc),
-        db: copy(alloc, &files.db)?,
-    })
+/// The same of the database file beside an empty log.
+fn goes_on_alone(
+    alloc: Global,
+    files: &Files<Stopping>,
+    ranges: &[(u32, u64)],
+    next: u32,
+) -> Option<bool> {
+    let db = copy(alloc, &files.db)?;
+    let log = Memory::new(alloc);
+    goes_on(alloc, Files { log, db }, ranges, next)
 }
 
 /// How a fold ended.
-#[derive(Clone, Copy, PartialEq, Eq)]
+#[derive(Clone, Copy)]
 enum End {
     /// The disk stopped before.
     NotBegun,
     Stopped,
     Done,
+    /// Otherwise than the disk calls for.
+    Other,
 }
 
-/// Folds a ledger whose disk fails each call after so many. `None` where the files don't go on at 3, or the answer is
-/// another than the one that the disk calls for.
-fn fold_with(alloc: Global, which: Which, left: Left, calls: u64) -> Option<End> {
-    let (folded, files) = run_over(alloc, fused(alloc, which, calls), Folds { times: 1 });
+fn end_of(folded: Option<Option<Folded>>) -> End {
     let Some(Some(folded)) = folded else {
-        return Some(End::NotBegun);
+        return End::NotBegun;
     };
-    if !folded.is_folded {
-        return None;
+    match folded.first {
+        Some(Ok(())) if folded.is_folded => End::Done,
+        Some(Err(ReserveFault::Store)) if folded.is_folded => End::Stopped,
+        _ => End::Other,
     }
-    let end = match folded.first? {
-        Ok(()) => End::Done,
-        Err(ReserveFault::Store) => End::Stopped,
-        Err(_) => return None,
-    };
-    if go_on(alloc, files?, left, end)? {
+}
+
+/// What a ledger whose disk fails each call after so many tells of so many folds, and its files.
+fn after_folds(
+    alloc: Global,
+    which: Which,
+    calls: u64,
+    times: u32,
+) -> (Option<Option<Folded>>, Option<Files<Stopping>>) {
+    run_over(alloc, fused(alloc, which, calls), Folds { times })
+}
+
+/// How one fold of a ledger ends whose disk fails each call after so many. `None` where the files don't go on at 3.
+fn fold_with(alloc: Global, which: Which, left: Left, calls: u64) -> Option<End> {
+    let (folded, files) = after_folds(alloc, which, calls, 1);
+    let end = end_of(folded);
+    if go_on(alloc, files, left, end) == Some(true) {
         Some(end)
     } else {
         None
     }
 }
 
-/// Whether these files go on at 3, and where the fold is done the database file alone too.
-fn go_on(alloc: Global, files: Files<Stopping>, left: Left, end: End) -> Option<bool> {
-    if end == End::Done && !goes_on(alloc, without_log(alloc, &files)?, &[(0, 3)], 3)? {
-        return Some(false);
+/// Whether these files go on at 3 where a fold was begun, and where it is done the database file alone too.
+fn go_on(alloc: Global, files: Option<Files<Stopping>>, left: Left, end: End) -> Option<bool> {
+    match end {
+        End::NotBegun => Some(true),
+        End::Other => Some(false),
+        End::Stopped => goes_on_left(alloc, files?, left),
+        End::Done => go_on_alone_too(alloc, files?, left),
     }
+}
+
+fn goes_on_left(alloc: Global, files: Files<Stopping>, left: Left) -> Option<bool> {
     goes_on(alloc, found(alloc, files, left)?, &[(0, 3)], 3)
+}
+
+fn go_on_alone_too(alloc: Global, files: Files<Stopping>, left: Left) -> Option<bool> {
+    let is_alone = goes_on_alone(alloc, &files, &[(0, 3)], 3);
+    Some(goes_on_left(alloc, files, left)? && is_alone?)
 }
 
 /// Folds with a disk that stops after 0 calls, 1 call and so on until a fold is done. It tells how many were stopped.
@@ -145,69 +173,77 @@ fn stop_each_fold(alloc: Global, which: Which, left: Left) -> Option<u32> {
             End::NotBegun => {}
             End::Stopped => stopped = stopped.saturating_add(1),
             End::Done => return Some(stopped),
+            End::Other => return None,
         }
     }
     None
 }
 
-/// What a ledger whose disk doesn't stop tells of so many folds, and its files.
-fn after_folds(alloc: Global, times: u32) -> Option<(Folded, Files<Stopping>)> {
-    let files = fused(alloc, Which::Log, u64::MAX);
-    let (folded, files) = run_over(alloc, files, Folds { times });
-    Some((folded??, files?))
+/// Whether some folds are stopped, whatever is left, and each keeps the ranges.
+fn are_stopped(alloc: Global, which: Which) -> bool {
+    for left in &ALL_LEFT {
+        match stop_each_fold(alloc, which, *left) {
+            Some(stopped) if stopped > 0 => {}
+            _ => return false,
+        }
+    }
+    true
+}
+
+/// Whether a ledger that is folded goes on without its log.
+fn outlasts_its_log(alloc: Global) -> Option<bool> {
+    let (folded, files) = after_folds(alloc, Which::Log, u64::MAX, 1);
+    match end_of(folded) {
+        End::Done => goes_on_alone(alloc, &files?, &[(0, 3)], 3),
+        _ => None,
+    }
 }
 
 #[test]
-fn a_folded_file_has_the_ranges_without_its_log(rt: HostRuntime) -> Result<(), Fail> {
-    let alloc = rt.alloc();
-    let (folded, files) = after_folds(alloc, 1).ok_or("no ledger")?;
-    assert_eq!(rt; folded.first, Some(Ok(())));
-    assert!(rt; folded.is_folded);
-    let files = without_log(alloc, &files).ok_or("no copy")?;
-    assert_eq!(rt; goes_on(alloc, files, &[(0, 3)], 3), Some(true));
-    Ok(())
+fn a_folded_file_has_the_ranges_without_its_log(rt: HostRuntime) {
+    assert!(rt; outlasts_its_log(rt.alloc()) == Some(true));
+}
+
+/// Whether a ledger that isn't folded goes on with its log, and begins at 0 without.
+fn rests_on_its_log(alloc: Global) -> Option<bool> {
+    match after_folds(alloc, Which::Log, u64::MAX, 0) {
+        (Some(Some(folded)), Some(files)) => {
+            Some(!folded.is_folded && rest_on_log(alloc, files)?)
+        }
+        _ => None,
+    }
+}
+
+fn rest_on_log(alloc: Global, files: Files<Stopping>) -> Option<bool> {
+    let is_lost = goes_on_alone(alloc, &files, &[], 0);
+    Some(goes_on_left(alloc, files, Left::Written)? && is_lost?)
 }
 
 /// What the fold is for.
 #[test]
-fn a_file_that_was_not_folded_lacks_them(rt: HostRuntime) -> Result<(), Fail> {
-    let alloc = rt.alloc();
-    let (folded, files) = after_folds(alloc, 0).ok_or("no ledger")?;
-    assert!(rt; !folded.is_folded);
-    let alone = without_log(alloc, &files).ok_or("no copy")?;
-    assert_eq!(rt; goes_on(alloc, alone, &[], 0), Some(true));
-    let both = found(alloc, files, Left::Written).ok_or("no copy")?;
-    assert_eq!(rt; goes_on(alloc, both, &[(0, 3)], 3), Some(true));
-    Ok(())
+fn a_file_that_was_not_folded_lacks_them(rt: HostRuntime) {
+    assert!(rt; rests_on_its_log(rt.alloc()) == Some(true));
+}
+
+/// Whether the second fold of a ledger is refused, behind one that is done.
+fn is_second_refused(alloc: Global) -> Option<bool> {
+    let (folded, _) = after_folds(alloc, Which::Log, u64::MAX, 2);
+    let folded = folded??;
+    let is_refused = folded.second == Some(Err(ReserveFault::Store));
+    Some(is_refused && folded.first == Some(Ok(())) && folded.is_folded)
 }
 
 #[test]
-fn a_second_fold_is_refused(rt: HostRuntime) -> Result<(), Fail> {
-    let (folded, _) = after_folds(rt.alloc(), 2).ok_or("no ledger")?;
-    assert_eq!(rt; folded.first, Some(Ok(())));
-    assert_eq!(rt; folded.second, Some(Err(ReserveFault::Store)));
-    assert!(rt; folded.is_folded);
-    Ok(())
+fn a_second_fold_is_refused(rt: HostRuntime) {
+    assert!(rt; is_second_refused(rt.alloc()) == Some(true));
 }
 
 #[test]
-fn a_fold_stopped_by_the_log_keeps_the_ranges(rt: HostRuntime) -> Result<(), Fail> {
-    for left in Left::ALL {
-        let stopped = stop_each_fold(rt.alloc(), Which::Log, left).ok_or("a range is missing")?;
-        println!(rt; "log, {left:?}: {stopped} folds stopped")?;
-        assert!(rt; stopped > 0);
-    }
-    Ok(())
+fn a_fold_stopped_by_the_log_keeps_the_ranges(rt: HostRuntime) {
+    assert!(rt; are_stopped(rt.alloc(), Which::Log));
 }
 
 #[test]
-fn a_fold_stopped_by_the_database_keeps_the_ranges(rt: HostRuntime) -> Result<(), Fail> {
-    for left in Left::ALL {
-        let stopped = stop_each_fold(rt.alloc(), Which::Database, left).ok_or(
-            "a range is missing",
-        )?;
-        println!(rt; "database, {left:?}: {stopped} folds stopped")?;
-        assert!(rt; stopped > 0);
-    }
-    Ok(())
+fn a_fold_stopped_by_the_database_keeps_the_ranges(rt: HostRuntime) {
+    assert!(rt; are_stopped(rt.alloc(), Which::Database));
 }

@@ -1,18 +1,20 @@
 //! Runs whose disk stops: from some call on one of the two files answers errors alone, so that each call is the first to fail once.
-use crate::disk::{Left, Rest, Run, Which, begins_with, found, fused, has_both_or_none, run_over};
+use crate::disk::{
+    ALL_LEFT, Left, Rest, Run, Stopping, Which, answer_over, begins_with, found, fused,
+    has_both_or_none, run_over,
+};
 use crate::store::{ID, keeper, reserve};
 use reserve_core::{Fold, Keeper};
-use sqlite::{Alter, Connection};
+use sqlite::{Alter, Connection, Files};
 use std::alloc::Global;
-use std::test::*;
 
 /// How many numbers a run reserves, and where each of these ranges begins.
-const COUNTS: [u32; 3] = [1, 3, 65_535];
+static COUNTS: [u32; 3] = [1, 3, 65_535];
 
-const BEGINS: [u32; 3] = [0, 1, 4];
+static BEGINS: [u32; 3] = [0, 1, 4];
 
 /// The ranges that a run reserves.
-const RANGES: [(u32, u64); 3] = [(0, 1), (1, 3), (4, 65_535)];
+static RANGES: [(u32, u64); 3] = [(0, 1), (1, 3), (4, 65_535)];
 
 /// What a run told before its disk stopped.
 #[derive(Clone, Copy)]
@@ -88,44 +90,53 @@ impl Run for Shows {
 fn shows_what_was_told<S: Alter + Drop>(mut conn: Connection<S>, told: Told) -> Option<bool> {
     let has_tables = has_both_or_none(&mut conn)?;
     let mut keeper = keeper(conn).ok()?;
+    Some(has_what_was_told(&mut keeper, has_tables, told))
+}
+
+fn has_what_was_told<S: Alter>(keeper: &mut Keeper<S>, has_tables: bool, told: Told) -> bool {
     if told.has_keeper && !has_tables {
-        return Some(false);
+        return false;
     }
     if !told.has_keeper {
-        return Some(begins_with(&mut keeper, &[], 0));
+        return begins_with(keeper, &[], 0);
     }
-    let next = match told.answered {
+    let answered = told.answered.min(3);
+    let more = told.answered.min(2) + 1;
+    begins_with(keeper, &RANGES[..answered], next_after(answered))
+        || begins_with(keeper, &RANGES[..more], next_after(more))
+}
+
+/// The number behind so many of the ranges.
+fn next_after(ranges: usize) -> u32 {
+    match ranges {
         0 => 0,
         1 => 1,
         2 => 4,
         _ => 65_539,
-    };
-    if begins_with(&mut keeper, &RANGES[..told.answered.min(3)], next) {
-        return Some(true);
     }
-    let after = match told.answered {
-        0 => 1,
-        1 => 4,
-        _ => 65_539,
-    };
-    let more = told.answered.min(2) + 1;
-    Some(begins_with(&mut keeper, &RANGES[..more], after))
 }
 
 /// What a run told whose disk stops after so many calls. `None` where what it leaves lacks a range, or has another.
 fn told_before(alloc: Global, which: Which, left: Left, calls: u64) -> Option<Told> {
     let (told, files) = run_over(alloc, fused(alloc, which, calls), Reserves);
-    let told = match told {
-        Some(told) => told?,
-        None => NOTHING,
-    };
-    let files = found(alloc, files?, left)?;
-    let (shown, _) = run_over(alloc, files, Shows { told });
-    if matches!(shown, Some(Some(true))) {
-        Some(told)
+    let told = told.unwrap_or(Some(NOTHING));
+    if is_shown(alloc, files, left, told) == Some(true) {
+        told
     } else {
         None
     }
+}
+
+/// Whether these files show to the next run what was told.
+fn is_shown(
+    alloc: Global,
+    files: Option<Files<Stopping>>,
+    left: Left,
+    told: Option<Told>,
+) -> Option<bool> {
+    let files = found(alloc, files?, left)?;
+    let told = told?;
+    answer_over(alloc, files, Shows { told })?
 }
 
 /// Stops after 0 calls, 1 call and so on until a run is given all three ranges, and looks at what each leaves. It tells
@@ -149,29 +160,25 @@ fn stop_each(alloc: Global, which: Which, left: Left) -> Option<Count> {
     None
 }
 
-#[test]
-fn a_stop_of_the_log_leaves_what_was_told(rt: HostRuntime) -> Result<(), Fail> {
-    for left in Left::ALL {
-        let count = stop_each(rt.alloc(), Which::Log, left).ok_or("a range is missing")?;
-        println!(rt;
-            "log, {left:?}: {} stops while opening, {} while reserving",
-            count.opening, count.reserving
-        )?;
-        assert!(rt; count.opening > 0 && count.reserving > 0);
+/// Whether some runs are stopped while they open the files, whatever is left, and some while they reserve, where they have
+/// to be.
+fn are_stopped(alloc: Global, which: Which, has_to_reserve: bool) -> bool {
+    for left in &ALL_LEFT {
+        match stop_each(alloc, which, *left) {
+            Some(count) if count.opening > 0 && (count.reserving > 0 || !has_to_reserve) => {}
+            _ => return false,
+        }
     }
-    Ok(())
+    true
+}
+
+#[test]
+fn a_stop_of_the_log_leaves_what_was_told(rt: HostRuntime) {
+    assert!(rt; are_stopped(rt.alloc(), Which::Log, true));
 }
 
 /// A reservation doesn't touch the database file, so all stops come while it is opened.
 #[test]
-fn a_stop_of_the_database_leaves_what_was_told(rt: HostRuntime) -> Result<(), Fail> {
-    for left in Left::ALL {
-        let count = stop_each(rt.alloc(), Which::Database, left).ok_or("a range is missing")?;
-        println!(rt;
-            "database, {left:?}: {} stops while opening, {} while reserving",
-            count.opening, count.reserving
-        )?;
-        assert!(rt; count.opening > 0);
-    }
-    Ok(())
+fn a_stop_of_the_database_leaves_what_was_told(rt: HostRuntime) {
+    assert!(rt; are_stopped(rt.alloc(), Which::Database, false));
 }

@@ -5,7 +5,7 @@ use sqlite::{Alter, Connection, MemStore, params};
 use std::alloc::Global;
 
 /// The identity of the key 00 01 .. 1f: its SHA-256.
-pub const ID: [u8; 32] = [
+pub static ID: [u8; 32] = [
     0x63, 0x0d, 0xcd, 0x29, 0x66, 0xc4, 0x33, 0x66, 0x91, 0x12, 0x54, 0x48, 0xbb, 0xb2, 0x5b, 0x4f,
     0xf4, 0x12, 0xa4, 0x9c, 0x73, 0x2d, 0xb2, 0xc8, 0xab, 0xc1, 0xb8, 0x58, 0x1b, 0xd7, 0x10, 0xdd,
 ];
@@ -22,10 +22,20 @@ pub const TABLES: &str = "CREATE TABLE mark (key_id BLOB NOT NULL, device INTEGE
 /// A database in memory after these statements.
 pub fn database(alloc: Global, sql: &[&str]) -> Option<Connection<MemStore>> {
     let mut conn = Connection::open_in_memory(alloc).ok()?;
-    for text in sql {
-        conn.execute_batch(text).ok()?;
+    if runs_all(&mut conn, sql) {
+        Some(conn)
+    } else {
+        None
     }
-    Some(conn)
+}
+
+fn runs_all<S: Alter>(conn: &mut Connection<S>, sql: &[&str]) -> bool {
+    for text in sql {
+        if conn.execute_batch(text).is_err() {
+            return false;
+        }
+    }
+    true
 }
 
 /// A row of `mark`: device and next. Of `taken`: device, lo and size. Both are of the key id `ID`.
@@ -33,63 +43,82 @@ pub type Mark = (i64, i64);
 
 pub type Taken = (i64, i64, i64);
 
-/// Puts these rows in, in this order.
-pub fn put_rows(conn: &mut Connection<MemStore>, marks: &[Mark], taken: &[Taken]) -> Option<()> {
-    let id = ID.as_slice();
+/// Puts a row of `ID` into `mark`, and answers whether it is there.
+fn has_put_mark<S: Alter>(conn: &mut Connection<S>, device: i64, next: i64) -> bool {
+    let row = params![ID.as_slice(), device, next];
+    conn.execute("INSERT INTO mark VALUES (?1, ?2, ?3)", row)
+        .is_ok()
+}
+
+/// The same of `taken`.
+fn has_put_taken<S: Alter>(conn: &mut Connection<S>, device: i64, lo: i64, size: i64) -> bool {
+    let row = params![ID.as_slice(), device, lo, size];
+    conn.execute("INSERT INTO taken VALUES (?1, ?2, ?3, ?4)", row)
+        .is_ok()
+}
+
+/// Puts these rows in, in this order, and answers whether they are there.
+fn has_put_rows<S: Alter>(conn: &mut Connection<S>, marks: &[Mark], taken: &[Taken]) -> bool {
     for (device, next) in marks {
-        let row = params![id, *device, *next];
-        conn.execute("INSERT INTO mark VALUES (?1, ?2, ?3)", row)
-            .ok()?;
+        if !has_put_mark(conn, *device, *next) {
+            return false;
+        }
     }
     for (device, lo, size) in taken {
-        let row = params![id, *device, *lo, *size];
-        conn.execute("INSERT INTO taken VALUES (?1, ?2, ?3, ?4)", row)
-            .ok()?;
+        if !has_put_taken(conn, *device, *lo, *size) {
+            return false;
+        }
     }
-    Some(())
+    true
 }
 
 /// A database in memory with both tables and these rows.
 pub fn ledger(alloc: Global, marks: &[Mark], taken: &[Taken]) -> Option<Connection<MemStore>> {
     let mut conn = database(alloc, &[TABLES])?;
-    put_rows(&mut conn, marks, taken)?;
-    Some(conn)
+    if has_put_rows(&mut conn, marks, taken) {
+        Some(conn)
+    } else {
+        None
+    }
 }
 
 /// A ledger in memory in which device 1 has so many ranges, each of one number.
 pub fn ledger_of_many(alloc: Global, ranges: u32) -> Option<Connection<MemStore>> {
     let mut conn = database(alloc, &[TABLES, "BEGIN"])?;
-    let id = ID.as_slice();
-    for lo in 0..ranges {
-        conn.execute("INSERT INTO taken VALUES (?1, 1, ?2, 1)", params![id, lo])
-            .ok()?;
+    if has_put_many(&mut conn, ranges) {
+        Some(conn)
+    } else {
+        None
     }
-    conn.execute("INSERT INTO mark VALUES (?1, 1, ?2)", params![id, ranges])
-        .ok()?;
-    conn.execute_batch("COMMIT").ok()?;
-    Some(conn)
+}
+
+fn has_put_many<S: Alter>(conn: &mut Connection<S>, ranges: u32) -> bool {
+    for lo in 0..ranges {
+        if !has_put_taken(conn, 1, i64::from(lo), 1) {
+            return false;
+        }
+    }
+    has_put_mark(conn, 1, i64::from(ranges)) && conn.execute_batch("COMMIT").is_ok()
 }
 
 /// A ledger in memory in which the devices from 0 have a range of one number each.
 pub fn ledger_of_devices(alloc: Global, devices: u32) -> Option<Connection<MemStore>> {
     let mut conn = database(alloc, &[TABLES, "BEGIN"])?;
-    let id = ID.as_slice();
-    for device in 0..devices {
-        put_device(&mut conn, id, device)?;
+    if has_put_devices(&mut conn, devices) {
+        Some(conn)
+    } else {
+        None
     }
-    conn.execute_batch("COMMIT").ok()?;
-    Some(conn)
 }
 
-fn put_device(conn: &mut Connection<MemStore>, id: &[u8], device: u32) -> Option<()> {
-    conn.execute("INSERT INTO mark VALUES (?1, ?2, 1)", params![id, device])
-        .ok()?;
-    conn.execute(
-        "INSERT INTO taken VALUES (?1, ?2, 0, 1)",
-        params![id, device],
-    )
-    .ok()?;
-    Some(())
+fn has_put_devices<S: Alter>(conn: &mut Connection<S>, devices: u32) -> bool {
+    for device in 0..devices {
+        let device = i64::from(device);
+        if !has_put_mark(conn, device, 1) || !has_put_taken(conn, device, 0, 1) {
+            return false;
+        }
+    }
+    conn.execute_batch("COMMIT").is_ok()
 }
 
 /// The keeper of a database, or why there is none.

@@ -22,35 +22,48 @@ fn read_of(digits: usize, end: &[u8]) -> Result<[u8; 32], KeyFault> {
 }
 
 // The SHA-256 of 00 01 .. 1f, from Python's `hashlib`.
-const ID: [u8; 32] = [
+static ID: [u8; 32] = [
     0x63, 0x0d, 0xcd, 0x29, 0x66, 0xc4, 0x33, 0x66, 0x91, 0x12, 0x54, 0x48, 0xbb, 0xb2, 0x5b, 0x4f,
     0xf4, 0x12, 0xa4, 0x9c, 0x73, 0x2d, 0xb2, 0xc8, 0xab, 0xc1, 0xb8, 0x58, 0x1b, 0xd7, 0x10, 0xdd,
 ];
 
-#[test]
-fn sixty_four_digits_and_one_of_three_ends_are_a_key(rt: HostRuntime) {
-    for end in [b"".as_slice(), b"\n".as_slice(), b"\r\n".as_slice()] {
-        assert_eq!(rt; read_of(64, end), Ok(ID));
-    }
+// Whether so many digits and this end are the key.
+fn is_key(digits: usize, end: &[u8]) -> bool {
+    read_of(digits, end) == Ok(ID)
+}
+
+fn is_refused(digits: usize, end: &[u8]) -> bool {
+    read_of(digits, end) == Err(KeyFault::NotKeyFile)
 }
 
 #[test]
+fn sixty_four_digits_and_one_of_three_ends_are_a_key(rt: HostRuntime) {
+    for end in &ENDS {
+        assert!(rt; is_key(64, end));
+    }
+}
+
+static ENDS: [&[u8]; 3] = [b"", b"\n", b"\r\n"];
+
+static OTHERS: [(usize, &[u8]); 12] = [
+    (63, b""),
+    (63, b"\n"),
+    (64, b"\n\n"),
+    (64, b" "),
+    (64, b"\r"),
+    (64, b"\n\r"),
+    (64, b"\r\n\n"),
+    (64, b"00"),
+    (64, b"\r\nand more than sixty-seven bytes"),
+    (63, b"g"),
+    (63, b" "),
+    (0, b""),
+];
+
+#[test]
 fn other_contents_are_not_a_key_file(rt: HostRuntime) {
-    for (digits, end) in [
-        (63, b"".as_slice()),
-        (63, b"\n".as_slice()),
-        (64, b"\n\n".as_slice()),
-        (64, b" ".as_slice()),
-        (64, b"\r".as_slice()),
-        (64, b"\n\r".as_slice()),
-        (64, b"\r\n\n".as_slice()),
-        (64, b"00".as_slice()),
-        (64, b"\r\nand more than sixty-seven bytes".as_slice()),
-        (63, b"g".as_slice()),
-        (63, b" ".as_slice()),
-        (0, b"".as_slice()),
-    ] {
-        assert_eq!(rt; read_of(digits, end), Err(KeyFault::NotKeyFile));
+    for (digits, end) in &OTHERS {
+        assert!(rt; is_refused(*digits, end));
     }
 }
 

@@ -1,17 +1,9 @@
 //! `seal_all` by one lane, over folders and ledger files in memory. Containers are those of Python's `cryptography`,
 //! under the key 00 01 .. 1f and device 1; lines and journals are written by hand.
-ghost use Rattle.std.specs.Prelude.{◌≡◌, length, IfOk};
-
-use crate::runs::{
-    EMPTY, SECRET, folder_of, has_bytes, is_legal, ledger_after, outs, seals, seals_over, seals_to,
-    steady_outs, tells,
-};
-use folder_memory::{MemoryFolder, Pace};
+use crate::cases::{Case, Left, Trouble, Work, ends, ends_over};
+use crate::runs::{EMPTY, SECRET, folder_of, is_legal, ledger_after};
+use folder_memory::Pace;
 use io_memory::Schedule;
-use reserve_core::{Fold, LedgerFile};
-use std::alloc::Global;
-use std::process::Abort;
-use std::test::*;
 use std::thread::Threads;
 
 // The tables of a ledger file, and rows that leave one number of device 1 under the key 00 01 .. 1f, whose SHA-256 is
@@ -26,276 +18,332 @@ const NEARLY_SPENT: &str = "CREATE TABLE mark (key_id BLOB NOT NULL, device INTE
     INSERT INTO mark VALUES (x'630dcd2966c4336691125448bbb25b4ff412a49c732db2c8abc1b8581bd710dd', 1, 4294967295);
     INSERT INTO taken VALUES (x'630dcd2966c4336691125448bbb25b4ff412a49c732db2c8abc1b8581bd710dd', 1, 0, 4294967295)";
 
-fn same_names(alloc: Global, count: usize) -> Result<Vec<&'static str>, Fail>
-    ensures { IfOk result (λ names. length names.items ≡ count) }
-{
-    Ok(vec![in alloc; "a"; count]?)
-}
+// The same plaintext under another number is another container.
+static IN_ORDER: Case = Case {
+    folder: &[("s", b"a secret"), ("t", b"a secret")],
+    trouble: Trouble::Nothing,
+    work: Work::Seal {
+        workers: 16,
+        lanes: 1,
+    },
+    files: &["s", "t"],
+    max_bytes: 8,
+    status: 0,
+    lines: b"sealed s file 0 bytes 8\nsealed t file 1 bytes 8\n",
+    faults: b"",
+    journal: b"range 1 0 2 1\n0 issue 0\n0 sealed 0\n0 issue 1\n0 sealed 1\n",
+    left: &[
+        ("s.stm", Left::Is(&SECRET)),
+        ("t.stm", Left::IsNot(&SECRET)),
+    ],
+};
 
 #[test]
-fn files_are_sealed_under_numbers_in_their_order(rt: HostRuntime) -> Result<(), Fail> {
-    let mut folder = folder_of(rt.alloc(), &[("s", b"a secret"), ("t", b"a secret")])?;
-    let journal = b"range 1 0 2 1\n0 issue 0\n0 sealed 0\n0 issue 1\n0 sealed 1\n";
-    seals(
-        &rt,
-        &mut folder,
-        &["s", "t"],
-        8,
-        16,
-        &tells(
-            0,
-            b"sealed s file 0 bytes 8\nsealed t file 1 bytes 8\n",
-            b"",
-            journal,
-        ),
-    )?;
-    assert!(rt; has_bytes(&folder, "s.stm", &SECRET));
-    // The same plaintext under another number is another container.
-    assert!(rt; folder.has("t.stm") && !has_bytes(&folder, "t.stm", &SECRET));
+fn files_are_sealed_under_numbers_in_their_order(rt: HostRuntime) {
+    assert!(rt; ends(&rt, &IN_ORDER));
     let line = b"legal: 2 granted, 2 sealed, 0 void, 0 open, 0 refused\n";
-    assert!(rt; is_legal(rt.alloc(), journal, line)?);
-    Ok(())
+    assert!(rt; is_legal(rt.alloc(), IN_ORDER.journal, line) == Some(true));
 }
 
-#[test]
-fn an_output_that_fails_is_removed_and_its_number_is_void(rt: HostRuntime) -> Result<(), Fail> {
-    let mut folder = folder_of(rt.alloc(), &[("a", b"x")])?;
-    folder.pace_writers(Pace {
+static WRITE_FAILED: Case = Case {
+    folder: &[("a", b"x")],
+    trouble: Trouble::Writers(Pace {
         most: 3,
         schedule: Schedule::Bytes(10),
-    });
-    seals(
-        &rt,
-        &mut folder,
-        &["a"],
-        1 << 30,
-        1,
-        &tells(
-            1,
-            b"failed a: write failed\n",
-            b"",
-            b"range 1 0 1 1\n0 issue 0\n0 void 0\n",
-        ),
-    )?;
-    assert!(rt; !folder.has("a.stm"));
-    Ok(())
-}
+    }),
+    work: Work::Seal {
+        workers: 1,
+        lanes: 1,
+    },
+    files: &["a"],
+    max_bytes: 1 << 30,
+    status: 1,
+    lines: b"failed a: write failed\n",
+    faults: b"",
+    journal: b"range 1 0 1 1\n0 issue 0\n0 void 0\n",
+    left: &[("a.stm", Left::Absent)],
+};
 
 #[test]
-fn the_line_is_the_same_where_the_output_stays(rt: HostRuntime) -> Result<(), Fail> {
-    let mut folder = folder_of(rt.alloc(), &[("a", b"x")])?;
-    folder.pace_writers(Pace {
-        most: 3,
-        schedule: Schedule::Bytes(10),
-    });
-    // The calls are the opening, the creation and the removal.
-    folder.refuse_call(2);
-    seals(
-        &rt,
-        &mut folder,
-        &["a"],
-        1 << 30,
-        1,
-        &tells(
-            1,
-            b"failed a: write failed\n",
-            b"",
-            b"range 1 0 1 1\n0 issue 0\n0 void 0\n",
-        ),
-    )?;
-    assert!(rt; has_bytes(&folder, "a.stm", &EMPTY[..10]));
-    Ok(())
+fn an_output_that_fails_is_removed_and_its_number_is_void(rt: HostRuntime) {
+    assert!(rt; ends(&rt, &WRITE_FAILED));
 }
 
-#[test]
-fn files_that_fail_keep_no_other_from_being_sealed(rt: HostRuntime) -> Result<(), Fail> {
-    let mut folder = folder_of(rt.alloc(), &[("long", b"123456789"), ("fits", b"a secret")])?;
-    seals(
-        &rt,
-        &mut folder,
-        &["long", "fits"],
-        8,
+const BEGUN: [u8; 10] = [0x53, 0x54, 0x52, 0x4d, 0x53, 0x45, 0x41, 0x4c, 0x01, 0x10];
+
+// The calls are the opening, the creation and the removal.
+static OUTPUT_STAYS: Case = Case {
+    folder: &[("a", b"x")],
+    trouble: Trouble::WritersAndCall(
+        Pace {
+            most: 3,
+            schedule: Schedule::Bytes(10),
+        },
         2,
-        &tells(
-            1,
-            b"failed long: too long\nsealed fits file 1 bytes 8\n",
-            b"",
-            b"range 1 0 2 1\n0 issue 0\n0 void 0\n0 issue 1\n0 sealed 1\n",
-        ),
-    )?;
-    assert!(rt; !folder.has("long.stm") && folder.has("fits.stm"));
-    Ok(())
-}
+    ),
+    work: Work::Seal {
+        workers: 1,
+        lanes: 1,
+    },
+    files: &["a"],
+    max_bytes: 1 << 30,
+    status: 1,
+    lines: b"failed a: write failed\n",
+    faults: b"",
+    journal: b"range 1 0 1 1\n0 issue 0\n0 void 0\n",
+    left: &[("a.stm", Left::Is(&BEGUN))],
+};
 
 #[test]
-fn an_input_that_fails_is_read_failed_and_its_number_void(rt: HostRuntime) -> Result<(), Fail> {
-    let mut folder = folder_of(rt.alloc(), &[("u", b"1234567")])?;
-    folder.pace_readers(Pace {
+fn the_line_is_the_same_where_the_output_stays(rt: HostRuntime) {
+    assert!(rt; ends(&rt, &OUTPUT_STAYS));
+}
+
+static TOO_LONG: Case = Case {
+    folder: &[("long", b"123456789"), ("fits", b"a secret")],
+    trouble: Trouble::Nothing,
+    work: Work::Seal {
+        workers: 2,
+        lanes: 1,
+    },
+    files: &["long", "fits"],
+    max_bytes: 8,
+    status: 1,
+    lines: b"failed long: too long\nsealed fits file 1 bytes 8\n",
+    faults: b"",
+    journal: b"range 1 0 2 1\n0 issue 0\n0 void 0\n0 issue 1\n0 sealed 1\n",
+    left: &[("long.stm", Left::Absent), ("fits.stm", Left::Present)],
+};
+
+#[test]
+fn files_that_fail_keep_no_other_from_being_sealed(rt: HostRuntime) {
+    assert!(rt; ends(&rt, &TOO_LONG));
+}
+
+static READ_FAILED: Case = Case {
+    folder: &[("u", b"1234567")],
+    trouble: Trouble::Readers(Pace {
         most: 3,
         schedule: Schedule::Bytes(6),
-    });
-    seals(
-        &rt,
-        &mut folder,
-        &["u"],
-        8,
-        1,
-        &tells(
-            1,
-            b"failed u: read failed\n",
-            b"",
-            b"range 1 0 1 1\n0 issue 0\n0 void 0\n",
-        ),
-    )?;
-    assert!(rt; !folder.has("u.stm"));
-    Ok(())
-}
+    }),
+    work: Work::Seal {
+        workers: 1,
+        lanes: 1,
+    },
+    files: &["u"],
+    max_bytes: 8,
+    status: 1,
+    lines: b"failed u: read failed\n",
+    faults: b"",
+    journal: b"range 1 0 1 1\n0 issue 0\n0 void 0\n",
+    left: &[("u.stm", Left::Absent)],
+};
 
 #[test]
-fn an_output_that_cannot_be_created_spends_no_number(rt: HostRuntime) -> Result<(), Fail> {
-    let mut folder = folder_of(rt.alloc(), &[("s", b"a secret")])?;
-    folder.refuse_call(1);
-    seals(
-        &rt,
-        &mut folder,
-        &["s", "s"],
-        8,
-        1,
-        &tells(
-            1,
-            b"failed s: cannot create\nsealed s file 0 bytes 8\n",
-            b"",
-            b"range 1 0 2 1\n0 issue 0\n0 sealed 0\n",
-        ),
-    )?;
-    assert!(rt; has_bytes(&folder, "s.stm", &SECRET));
-    Ok(())
+fn an_input_that_fails_is_read_failed_and_its_number_void(rt: HostRuntime) {
+    assert!(rt; ends(&rt, &READ_FAILED));
 }
 
-#[test]
-fn behind_a_line_that_fails_files_and_journal_are_worked(rt: HostRuntime) -> Result<(), Fail> {
-    let mut folder = folder_of(rt.alloc(), &[("a", b""), ("b", b""), ("c", b"")])?;
-    // The second line's write fails, and a third would be taken.
-    let out = outs(rt.alloc(), Schedule::Call(1), Schedule::Never)?;
-    seals_to(
-        &rt,
-        &mut folder,
-        out,
-        &["a", "b", "c"],
-        8,
-        1,
-        &tells(
-            2,
-            b"sealed a file 0 bytes 0\n",
-            b"",
-            b"range 1 0 3 1\n0 issue 0\n0 sealed 0\n0 issue 1\n0 sealed 1\n0 issue 2\n0 sealed 2\n",
-        ),
-    )?;
-    assert!(rt; folder.has("a.stm") && folder.has("b.stm") && folder.has("c.stm"));
-    Ok(())
-}
+static NOT_CREATED: Case = Case {
+    folder: &[("s", b"a secret")],
+    trouble: Trouble::Call(1),
+    work: Work::Seal {
+        workers: 1,
+        lanes: 1,
+    },
+    files: &["s", "s"],
+    max_bytes: 8,
+    status: 1,
+    lines: b"failed s: cannot create\nsealed s file 0 bytes 8\n",
+    faults: b"",
+    journal: b"range 1 0 2 1\n0 issue 0\n0 sealed 0\n",
+    left: &[("s.stm", Left::Is(&SECRET))],
+};
 
 #[test]
-fn a_journal_that_fails_is_status_2_and_the_lines_stand(rt: HostRuntime) -> Result<(), Fail> {
-    let mut folder = folder_of(rt.alloc(), &[("a", b"")])?;
-    let out = outs(rt.alloc(), Schedule::Never, Schedule::Bytes(9))?;
-    seals_to(
-        &rt,
-        &mut folder,
-        out,
-        &["a"],
-        8,
-        1,
-        &tells(
-            2,
-            b"sealed a file 0 bytes 0\n",
-            b"journal: write failed\n",
-            b"range 1 0",
-        ),
+fn an_output_that_cannot_be_created_spends_no_number(rt: HostRuntime) {
+    assert!(rt; ends(&rt, &NOT_CREATED));
+}
+
+// The second line's write fails, and a third would be taken.
+static LINE_FAILED: Case = Case {
+    folder: &[("a", b""), ("b", b""), ("c", b"")],
+    trouble: Trouble::Lines(Schedule::Call(1)),
+    work: Work::Seal {
+        workers: 1,
+        lanes: 1,
+    },
+    files: &["a", "b", "c"],
+    max_bytes: 8,
+    status: 2,
+    lines: b"sealed a file 0 bytes 0\n",
+    faults: b"",
+    journal: b"range 1 0 3 1\n0 issue 0\n0 sealed 0\n0 issue 1\n0 sealed 1\n0 issue 2\n0 sealed 2\n",
+    left: &[
+        ("a.stm", Left::Present),
+        ("b.stm", Left::Present),
+        ("c.stm", Left::Present),
+    ],
+};
+
+#[test]
+fn behind_a_line_that_fails_files_and_journal_are_worked(rt: HostRuntime) {
+    assert!(rt; ends(&rt, &LINE_FAILED));
+}
+
+static JOURNAL_FAILED: Case = Case {
+    folder: &[("a", b"")],
+    trouble: Trouble::Journal(Schedule::Bytes(9)),
+    work: Work::Seal {
+        workers: 1,
+        lanes: 1,
+    },
+    files: &["a"],
+    max_bytes: 8,
+    status: 2,
+    lines: b"sealed a file 0 bytes 0\n",
+    faults: b"journal: write failed\n",
+    journal: b"range 1 0",
+    left: &[],
+};
+
+#[test]
+fn a_journal_that_fails_is_status_2_and_the_lines_stand(rt: HostRuntime) {
+    assert!(rt; ends(&rt, &JOURNAL_FAILED));
+}
+
+static WITHOUT_A_JOURNAL: Case = Case {
+    folder: &[("s", b"a secret")],
+    trouble: Trouble::NoJournal,
+    work: Work::Seal {
+        workers: 1,
+        lanes: 1,
+    },
+    files: &["s"],
+    max_bytes: 8,
+    status: 0,
+    lines: b"sealed s file 0 bytes 8\n",
+    faults: b"",
+    journal: b"",
+    left: &[("s.stm", Left::Is(&SECRET))],
+};
+
+#[test]
+fn without_a_journal_the_files_are_sealed(rt: HostRuntime) {
+    assert!(rt; ends(&rt, &WITHOUT_A_JOURNAL));
+}
+
+// Whether one run and then another over a ledger file after these statements end as told, in the folder of the first.
+fn both_end<R: AllocGlobal + Threads + Sync>(
+    rt: &R,
+    sql: &str,
+    first: &Case,
+    second: &Case,
+) -> Option<bool> {
+    let mut folder = folder_of(rt.alloc(), first.folder)?;
+    let mut file = ledger_after(rt.alloc(), sql)?;
+    Some(
+        ends_over(rt, &mut file, &mut folder, first)
+            && ends_over(rt, &mut file, &mut folder, second),
     )
 }
 
-#[test]
-fn without_a_journal_the_files_are_sealed(rt: HostRuntime) -> Result<(), Fail> {
-    let mut folder = folder_of(rt.alloc(), &[("s", b"a secret")])?;
-    let mut out = steady_outs(rt.alloc())?;
-    out.journal = None;
-    seals_to(
-        &rt,
-        &mut folder,
-        out,
-        &["s"],
-        8,
-        1,
-        &tells(0, b"sealed s file 0 bytes 8\n", b"", b""),
-    )?;
-    assert!(rt; has_bytes(&folder, "s.stm", &SECRET));
-    Ok(())
-}
+static TWO_OF_ONE_LEFT: Case = Case {
+    folder: &[("a", b"")],
+    trouble: Trouble::Nothing,
+    work: Work::Seal {
+        workers: 1,
+        lanes: 1,
+    },
+    files: &["a", "a"],
+    max_bytes: 8,
+    status: 2,
+    lines: b"",
+    faults: b"ledger: 1 numbers left\n",
+    journal: b"",
+    left: &[("a.stm", Left::Absent)],
+};
 
-// Two files are too many, and one takes the last number.
-fn seals_the_last<R: AllocGlobal + Threads + Sync + Abort, S: Fold>(
-    rt: &R,
-    file: &mut LedgerFile<S>,
-    folder: &mut MemoryFolder,
-) -> Result<(), Fail> {
-    let refused = tells(2, b"", b"ledger: 1 numbers left\n", b"");
-    seals_over(rt, file, folder, &["a", "a"], 8, &refused)?;
-    assert!(rt; !folder.has("a.stm"));
-    let sealed = tells(
-        0,
-        b"sealed a file 4294967295 bytes 0\n",
-        b"",
-        b"range 1 4294967295 1 1\n0 issue 4294967295\n0 sealed 4294967295\n",
-    );
-    seals_over(rt, file, folder, &["a"], 8, &sealed)
-}
+static THE_LAST: Case = Case {
+    folder: &[],
+    trouble: Trouble::Nothing,
+    work: Work::Seal {
+        workers: 1,
+        lanes: 1,
+    },
+    files: &["a"],
+    max_bytes: 8,
+    status: 0,
+    lines: b"sealed a file 4294967295 bytes 0\n",
+    faults: b"",
+    journal: b"range 1 4294967295 1 1\n0 issue 4294967295\n0 sealed 4294967295\n",
+    left: &[],
+};
 
 #[test]
-fn where_too_few_numbers_are_left_no_file_is_touched(rt: HostRuntime) -> Result<(), Fail> {
-    let mut folder = folder_of(rt.alloc(), &[("a", b"")])?;
-    let mut file = ledger_after(rt.alloc(), NEARLY_SPENT)?;
-    seals_the_last(&rt, &mut file, &mut folder)
+fn where_too_few_numbers_are_left_no_file_is_touched(rt: HostRuntime) {
+    assert!(rt; both_end(&rt, NEARLY_SPENT, &TWO_OF_ONE_LEFT, &THE_LAST) == Some(true));
 }
 
-// One file is sealed, and then there is no keeper for another.
-fn seals_once<R: AllocGlobal + Threads + Sync + Abort, S: Fold>(
-    rt: &R,
-    file: &mut LedgerFile<S>,
-    folder: &mut MemoryFolder,
-) -> Result<(), Fail> {
-    let sealed = tells(
-        0,
-        b"sealed a file 0 bytes 0\n",
-        b"",
-        b"range 1 0 1 1\n0 issue 0\n0 sealed 0\n",
-    );
-    seals_over(rt, file, folder, &["a"], 8, &sealed)?;
-    let refused = tells(2, b"", b"ledger: store failed\n", b"");
-    seals_over(rt, file, folder, &["b"], 8, &refused)?;
-    assert!(rt; !folder.has("b.stm"));
-    Ok(())
+static SEALED_ONCE: Case = Case {
+    folder: &[("a", b""), ("b", b"")],
+    trouble: Trouble::Nothing,
+    work: Work::Seal {
+        workers: 1,
+        lanes: 1,
+    },
+    files: &["a"],
+    max_bytes: 8,
+    status: 0,
+    lines: b"sealed a file 0 bytes 0\n",
+    faults: b"",
+    journal: b"range 1 0 1 1\n0 issue 0\n0 sealed 0\n",
+    left: &[],
+};
+
+static NO_KEEPER: Case = Case {
+    folder: &[],
+    trouble: Trouble::Nothing,
+    work: Work::Seal {
+        workers: 1,
+        lanes: 1,
+    },
+    files: &["b"],
+    max_bytes: 8,
+    status: 2,
+    lines: b"",
+    faults: b"ledger: store failed\n",
+    journal: b"",
+    left: &[("b.stm", Left::Absent)],
+};
+
+#[test]
+fn a_ledger_file_that_was_folded_reserves_no_more(rt: HostRuntime) {
+    assert!(rt; both_end(&rt, "", &SEALED_ONCE, &NO_KEEPER) == Some(true));
+}
+
+// Whether so many files of one name are refused.
+fn are_too_many<R: AllocGlobal + Threads + Sync>(rt: &R, count: usize) -> Option<bool> {
+    let files = vec![in rt.alloc(); "a"; count].ok()?;
+    let case = Case {
+        folder: &[("a", b"")],
+        trouble: Trouble::Nothing,
+        work: Work::Seal {
+            workers: 1,
+            lanes: 1,
+        },
+        files: files.as_slice(),
+        max_bytes: 8,
+        status: 2,
+        lines: b"",
+        faults: b"ledger: too many files\n",
+        journal: b"",
+        left: &[("a.stm", Left::Absent)],
+    };
+    Some(ends(rt, &case))
 }
 
 #[test]
-fn a_ledger_file_that_was_folded_reserves_no_more(rt: HostRuntime) -> Result<(), Fail> {
-    let mut folder = folder_of(rt.alloc(), &[("a", b""), ("b", b"")])?;
-    let mut file = ledger_after(rt.alloc(), "")?;
-    seals_once(&rt, &mut file, &mut folder)
-}
-
-#[test]
-fn more_files_than_a_range_has_numbers_are_refused(rt: HostRuntime) -> Result<(), Fail> {
-    let mut folder = folder_of(rt.alloc(), &[("a", b"")])?;
-    let files = same_names(rt.alloc(), 65_536)?;
-    seals(
-        &rt,
-        &mut folder,
-        files.as_slice(),
-        8,
-        1,
-        &tells(2, b"", b"ledger: too many files\n", b""),
-    )?;
-    assert!(rt; !folder.has("a.stm"));
-    Ok(())
+fn more_files_than_a_range_has_numbers_are_refused(rt: HostRuntime) {
+    assert!(rt; are_too_many(&rt, 65_536) == Some(true));
 }

@@ -1,14 +1,13 @@
 //! `seal_all` over the two files of a ledger: the next run goes on without the log of the first; and a disk stops, one of the two files
 //! failing from some call on. Each call in turn is the first to fail, until a run has no stop.
-use crate::runs::{COUNTING, EMPTY, has_bytes, seal_over, seals_over, steady_outs, tells};
+use crate::cases::{Case, Left, Trouble, Work, ends_over};
+use crate::runs::{COUNTING, EMPTY, MemoryOuts, folder_of, has_bytes, seal_over, steady_outs};
 use container_core::{Key, open};
 use folder_memory::MemoryFolder;
 use reserve_core::{Fold, Keeper, LedgerFile};
 use sqlite::{Connection, FileStore, Files, Options};
 use sqlite_disk::{Disk, Fuse, Memory};
 use std::alloc::Global;
-use std::process::Abort;
-use std::test::*;
 use std::thread::Threads;
 
 // The ledger over these files. Its database has little memory, which is filled each time that one is opened.
@@ -26,36 +25,54 @@ fn ledger_over<D: Disk + Drop>(alloc: Global, files: Files<D>) -> Option<LedgerF
 
 // ---- the next run
 
-fn runs_first<R: AllocGlobal + Threads + Sync + Abort, S: Fold>(
-    rt: &R,
-    file: &mut LedgerFile<S>,
-    folder: &mut MemoryFolder,
-) -> Result<(), Fail> {
-    seals_over(
-        rt,
-        file,
-        folder,
-        &["a", "m", "a"],
-        1 << 30,
-        &tells(
-            1,
-            b"sealed a file 0 bytes 0\nfailed m: cannot open\nfailed a: output exists\n",
-            b"",
-            b"range 1 0 3 1\n0 issue 0\n0 sealed 0\n",
-        ),
-    )?;
-    assert!(rt; has_bytes(folder, "a.stm", &EMPTY) && !folder.has("m.stm"));
-    Ok(())
-}
+static FIRST_RUN: Case = Case {
+    folder: &[],
+    trouble: Trouble::Nothing,
+    work: Work::Seal {
+        workers: 1,
+        lanes: 1,
+    },
+    files: &["a", "m", "a"],
+    max_bytes: 1 << 30,
+    status: 1,
+    lines: b"sealed a file 0 bytes 0\nfailed m: cannot open\nfailed a: output exists\n",
+    faults: b"",
+    journal: b"range 1 0 3 1\n0 issue 0\n0 sealed 0\n",
+    left: &[("a.stm", Left::Is(&EMPTY)), ("m.stm", Left::Absent)],
+};
+
+static SECOND_RUN: Case = Case {
+    folder: &[],
+    trouble: Trouble::Nothing,
+    work: Work::Seal {
+        workers: 1,
+        lanes: 1,
+    },
+    files: &["b"],
+    max_bytes: 1 << 30,
+    status: 0,
+    lines: b"sealed b file 3 bytes 65537\n",
+    faults: b"",
+    journal: b"range 1 3 1 1\n0 issue 3\n0 sealed 3\n",
+    left: &[],
+};
 
 // Whether the output of the second run has number 3, and opens to its plaintext.
-fn has_number_3(alloc: Global, folder: &MemoryFolder, plain: &[u8]) -> Result<bool, Fail> {
-    let sealed = folder.bytes("b.stm")?;
-    if sealed.len() != 65_593 {
-        return Ok(false);
+fn has_number_3(alloc: Global, folder: &MemoryFolder, plain: &[u8]) -> bool {
+    match folder.bytes("b.stm") {
+        Ok(sealed) => opens_to(alloc, sealed.as_slice(), plain),
+        Err(_) => false,
     }
-    let opened = open(alloc, &Key::new(COUNTING), sealed.as_slice())?;
-    Ok(&sealed.as_slice()[10..17] == [0, 0, 1, 0, 0, 0, 3].as_slice() && opened.as_slice() == plain)
+}
+
+fn opens_to(alloc: Global, sealed: &[u8], plain: &[u8]) -> bool {
+    if sealed.len() != 65_593 || &sealed[10..17] != [0, 0, 1, 0, 0, 0, 3].as_slice() {
+        return false;
+    }
+    match open(alloc, &Key::new(COUNTING), sealed) {
+        Ok(opened) => opened.as_slice() == plain,
+        Err(_) => false,
+    }
 }
 
 // The database file of a ledger that was folded.
@@ -71,60 +88,51 @@ fn database_of(file: LedgerFile<FileStore<Memory>>) -> Option<Memory> {
 }
 
 // The database file that the first run leaves.
-fn file_of_first_run<R: AllocGlobal + Threads + Sync + Abort>(
+fn file_of_first_run<R: AllocGlobal + Threads + Sync>(
     rt: &R,
     folder: &mut MemoryFolder,
-) -> Result<Memory, Fail> {
-    let files = Files {
-        log: Memory::new(rt.alloc()),
-        db: Memory::new(rt.alloc()),
-    };
-    let mut file = ledger_over(rt.alloc(), files).ok_or("no ledger")?;
-    runs_first(rt, &mut file, folder)?;
-    Ok(database_of(file).ok_or("not folded")?)
+) -> Option<Memory> {
+    let log = Memory::new(rt.alloc());
+    let db = Memory::new(rt.alloc());
+    let mut file = ledger_over(rt.alloc(), Files { log, db })?;
+    if ends_over(rt, &mut file, folder, &FIRST_RUN) {
+        database_of(file)
+    } else {
+        None
+    }
 }
 
-// The second run, over that file and an empty log.
-fn goes_on<R: AllocGlobal + Threads + Sync + Abort>(
-    rt: &R,
-    folder: &mut MemoryFolder,
-    db: Memory,
-) -> Result<(), Fail> {
+// Whether the second run, over that file and an empty log, ends as it has to.
+fn goes_on<R: AllocGlobal + Threads + Sync>(rt: &R, folder: &mut MemoryFolder, db: Memory) -> bool {
     let log = Memory::new(rt.alloc());
-    let mut file = ledger_over(rt.alloc(), Files { log, db }).ok_or("no ledger")?;
-    seals_over(
-        rt,
-        &mut file,
-        folder,
-        &["b"],
-        1 << 30,
-        &tells(
-            0,
-            b"sealed b file 3 bytes 65537\n",
-            b"",
-            b"range 1 3 1 1\n0 issue 3\n0 sealed 3\n",
-        ),
-    )
+    match ledger_over(rt.alloc(), Files { log, db }) {
+        Some(mut file) => ends_over(rt, &mut file, folder, &SECOND_RUN),
+        None => false,
+    }
+}
+
+fn both_run<R: AllocGlobal + Threads + Sync>(rt: &R, folder: &mut MemoryFolder) -> bool {
+    match file_of_first_run(rt, folder) {
+        Some(db) => goes_on(rt, folder, db),
+        None => false,
+    }
+}
+
+fn goes_on_without_log<R: AllocGlobal + Threads + Sync>(rt: &R) -> Option<bool> {
+    let plain = vec![in rt.alloc(); 7u8; 65_537].ok()?;
+    let mut folder = folder_of(rt.alloc(), &[("a", b""), ("b", plain.as_slice())])?;
+    Some(both_run(rt, &mut folder) && has_number_3(rt.alloc(), &folder, plain.as_slice()))
 }
 
 #[test]
-fn a_second_run_without_the_log_goes_on_behind_the_numbers_of_the_first(
-    rt: HostRuntime,
-) -> Result<(), Fail> {
-    let mut folder = MemoryFolder::new(rt.alloc());
-    folder.put("a", b"")?;
-    let plain = vec![in rt.alloc(); 7u8; 65_537]?;
-    folder.put("b", plain.as_slice())?;
-    let db = file_of_first_run(&rt, &mut folder)?;
-    goes_on(&rt, &mut folder, db)?;
-    assert!(rt; has_number_3(rt.alloc(), &folder, plain.as_slice())?);
-    Ok(())
+fn a_second_run_without_the_log_goes_on_behind_the_numbers_of_the_first(rt: HostRuntime) {
+    assert!(rt; goes_on_without_log(&rt) == Some(true));
 }
 
 // ---- stops
 
 // How a run ended.
-#[derive(Clone, Copy, PartialEq, Eq)]
+#[derive(Clone, Copy)]
 enum End {
     // The ledger file could not be opened.
     Unopened,
@@ -138,63 +146,71 @@ enum End {
 fn end_over<R: AllocGlobal + Threads + Sync, S: Fold>(
     rt: &R,
     file: &mut LedgerFile<S>,
-) -> Result<End, Fail> {
-    let mut folder = MemoryFolder::new(rt.alloc());
-    folder.put("a", b"")?;
+) -> Option<End> {
+    let mut folder = folder_of(rt.alloc(), &[("a", b"")])?;
     let mut out = steady_outs(rt.alloc())?;
-    let status = seal_over(rt, file, &mut folder, &["a"], &mut out, 8, 1, 1);
+    let status = seal_over(rt, file, &mut folder, &["a"], &mut out, 8, 1, 1)?;
+    Some(end_of(status, &folder, &out))
+}
+
+fn end_of(status: u8, folder: &MemoryFolder, out: &MemoryOuts) -> End {
     let faults = out.faults.bytes();
-    if status == 0 && faults.is_empty() && has_bytes(&folder, "a.stm", &EMPTY) {
-        Ok(End::Sealed)
+    if status == 0 && faults.is_empty() && has_bytes(folder, "a.stm", &EMPTY) {
+        End::Sealed
     } else if status == 2
         && faults == b"ledger: store failed\n".as_slice()
         && out.lines.bytes().is_empty()
         && !folder.has("a.stm")
     {
-        Ok(End::Refused)
+        End::Refused
     } else {
-        Ok(End::Other)
+        End::Other
     }
 }
 
 // The end of a run whose files fail each call after so many.
-fn end_of<R: AllocGlobal + Threads + Sync>(
+fn end_after<R: AllocGlobal + Threads + Sync>(
     rt: &R,
     log_calls: u64,
     db_calls: u64,
-) -> Result<End, Fail> {
-    let files = Files {
-        log: Fuse::new(Memory::new(rt.alloc()), log_calls),
-        db: Fuse::new(Memory::new(rt.alloc()), db_calls),
-    };
-    match ledger_over(rt.alloc(), files) {
+) -> Option<End> {
+    let log = Fuse::new(Memory::new(rt.alloc()), log_calls);
+    let db = Fuse::new(Memory::new(rt.alloc()), db_calls);
+    match ledger_over(rt.alloc(), Files { log, db }) {
         Some(mut file) => end_over(rt, &mut file),
-        None => Ok(End::Unopened),
+        None => Some(End::Unopened),
     }
 }
 
-// How many runs were refused before the first that sealed, where each ended in a way that is told.
-fn refused_before<R: AllocGlobal + Threads + Sync>(rt: &R, of_log: bool) -> Result<u32, Fail> {
+// How many runs were refused before the first that sealed. `None` where one ended in another way.
+fn refused_before<R: AllocGlobal + Threads + Sync>(rt: &R, of_log: bool) -> Option<u32> {
     let mut refused = 0u32;
     for calls in 0..1000u64 {
         let end = if of_log {
-            end_of(rt, calls, u64::MAX)?
+            end_after(rt, calls, u64::MAX)?
         } else {
-            end_of(rt, u64::MAX, calls)?
+            end_after(rt, u64::MAX, calls)?
         };
         match end {
             End::Unopened => {}
             End::Refused => refused = refused.saturating_add(1),
-            End::Sealed => return Ok(refused),
-            End::Other => return Err("another end".into()),
+            End::Sealed => return Some(refused),
+            End::Other => return None,
         }
     }
-    Err("never sealed".into())
+    None
+}
+
+// Whether some runs are refused, and each ends in a way that is told.
+fn are_refused<R: AllocGlobal + Threads + Sync>(rt: &R, of_log: bool) -> bool {
+    match refused_before(rt, of_log) {
+        Some(refused) => refused > 0,
+        None => false,
+    }
 }
 
 #[test]
-fn where_the_disk_of_the_ledger_stops_no_file_is_touched(rt: HostRuntime) -> Result<(), Fail> {
-    assert!(rt; refused_before(&rt, true)? > 0);
-    assert!(rt; refused_before(&rt, false)? > 0);
-    Ok(())
+fn where_the_disk_of_the_ledger_stops_no_file_is_touched(rt: HostRuntime) {
+    assert!(rt; are_refused(&rt, true));
+    assert!(rt; are_refused(&rt, false));
 }

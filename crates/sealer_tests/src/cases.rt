@@ -1,0 +1,206 @@
+//! Cases: a run over a folder in memory, what it has to tell, and what it has to leave.
+use crate::runs::{
+    COUNTING, MemoryOuts, folder_of, has_bytes, holds, journal_of, ledger_after, outs, seal_over,
+    steady_outs,
+};
+use container_core::Key;
+use folder_memory::{MemoryFolder, Pace};
+use io_memory::Schedule;
+use reserve_core::{Fold, LedgerFile};
+use sealer_core::{OpenOptions, open_all, verify_all};
+use std::alloc::Global;
+use std::thread::Threads;
+
+// What fails.
+#[derive(Clone, Copy)]
+pub(crate) enum Trouble {
+    Nothing,
+    Readers(Pace),
+    Writers(Pace),
+    // The folder's call of this number.
+    Call(u64),
+    WritersAndCall(Pace, u64),
+    // The writer of the lines.
+    Lines(Schedule),
+    // The writer of the journal.
+    Journal(Schedule),
+    // Nothing, and no journal is asked for.
+    NoJournal,
+}
+
+#[derive(Clone, Copy)]
+pub(crate) enum Work {
+    Seal { workers: u32, lanes: u32 },
+    Open,
+    Verify,
+}
+
+// What there is of a file.
+#[derive(Clone, Copy)]
+pub(crate) enum Left<'a> {
+    Absent,
+    Present,
+    Is(&'a [u8]),
+    // It is there with other bytes.
+    IsNot(&'a [u8]),
+    // A container under the number's prefix, of this plaintext.
+    Holds(u8, &'a [u8]),
+}
+
+// A run, what it has to tell, where no journal is an empty one, and what it leaves.
+#[derive(Clone, Copy)]
+pub(crate) struct Case<'a> {
+    pub(crate) folder: &'a [(&'a str, &'a [u8])],
+    pub(crate) trouble: Trouble,
+    pub(crate) work: Work,
+    pub(crate) files: &'a [&'a str],
+    pub(crate) max_bytes: u64,
+    pub(crate) status: u8,
+    pub(crate) lines: &'a [u8],
+    pub(crate) faults: &'a [u8],
+    pub(crate) journal: &'a [u8],
+    pub(crate) left: &'a [(&'a str, Left<'a>)],
+}
+
+fn outs_of(alloc: Global, trouble: Trouble) -> Option<MemoryOuts> {
+    match trouble {
+        Trouble::Lines(schedule) => outs(alloc, schedule, Schedule::Never),
+        Trouble::Journal(schedule) => outs(alloc, Schedule::Never, schedule),
+        Trouble::NoJournal => without_journal(steady_outs(alloc)?),
+        _ => steady_outs(alloc),
+    }
+}
+
+fn without_journal(out: MemoryOuts) -> Option<MemoryOuts> {
+    let mut out = out;
+    out.journal = None;
+    Some(out)
+}
+
+// Whether a run told what the case says.
+fn is_told(status: u8, out: &MemoryOuts, case: &Case) -> bool {
+    status == case.status
+        && out.lines.bytes() == case.lines
+        && out.faults.bytes() == case.faults
+        && journal_of(out) == case.journal
+}
+
+// Lets calls, readers and writers of the folder fail.
+fn trouble_of(folder: &mut MemoryFolder, trouble: Trouble) {
+    match trouble {
+        Trouble::Readers(pace) => folder.pace_readers(pace),
+        Trouble::Writers(pace) => folder.pace_writers(pace),
+        Trouble::Call(number) => folder.refuse_call(number),
+        Trouble::WritersAndCall(pace, number) => {
+            folder.pace_writers(pace);
+            folder.refuse_call(number);
+        }
+        _ => {}
+    }
+}
+
+fn is_left(alloc: Global, folder: &MemoryFolder, name: &str, left: Left) -> bool {
+    match left {
+        Left::Absent => !folder.has(name),
+        Left::Present => folder.has(name),
+        Left::Is(bytes) => has_bytes(folder, name, bytes),
+        Left::IsNot(bytes) => folder.has(name) && !has_bytes(folder, name, bytes),
+        Left::Holds(number, plain) => holds(alloc, folder, name, number, plain),
+    }
+}
+
+// Whether the folder is as the case says.
+fn are_left(alloc: Global, folder: &MemoryFolder, case: &Case) -> bool {
+    for (name, left) in case.left {
+        if !is_left(alloc, folder, name, *left) {
+            return false;
+        }
+    }
+    true
+}
+
+// The status of `open_all`, or of `verify_all`, likewise.
+fn open_in<R: AllocGlobal + Threads + Sync>(
+    rt: &R,
+    folder: &mut MemoryFolder,
+    case: &Case,
+    out: &mut MemoryOuts,
+    verifies: bool,
+) -> Option<u8> {
+    let files = case.files;
+    let max_bytes = case.max_bytes;
+    if files.is_empty() || max_bytes > 1 << 40 {
+        return None;
+    }
+    let options = OpenOptions {
+        files,
+        workers: 1,
+        max_bytes,
+    };
+    let key = Key::new(COUNTING);
+    if verifies {
+        Some(verify_all(rt, rt.alloc(), &key, folder, &options, out))
+    } else {
+        Some(open_all(rt, rt.alloc(), &key, folder, &options, out))
+    }
+}
+
+fn status_over<R: AllocGlobal + Threads + Sync, S: Fold>(
+    rt: &R,
+    file: &mut LedgerFile<S>,
+    folder: &mut MemoryFolder,
+    case: &Case,
+    out: &mut MemoryOuts,
+) -> Option<u8> {
+    match case.work {
+        Work::Seal { workers, lanes } => seal_over(
+            rt,
+            file,
+            folder,
+            case.files,
+            out,
+            case.max_bytes,
+            workers,
+            lanes,
+        ),
+        Work::Open => open_in(rt, folder, case, out, false),
+        Work::Verify => open_in(rt, folder, case, out, true),
+    }
+}
+
+// Whether a run over this ledger file and this folder ends as the case says.
+pub(crate) fn ends_over<R: AllocGlobal + Threads + Sync, S: Fold>(
+    rt: &R,
+    file: &mut LedgerFile<S>,
+    folder: &mut MemoryFolder,
+    case: &Case,
+) -> bool {
+    let Some(mut out) = outs_of(rt.alloc(), case.trouble) else {
+        return false;
+    };
+    trouble_of(folder, case.trouble);
+    match status_over(rt, file, folder, case, &mut out) {
+        Some(status) => is_told(status, &out, case) && are_left(rt.alloc(), folder, case),
+        None => false,
+    }
+}
+
+// The same over a ledger file of its own.
+pub(crate) fn ends_in<R: AllocGlobal + Threads + Sync>(
+    rt: &R,
+    folder: &mut MemoryFolder,
+    case: &Case,
+) -> bool {
+    match ledger_after(rt.alloc(), "") {
+        Some(mut file) => ends_over(rt, &mut file, folder, case),
+        None => false,
+    }
+}
+
+// The same over the folder of the case.
+pub(crate) fn ends<R: AllocGlobal + Threads + Sync>(rt: &R, case: &Case) -> bool {
+    match folder_of(rt.alloc(), case.folder) {
+        Some(mut folder) => ends_in(rt, &mut folder, case),
+        None => false,
+    }
+}
