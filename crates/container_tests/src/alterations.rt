@@ -1,6 +1,6 @@
 //! The table of cut and altered containers: runs of lengths, or of places, that have one answer. The container is
 //! that of 131,073 zero bytes, three chunks, under the key 00 01 .. 1f, device 1, file 0.
-ghost use Rattle.std.specs.Prelude.{◌≤◌, length};
+ghost use Rattle.std.specs.Prelude.{◌≡◌, ◌≤◌, length};
 
 use crate::samples::{counting_key, prefix_of};
 use anyhow::{Result, ensure};
@@ -96,27 +96,38 @@ fn alter_header<R: Print, O: Opener>(
     print_run(rt, alloc, begin, HEADER - 1, last)
 }
 
-// A header and chunks, one behind the other.
-pub(crate) fn joined(alloc: Global, parts: &[&[u8]]) -> Result<Vec<u8>, AllocError> {
-    let mut bytes = Vec::new(alloc);
-    for part in parts {
-        bytes.extend_from_slice(part)?;
+// Which chunks stand behind the header: 0 to 2 are the container's own, and 3 is chunk 0 of the other one.
+static MOVES: [(&str, &[u32]); 5] = [
+    ("chunks 0 and 1 exchanged", &[1, 0, 2]),
+    ("chunk 0 inserted again behind itself", &[0, 0, 1, 2]),
+    ("chunk 1 taken out", &[0, 2]),
+    ("the last chunk added again", &[0, 1, 2, 2]),
+    ("chunk 0 from the container of file 1", &[3, 1, 2]),
+];
+
+// The chunk of this number in the moves.
+fn chunk_of<'a>(bytes: &'a [u8], other: &'a [u8], number: u32) -> &'a [u8]
+    requires bytes { length bytes.now ≡ LENGTH }
+    requires other { length other.now ≡ LENGTH }
+{
+    match number {
+        0 => &bytes[HEADER..HEADER + SEALED],
+        1 => &bytes[HEADER + SEALED..HEADER + 2 * SEALED],
+        2 => &bytes[HEADER + 2 * SEALED..],
+        _ => &other[HEADER..HEADER + SEALED],
     }
-    Ok(bytes)
 }
 
-// Prints what is answered to these parts, one behind the other.
-fn print_joined<R: Print, O: Opener>(
-    rt: &R,
-    alloc: Global,
-    opener: &O,
-    key: &Key,
-    what: &str,
-    parts: &[&[u8]],
-) -> Result<()> {
-    let made = joined(alloc, parts)?;
-    print_answer(rt, what, opener.fault_of(key, made.as_slice()))?;
-    Ok(())
+// The header and these chunks, one behind the other.
+fn moved(alloc: Global, bytes: &[u8], other: &[u8], order: &[u32]) -> Result<Vec<u8>, AllocError>
+    requires bytes { length bytes.now ≡ LENGTH }
+    requires other { length other.now ≡ LENGTH }
+{
+    let mut made = Vec::from_slice(alloc, &bytes[..HEADER])?;
+    for number in order {
+        made.extend_from_slice(chunk_of(bytes, other, *number))?;
+    }
+    Ok(made)
 }
 
 // Moves the chunks about.
@@ -132,29 +143,9 @@ fn alter_chunks<R: Print, O: Opener>(
         bytes.len() == LENGTH && other.len() == LENGTH,
         "three chunks"
     );
-    let header = &bytes[..HEADER];
-    let first = &bytes[HEADER..HEADER + SEALED];
-    let second = &bytes[HEADER + SEALED..HEADER + 2 * SEALED];
-    let third = &bytes[HEADER + 2 * SEALED..];
-    let strange = &other[HEADER..HEADER + SEALED];
-    let moves: [(&str, &[&[u8]]); 5] = [
-        ("chunks 0 and 1 exchanged", &[header, second, first, third]),
-        (
-            "chunk 0 inserted again behind itself",
-            &[header, first, first, second, third],
-        ),
-        ("chunk 1 taken out", &[header, first, third]),
-        (
-            "the last chunk added again",
-            &[header, first, second, third, third],
-        ),
-        (
-            "chunk 0 from the container of file 1",
-            &[header, strange, second, third],
-        ),
-    ];
-    for (what, parts) in &moves {
-        print_joined(rt, alloc, opener, key, what, parts)?;
+    for (what, order) in &MOVES {
+        let made = moved(alloc, bytes, other, order)?;
+        print_answer(rt, what, opener.fault_of(key, made.as_slice()))?;
     }
     Ok(())
 }

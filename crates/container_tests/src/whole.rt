@@ -1,7 +1,6 @@
 //! Whole containers. The expected bytes and digests are those of Python's `cryptography` and `hashlib`.
 ghost use Rattle.std.specs.Prelude.{◌≡◌, ◌≤◌, length};
 
-use crate::alterations::joined;
 use crate::samples::{COUNTING, EMPTY, counting_key, prefix_of};
 use aead_core::seal_in_place;
 use container_core::{
@@ -99,6 +98,15 @@ fn containers_of_zeros(rt: HostRuntime) -> Result<(), Fail> {
     Ok(())
 }
 
+// These parts, one behind the other.
+fn joined(alloc: Global, parts: &[&[u8]]) -> Result<Vec<u8>, AllocError> {
+    let mut bytes = Vec::new(alloc);
+    for part in parts {
+        bytes.extend_from_slice(part)?;
+    }
+    Ok(bytes)
+}
+
 // Whether these parts, one behind the other, are 65,592 bytes of a bad length.
 fn have_a_bad_length(alloc: Global, key: &Key, parts: &[&[u8]]) -> Result<bool, AllocError> {
     let bytes = joined(alloc, parts)?;
@@ -106,7 +114,7 @@ fn have_a_bad_length(alloc: Global, key: &Key, parts: &[&[u8]]) -> Result<bool, 
     Ok(bytes.len() == 65_592 && bad)
 }
 
-// Whether the sealed chunk opens to zeros where it isn't the last, and only there.
+// Whether the sealed chunk opens to zeros, and these do not open again as the last chunk.
 fn opens_as_first(key: &Key, header: &Header, chunk: &mut [u8; 65536], tag: &[u8; 16]) -> bool {
     open_chunk(key, header, 0, false, chunk, tag)
         && *chunk == [0; 65536]
