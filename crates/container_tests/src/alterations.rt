@@ -1,8 +1,8 @@
 //! The table of cut and altered containers: runs of lengths, or of places, that have one answer. The container is
 //! that of 131,073 zero bytes, three chunks, under the key 00 01 .. 1f, device 1, file 0.
-ghost use Rattle.std.specs.Prelude.{◌≤◌, length};
+ghost use Rattle.std.specs.Prelude.{◌≡◌, ◌≤◌, length};
 
-use crate::samples::{COUNTING, prefix_of};
+use crate::samples::{counting_key, prefix_of};
 use anyhow::{Result, ensure};
 use container_core::{HEADER, Key, OpenFault, SEALED, seal};
 use std::alloc::{AllocError, Global};
@@ -96,13 +96,38 @@ fn alter_header<R: Print, O: Opener>(
     print_run(rt, alloc, begin, HEADER - 1, last)
 }
 
-// A header and chunks, one behind the other.
-fn joined(alloc: Global, parts: &[&[u8]]) -> Result<Vec<u8>, AllocError> {
-    let mut bytes = Vec::new(alloc);
-    for part in parts {
-        bytes.extend_from_slice(part)?;
+// Which chunks stand behind the header: 0 to 2 are the container's own, and 3 is chunk 0 of the other one.
+static MOVES: [(&str, &[u32]); 5] = [
+    ("chunks 0 and 1 exchanged", &[1, 0, 2]),
+    ("chunk 0 inserted again behind itself", &[0, 0, 1, 2]),
+    ("chunk 1 taken out", &[0, 2]),
+    ("the last chunk added again", &[0, 1, 2, 2]),
+    ("chunk 0 from the container of file 1", &[3, 1, 2]),
+];
+
+// The chunk of this number in the moves.
+fn chunk_of<'a>(bytes: &'a [u8], other: &'a [u8], number: u32) -> &'a [u8]
+    requires bytes { length bytes.now ≡ LENGTH }
+    requires other { length other.now ≡ LENGTH }
+{
+    match number {
+        0 => &bytes[HEADER..HEADER + SEALED],
+        1 => &bytes[HEADER + SEALED..HEADER + 2 * SEALED],
+        2 => &bytes[HEADER + 2 * SEALED..],
+        _ => &other[HEADER..HEADER + SEALED],
     }
-    Ok(bytes)
+}
+
+// The header and these chunks, one behind the other.
+fn moved(alloc: Global, bytes: &[u8], other: &[u8], order: &[u32]) -> Result<Vec<u8>, AllocError>
+    requires bytes { length bytes.now ≡ LENGTH }
+    requires other { length other.now ≡ LENGTH }
+{
+    let mut made = Vec::from_slice(alloc, &bytes[..HEADER])?;
+    for number in order {
+        made.extend_from_slice(chunk_of(bytes, other, *number))?;
+    }
+    Ok(made)
 }
 
 // Moves the chunks about.
@@ -118,41 +143,49 @@ fn alter_chunks<R: Print, O: Opener>(
         bytes.len() == LENGTH && other.len() == LENGTH,
         "three chunks"
     );
-    let header = &bytes[..HEADER];
-    let first = &bytes[HEADER..HEADER + SEALED];
-    let second = &bytes[HEADER + SEALED..HEADER + 2 * SEALED];
-    let third = &bytes[HEADER + 2 * SEALED..];
-    let strange = &other[HEADER..HEADER + SEALED];
-    let made = joined(alloc, &[header, second, first, third])?;
-    print_answer(
-        rt,
-        "chunks 0 and 1 exchanged",
-        opener.fault_of(key, made.as_slice()),
-    )?;
-    let made = joined(alloc, &[header, first, first, second, third])?;
-    print_answer(
-        rt,
-        "chunk 0 inserted again behind itself",
-        opener.fault_of(key, made.as_slice()),
-    )?;
-    let made = joined(alloc, &[header, first, third])?;
-    print_answer(
-        rt,
-        "chunk 1 taken out",
-        opener.fault_of(key, made.as_slice()),
-    )?;
-    let made = joined(alloc, &[header, first, second, third, third])?;
-    print_answer(
-        rt,
-        "the last chunk added again",
-        opener.fault_of(key, made.as_slice()),
-    )?;
-    let made = joined(alloc, &[header, strange, second, third])?;
-    print_answer(
-        rt,
-        "chunk 0 from the container of file 1",
-        opener.fault_of(key, made.as_slice()),
-    )?;
+    for (what, order) in &MOVES {
+        let made = moved(alloc, bytes, other, order)?;
+        print_answer(rt, what, opener.fault_of(key, made.as_slice()))?;
+    }
+    Ok(())
+}
+
+// The container of zero bytes, of this file.
+fn zeros_sealed(alloc: Global, key: &Key, file: u8) -> Result<Vec<u8>> {
+    let plain = vec![in alloc; 0; PLAIN]?;
+    Ok(seal(alloc, key, prefix_of(file), plain.as_slice())?)
+}
+
+fn print_cuts<R: Print, O: Opener>(
+    rt: &R,
+    alloc: Global,
+    opener: &O,
+    key: &Key,
+    bytes: &[u8],
+    lengths: &[(usize, usize)],
+) -> Result<()> {
+    println!(rt; "cut to a length")?;
+    for (from, to) in lengths {
+        let (from, to) = (*from, *to);
+        ensure!(from <= to && to <= bytes.len(), "a range of lengths");
+        cut_to(rt, alloc, opener, key, bytes, from, to)?;
+    }
+    Ok(())
+}
+
+fn print_answers<R: Print, O: Opener>(
+    rt: &R,
+    alloc: Global,
+    opener: &O,
+    key: &Key,
+    bytes: &[u8],
+    other: &[u8],
+) -> Result<()> {
+    println!(rt; "a byte of the header changed")?;
+    alter_header(rt, alloc, opener, key, bytes)?;
+    println!(rt; "chunks moved")?;
+    alter_chunks(rt, alloc, opener, key, bytes, other)?;
+    print_answer(rt, "unaltered", opener.fault_of(key, bytes))?;
     Ok(())
 }
 
@@ -164,21 +197,9 @@ pub fn print_table<R: Print, O: Opener>(
     opener: &O,
     lengths: &[(usize, usize)],
 ) -> Result<()> {
-    let key = Key::new(COUNTING);
-    let plain = vec![in alloc; 0; PLAIN]?;
-    let bytes = seal(alloc, &key, prefix_of(0), plain.as_slice())?;
-    let other = seal(alloc, &key, prefix_of(1), plain.as_slice())?;
-    let (bytes, other) = (bytes.as_slice(), other.as_slice());
-    println!(rt; "cut to a length")?;
-    for (from, to) in lengths {
-        let (from, to) = (*from, *to);
-        ensure!(from <= to && to <= bytes.len(), "a range of lengths");
-        cut_to(rt, alloc, opener, &key, bytes, from, to)?;
-    }
-    println!(rt; "a byte of the header changed")?;
-    alter_header(rt, alloc, opener, &key, bytes)?;
-    println!(rt; "chunks moved")?;
-    alter_chunks(rt, alloc, opener, &key, bytes, other)?;
-    print_answer(rt, "unaltered", opener.fault_of(&key, bytes))?;
-    Ok(())
+    let key = counting_key();
+    let bytes = zeros_sealed(alloc, &key, 0)?;
+    let other = zeros_sealed(alloc, &key, 1)?;
+    print_cuts(rt, alloc, opener, &key, bytes.as_slice(), lengths)?;
+    print_answers(rt, alloc, opener, &key, bytes.as_slice(), other.as_slice())
 }

@@ -1,6 +1,8 @@
 //! The parts of a container: nonce, header, key, cut, and the texts and numbers of the faults.
-use crate::samples::{COUNTING, EMPTY, prefix_of};
-use container_core::{Cut, Key, OpenFault, SealFault, nonce, read_header};
+use crate::samples::{EMPTY, counting_key, prefix_of};
+use container_core::{Cut, Header, Key, OpenFault, SealFault, nonce, read_header};
+use std::alloc::{AllocError, Global};
+use std::fmt::Display;
 use std::test::Fail;
 
 #[test]
@@ -11,34 +13,38 @@ fn nonce_of_a_last_chunk(rt: HostRuntime) {
     assert_eq!(rt; nonce([0xff, 0, 0, 0, 0, 0, 0], 0x0102_0304, false), want);
 }
 
+// Whether reading the header is refused so.
+fn is_refused(key: &Key, bytes: &[u8], fault: OpenFault) -> bool {
+    match read_header(key, bytes) {
+        Ok(_header) => false,
+        Err(found) => found == fault,
+    }
+}
+
+// Whether each byte that is changed before the ones changed so far has its fault.
+fn names_faults_in_order(key: &Key, bytes: &mut [u8; 40]) -> bool {
+    bytes[17] ^= 1;
+    let mismatch = is_refused(key, bytes, OpenFault::KeyMismatch);
+    bytes[9] ^= 1;
+    let exponent = is_refused(key, bytes, OpenFault::BadExponent);
+    bytes[8] ^= 1;
+    let version = is_refused(key, bytes, OpenFault::BadVersion);
+    bytes[7] ^= 1;
+    let magic = is_refused(key, bytes, OpenFault::BadMagic);
+    let short = is_refused(key, &bytes[..23], OpenFault::ShortHeader);
+    mismatch && exponent && version && magic && short
+}
+
+fn is_header_of_empty(header: &Header) -> bool {
+    header.bytes().as_slice() == &EMPTY[..24] && header.prefix() == prefix_of(0)
+}
+
 #[test]
 fn header_faults_in_order(rt: HostRuntime) -> Result<(), Fail> {
-    let key = Key::new(COUNTING);
+    let key = counting_key();
     let mut bytes = EMPTY;
-    let header = read_header(&key, &bytes)?;
-    assert_eq!(rt; header.bytes().as_slice(), &EMPTY[..24]);
-    assert_eq!(rt; header.prefix(), prefix_of(0));
-    bytes[17] ^= 1;
-    assert_eq!(rt;
-        read_header(&key, &bytes).err(),
-        Some(OpenFault::KeyMismatch)
-    );
-    bytes[9] ^= 1;
-    assert_eq!(rt;
-        read_header(&key, &bytes).err(),
-        Some(OpenFault::BadExponent)
-    );
-    bytes[8] ^= 1;
-    assert_eq!(rt;
-        read_header(&key, &bytes).err(),
-        Some(OpenFault::BadVersion)
-    );
-    bytes[7] ^= 1;
-    assert_eq!(rt; read_header(&key, &bytes).err(), Some(OpenFault::BadMagic));
-    assert_eq!(rt;
-        read_header(&key, &bytes[..23]).err(),
-        Some(OpenFault::ShortHeader)
-    );
+    assert!(rt; is_header_of_empty(&read_header(&key, &bytes)?));
+    assert!(rt; names_faults_in_order(&key, &mut bytes));
     Ok(())
 }
 
@@ -52,61 +58,118 @@ fn identity_of_a_key(rt: HostRuntime) {
     assert_eq!(rt; Key::new([0; 32]).id(), want);
 }
 
-#[test]
-fn cuts_by_quotient_and_remainder(rt: HostRuntime) -> Result<(), Fail> {
-    let most = 1_099_780_063_232;
-    assert_eq!(rt; Cut::of_body(most + 1).err(), Some(OpenFault::TooLong));
-    let places = Cut::of_body(most)?;
-    assert_eq!(rt; places.count(), 1 << 24);
-    for (body, count) in [(16, 1), (17, 1), (65_552, 1), (65_569, 2), (131_104, 2)] {
-        assert_eq!(rt; Cut::of_body(body)?.count(), count, "of {body}");
+// Whether so many bytes behind a header have so many chunks.
+fn has_chunks(body: u64, count: u32) -> bool {
+    match Cut::of_body(body) {
+        Ok(places) => places.count() == count,
+        Err(_) => false,
     }
+}
+
+fn has_no_cut(body: u64, fault: OpenFault) -> bool {
+    match Cut::of_body(body) {
+        Ok(_) => false,
+        Err(found) => found == fault,
+    }
+}
+
+// The places of two chunks, the second of one byte.
+fn has_two_places(places: Cut) -> bool {
+    if places.count() != 2 {
+        return false;
+    }
+    let (first, whole) = places.place(0);
+    let (second, rest) = places.place(1);
+    first == 0 && whole == 65_536 && second == 65_552 && rest == 1
+}
+
+// Bytes behind a header, and how many chunks they are.
+static BODIES: [(u64, u32); 6] = [
+    (16, 1),
+    (17, 1),
+    (65_552, 1),
+    (65_569, 2),
+    (131_104, 2),
+    (1_099_780_063_232, 1 << 24),
+];
+
+fn have_chunks() -> bool {
+    for (body, count) in &BODIES {
+        if !has_chunks(*body, *count) {
+            return false;
+        }
+    }
+    true
+}
+
+fn have_bad_lengths() -> bool {
     for body in [0, 15, 65_553, 65_568, 131_105] {
-        assert_eq!(rt;
-            Cut::of_body(body).err(),
-            Some(OpenFault::BadLength),
-            "of {body}"
-        );
+        if !has_no_cut(body, OpenFault::BadLength) {
+            return false;
+        }
     }
-    let places = Cut::of_body(65_569)?;
-    assert!(rt; places.count() == 2);
-    assert_eq!(rt; places.place(0), (0, 65_536));
-    assert_eq!(rt; places.place(1), (65_552, 1));
-    Ok(())
+    true
 }
 
 #[test]
-fn texts_and_numbers_of_faults(rt: HostRuntime) -> Result<(), Fail> {
-    let faults = [
-        (OpenFault::TooLong, 1, "too long"),
-        (OpenFault::ShortHeader, 2, "header cut short"),
-        (OpenFault::BadMagic, 3, "not a sealed file"),
-        (OpenFault::BadVersion, 4, "unknown version"),
-        (OpenFault::BadExponent, 5, "unknown chunk size"),
-        (OpenFault::KeyMismatch, 6, "sealed under another key"),
-        (OpenFault::BadLength, 7, "wrong length"),
-        (
-            OpenFault::Forged { chunk: 12 },
-            8,
-            "chunk 12 does not check",
-        ),
-        (OpenFault::OutOfMemory, 9, "out of memory"),
-        (OpenFault::Read, 10, "read failed"),
-        (OpenFault::Write, 16, "write failed"),
-    ];
-    for (fault, number, text) in faults {
-        assert_eq!(rt; fault.number(), number);
-        assert_eq!(rt; fault.to_string(rt.alloc())?.as_str(), text);
+fn cuts_by_quotient_and_remainder(rt: HostRuntime) -> Result<(), Fail> {
+    assert!(rt; have_chunks());
+    assert!(rt; have_bad_lengths());
+    assert!(rt; has_no_cut(1_099_780_063_233, OpenFault::TooLong));
+    assert!(rt; has_two_places(Cut::of_body(65_569)?));
+    Ok(())
+}
+
+static OPEN_FAULTS: [(OpenFault, u32, &str); 11] = [
+    (OpenFault::TooLong, 1, "too long"),
+    (OpenFault::ShortHeader, 2, "header cut short"),
+    (OpenFault::BadMagic, 3, "not a sealed file"),
+    (OpenFault::BadVersion, 4, "unknown version"),
+    (OpenFault::BadExponent, 5, "unknown chunk size"),
+    (OpenFault::KeyMismatch, 6, "sealed under another key"),
+    (OpenFault::BadLength, 7, "wrong length"),
+    (
+        OpenFault::Forged { chunk: 12 },
+        8,
+        "chunk 12 does not check",
+    ),
+    (OpenFault::OutOfMemory, 9, "out of memory"),
+    (OpenFault::Read, 10, "read failed"),
+    (OpenFault::Write, 16, "write failed"),
+];
+
+static SEAL_FAULTS: [(SealFault, u32, &str); 4] = [
+    (SealFault::TooLong, 11, "too long"),
+    (SealFault::OutOfMemory, 12, "out of memory"),
+    (SealFault::Read, 13, "read failed"),
+    (SealFault::Write, 14, "write failed"),
+];
+
+fn has_text(alloc: Global, fault: impl Display + Drop, text: &str) -> Result<bool, AllocError> {
+    Ok(fault.to_string(alloc)?.as_str() == text)
+}
+
+fn open_faults_are_told(alloc: Global) -> Result<bool, AllocError> {
+    for (fault, number, text) in &OPEN_FAULTS {
+        if fault.number() != *number || !has_text(alloc, *fault, text)? {
+            return Ok(false);
+        }
     }
-    let faults = [
-        (SealFault::TooLong, 11, "too long"),
-        (SealFault::OutOfMemory, 12, "out of memory"),
-        (SealFault::Read, 13, "read failed"),
-        (SealFault::Write, 14, "write failed"),
-    ];
-    for (fault, number, text) in faults {
-        assert_eq!(rt; fault.number(), number);
-        assert_eq!(rt; fault.to_string(rt.alloc())?.as_str(), text);
+    Ok(true)
+}
+
+fn seal_faults_are_told(alloc: Global) -> Result<bool, AllocError> {
+    for (fault, number, text) in &SEAL_FAULTS {
+        if fault.number() != *number || !has_text(alloc, *fault, text)? {
+            return Ok(false);
+        }
     }
+    Ok(true)
+}
+
+#[test]
+fn texts_and_numbers_of_faults(rt: HostRuntime) -> Result<(), AllocError> {
+    assert!(rt; open_faults_are_told(rt.alloc())?);
+    assert!(rt; seal_faults_are_told(rt.alloc())?);
     Ok(())
 }

@@ -1,12 +1,14 @@
 //! Whole containers. The expected bytes and digests are those of Python's `cryptography` and `hashlib`.
-use crate::samples::{COUNTING, EMPTY, prefix_of};
+ghost use Rattle.std.specs.Prelude.{◌≡◌, ◌≤◌, length};
+
+use crate::samples::{COUNTING, EMPTY, counting_key, prefix_of};
 use aead_core::seal_in_place;
 use container_core::{
     Cut, HEADER, Header, Key, OpenFault, SEALED, begin, nonce, open, open_chunk, open_into, seal,
     seal_chunk, seal_into,
 };
 use sha2::{Digest, Sha256};
-use std::alloc::Global;
+use std::alloc::{AllocError, Global};
 use std::test::Fail;
 
 // How many zero bytes, the bytes of their container, its chunks, and its SHA-256.
@@ -49,128 +51,159 @@ fn zeros_sealed(alloc: Global, key: &Key, count: usize) -> Result<Vec<u8>, Fail>
     Ok(seal(alloc, key, prefix_of(0), plain.as_slice())?)
 }
 
-// The fault that opening answers, or none.
-fn fault_of(alloc: Global, key: &Key, bytes: &[u8]) -> Option<OpenFault> {
+// Whether opening answers this fault.
+fn has_fault(alloc: Global, key: &Key, bytes: &[u8], fault: OpenFault) -> bool {
     match open(alloc, key, bytes) {
-        Ok(_plain) => None,
-        Err(fault) => Some(fault),
+        Ok(_plain) => false,
+        Err(found) => found == fault,
+    }
+}
+
+// Whether the container of so many zero bytes opens to them.
+fn opens_to_zeros(alloc: Global, key: &Key, bytes: &[u8], count: usize) -> bool {
+    match open(alloc, key, bytes) {
+        Ok(plain) => plain.len() == count && plain.iter().all(|byte| *byte == 0),
+        Err(_) => false,
+    }
+}
+
+// Whether these bytes have this length, so many chunks behind their header, and this digest.
+fn is_cut_and_digested(bytes: &[u8], length: usize, chunks: u32, digest: &[u8; 32]) -> bool {
+    if bytes.len() != length || bytes.len() < HEADER {
+        return false;
+    }
+    match Cut::of_body((bytes.len() - HEADER) as u64) {
+        Ok(places) => places.count() == chunks && Sha256::digest(bytes) == *digest,
+        Err(_) => false,
     }
 }
 
 #[test]
 fn empty_plaintext_is_one_chunk(rt: HostRuntime) -> Result<(), Fail> {
-    let key = Key::new(COUNTING);
+    let key = counting_key();
     let bytes = seal(rt.alloc(), &key, prefix_of(0), b"")?;
-    assert_eq!(rt; bytes.as_slice(), EMPTY.as_slice());
-    let plain = open(rt.alloc(), &key, bytes.as_slice())?;
-    assert!(rt; plain.is_empty());
+    assert!(rt; bytes.as_slice() == EMPTY.as_slice());
+    assert!(rt; opens_to_zeros(rt.alloc(), &key, bytes.as_slice(), 0));
     Ok(())
 }
 
 #[test]
 fn containers_of_zeros(rt: HostRuntime) -> Result<(), Fail> {
-    let key = Key::new(COUNTING);
+    let key = counting_key();
     for (count, length, chunks, digest) in &CONTAINERS {
         let bytes = zeros_sealed(rt.alloc(), &key, *count)?;
-        assert_eq!(rt; bytes.len(), *length);
-        assert_eq!(rt; Sha256::digest(bytes.as_slice()), *digest, "of {count}");
-        assert!(rt; bytes.len() >= HEADER);
-        let places = Cut::of_body((bytes.len() - HEADER) as u64)?;
-        assert_eq!(rt; places.count(), *chunks);
-        let plain = open(rt.alloc(), &key, bytes.as_slice())?;
-        let zeros = vec![in rt.alloc(); 0; *count]?;
-        assert!(rt; plain.as_slice() == zeros.as_slice(), "of {count}");
+        assert!(rt; is_cut_and_digested(bytes.as_slice(), *length, *chunks, digest));
+        assert!(rt; opens_to_zeros(rt.alloc(), &key, bytes.as_slice(), *count));
     }
     Ok(())
 }
 
+// These parts, one behind the other.
+fn joined(alloc: Global, parts: &[&[u8]]) -> Result<Vec<u8>, AllocError> {
+    let mut bytes = Vec::new(alloc);
+    for part in parts {
+        bytes.extend_from_slice(part)?;
+    }
+    Ok(bytes)
+}
+
+// Whether these parts, one behind the other, are 65,592 bytes of a bad length.
+fn have_a_bad_length(alloc: Global, key: &Key, parts: &[&[u8]]) -> Result<bool, AllocError> {
+    let bytes = joined(alloc, parts)?;
+    let bad = has_fault(alloc, key, bytes.as_slice(), OpenFault::BadLength);
+    Ok(bytes.len() == 65_592 && bad)
+}
+
+// Whether the sealed chunk opens to zeros, and these do not open again as the last chunk.
+fn opens_as_first(key: &Key, header: &Header, chunk: &mut [u8; 65536], tag: &[u8; 16]) -> bool {
+    open_chunk(key, header, 0, false, chunk, tag)
+        && *chunk == [0; 65536]
+        && !open_chunk(key, header, 0, true, chunk, tag)
+}
+
+// Whether a chunk of zeros and an empty one behind it, each with its good tag, have a bad length.
+fn are_refused(
+    alloc: Global,
+    key: &Key,
+    header: &Header,
+    chunk: &mut [u8; 65536],
+) -> Result<bool, AllocError> {
+    let first = seal_chunk(key, header, 0, false, chunk);
+    let last = seal_chunk(key, header, 1, true, &mut []);
+    let opened = open_chunk(key, header, 1, true, &mut [], &last);
+    let bad = have_a_bad_length(alloc, key, &[&header.bytes(), chunk, &first, &last])?;
+    Ok(opened && bad && opens_as_first(key, header, chunk, &first))
+}
+
 #[test]
-fn empty_chunk_behind_a_full_one_is_a_bad_length(rt: HostRuntime) -> Result<(), Fail> {
-    let key = Key::new(COUNTING);
+fn empty_chunk_behind_a_full_one_is_a_bad_length(rt: HostRuntime) -> Result<(), AllocError> {
+    let key = counting_key();
     let header = Header::of(&key, prefix_of(0));
-    let mut chunk = [0; 65536];
-    let first = seal_chunk(&key, &header, 0, false, &mut chunk);
-    let last = seal_chunk(&key, &header, 1, true, &mut []);
-    assert!(rt; open_chunk(&key, &header, 1, true, &mut [], &last));
-    let mut bytes = Vec::new(rt.alloc());
-    bytes.extend_from_slice(&header.bytes())?;
-    bytes.extend_from_slice(&chunk)?;
-    bytes.extend_from_slice(&first)?;
-    bytes.extend_from_slice(&last)?;
-    assert_eq!(rt; bytes.len(), 65_592);
-    assert_eq!(rt;
-        fault_of(rt.alloc(), &key, bytes.as_slice()),
-        Some(OpenFault::BadLength)
-    );
-    assert!(rt; open_chunk(&key, &header, 0, false, &mut chunk, &first));
-    assert_eq!(rt; chunk, [0; 65536]);
-    assert!(rt; !open_chunk(&key, &header, 0, true, &mut chunk, &first));
+    assert!(rt; are_refused(rt.alloc(), &key, &header, &mut [0; 65536])?);
     Ok(())
+}
+
+// Whether the container cut to this length has this fault.
+fn is_refused_at(alloc: Global, key: &Key, bytes: &[u8], length: usize, fault: OpenFault) -> bool {
+    length <= bytes.len() && has_fault(alloc, key, &bytes[..length], fault)
+}
+
+// Whether each cut of the container of two chunks has its fault.
+fn names_faults_of_cuts(alloc: Global, key: &Key, bytes: &[u8]) -> bool {
+    is_refused_at(alloc, key, bytes, 65_576, OpenFault::Forged { chunk: 0 })
+        && is_refused_at(alloc, key, bytes, 24, OpenFault::BadLength)
+        && is_refused_at(alloc, key, bytes, 23, OpenFault::ShortHeader)
+        && is_refused_at(alloc, key, bytes, 0, OpenFault::ShortHeader)
 }
 
 #[test]
 fn truncated_container_names_the_fault(rt: HostRuntime) -> Result<(), Fail> {
-    let key = Key::new(COUNTING);
+    let key = counting_key();
     let bytes = zeros_sealed(rt.alloc(), &key, 65_537)?;
-    let faults = [
-        (65_576, OpenFault::Forged { chunk: 0 }),
-        (24, OpenFault::BadLength),
-        (23, OpenFault::ShortHeader),
-        (0, OpenFault::ShortHeader),
-    ];
-    for (length, fault) in faults {
-        let mut front = Vec::from_slice(rt.alloc(), bytes.as_slice())?;
-        front.truncate(length);
-        assert_eq!(rt; front.len(), length);
-        assert_eq!(rt;
-            fault_of(rt.alloc(), &key, front.as_slice()),
-            Some(fault),
-            "cut to {length}"
-        );
-    }
+    assert!(rt; names_faults_of_cuts(rt.alloc(), &key, bytes.as_slice()));
     Ok(())
+}
+
+// Whether the first chunk is forged where it and the second of three whole chunks are exchanged.
+fn is_forged_when_exchanged(alloc: Global, key: &Key, bytes: &[u8]) -> Result<bool, AllocError>
+    requires { length bytes.now ≡ 196680 }
+{
+    let header = &bytes[..HEADER];
+    let first = &bytes[HEADER..HEADER + SEALED];
+    let second = &bytes[HEADER + SEALED..HEADER + 2 * SEALED];
+    let third = &bytes[HEADER + 2 * SEALED..];
+    let other = joined(alloc, &[header, second, first, third])?;
+    Ok(has_fault(alloc, key, other.as_slice(), OpenFault::Forged { chunk: 0 }))
+}
+
+// Whether another key is named, another version before that, and another beginning before both.
+fn names_first_fault(alloc: Global, bytes: &mut [u8]) -> bool
+    requires { 9 ≤ length bytes.old }
+{
+    let mismatch = has_fault(alloc, &Key::new([0; 32]), bytes, OpenFault::KeyMismatch);
+    let key = counting_key();
+    bytes[8] = 9;
+    let version = has_fault(alloc, &key, bytes, OpenFault::BadVersion);
+    bytes[0] = 0x54;
+    let magic = has_fault(alloc, &key, bytes, OpenFault::BadMagic);
+    mismatch && version && magic
 }
 
 #[test]
 fn altered_container_names_the_first_fault(rt: HostRuntime) -> Result<(), Fail> {
-    let key = Key::new(COUNTING);
-    let alloc = rt.alloc();
-    let mut bytes = zeros_sealed(alloc, &key, 196_608)?;
-    assert_eq!(rt; bytes.len(), 196_680);
-    let mut other = Vec::new(alloc);
-    other.extend_from_slice(&bytes[..HEADER])?;
-    other.extend_from_slice(&bytes[HEADER + SEALED..HEADER + 2 * SEALED])?;
-    other.extend_from_slice(&bytes[HEADER..HEADER + SEALED])?;
-    other.extend_from_slice(&bytes[HEADER + 2 * SEALED..])?;
-    assert_eq!(rt;
-        fault_of(alloc, &key, other.as_slice()),
-        Some(OpenFault::Forged { chunk: 0 })
-    );
-    let zeros = Key::new([0; 32]);
-    assert_eq!(rt;
-        fault_of(alloc, &zeros, bytes.as_slice()),
-        Some(OpenFault::KeyMismatch)
-    );
-    bytes[8] = 9;
-    assert_eq!(rt;
-        fault_of(alloc, &key, bytes.as_slice()),
-        Some(OpenFault::BadVersion)
-    );
-    bytes[0] = 0x54;
-    assert_eq!(rt;
-        fault_of(alloc, &key, bytes.as_slice()),
-        Some(OpenFault::BadMagic)
-    );
+    let key = counting_key();
+    let mut bytes = zeros_sealed(rt.alloc(), &key, 196_608)?;
+    assert!(rt; bytes.len() == 196_680);
+    assert!(rt; is_forged_when_exchanged(rt.alloc(), &key, bytes.as_slice())?);
+    assert!(rt; names_first_fault(rt.alloc(), bytes.as_mut_slice()));
     Ok(())
 }
 
-// The version is tested before the tags: they are those of this very header.
-#[test]
-fn good_tags_under_another_version(rt: HostRuntime) -> Result<(), Fail> {
-    let key = Key::new(COUNTING);
-    let mut header = Header::of(&key, prefix_of(0)).bytes();
+// Three chunks of zeros under a header of version 9, each with the tag of this very header.
+fn under_version_9(alloc: Global) -> Result<Vec<u8>, AllocError> {
+    let mut header = Header::of(&counting_key(), prefix_of(0)).bytes();
     header[8] = 9;
-    let mut bytes = Vec::from_slice(rt.alloc(), &header)?;
+    let mut bytes = Vec::from_slice(alloc, &header)?;
     for number in 0..3u32 {
         let mut chunk = [0; 65536];
         let nonce = nonce(prefix_of(0), number, number == 2);
@@ -178,39 +211,69 @@ fn good_tags_under_another_version(rt: HostRuntime) -> Result<(), Fail> {
         bytes.extend_from_slice(&chunk)?;
         bytes.extend_from_slice(&tag)?;
     }
-    assert_eq!(rt;
-        fault_of(rt.alloc(), &key, bytes.as_slice()),
-        Some(OpenFault::BadVersion)
-    );
+    Ok(bytes)
+}
+
+// The version is tested before the tags: they are those of this very header.
+#[test]
+fn good_tags_under_another_version(rt: HostRuntime) -> Result<(), AllocError> {
+    let bytes = under_version_9(rt.alloc())?;
+    let key = counting_key();
+    assert!(rt; has_fault(rt.alloc(), &key, bytes.as_slice(), OpenFault::BadVersion));
     Ok(())
+}
+
+// These bytes, with room for more behind them.
+fn with_room(alloc: Global, front: &[u8], room: usize) -> Result<Vec<u8>, AllocError> {
+    let mut bytes = Vec::with_capacity(alloc, room)?;
+    bytes.extend_from_slice(front)?;
+    Ok(bytes)
+}
+
+// Whether the container of no bytes is sealed behind three bytes, which stay.
+fn seals_behind(bytes: &mut Vec<u8>) -> bool {
+    if bytes.len() != 3 || bytes.capacity() < 43 {
+        return false;
+    }
+    seal_into(bytes, &counting_key(), prefix_of(0), b"");
+    let (front, rest) = bytes.as_slice().split_at(3);
+    front == b"abc".as_slice() && rest == EMPTY.as_slice()
+}
+
+// Whether opening this body of no bytes, behind other bytes, answers so and leaves them.
+fn opens_behind(
+    out: &mut Vec<u8>,
+    header: &Header,
+    body: &[u8; 16],
+    fault: Option<OpenFault>,
+) -> bool {
+    if out.len() > out.capacity() {
+        return false;
+    }
+    let opened = open_into(out, &counting_key(), header, Cut::of(0), body);
+    opened.err() == fault && out.as_slice() == b"before".as_slice()
+}
+
+// Whether the body of the container of no bytes opens behind other bytes, and doesn't where its last byte is changed.
+fn opens_in_room(out: &mut Vec<u8>) -> bool {
+    let Ok((header, cut)) = begin(&counting_key(), &EMPTY) else {
+        return false;
+    };
+    let mut body = [0; 16];
+    body.copy_from_slice(&EMPTY[24..]);
+    let opens = opens_behind(out, &header, &body, None);
+    body[15] ^= 1;
+    let forged = Some(OpenFault::Forged { chunk: 0 });
+    cut.plain() == 0 && opens && opens_behind(out, &header, &body, forged)
 }
 
 // A container sealed and opened in room that stood before, behind other bytes; and a chunk that doesn't check leaves
 // them.
 #[test]
-fn whole_in_given_room(rt: HostRuntime) -> Result<(), Fail> {
-    let key = Key::new(COUNTING);
-    let mut bytes = Vec::with_capacity(rt.alloc(), 3 + EMPTY.len())?;
-    bytes.extend_from_slice(b"abc")?;
-    assert!(rt; bytes.len() + EMPTY.len() <= bytes.capacity());
-    seal_into(&mut bytes, &key, prefix_of(0), b"");
-    assert!(rt; bytes.len() == 43);
-    assert_eq!(rt; &bytes[..3], b"abc".as_slice());
-    assert_eq!(rt; &bytes[3..], EMPTY.as_slice());
-    let (header, cut) = begin(&key, &EMPTY)?;
-    assert!(rt; cut.plain() == 0);
-    let mut other = EMPTY;
-    other[39] ^= 1;
-    let faults = [None, Some(OpenFault::Forged { chunk: 0 })];
-    for (container, fault) in [EMPTY, other].iter().zip(faults.iter()) {
-        let mut out = Vec::with_capacity(rt.alloc(), 8)?;
-        out.extend_from_slice(b"before")?;
-        assert!(rt; out.len() <= out.capacity());
-        assert_eq!(rt;
-            open_into(&mut out, &key, &header, cut, &container[24..]).err(),
-            *fault
-        );
-        assert_eq!(rt; out.as_slice(), b"before".as_slice());
-    }
+fn whole_in_given_room(rt: HostRuntime) -> Result<(), AllocError> {
+    let mut bytes = with_room(rt.alloc(), b"abc", 43)?;
+    assert!(rt; seals_behind(&mut bytes));
+    let mut out = with_room(rt.alloc(), b"before", 8)?;
+    assert!(rt; opens_in_room(&mut out));
     Ok(())
 }

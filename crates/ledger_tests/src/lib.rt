@@ -1,6 +1,8 @@
 //! Runs of the shared ledger, in one thread and in four, from its opening to the text of its journal.
 #![tactic(auto)]
 
+#[cfg(test)]
+mod calls;
 pub mod order;
 pub mod run;
 #[cfg(test)]
