@@ -114,11 +114,11 @@ fn have_a_bad_length(alloc: Global, key: &Key, parts: &[&[u8]]) -> Result<bool, 
     Ok(bytes.len() == 65_592 && bad)
 }
 
-// Whether the sealed chunk opens to zeros, and these do not open again as the last chunk.
+// Whether the sealed chunk doesn't open as the last one, and opens to zeros as the first.
 fn opens_as_first(key: &Key, header: &Header, chunk: &mut [u8; 65536], tag: &[u8; 16]) -> bool {
-    open_chunk(key, header, 0, false, chunk, tag)
+    !open_chunk(key, header, 0, true, chunk, tag)
+        && open_chunk(key, header, 0, false, chunk, tag)
         && *chunk == [0; 65536]
-        && !open_chunk(key, header, 0, true, chunk, tag)
 }
 
 // Whether a chunk of zeros and an empty one behind it, each with its good tag, have a bad length.

@@ -22,7 +22,7 @@ const LIMIT: u64 = 1 << 24;
 // How often a pass looks for the others, where workers are to meet.
 const TURNS: u64 = 1_000_000_000;
 
-#[derive(Clone, Copy, PartialEq, Eq, Debug)]
+#[derive(Clone, Copy)]
 enum Engine {
     Seal,
     Open,
@@ -30,72 +30,114 @@ enum Engine {
     Plain,
 }
 
-const ENGINES: [Engine; 4] = [Engine::Seal, Engine::Open, Engine::Verify, Engine::Plain];
+static ENGINES: [Engine; 4] = [Engine::Seal, Engine::Open, Engine::Verify, Engine::Plain];
 
-// Runs an engine over this plaintext: over its container, where the engine doesn't seal.
-fn run<R: Threads + Sync, G: Gate + Sync>(
+// Whether an engine does its work over this plaintext: over its container, where the engine doesn't seal.
+fn runs<R: Threads + Sync, G: Gate + Sync>(
     rt: &R,
     alloc: Global,
     engine: Engine,
     plain: &[u8],
     workers: u32,
     gate: &G,
-) -> Result<(), Fail>
+) -> bool
+    requires workers { (0 < workers) × (workers ≤ MAX_WORKERS) }
+{
+    match engine {
+        Engine::Seal => seals(rt, alloc, plain, workers, gate) == Some(true),
+        _ => match seal(alloc, &Key::new(COUNTING), PREFIX, plain) {
+            Ok(container) => reads(rt, alloc, engine, container.as_slice(), workers, gate),
+            Err(_) => false,
+        },
+    }
+}
+
+fn seals<R: Threads + Sync, G: Gate + Sync>(
+    rt: &R,
+    alloc: Global,
+    plain: &[u8],
+    workers: u32,
+    gate: &G,
+) -> Option<bool>
     requires workers { (0 < workers) × (workers ≤ MAX_WORKERS) }
 {
     let key = Key::new(COUNTING);
-    let mut writer = ToMemory::new(alloc, 64, MOST, Schedule::Never)?;
-    if engine == Engine::Seal {
-        let grant = grant_of(alloc, 0).ok_or("no grant")?;
-        let mut reader = FromMemory::new(plain, MOST, Schedule::Never);
-        let (sealed, _) = run_seal(
-            rt,
-            alloc,
-            &key,
-            grant,
-            &mut reader,
-            &mut writer,
-            LIMIT,
-            workers,
-            gate,
-        );
-        sealed?;
-        return Ok(());
-    }
-    let container = seal(alloc, &key, PREFIX, plain)?;
-    let mut reader = FromMemory::new(container.as_slice(), MOST, Schedule::Never);
+    let mut reader = FromMemory::new(plain, MOST, Schedule::Never);
+    let mut writer = ToMemory::new(alloc, 64, MOST, Schedule::Never).ok()?;
+    let grant = grant_of(alloc, 0)?;
+    let (sealed, _) = run_seal(
+        rt,
+        alloc,
+        &key,
+        grant,
+        &mut reader,
+        &mut writer,
+        LIMIT,
+        workers,
+        gate,
+    );
+    Some(sealed.is_ok())
+}
+
+fn reads<R: Threads + Sync, G: Gate + Sync>(
+    rt: &R,
+    alloc: Global,
+    engine: Engine,
+    container: &[u8],
+    workers: u32,
+    gate: &G,
+) -> bool
+    requires workers { (0 < workers) × (workers ≤ MAX_WORKERS) }
+{
+    let key = Key::new(COUNTING);
+    let mut reader = FromMemory::new(container, MOST, Schedule::Never);
     match engine {
-        Engine::Open => {
-            run_open(
-                rt,
-                alloc,
-                &key,
-                &mut reader,
-                &mut writer,
-                LIMIT,
-                workers,
-                gate,
-            )?;
-        }
-        Engine::Verify => {
-            run_verify(rt, alloc, &key, &mut reader, LIMIT, workers, gate)?;
-        }
-        _ => {
-            run_plain(rt, alloc, &key, &mut reader, LIMIT, workers, gate)?;
+        Engine::Open => opens(rt, alloc, &mut reader, workers, gate) == Some(true),
+        Engine::Verify => run_verify(rt, alloc, &key, &mut reader, LIMIT, workers, gate).is_ok(),
+        _ => run_plain(rt, alloc, &key, &mut reader, LIMIT, workers, gate).is_ok(),
+    }
+}
+
+fn opens<R: Threads + Sync, G: Gate + Sync>(
+    rt: &R,
+    alloc: Global,
+    reader: &mut FromMemory<'_>,
+    workers: u32,
+    gate: &G,
+) -> Option<bool>
+    requires workers { (0 < workers) × (workers ≤ MAX_WORKERS) }
+{
+    let key = Key::new(COUNTING);
+    let mut writer = ToMemory::new(alloc, 64, MOST, Schedule::Never).ok()?;
+    let opened = run_open(rt, alloc, &key, reader, &mut writer, LIMIT, workers, gate);
+    Some(opened.is_ok())
+}
+
+// Whether two passes are made by so many workers in each engine, and the gate gives up as told.
+fn pass_twice<R: Threads + Sync>(
+    rt: &R,
+    alloc: Global,
+    plain: &[u8],
+    turns: u64,
+    workers: u32,
+    gives_up: bool,
+) -> bool
+    requires workers { (0 < workers) × (workers ≤ MAX_WORKERS) }
+{
+    for engine in &ENGINES {
+        let gate = Meeting::new(2, turns);
+        let is_done = runs(rt, alloc, *engine, plain, workers, &gate);
+        if !is_done || gate.gave_up() != gives_up || gate.passes() != 2 {
+            return false;
         }
     }
-    Ok(())
+    true
 }
 
 #[test]
 fn two_workers_meet_in_each_engine(rt: HostRuntime) -> Result<(), Fail> {
     let plain = zeros(rt.alloc(), 65_537)?;
-    for engine in ENGINES {
-        let gate = Meeting::new(2, TURNS);
-        run(&rt, rt.alloc(), engine, plain.as_slice(), 2, &gate)?;
-        assert!(rt; !gate.gave_up(), "{engine:?}");
-        assert_eq!(rt; gate.passes(), 2, "{engine:?}");
-    }
+    assert!(rt; pass_twice(&rt, rt.alloc(), plain.as_slice(), TURNS, 2, false));
     Ok(())
 }
 
@@ -103,40 +145,61 @@ fn two_workers_meet_in_each_engine(rt: HostRuntime) -> Result<(), Fail> {
 #[test]
 fn one_worker_meets_nobody(rt: HostRuntime) -> Result<(), Fail> {
     let plain = zeros(rt.alloc(), 65_537)?;
-    for engine in ENGINES {
-        let gate = Meeting::new(2, 1000);
-        run(&rt, rt.alloc(), engine, plain.as_slice(), 1, &gate)?;
-        assert!(rt; gate.gave_up(), "{engine:?}");
-        assert_eq!(rt; gate.passes(), 2, "{engine:?}");
-    }
+    assert!(rt; pass_twice(&rt, rt.alloc(), plain.as_slice(), 1000, 1, true));
     Ok(())
+}
+
+// Whether so many workers of an engine pass with each piece of 18 once.
+fn passes_each_once<R: Threads + Sync>(
+    rt: &R,
+    alloc: Global,
+    engine: Engine,
+    plain: &[u8],
+    workers: u32,
+) -> Option<bool>
+    requires workers { (0 < workers) × (workers ≤ MAX_WORKERS) }
+{
+    let gate = Recorder::new(alloc, 18).ok()?;
+    let is_done = runs(rt, alloc, engine, plain, workers, &gate);
+    Some(is_done && gate.is_each_once(u64::from(workers)))
+}
+
+fn pass_each_once<R: Threads + Sync>(rt: &R, alloc: Global, plain: &[u8], workers: u32) -> bool
+    requires workers { (0 < workers) × (workers ≤ MAX_WORKERS) }
+{
+    for engine in &ENGINES {
+        if passes_each_once(rt, alloc, *engine, plain, workers) != Some(true) {
+            return false;
+        }
+    }
+    true
 }
 
 #[test]
 fn all_workers_pass_with_each_piece_once(rt: HostRuntime) -> Result<(), Fail> {
     let plain = pattern(rt.alloc(), 17 * 65_536 + 1)?;
-    for engine in ENGINES {
-        for workers in [1, 4, 16] {
-            let gate = Recorder::new(rt.alloc(), 18)?;
-            run(&rt, rt.alloc(), engine, plain.as_slice(), workers, &gate)?;
-            assert!(rt;
-                gate.is_each_once(u64::from(workers)),
-                "{engine:?} by {workers} workers"
-            );
+    assert!(rt; pass_each_once(&rt, rt.alloc(), plain.as_slice(), 1));
+    assert!(rt; pass_each_once(&rt, rt.alloc(), plain.as_slice(), 4));
+    assert!(rt; pass_each_once(&rt, rt.alloc(), plain.as_slice(), 16));
+    Ok(())
+}
+
+// Whether the second worker of each engine makes seven pieces while the first is held with one.
+fn are_held_with_one<R: Threads + Sync>(rt: &R, alloc: Global, plain: &[u8]) -> bool {
+    for engine in &ENGINES {
+        let gate = Late::new(7, TURNS);
+        let is_done = runs(rt, alloc, *engine, plain, 2, &gate);
+        if !is_done || gate.gave_up() || gate.passes() != (7, 1) {
+            return false;
         }
     }
-    Ok(())
+    true
 }
 
 // A worker that is slow with one piece keeps no other waiting: the second worker makes the seven others meanwhile.
 #[test]
 fn a_held_worker_holds_one_piece(rt: HostRuntime) -> Result<(), Fail> {
     let plain = pattern(rt.alloc(), 8 * 65_536)?;
-    for engine in ENGINES {
-        let gate = Late::new(7, TURNS);
-        run(&rt, rt.alloc(), engine, plain.as_slice(), 2, &gate)?;
-        assert!(rt; !gate.gave_up(), "{engine:?}");
-        assert!(rt; gate.passes() == (7, 1), "{engine:?}");
-    }
+    assert!(rt; are_held_with_one(&rt, rt.alloc(), plain.as_slice()));
     Ok(())
 }

@@ -4,6 +4,8 @@
 #[cfg(test)]
 mod audits;
 #[cfg(test)]
+mod containers;
+#[cfg(test)]
 mod engines;
 #[cfg(test)]
 mod gates;

@@ -125,7 +125,7 @@ fn any_window_gives_the_container(rt: HostRuntime) -> Result<(), Fail> {
     for length in [0, 1, CHUNK, 2 * CHUNK, 2 * CHUNK + 1, 17 * CHUNK + 1] {
         let plain = pattern(rt.alloc(), length)?;
         let given = gives_the_container(&rt, rt.alloc(), plain.as_slice())?;
-        assert!(rt; given, "{length}");
+        assert!(rt; given);
     }
     Ok(())
 }
@@ -163,7 +163,7 @@ fn drops_the_rest<T: Threads + Sync>(
 fn a_byte_too_many_drops_the_round_in_hand(rt: HostRuntime) -> Result<(), Fail> {
     for (workers, window, written) in [(1, 1, HEADER + SEALED), (1, 2, 0), (4, 2, 0), (4, 256, 0)] {
         let dropped = drops_the_rest(&rt, rt.alloc(), workers, window, written)?;
-        assert!(rt; dropped, "{written} by {workers}");
+        assert!(rt; dropped);
     }
     Ok(())
 }
@@ -195,7 +195,7 @@ fn a_failed_write_leaves_a_beginning(rt: HostRuntime) -> Result<(), Fail> {
             let mut asked = steady(1 << 20, workers, window);
             asked.writes = Schedule::Bytes(taken as u64);
             let left = leaves(&rt, rt.alloc(), asked, SealFault::Write, taken)?;
-            assert!(rt; left, "{taken} by {workers}");
+            assert!(rt; left);
         }
     }
     Ok(())
@@ -229,7 +229,7 @@ fn a_failed_read_leaves_whole_rounds(rt: HostRuntime) -> Result<(), Fail> {
         (4 * CHUNK + 5, HEADER + 3 * SEALED),
     ] {
         let left = leaves_at_read(&rt, rt.alloc(), 1, 1, read, written)?;
-        assert!(rt; left, "{read}");
+        assert!(rt; left);
     }
     Ok(())
 }
@@ -243,7 +243,7 @@ fn a_failed_read_leaves_whole_rounds_of_several_workers(rt: HostRuntime) -> Resu
         (4 * CHUNK + 5, HEADER + 2 * SEALED),
     ] {
         let left = leaves_at_read(&rt, rt.alloc(), 2, 2, read, written)?;
-        assert!(rt; left, "{read}");
+        assert!(rt; left);
     }
     let left = leaves_at_read(&rt, rt.alloc(), 4, 4, 4 * CHUNK + 5, 0)?;
     assert!(rt; left);

@@ -55,7 +55,7 @@ fn cut_containers_have_their_fault(rt: HostRuntime) -> Result<(), Fail> {
     let bytes = three_chunks(rt.alloc(), 0)?;
     for (from, to) in [(0, 101), (65_500, 65_701), (131_100, 131_145)] {
         let refused = are_refused(&rt, rt.alloc(), bytes.as_slice(), from, to)?;
-        assert!(rt; refused, "{from}");
+        assert!(rt; refused);
     }
     Ok(())
 }
@@ -77,7 +77,7 @@ fn each_byte_of_the_header_is_seen(rt: HostRuntime) -> Result<(), Fail> {
     for place in 0..HEADER {
         flip(bytes.as_mut_slice(), place, 1);
         let fault = fault_of(&rt, rt.alloc(), bytes.as_slice(), LIMIT, 4)?;
-        assert!(rt; fault == fault_of_place(place), "{place}");
+        assert!(rt; fault == fault_of_place(place));
         flip(bytes.as_mut_slice(), place, 1);
     }
     Ok(())

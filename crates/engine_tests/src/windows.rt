@@ -105,10 +105,7 @@ fn a_bad_chunk_of_any_window_is_named(rt: HostRuntime) -> Result<(), Fail> {
         flip(bytes.as_mut_slice(), place, 1);
         let workers = if chunk % 2 == 0 { 4 } else { 1 };
         let fault = fault_of(&rt, rt.alloc(), bytes.as_slice(), LIMIT, workers)?;
-        assert!(rt;
-            fault == OpenFault::Forged { chunk },
-            "{chunk} by {workers}"
-        );
+        assert!(rt; fault == OpenFault::Forged { chunk });
         flip(bytes.as_mut_slice(), place, 1);
     }
     Ok(())
@@ -122,7 +119,7 @@ fn the_least_bad_chunk_is_named(rt: HostRuntime) -> Result<(), Fail> {
         flip(bytes.as_mut_slice(), HEADER + least as usize * SEALED, 1);
         flip(bytes.as_mut_slice(), HEADER + other * SEALED, 1);
         let fault = fault_of(&rt, rt.alloc(), bytes.as_slice(), LIMIT, 4)?;
-        assert!(rt; fault == OpenFault::Forged { chunk: least }, "{least}");
+        assert!(rt; fault == OpenFault::Forged { chunk: least });
     }
     Ok(())
 }
@@ -138,7 +135,7 @@ fn a_cut_at_a_window_is_seen(rt: HostRuntime) -> Result<(), Fail> {
         };
         let fault = fault_of(&rt, rt.alloc(), front, LIMIT, 2)?;
         let last: u32 = chunks - 1;
-        assert!(rt; fault == OpenFault::Forged { chunk: last }, "{chunks}");
+        assert!(rt; fault == OpenFault::Forged { chunk: last });
     }
     Ok(())
 }
@@ -159,7 +156,7 @@ fn a_wrong_length_comes_before_a_bad_chunk(rt: HostRuntime) -> Result<(), Fail> 
         };
         for workers in [1, 4] {
             let fault = fault_of(&rt, rt.alloc(), front, LIMIT, workers)?;
-            assert!(rt; fault == OpenFault::BadLength, "{end} by {workers}");
+            assert!(rt; fault == OpenFault::BadLength);
         }
     }
     let most = 39 * CHUNK as u64;
@@ -218,7 +215,7 @@ fn whole_windows_open(rt: HostRuntime) -> Result<(), Fail> {
                 workers,
                 window,
             )?;
-            assert!(rt; opens, "{length} by {workers} in {window}");
+            assert!(rt; opens);
         }
     }
     Ok(())
@@ -240,10 +237,10 @@ fn a_failed_read_in_any_window_is_read_failed(rt: HostRuntime) -> Result<(), Fai
     ] {
         let mut reader = FromMemory::new(bytes.as_slice(), MOST, Schedule::Bytes(after as u64));
         let verified = run_verify(&rt, rt.alloc(), &key, &mut reader, LIMIT, 2, &Free);
-        assert!(rt; verified == Err(OpenFault::Read), "{after}");
+        assert!(rt; verified == Err(OpenFault::Read));
         let mut reader = FromMemory::new(bytes.as_slice(), MOST, Schedule::Bytes(after as u64));
         let opened = run_plain(&rt, rt.alloc(), &key, &mut reader, LIMIT, 2, &Free).err();
-        assert!(rt; opened == Some(OpenFault::Read), "{after}");
+        assert!(rt; opened == Some(OpenFault::Read));
     }
     Ok(())
 }
