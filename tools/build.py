@@ -3,30 +3,37 @@
 
 Each crate that it stands on is proved once those below it are, several side by side, those with the longest chain of
 crates above them first. N is how many processes prove at a time, in place of one for each processor; where memory is
-short there are fewer. With x86-64-v3 as CPU the program is built for processors with AVX2; on any other it says so and
-ends with status 127.
+short there are fewer. With x86-64-v3 as CPU the program is built for processors with AVX2; on any other such a program
+says so, and ends with status 127.
 
 `cd crates/sealer && rt run` does the same with one crate at a time. `rt lib` keeps the folders of all crates below its
-own to itself, so here each crate is proved in a copy of them, with the libraries that were built before.
+own to itself, so here each crate is proved in a room of its own among the system's temporary files: a copy of it and of
+those below, with the libraries that were built before. What was proved goes back to the crate's folder at once, so that
+a run that was ended goes on where it was.
 """
 import argparse
+import fcntl
 import os
 import shutil
 import signal
 import subprocess
 import sys
+import tempfile
 import threading
 from concurrent.futures import FIRST_COMPLETED, ThreadPoolExecutor, wait
 from pathlib import Path
 
 CRATES = Path(__file__).resolve().parent.parent / "crates"
 PROGRAM = "sealer"
-ROOMS = CRATES / PROGRAM / "out" / "build"
-PARTS = ("src", "specs", "proofs")
-# The memory that a check is taken to need, in MB, and each further process of it. Most need less, two of them 5,000.
-OF_CHECK, OF_PROCESS = 2500, 1000
+SOURCES = ("src", "specs", "proofs")
+# What rt makes of a library, and what it keeps for the next check.
+MADE = ("rlib", "incremental")
+# The memory that a check is taken to need, in MB, and each further process of it. Few need more.
+OF_CHECK, OF_PROCESS = 3000, 1000
 # More processes than that make no check faster.
 MOST = 4
+# The status of a program that was built for another processor.
+OTHER_CPU = 127
 
 
 class Crate:
@@ -34,9 +41,10 @@ class Crate:
         self.row = row
         name, _, used = row.partition(":")
         self.name, self.used, self.below, self.chain = name.split()[0], used.split(), [], 0
+        self.folder = CRATES / self.name
 
     def lines(self):
-        files = [it for part in PARTS for it in (CRATES / self.name / part).rglob("*") if it.is_file()]
+        files = [it for part in SOURCES for it in (self.folder / part).rglob("*") if it.is_file()]
         return sum(it.read_bytes().count(b"\n") for it in files)
 
 
@@ -66,73 +74,98 @@ def free_memory():
         return next(int(line.split()[1]) // 1024 for line in file if line.startswith("MemAvailable"))
 
 
-class Build:
-    """Proofs side by side. Once one fails the others are ended."""
+class Runs:
+    """Runs of rt. Once they are ended no other begins."""
 
     def __init__(self):
-        self.failed, self.running, self.alone = False, [], threading.Lock()
+        self.ended, self.running, self.alone = False, [], threading.Lock()
 
-    def log_of(self, folder, *words):
-        """Runs rt in a crate's folder, and returns its log if it fails."""
+    def run(self, folder, *words):
+        """Runs rt in a crate's folder, and returns its status and log."""
         how = {"stdin": subprocess.DEVNULL, "stdout": subprocess.PIPE, "stderr": subprocess.STDOUT, "cwd": folder}
         with self.alone:
-            if self.failed:
-                return "not begun"
+            if self.ended:
+                return 1, ""
             ran = subprocess.Popen(["rt", *words], text=True, errors="replace", **how)
             self.running.append(ran)
         log, _ = ran.communicate()
         with self.alone:
             self.running.remove(ran)
-        return (log or "rt was stopped") if ran.returncode else None
+        return ran.returncode, log
 
     def end(self):
         with self.alone:
-            self.failed = True
+            self.ended = True
             for ran in self.running:
                 ran.terminate()
 
-    def prove(self, crate, processes):
-        """Proves a library in a copy of it and of those below, and leaves in its own folder what rt made. Returns the
-        log of a failure."""
-        room = ROOMS / crate.name
-        shutil.rmtree(room, ignore_errors=True)
+
+def prove(runs, crate, processes):
+    """Proves a library in a room, and puts what rt made into the crate's folder. Returns the log of a failure."""
+    room = Path(tempfile.mkdtemp(prefix="sealer-build-"))
+    try:
         for it in [*crate.below, crate]:
-            for part in [part for part in PARTS if (CRATES / it.name / part).is_dir()]:
-                shutil.copytree(CRATES / it.name / part, room / "crates" / it.name / part)
-        for it in crate.below:
-            made, there = CRATES / it.name / "out" / "rlib", room / "crates" / it.name / "out" / "rlib"
-            shutil.copytree(made, there, copy_function=linked)
+            there = room / "crates" / it.name
+            for part in [part for part in SOURCES if (it.folder / part).is_dir()]:
+                shutil.copytree(it.folder / part, there / part)
+            # of this crate too, where it was built before: then rt has nothing to do
+            if (it.folder / "out" / "rlib").is_dir():
+                shutil.copytree(it.folder / "out" / "rlib", there / "out" / "rlib", copy_function=linked)
         rows = [f"{it.row}\n" for it in [*crate.below, crate]]
         (room / "crates.txt").write_text("".join(rows), encoding="utf-8")
-        own, there = CRATES / crate.name / "out", room / "crates" / crate.name / "out"
-        if own.is_dir():
-            own.rename(there)
-        try:
-            return self.log_of(there.parent, "lib", "--jobs", str(processes))
-        finally:
-            if there.is_dir():
-                there.rename(own)
-            shutil.rmtree(room, ignore_errors=True)
+        folder = room / "crates" / crate.name
+        status, log = runs.run(folder, "lib", "--jobs", str(processes))
+        if status == 0:
+            keep(folder / "out", crate.folder)
+            return None
+        return log or "ended"
+    finally:
+        shutil.rmtree(room, ignore_errors=True)
 
-    def prove_all(self, crates, most):
-        """Proves libraries, each once those below it are. Returns the log of the first that fails."""
-        left, running, memory = sorted(crates, key=lambda it: -it.chain), {}, free_memory()
-        with ThreadPoolExecutor(most) as pool:
-            try:
-                while left or running:
-                    unproved = [*left, *(crate for crate, _ in running.values())]
-                    ready = [it for it in left if not any(below in unproved for below in it.below)]
-                    for crate, processes in fitting(ready, [it for _, it in running.values()], most, memory):
-                        left.remove(crate)
-                        running[pool.submit(self.prove, crate, processes)] = crate, processes
-                    for it in wait(running, return_when=FIRST_COMPLETED).done:
-                        crate, _ = running.pop(it)
-                        if it.result():
-                            return it.result()
-                        print(f"{crate.name} is proved", file=sys.stderr)
-                return None
-            finally:
-                self.end()
+
+def keep(made, folder):
+    """Puts what rt made into a crate's folder, while no rt works there."""
+    held = os.open(folder, os.O_RDONLY)
+    try:
+        fcntl.flock(held, fcntl.LOCK_EX)
+        for part in [part for part in MADE if (made / part).is_dir()]:
+            shutil.rmtree(folder / "out" / part, ignore_errors=True)
+            (folder / "out").mkdir(exist_ok=True)
+            shutil.move(str(made / part), str(folder / "out" / part))
+    finally:
+        os.close(held)
+
+
+def linked(one, other):
+    try:
+        os.link(one, other)
+    except OSError:
+        shutil.copy2(one, other)
+
+
+def prove_all(runs, crates, most):
+    """Proves libraries, each once those below it are. Returns the log of the first that fails."""
+    left, running, memory = sorted(crates, key=lambda it: -it.chain), {}, free_memory()
+    with ThreadPoolExecutor(most) as pool:
+        try:
+            while left or running:
+                unproved = [*left, *(crate for crate, _ in running.values())]
+                ready = [it for it in left if not any(below in unproved for below in it.below)]
+                for crate, processes in fitting(ready, [it for _, it in running.values()], most, memory):
+                    left.remove(crate)
+                    running[pool.submit(prove, runs, crate, processes)] = crate, processes
+                for it in wait(running, return_when=FIRST_COMPLETED).done:
+                    crate, _ = running.pop(it)
+                    if it.result():
+                        return f"{it.result()}\n{crate.name} is not proved"
+                    print(f"{crate.name} is proved", file=sys.stderr)
+            return None
+        except BaseException:
+            runs.end()
+            raise
+        finally:
+            if running:
+                runs.end()
 
 
 def fitting(ready, taken, most, memory):
@@ -147,31 +180,29 @@ def fitting(ready, taken, most, memory):
         yield crate, taken[-1]
 
 
-def linked(one, other):
-    try:
-        os.link(one, other)
-    except OSError:
-        shutil.copy2(one, other)
-
-
 def main():
     parser = argparse.ArgumentParser(description=__doc__, formatter_class=argparse.RawDescriptionHelpFormatter)
     parser.add_argument("-j", metavar="N", type=int, default=len(os.sched_getaffinity(0)))
-    parser.add_argument("cpu", nargs="?", metavar="CPU")
+    parser.add_argument("cpu", nargs="?", metavar="CPU", choices=["x86-64-v2", "x86-64-v3"])
     given = parser.parse_args()
+    for it in (signal.SIGTERM, signal.SIGHUP):
+        signal.signal(it, lambda *_: sys.exit("stopped"))
     print("proving and building: some minutes", file=sys.stderr)
     *libraries, program = crates_of_program()
-    build, most = Build(), max(1, given.j)
-    signal.signal(signal.SIGTERM, lambda *_: sys.exit("stopped"))
+    runs, most = Runs(), max(1, given.j)
     try:
-        log = build.prove_all(libraries, most)
+        log = prove_all(runs, libraries, most)
+        if log:
+            sys.exit(log)
+        cpu = ["--cpu", given.cpu] if given.cpu else []
+        processes = 2 if most > 1 and free_memory() > OF_CHECK + OF_PROCESS else 1
+        status, log = runs.run(program.folder, "run", "--jobs", str(processes), *cpu, "--", "--help")
+        if status and not (cpu and status == OTHER_CPU):
+            sys.exit(log or "ended")
+    except KeyboardInterrupt:
+        sys.exit("stopped")
     finally:
-        shutil.rmtree(ROOMS, ignore_errors=True)
-    cpu = ["--cpu", given.cpu] if given.cpu else []
-    words = ["run", "--jobs", str(min(MOST, most)), *cpu, "--", "--help"]
-    log = log or Build().log_of(CRATES / program.name, *words)
-    if log:
-        sys.exit(log)
+        runs.end()
 
 
 if __name__ == "__main__":

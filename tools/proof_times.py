@@ -18,7 +18,7 @@ CRATES = Path(__file__).resolve().parent.parent / "crates"
 def modules(crate):
     """Gives the modules of the last check, and when each was written, in this order."""
     files = (CRATES / crate / "out" / "incremental").rglob("*.oantt")
-    return sorted((it.stat().st_mtime, it.name.removesuffix(".oantt")) for it in files)
+    return sorted((it.stat().st_mtime, it.stem) for it in files)
 
 
 def function(module):

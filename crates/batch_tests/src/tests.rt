@@ -75,8 +75,8 @@ fn containers_made_elsewhere(rt: HostRuntime) -> Result<(), Fail> {
     Ok(())
 }
 
-// Whether a gate that all of so many jobs have to meet gives up, and the outcomes, where each job passes it once and is
-// sealed.
+// Whether a gate that all of so many jobs have to meet gives up, and the outcomes, where there are as many passes as jobs
+// and each job is sealed.
 fn met<R: Threads + Sync>(
     rt: &R,
     alloc: Global,
@@ -147,7 +147,7 @@ fn the_gate_comes_before_the_issue(rt: HostRuntime) -> Result<(), Fail> {
     Ok(())
 }
 
-// The outcomes of so many jobs over a new ledger of so many numbers from `lo` on, and what it then tells at a seat.
+// The outcomes of so many jobs over a new ledger of the one number `lo`, and what it then tells at a seat.
 fn told<R: Threads + Sync>(
     rt: &R,
     alloc: Global,
@@ -245,7 +245,7 @@ fn sixteen_lanes_and_their_journal(rt: HostRuntime) -> Result<(), Fail> {
     Ok(())
 }
 
-// The outcomes of jobs on two lanes. A batch that was refused has issued nothing, and is sealed again.
+// The outcomes of three jobs on two lanes. A batch that was refused has issued nothing, and is sealed again.
 fn sealed_again<R: Threads + Sync>(rt: &R, alloc: Global, run: &mut Run) -> Option<Vec<Outcome>>
     requires seats { 2 ≤ run.old.terms.seats }
     ensures same { run.new ≡ run.old }

@@ -102,11 +102,16 @@ fn altered_pairs_stay_shut(rt: HostRuntime) -> Result<(), Fail> {
     let mut text = pair.ciphertext.to_vec(rt.alloc())?;
     assert!(rt; stays_shut_by_each_tag(pair, &mut text));
     assert!(rt; stays_shut(pair, b"", &mut text, pair.tag));
+    assert!(rt; text.len() == 114);
+    assert!(rt;
+        open_in_place(pair.key, pair.nonce, pair.aad, &mut text, pair.tag),
+        "the pair itself"
+    );
     Ok(())
 }
 
 // Whether a text that differs from the ciphertext in one byte doesn't open, and stays as it was.
-fn is_refused_without(pair: Pair, text: &mut Vec<u8>, place: usize) -> bool {
+fn is_refused_altered_at(pair: Pair, text: &mut Vec<u8>, place: usize) -> bool {
     if text.len() != 114 || place >= 114 {
         return false;
     }
@@ -121,31 +126,31 @@ fn is_refused_without(pair: Pair, text: &mut Vec<u8>, place: usize) -> bool {
     text.as_slice() == pair.ciphertext
 }
 
-// Whether that holds of each byte.
-fn is_refused_without_each_byte(pair: Pair, text: &mut Vec<u8>) -> bool {
+// Whether a text altered in any one byte is refused so.
+fn is_refused_altered_anywhere(pair: Pair, text: &mut Vec<u8>) -> bool {
     for place in 0..114usize {
-        if !is_refused_without(pair, text, place) {
+        if !is_refused_altered_at(pair, text, place) {
             return false;
         }
     }
     true
 }
 
-fn is_refused_without_its_first_byte(pair: Pair) -> bool {
+fn is_refused_cut(pair: Pair) -> bool {
     match pair.ciphertext.split_first() {
         Some((_, rest)) => !check(pair.key, pair.nonce, pair.aad, rest, pair.tag),
         None => false,
     }
 }
 
-// Each altered byte of the ciphertext, and a shorter one, make both calls refuse; the pair itself opens.
+// Each altered byte of the ciphertext makes both calls refuse, and a missing first byte `check`, which takes the pair itself.
 #[test]
 fn each_altered_byte_is_seen(rt: HostRuntime) -> Result<(), Fail> {
     let pair = first_pair();
     let mut text = pair.ciphertext.to_vec(rt.alloc())?;
-    assert!(rt; is_refused_without_each_byte(pair, &mut text));
+    assert!(rt; is_refused_altered_anywhere(pair, &mut text));
     assert!(rt; check(pair.key, pair.nonce, pair.aad, &text, pair.tag));
-    assert!(rt; is_refused_without_its_first_byte(pair));
+    assert!(rt; is_refused_cut(pair));
     Ok(())
 }
 
@@ -167,12 +172,12 @@ fn tags_at_and_between_multiples_of_16(rt: HostRuntime) -> Result<(), Fail> {
         key[i as usize] = i;
     }
     let nonce = b"\x40\x41\x42\x43\x44\x45\x46\x47\x48\x49\x4a\x4b";
-    for (aad, len, want) in &LENGTHS {
-        let aad = multiples(rt.alloc(), *aad, 5)?;
+    for (aad_len, len, want) in &LENGTHS {
+        let aad = multiples(rt.alloc(), *aad_len, 5)?;
         let mut text = multiples(rt.alloc(), *len, 7)?;
         assert!(rt;
             has_tag(rt.alloc(), &key, nonce, &aad, &mut text, want)?,
-            "{len}"
+            "{aad_len} and {len}"
         );
     }
     Ok(())

@@ -177,22 +177,19 @@ pub(crate) static TEXTS: [(&str, &[u8; 32], &[u8; 12], u32, &[u8], &[u8]); 4] = 
     ),
 ];
 
-/// The key and the tag of 2.5.2.
+/// The key, the message and the tag of 2.5.2.
 pub(crate) const POLY_KEY: &[u8; 32] =
     b"\x85\xd6\xbe\x78\x57\x55\x6d\x33\x7f\x44\x52\xfe\x42\xd5\x06\xa8\x01\x03\x80\x8a\
     \xfb\x0d\xb2\xfd\x4a\xbf\xf6\xaf\x41\x49\xf5\x1b";
+
+pub(crate) const POLY_MESSAGE: &[u8] = b"Cryptographic Forum Research Group";
 
 pub(crate) const POLY_TAG: &[u8; 16] =
     b"\xa8\x06\x1d\xc1\x30\x51\x36\xc6\xc2\x2b\x8b\xaf\x0c\x01\x27\xa9";
 
 /// A key and a message, and their tag.
 pub(crate) static TAGS: [(&str, &[u8; 32], &[u8], &[u8; 16]); 12] = [
-    (
-        "2.5.2",
-        POLY_KEY,
-        b"Cryptographic Forum Research Group",
-        POLY_TAG,
-    ),
+    ("2.5.2", POLY_KEY, POLY_MESSAGE, POLY_TAG),
     (
         "A.3 #1",
         &[0; 32],

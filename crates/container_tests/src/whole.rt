@@ -121,7 +121,8 @@ fn opens_as_first(key: &Key, header: &Header, chunk: &mut [u8; 65536], tag: &[u8
         && *chunk == [0; 65536]
 }
 
-// Whether a chunk of zeros and an empty one behind it, each with its good tag, have a bad length.
+// Whether a chunk of zeros and an empty one behind it open one by one, the first not as the last, and are a bad length
+// together.
 fn are_refused(
     alloc: Global,
     key: &Key,
@@ -176,7 +177,7 @@ fn is_forged_when_exchanged(alloc: Global, key: &Key, bytes: &[u8]) -> Result<bo
     Ok(has_fault(alloc, key, other.as_slice(), OpenFault::Forged { chunk: 0 }))
 }
 
-// Whether another key is named, another version before that, and another beginning before both.
+// Whether another key is named, under the right key another version, and another beginning before that version.
 fn names_first_fault(alloc: Global, bytes: &mut [u8]) -> bool
     requires { 9 ≤ length bytes.old }
 {
@@ -223,7 +224,7 @@ fn good_tags_under_another_version(rt: HostRuntime) -> Result<(), AllocError> {
     Ok(())
 }
 
-// These bytes, with room for more behind them.
+// These bytes, in a vector with room for so many in all.
 fn with_room(alloc: Global, front: &[u8], room: usize) -> Result<Vec<u8>, AllocError> {
     let mut bytes = Vec::with_capacity(alloc, room)?;
     bytes.extend_from_slice(front)?;
@@ -247,6 +248,7 @@ fn opens_behind(
     body: &[u8; 16],
     fault: Option<OpenFault>,
 ) -> bool {
+    // For the contract of `open_into`.
     if out.len() > out.capacity() {
         return false;
     }
@@ -264,7 +266,7 @@ fn opens_in_room(out: &mut Vec<u8>) -> bool {
     let opens = opens_behind(out, &header, &body, None);
     body[15] ^= 1;
     let forged = Some(OpenFault::Forged { chunk: 0 });
-    cut.plain() == 0 && opens && opens_behind(out, &header, &body, forged)
+    cut == Cut::of(0) && cut.plain() == 0 && opens && opens_behind(out, &header, &body, forged)
 }
 
 // A container sealed and opened in room that stood before, behind other bytes; and a chunk that doesn't check leaves

@@ -41,13 +41,13 @@ fn meeting_nobody(alloc: Global, work: &Work) -> Option<Vec<u8>> {
     }
 }
 
-// A gate that so many passes have to meet.
+// A gate that so many passes have to meet, with few turns where it is to give up.
 fn meeting(wanted: u64, gives_up: bool) -> Meeting {
     Meeting::new(wanted, if gives_up { FEW_TURNS } else { TURNS })
 }
 
 // Whether so many workers open a container to this plaintext at a gate that holds all passes until so many have come as
-// are wanted, which is how many there are, and the gate gives up or not.
+// are wanted, which is how many there are, and whether the gate gives up is `gives_up`.
 fn opens_held<R: Threads + Sync>(
     rt: &R,
     alloc: Global,
@@ -65,8 +65,8 @@ fn opens_held<R: Threads + Sync>(
         && gate.gave_up() == gives_up
 }
 
-// The container that so many workers seal at such a gate, where both it and the gate at which as many open the
-// container give up, or neither does.
+// The container that so many workers seal at such a gate, where it and the gate at which as many open the container
+// both give up if `gives_up`, and both don't else.
 fn held<R: Threads + Sync>(
     rt: &R,
     alloc: Global,

@@ -1,7 +1,7 @@
 //! The engines with workers over readers and writers in memory.
 ghost use Rattle.std.specs.Prelude.{◌<◌, ◌≤◌};
 
-use crate::containers::{EMPTY, PLAIN};
+use crate::containers::{EMPTY, FOUR, PLAIN};
 use container_core::{CHUNK, HEADER, Key, OpenFault, SEALED, SealFault, seal};
 use crew_core::{Free, MAX_WORKERS};
 use crew_tests::{COUNTING, flip, grant_of, pattern};
@@ -126,7 +126,7 @@ fn is_too_long_by_one<R: Threads + Sync>(rt: &R, alloc: Global) -> Option<bool> 
     let reader = FromMemory::new(b"four", 1, Schedule::Never);
     let (four, way) = seal_from(rt, alloc, 0, reader, &mut writer, 4, 2)?;
     let is_sealed = four == Ok(4) && way == Way::Sealed;
-    Some(is_refused && is_sealed && writer.bytes().len() == 44)
+    Some(is_refused && is_sealed && writer.bytes() == FOUR.as_slice())
 }
 
 #[test]
@@ -225,7 +225,7 @@ fn a_failed_read_is_no_end(rt: HostRuntime) -> Result<(), Fail> {
     Ok(())
 }
 
-// Whether of the container of `plain` three bytes are written by a writer that takes three.
+// Whether opening the container of `plain` to a writer that fails behind three bytes leaves `pla`.
 fn leaves_three<R: Threads + Sync>(rt: &R, alloc: Global, bytes: &[u8]) -> Option<bool> {
     let reader = FromMemory::new(bytes, 8, Schedule::Never);
     let mut writer = ToMemory::new(alloc, 64, 1, Schedule::Bytes(3)).ok()?;

@@ -1,5 +1,5 @@
 //! The engines over readers and writers in memory that give or take a few bytes a call, and fail where they are told
-//! to. The expected bytes and digests are those of Python's `cryptography` and `hashlib`.
+//! to. The expected bytes and digests, of Python's `cryptography` and `hashlib`, are in `containers`.
 ghost use Rattle.std.specs.Prelude.{◌≤◌};
 
 use crate::containers::{EMPTY, FIVES, FOUR, FRONTS, ONE, OVER_STD, PLAIN, THREE_CHUNKS};

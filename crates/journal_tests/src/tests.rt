@@ -94,7 +94,8 @@ static RANGES: [(u32, u32, bool); 8] = [
     (4_294_901_762, 65_535, false),
 ];
 
-fn make_ranges(device: Device) -> bool {
+// Whether each of these is a range, or none, as told.
+fn ranges_are_as_told(device: Device) -> bool {
     for (lo, size, good) in &RANGES {
         if Range::new(device, *lo, *size).is_ok() != *good {
             return false;
@@ -110,12 +111,12 @@ fn is_told(range: Range) -> bool {
 #[test]
 fn ranges_end_at_the_last_number(rt: HostRuntime) {
     let device = Device::new(1).expect(&rt, "a device");
-    assert!(rt; make_ranges(device));
+    assert!(rt; ranges_are_as_told(device));
     let range = Range::new(device, 7, 2).expect(&rt, "a range");
     assert!(rt; is_told(range));
 }
 
-// Seat 0 issues 7, seat 1 issues 8, and then no number is left for seat 0. Calls that name another seat are refused.
+// Whether seat 0 issues 7, seat 1 issues 8, and then no number is left for seat 0. Calls that name another seat are refused.
 fn issues_7_and_8(book: &mut Book) -> bool {
     issues(book, 2, Err(BookFault::BadSeats))
         && issues(book, 0, Ok(7))
@@ -124,7 +125,7 @@ fn issues_7_and_8(book: &mut Book) -> bool {
         && issues(book, 0, Err(BookFault::SeatClosed))
 }
 
-// Seat 1 settles 8. Calls that name another seat, or a number that isn't open, are refused.
+// Whether seat 1 settles 8. Calls that name another seat, or a number that isn't open, are refused.
 fn settles_8(book: &mut Book) -> bool {
     settles(book, 2, 7, Way::Sealed, Err(BookFault::BadSeats))
         && settles(book, 1, 7, Way::Sealed, Err(BookFault::NotOpen))
@@ -132,6 +133,7 @@ fn settles_8(book: &mut Book) -> bool {
         && settles(book, 1, 8, Way::Void, Err(BookFault::NotOpen))
 }
 
+// Whether 2 are granted, 1 refused and 1 sealed, and seat 0 then settles 7 as void.
 fn settles_7(book: &mut Book) -> bool {
     let tally = Tally {
         granted: 2,
@@ -211,7 +213,7 @@ fn fails_at_read(alloc: Global, call: u64) -> Result<bool, AllocError> {
     Ok(audits_as(alloc, reader, writer, Err(AuditFault::Read), b""))
 }
 
-// The writer fails once it has taken these bytes.
+// Whether a writer that fails once it has taken these bytes fails the audit, and has taken them.
 fn fails_after(alloc: Global, taken: &[u8]) -> Result<bool, AllocError> {
     let reader = FromMemory::new(JOURNAL.as_bytes(), 100, Schedule::Never);
     let writer = ToMemory::new(alloc, 100, 3, Schedule::Bytes(taken.len() as u64))?;
@@ -312,7 +314,7 @@ fn has_legal_text(alloc: Global, book: &Book) -> Result<bool, AllocError> {
     Ok(text.as_str() == JOURNAL && audits_as_legal(alloc, text.as_str())?)
 }
 
-// Seat 0 issues 7, seat 1 issues 8, and each settles its own.
+// Whether seat 0 issues 7, seat 1 issues 8, seat 0 finds none left, and each settles its own.
 fn shares_7_and_8(book: &mut Book) -> bool {
     issues(book, 0, Ok(7))
         && issues(book, 1, Ok(8))

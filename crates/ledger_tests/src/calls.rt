@@ -4,7 +4,10 @@ ghost use Rattle.std.specs.Prelude.{◌≡◌, ◌<◌, IfSome};
 
 use crate::run::Run;
 use io_memory::{FromMemory, Schedule, ToMemory};
-use ledger_core::{Device, Grant, IssueFault, Journal, Range, SettleFault, Spent, Tally, audit};
+use ledger_core::{
+    AuditFault, Device, Grant, IssueFault, Journal, OpenLedgerFault, Range, SettleFault, Spent,
+    Tally, audit,
+};
 use std::alloc::{AllocError, Global};
 
 // A ledger of this device.
@@ -29,9 +32,11 @@ pub fn open(alloc: Global, lo: u32, size: u32, seats: u32) -> Option<Run>
 pub fn open_twice(alloc: Global, lo: u32, size: u32, seats: u32) -> Option<Run>
     ensures { IfSome result (λ run. run.terms.seats ≡ seats) }
 {
-    match open(alloc, lo, size, seats) {
-        None => open(alloc, lo, size, seats),
-        run => run,
+    let range = Range::new(Device::new(1)?, lo, size).ok()?;
+    match Run::open(alloc, range, seats) {
+        Ok(run) => Some(run),
+        Err(OpenLedgerFault::OutOfMemory) => Run::open(alloc, range, seats).ok(),
+        Err(_) => None,
     }
 }
 
@@ -51,7 +56,7 @@ pub fn issue(run: &mut Run, seat: usize) -> Result<Grant, IssueFault>
     issued
 }
 
-pub fn settle(run: &mut Run, seat: usize, spent: Spent) -> Result<(), (SettleFault, Spent)>
+fn settle(run: &mut Run, seat: usize, spent: Spent) -> Result<(), (SettleFault, Spent)>
     requires { seat < run.old.terms.seats }
     ensures { run.new ≡ run.old }
 {
@@ -115,17 +120,18 @@ pub fn closes_as(alloc: Global, run: Run, text: &str) -> bool {
     }
 }
 
-// Whether the audit of this journal writes this line, or None where it fails.
+// Whether the audit of this journal writes this line, or None where memory is refused.
 fn audit_once(alloc: Global, text: &str, line: &[u8]) -> Option<bool> {
     let mut reader = FromMemory::new(text.as_bytes(), 4_096, Schedule::Never);
     let mut writer = ToMemory::new(alloc, 100, 100, Schedule::Never).ok()?;
     match audit(alloc, &mut reader, &mut writer) {
         Ok(_) => Some(writer.bytes() == line),
-        Err(_) => None,
+        Err(AuditFault::OutOfMemory) => None,
+        Err(_) => Some(false),
     }
 }
 
-// Whether the audit writes this line, at its second try at the latest.
+// Whether the audit writes this line, at its second try where memory was refused.
 pub fn audits_as(alloc: Global, text: &str, line: &[u8]) -> bool {
     match audit_once(alloc, text, line) {
         None => audit_once(alloc, text, line) == Some(true),

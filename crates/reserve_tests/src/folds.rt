@@ -135,7 +135,8 @@ fn after_folds(
     run_over(alloc, fused(alloc, which, calls), Folds { times })
 }
 
-/// How one fold of a ledger ends whose disk fails each call after so many. `None` where the files don't go on at 3.
+/// How one fold of a ledger ends whose disk fails each call after so many. `None` where it ends otherwise than
+/// the disk calls for, or the files don't go on at 3.
 fn fold_with(alloc: Global, which: Which, left: Left, calls: u64) -> Option<End> {
     let (folded, files) = after_folds(alloc, which, calls, 1);
     let end = end_of(folded);
@@ -180,7 +181,7 @@ fn stop_each_fold(alloc: Global, which: Which, left: Left) -> Option<u32> {
 }
 
 /// Whether some folds are stopped, whatever is left, and each keeps the ranges.
-fn are_stopped(alloc: Global, which: Which) -> bool {
+fn folds_keep_ranges(alloc: Global, which: Which) -> bool {
     for left in &ALL_LEFT {
         match stop_each_fold(alloc, which, *left) {
             Some(stopped) if stopped > 0 => {}
@@ -240,10 +241,10 @@ fn a_second_fold_is_refused(rt: HostRuntime) {
 
 #[test]
 fn a_fold_stopped_by_the_log_keeps_the_ranges(rt: HostRuntime) {
-    assert!(rt; are_stopped(rt.alloc(), Which::Log));
+    assert!(rt; folds_keep_ranges(rt.alloc(), Which::Log));
 }
 
 #[test]
 fn a_fold_stopped_by_the_database_keeps_the_ranges(rt: HostRuntime) {
-    assert!(rt; are_stopped(rt.alloc(), Which::Database));
+    assert!(rt; folds_keep_ranges(rt.alloc(), Which::Database));
 }

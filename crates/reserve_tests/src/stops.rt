@@ -3,7 +3,7 @@ use crate::disk::{
     ALL_LEFT, Left, Rest, Run, Stopping, Which, answer_over, begins_with, found, fused,
     has_both_or_none, run_over,
 };
-use crate::store::{ID, keeper, reserve};
+use crate::store::{ID, has_taken, keeper, reserve};
 use reserve_core::{Fold, Keeper};
 use sqlite::{Alter, Connection, Files};
 use std::alloc::Global;
@@ -93,6 +93,7 @@ fn shows_what_was_told<S: Alter + Drop>(mut conn: Connection<S>, told: Told) -> 
     Some(has_what_was_told(&mut keeper, has_tables, told))
 }
 
+/// Whether a keeper has the ranges that were answered, and at most the one more that was under way.
 fn has_what_was_told<S: Alter>(keeper: &mut Keeper<S>, has_tables: bool, told: Told) -> bool {
     if told.has_keeper && !has_tables {
         return false;
@@ -102,8 +103,12 @@ fn has_what_was_told<S: Alter>(keeper: &mut Keeper<S>, has_tables: bool, told: T
     }
     let answered = told.answered.min(3);
     let more = told.answered.min(2) + 1;
-    begins_with(keeper, &RANGES[..answered], next_after(answered))
-        || begins_with(keeper, &RANGES[..more], next_after(more))
+    let kept = if has_taken(keeper, &ID, 1, &RANGES[..answered]) {
+        answered
+    } else {
+        more
+    };
+    begins_with(keeper, &RANGES[..kept], next_after(kept))
 }
 
 /// The number behind so many of the ranges.
@@ -160,12 +165,12 @@ fn stop_each(alloc: Global, which: Which, left: Left) -> Option<Count> {
     None
 }
 
-/// Whether some runs are stopped while they open the files, whatever is left, and some while they reserve, where they have
-/// to be.
-fn are_stopped(alloc: Global, which: Which, has_to_reserve: bool) -> bool {
+/// Whether, whatever is left, some runs are stopped while they open the files, and some while they reserve just where
+/// `reserves` says so; and each leaves what was told.
+fn leave_what_was_told(alloc: Global, which: Which, reserves: bool) -> bool {
     for left in &ALL_LEFT {
         match stop_each(alloc, which, *left) {
-            Some(count) if count.opening > 0 && (count.reserving > 0 || !has_to_reserve) => {}
+            Some(count) if count.opening > 0 && (count.reserving > 0) == reserves => {}
             _ => return false,
         }
     }
@@ -174,11 +179,11 @@ fn are_stopped(alloc: Global, which: Which, has_to_reserve: bool) -> bool {
 
 #[test]
 fn a_stop_of_the_log_leaves_what_was_told(rt: HostRuntime) {
-    assert!(rt; are_stopped(rt.alloc(), Which::Log, true));
+    assert!(rt; leave_what_was_told(rt.alloc(), Which::Log, true));
 }
 
 /// A reservation doesn't touch the database file, so all stops come while it is opened.
 #[test]
 fn a_stop_of_the_database_leaves_what_was_told(rt: HostRuntime) {
-    assert!(rt; are_stopped(rt.alloc(), Which::Database, false));
+    assert!(rt; leave_what_was_told(rt.alloc(), Which::Database, false));
 }

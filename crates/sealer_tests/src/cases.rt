@@ -47,7 +47,8 @@ pub(crate) enum Left<'a> {
     Holds(u8, &'a [u8]),
 }
 
-// A run, what it has to tell, where no journal is an empty one, and what it leaves.
+// A run, what it has to tell, where no journal is an empty one, and what it leaves. `folder` is what `ends` puts in: a run
+// over another folder doesn't look at it.
 #[derive(Clone, Copy)]
 pub(crate) struct Case<'a> {
     pub(crate) folder: &'a [(&'a str, &'a [u8])],
@@ -62,6 +63,7 @@ pub(crate) struct Case<'a> {
     pub(crate) left: &'a [(&'a str, Left<'a>)],
 }
 
+// What the run writes to.
 fn outs_of(alloc: Global, trouble: Trouble) -> Option<MemoryOuts> {
     match trouble {
         Trouble::Lines(schedule) => outs(alloc, schedule, Schedule::Never),
@@ -86,7 +88,7 @@ fn is_told(status: u8, out: &MemoryOuts, case: &Case) -> bool {
 }
 
 // Lets calls, readers and writers of the folder fail.
-fn trouble_of(folder: &mut MemoryFolder, trouble: Trouble) {
+fn make_trouble(folder: &mut MemoryFolder, trouble: Trouble) {
     match trouble {
         Trouble::Readers(pace) => folder.pace_readers(pace),
         Trouble::Writers(pace) => folder.pace_writers(pace),
@@ -99,6 +101,7 @@ fn trouble_of(folder: &mut MemoryFolder, trouble: Trouble) {
     }
 }
 
+// Whether the folder has of this name what is to be left.
 fn is_left(alloc: Global, folder: &MemoryFolder, name: &str, left: Left) -> bool {
     match left {
         Left::Absent => !folder.has(name),
@@ -119,7 +122,7 @@ fn are_left(alloc: Global, folder: &MemoryFolder, case: &Case) -> bool {
     true
 }
 
-// The status of `open_all`, or of `verify_all`, likewise.
+// The status of `open_all`, or of `verify_all`, by one worker; `None` for no files, or a limit over the greatest.
 fn open_in<R: AllocGlobal + Threads + Sync>(
     rt: &R,
     folder: &mut MemoryFolder,
@@ -145,6 +148,7 @@ fn open_in<R: AllocGlobal + Threads + Sync>(
     }
 }
 
+// The status of the case's run; `None` where it can't be asked for.
 fn status_over<R: AllocGlobal + Threads + Sync, S: Fold>(
     rt: &R,
     file: &mut LedgerFile<S>,
@@ -178,7 +182,7 @@ pub(crate) fn ends_over<R: AllocGlobal + Threads + Sync, S: Fold>(
     let Some(mut out) = outs_of(rt.alloc(), case.trouble) else {
         return false;
     };
-    trouble_of(folder, case.trouble);
+    make_trouble(folder, case.trouble);
     match status_over(rt, file, folder, case, &mut out) {
         Some(status) => is_told(status, &out, case) && are_left(rt.alloc(), folder, case),
         None => false,

@@ -69,6 +69,7 @@ fn an_output_that_fails_is_removed_and_its_number_is_void(rt: HostRuntime) {
     assert!(rt; ends(&rt, &WRITE_FAILED));
 }
 
+// The first 10 bytes of `EMPTY`.
 const BEGUN: [u8; 10] = [0x53, 0x54, 0x52, 0x4d, 0x53, 0x45, 0x41, 0x4c, 0x01, 0x10];
 
 // The calls are the opening, the creation and the removal.

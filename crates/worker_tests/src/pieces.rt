@@ -27,7 +27,7 @@ pub fn pieces_of<R: Threads + Sync, G: Gate + Sync>(
     let mut places = Places::new(alloc, count, room).ok()?;
     let mut done = 0u8;
     let chore = &mut || {
-        done = done.wrapping_add(1);
+        done = done.saturating_add(1);
         7u8
     };
     let answer = crew.make(rt, alloc, round, gate, chore);
