@@ -1,157 +1,267 @@
 -- Which fault shows before any chunk is opened, and what opening answers by it.
-use Rattle.std.proofs.Common.{◌≡◌, ℕ, ◌+◌, ◌<◌, ◌≤◌, Bool, true, false, List, length, take, drop, Option, Some, None}
-use Rattle.std.proofs.Common.{Err, not, if◌then◌else◌, ap, sym, ◌∙◌, arith, length-take, take-take, get_or-take}
-use Rattle.std.proofs.lemmas.List.{drop-take}
-use Rattle.std.proofs.lemmas.Bool.{false_from_ne_true}
+use Rattle.std.proofs.Common.{◌≡◌, ℕ, ◌+◌, ◌^◌, ◌<◌, ◌≤◌, Bool, true, false, List, [], ◌∷◌, ◌++◌, length, take, drop, Option, Some, None, length-append}
+use Rattle.std.proofs.Common.{Err, if◌then◌else◌, inl, inr, refl, ap, sym, ◌∙◌, subst, arith, take-append-drop}
+use Rattle.std.proofs.lemmas.List.{get_or_append_left, length-drop, take-append-le, drop-append-le, take_all}
+use Rattle.std.proofs.lemmas.Bool.{cases_Bool, cases_lt, false_from_ne_true}
 use Rattle.std.proofs.lemmas.Bool.Decides.{nat_tests}
-use Rattle.std.proofs.lemmas.Option.{none-some}
-use Rattle.std.specs.Prelude.{nat_lt, ◌==◌, slice_index}
+use Rattle.std.specs.Prelude.{nat_lt}
 use Rattle.std.specs.Str.{bytes_eq}
-use Rattle.container_core.specs.Container.{magic, hint_of}
+use Rattle.container_core.specs.Container.{magic, is_two, header_length, size_in}
 use Rattle.container_core.specs.declared.fault.OpenFault.{OpenFault}
 use Rattle.container_core.specs.declared.fault.OpenFault.TheVariants.{TooLong, ShortHeader, BadMagic, BadVersion}
 use Rattle.container_core.specs.declared.fault.OpenFault.TheVariants.{BadExponent, KeyMismatch, BadLength, Forged}
 use Rattle.container_core.specs.declared.fault.OpenFault.TheVariants.{OutOfMemory, Read, Write}
 use Rattle.container_core.specs.Chunks.{sealed_chunks, container_length, has_plaintext}
 use Rattle.container_core.specs.Cutting.{RefusesCut}
-use Rattle.container_core.specs.Opening.{header_fault, first_fault, early_fault, unsealed, unless, opening}
-use Rattle.container_core.proofs.PartsLemmas.{has_plaintext-of, plaintext_of-has}
-use Rattle.container_core.proofs.HeaderLemmas.{not_below}
-use Rattle.container_core.proofs.OpeningLemmas.{no_early_fault}
+use Rattle.container_core.specs.Opening.{header_fault, header_fault_one, header_fault_two, early_fault, longest}
+use Rattle.container_core.specs.Opening.{unsealed, unless, opening}
+use Rattle.container_core.proofs.PartsLemmas.{has_plaintext-of, plaintext_of-has, container_length-more}
+use Rattle.container_core.proofs.HeaderLemmas.{not_below, fault-one, fault-two, length-one, length-two, least-length}
+use Rattle.container_core.proofs.OpeningLemmas.{no_early_fault, early-by_one, early-by_two, size-one, some_size}
 
 below : (m n : ℕ) → m < n → nat_lt m n ≡ true
 below m n e = grind (arith, nat_tests)
 
-pub early-too_long : (key : List ℕ) (most : ℕ) (bytes : List ℕ) → container_length most < length bytes → early_fault key most bytes ≡ Some TooLong
-unfolding early_fault
-early-too_long key most bytes long =
-    ap (λ (b : Bool). first_fault (if b then Some TooLong else None)
-    (first_fault (header_fault key bytes) (if not (has_plaintext most (length bytes)) then Some BadLength else None)))
-    (below (container_length most) (length bytes) long)
+pub longest-one : (most : ℕ) (bytes : List ℕ) → is_two bytes ≡ false → longest most bytes ≡ container_length 24 65536 most
+unfolding longest
+longest-one most bytes other =
+    ap (λ (b : Bool). if b then container_length (header_length bytes) (size_in bytes) most else container_length 24 65536 most) other
 
-pub early-header_fault : (key : List ℕ) (most : ℕ) (bytes : List ℕ) (fault : OpenFault) → length bytes ≤ container_length most
+pub longest-two : (most : ℕ) (bytes : List ℕ) → is_two bytes ≡ true
+    → longest most bytes ≡ container_length (header_length bytes) (size_in bytes) most
+unfolding longest
+longest-two most bytes begins =
+    ap (λ (b : Bool). if b then container_length (header_length bytes) (size_in bytes) most else container_length 24 65536 most) begins
+
+-- where the header has no fault
+pub longest-good : (key : List ℕ) (most : ℕ) (bytes : List ℕ) → header_fault key bytes ≡ None
+    → longest most bytes ≡ container_length (header_length bytes) (size_in bytes) most
+longest-good key most bytes good =
+    elim (cases_Bool (is_two bytes)) [
+      | inl begins ↦ longest-two most bytes begins
+      | inr other ↦
+          longest-one most bytes other
+          ∙ ap (λ (s : ℕ). container_length 24 s most) (sym (size-one key bytes other good))
+          ∙ ap (λ (h : ℕ). container_length h (size_in bytes) most) (sym (length-one bytes other))
+    ]
+
+pub early-too_long_one : (key : List ℕ) (most : ℕ) (bytes : List ℕ) → is_two bytes ≡ false
+    → container_length 24 65536 most < length bytes → early_fault key most bytes ≡ Some TooLong
+early-too_long_one key most bytes other long =
+    early-by_one key most bytes _ _ _ other refl (below (container_length 24 65536 most) (length bytes) long) refl
+
+pub early-too_long_two : (key : List ℕ) (most : ℕ) (bytes : List ℕ) → is_two bytes ≡ true → header_fault key bytes ≡ None
+    → container_length (header_length bytes) (size_in bytes) most < length bytes → early_fault key most bytes ≡ Some TooLong
+early-too_long_two key most bytes begins good long =
+    early-by_two key most bytes _ _ _ begins good
+    (below (container_length (header_length bytes) (size_in bytes) most) (length bytes) long) refl
+
+-- of a header that has no fault
+pub early-too_long : (key : List ℕ) (most : ℕ) (bytes : List ℕ) → header_fault key bytes ≡ None
+    → container_length (header_length bytes) (size_in bytes) most < length bytes → early_fault key most bytes ≡ Some TooLong
+early-too_long key most bytes good long =
+    elim (cases_Bool (is_two bytes)) [
+      | inl begins ↦ early-too_long_two key most bytes begins good long
+      | inr other ↦ early-too_long_one key most bytes other
+          (subst (λ (s : ℕ). container_length 24 s most < length bytes) (size-one key bytes other good)
+          (subst (λ (h : ℕ). container_length h (size_in bytes) most < length bytes) (length-one bytes other) long))
+    ]
+
+pub early-header_fault : (key : List ℕ) (most : ℕ) (bytes : List ℕ) (fault : OpenFault)
+    → (is_two bytes ≡ false → length bytes ≤ container_length 24 65536 most)
     → header_fault key bytes ≡ Some fault → early_fault key most bytes ≡ Some fault
-unfolding early_fault
 early-header_fault key most bytes fault within bad =
-    let last : Option OpenFault = if not (has_plaintext most (length bytes)) then Some BadLength else None in
-    ap (λ (b : Bool). first_fault (if b then Some TooLong else None) (first_fault (header_fault key bytes) last))
-    (not_below (container_length most) (length bytes) within)
-    ∙ ap (λ (f : Option OpenFault). first_fault f last) bad
+    elim (cases_Bool (is_two bytes)) [
+      | inl begins ↦ early-by_two key most bytes _ _ _ begins bad refl refl
+      | inr other ↦ early-by_one key most bytes _ _ _ other bad
+          (not_below (container_length 24 65536 most) (length bytes) (within other)) refl
+    ]
 
-early-bad_length : (key : List ℕ) (most : ℕ) (bytes : List ℕ) → length bytes ≤ container_length most
-    → header_fault key bytes ≡ None → ((n : ℕ) → n ≤ most → length bytes ≡ container_length n → ⊥)
+pub early-bad_length : (key : List ℕ) (most : ℕ) (bytes : List ℕ)
+    → length bytes ≤ container_length (header_length bytes) (size_in bytes) most
+    → header_fault key bytes ≡ None
+    → ((n : ℕ) → n ≤ most → length bytes ≡ container_length (header_length bytes) (size_in bytes) n → ⊥)
     → early_fault key most bytes ≡ Some BadLength
-unfolding early_fault
 early-bad_length key most bytes within good none =
-    let has = has_plaintext most (length bytes) in
-    let hasn't : has ≡ false = false_from_ne_true has (λ (e : has ≡ true). let (n, few, long) = plaintext_of-has most (length bytes) e in none n few long) in
-    ap (λ (b : Bool). first_fault (if b then Some TooLong else None) (first_fault (header_fault key bytes) (if not has then Some BadLength else None)))
-    (not_below (container_length most) (length bytes) within)
-    ∙ ap (λ (f : Option OpenFault). first_fault f (if not has then Some BadLength else None)) good
-    ∙ ap (λ (b : Bool). if not b then Some BadLength else None) hasn't
+    elim (cases_Bool (is_two bytes)) [
+      | inl begins ↦ early-by_two key most bytes _ _ _ begins good
+          (not_below (container_length (header_length bytes) (size_in bytes) most) (length bytes) within) hasn't
+      | inr other ↦
+          let size = size-one key bytes other good in
+          let header = length-one bytes other in
+          early-by_one key most bytes _ _ _ other good
+          (not_below (container_length 24 65536 most) (length bytes)
+          (subst (λ (s : ℕ). length bytes ≤ container_length 24 s most) size
+          (subst (λ (h : ℕ). length bytes ≤ container_length h (size_in bytes) most) header within)))
+          (ap (λ (s : ℕ). has_plaintext 24 s most (length bytes)) (sym size)
+          ∙ ap (λ (h : ℕ). has_plaintext h (size_in bytes) most (length bytes)) (sym header) ∙ hasn't)
+    ]
+  where
+    hasn't : has_plaintext (header_length bytes) (size_in bytes) most (length bytes) ≡ false
+    hasn't = false_from_ne_true (has_plaintext (header_length bytes) (size_in bytes) most (length bytes))
+        (λ (e : has_plaintext (header_length bytes) (size_in bytes) most (length bytes) ≡ true).
+        let (n, few, long) = plaintext_of-has (header_length bytes) (size_in bytes) most (length bytes) e in none n few long)
 
-pub early-none : (key : List ℕ) (most : ℕ) (bytes : List ℕ) (n : ℕ) → n ≤ most → length bytes ≡ container_length n
+pub early-none : (key : List ℕ) (most : ℕ) (bytes : List ℕ) (n : ℕ) → n ≤ most
+    → length bytes ≡ container_length (header_length bytes) (size_in bytes) n
     → header_fault key bytes ≡ None → early_fault key most bytes ≡ None
 early-none key most bytes n few long good =
-    no_early_fault key most bytes (grows n most few long) good (has_plaintext-of most (length bytes) n few long)
-  where
-    grows : (i m : ℕ) → i ≤ m → length bytes ≡ container_length i → length bytes ≤ container_length m
-    grows i m small e = omega arith
+    let more = container_length-more (header_length bytes) (size_in bytes) n most (some_size bytes) few in
+    no_early_fault key most bytes (record {
+      header = good;
+      within = omega (arith, more, long);
+      has = has_plaintext-of (header_length bytes) (size_in bytes) most (length bytes) n few long;
+    })
 
 -- what refuses the cutting of what stands behind the header
 pub early-refused : (key : List ℕ) (most : ℕ) (bytes : List ℕ) (body : ℕ) (fault : OpenFault) → most ≤ 1099511627776
-    → length bytes ≡ 24 + body → length bytes ≤ container_length most → header_fault key bytes ≡ None
-    → RefusesCut body fault → early_fault key most bytes ≡ Some fault
-early-refused key most bytes body TooLong few long within good refused = absurd (omega arith)
+    → length bytes ≡ header_length bytes + body
+    → length bytes ≤ container_length (header_length bytes) (size_in bytes) most → header_fault key bytes ≡ None
+    → RefusesCut (size_in bytes) body fault → early_fault key most bytes ≡ Some fault
+early-refused key most bytes body TooLong few long within good refused =
+    let more = container_length-more (header_length bytes) (size_in bytes) most 1099511627776 (some_size bytes) few in
+    absurd (omega (arith, more, long, within, refused))
 early-refused key most bytes body ShortHeader few long within good refused = absurd refused
 early-refused key most bytes body BadMagic few long within good refused = absurd refused
 early-refused key most bytes body BadVersion few long within good refused = absurd refused
 early-refused key most bytes body BadExponent few long within good refused = absurd refused
 early-refused key most bytes body KeyMismatch few long within good refused = absurd refused
 early-refused key most bytes body BadLength few long within good refused =
-    early-bad_length key most bytes within good (λ n small e. refused.1 n (omega arith))
+    early-bad_length key most bytes within good (λ n small e. refused.1 n (omega (arith, long, e)))
 early-refused key most bytes body (Forged chunk) few long within good refused = absurd refused
 early-refused key most bytes body OutOfMemory few long within good refused = absurd refused
 early-refused key most bytes body Read few long within good refused = absurd refused
 early-refused key most bytes body Write few long within good refused = absurd refused
 
--- a header's first fault shows in its 24 bytes
-pub header_fault-take : (key bytes : List ℕ) → header_fault key (take 24 bytes) ≡ header_fault key bytes
-unfolding header_fault
-header_fault-take key bytes =
-    let long = length-take 24 bytes in
-    let short : nat_lt (length (take 24 bytes)) 24 ≡ nat_lt (length bytes) 24 = grind (arith, nat_tests) in
-    let magic = take-take 8 24 bytes (omega arith) in
-    let version = get_or-take 24 bytes 8 0 (omega arith) in
-    let exponent = get_or-take 24 bytes 9 0 (omega arith) in
-    let hint : take 7 (drop 17 (take 24 bytes)) ≡ take 7 (drop 17 bytes) =
-    ap (λ (l : List ℕ). take 7 l) (drop-take 17 7 bytes) ∙ take-take 7 7 (drop 17 bytes) (omega arith) in
-    cc
+-- what a beginning shows that has all of the header
+pub two-front : (front rest : List ℕ) → header_length front ≤ length front → is_two (front ++ rest) ≡ is_two front
+unfolding is_two
+two-front front rest whole =
+    let least = least-length front in
+    ap (λ (l : List ℕ). bytes_eq l (magic ++ 2 ∷ [])) (take-append-le 9 front rest (omega (arith, least, whole)))
 
--- what begins with the same 24 bytes has the same fault there
-pub header_fault-front : (key front whole : List ℕ) → take 24 whole ≡ front
-    → header_fault key whole ≡ header_fault key front
-header_fault-front key front whole same =
-    sym (header_fault-take key whole) ∙ ap (λ (l : List ℕ). header_fault key l) same
+pub size-front : (front rest : List ℕ) → header_length front ≤ length front → size_in (front ++ rest) ≡ size_in front
+unfolding size_in
+size-front front rest whole =
+    let least = least-length front in
+    ap (λ (e : ℕ). 2 ^ e) (get_or_append_left front rest 0 9 (omega (arith, least, whole)))
+
+pub length-front : (front rest : List ℕ) → header_length front ≤ length front → header_length (front ++ rest) ≡ header_length front
+length-front front rest whole =
+    elim (cases_Bool (is_two front)) [
+      | inl begins ↦
+          let long = length-two front begins in
+          length-two (front ++ rest) (two-front front rest whole ∙ begins)
+          ∙ ap (λ (b : ℕ). 25 + b) (get_or_append_left front rest 0 24 (omega (arith, long, whole))) ∙ sym long
+      | inr other ↦ length-one (front ++ rest) (two-front front rest whole ∙ other) ∙ sym (length-one front other)
+    ]
+
+longer_too : (front rest : List ℕ) → header_length front ≤ length front → nat_lt (length (front ++ rest)) (header_length front) ≡ nat_lt (length front) (header_length front)
+longer_too front rest whole =
+    let both = length-append front rest in
+    not_below (length (front ++ rest)) (header_length front) (omega (arith, both, whole))
+    ∙ sym (not_below (length front) (header_length front) whole)
+
+pub fault-front : (key front rest : List ℕ) → header_length front ≤ length front → header_fault key (front ++ rest) ≡ header_fault key front
+unfolding header_fault_one header_fault_two
+fault-front key front rest whole =
+    let least = least-length front in
+    let both = length-append front rest in
+    let long : 24 ≤ length front = omega (arith, least, whole) in
+    let short : nat_lt (length (front ++ rest)) 24 ≡ nat_lt (length front) 24 =
+    not_below (length (front ++ rest)) 24 (omega (arith, both, long)) ∙ sym (not_below (length front) 24 long) in
+    let begins = take-append-le 8 front rest (omega (arith, long)) in
+    let version = get_or_append_left front rest 0 8 (omega (arith, long)) in
+    let exponent = get_or_append_left front rest 0 9 (omega (arith, long)) in
+    let left = length-drop 17 front in
+    let hint : take 7 (drop 17 (front ++ rest)) ≡ take 7 (drop 17 front) =
+    ap (λ (l : List ℕ). take 7 l) (drop-append-le 17 front rest (omega (arith, long)))
+    ∙ take-append-le 7 (drop 17 front) rest (omega (arith, long, left)) in
+    elim (cases_Bool (is_two front)) [
+      | inl is ↦
+          let ends : nat_lt (length (front ++ rest)) (header_length (front ++ rest)) ≡ nat_lt (length front) (header_length front) =
+          ap (λ (n : ℕ). nat_lt (length (front ++ rest)) n) (length-front front rest whole) ∙ longer_too front rest whole in
+          let same : header_fault_two key (front ++ rest) ≡ header_fault_two key front = cc in
+          fault-two key (front ++ rest) (two-front front rest whole ∙ is) ∙ same ∙ sym (fault-two key front is)
+      | inr other ↦
+          let same : header_fault_one key (front ++ rest) ≡ header_fault_one key front = cc in
+          fault-one key (front ++ rest) (two-front front rest whole ∙ other) ∙ same ∙ sym (fault-one key front other)
+    ]
 
 -- and where it is as long, all that shows early
-pub early-alike : (key bytes other : List ℕ) (most : ℕ) → length bytes ≡ length other → take 24 bytes ≡ take 24 other
-    → early_fault key most bytes ≡ early_fault key most other
-unfolding early_fault
-early-alike key bytes other most long same =
-    let header : header_fault key bytes ≡ header_fault key other =
-    header_fault-front key (take 24 other) bytes same ∙ header_fault-take key other in
-    ap (λ (n : ℕ). first_fault (if nat_lt (container_length most) n then Some TooLong else None)
-    (first_fault (header_fault key bytes) (if not (has_plaintext most n) then Some BadLength else None))) long
-    ∙ ap (λ (f : Option OpenFault).
-    first_fault (if nat_lt (container_length most) (length other) then Some TooLong else None)
-    (first_fault f (if not (has_plaintext most (length other)) then Some BadLength else None))) header
+pub early-front : (key front rest other : List ℕ) (most : ℕ) → header_length front ≤ length front → length rest ≡ length other
+    → early_fault key most (front ++ rest) ≡ early_fault key most (front ++ other)
+early-front key front rest other most whole long =
+    let one = length-append front rest in
+    let two = length-append front other in
+    let same : length (front ++ rest) ≡ length (front ++ other) = omega (arith, one, two, long) in
+    let fault = fault-front key front rest whole ∙ sym (fault-front key front other whole) in
+    let header = length-front front rest whole ∙ sym (length-front front other whole) in
+    let size = size-front front rest whole ∙ sym (size-front front other whole) in
+    elim (cases_Bool (is_two front)) [
+      | inl is ↦
+          early-by_two key most (front ++ rest) _ _ _ (two-front front rest whole ∙ is) fault
+          (ap (λ (n : ℕ). nat_lt (container_length (header_length (front ++ rest)) (size_in (front ++ rest)) most) n) same
+          ∙ ap (λ (h : ℕ). nat_lt (container_length h (size_in (front ++ rest)) most) (length (front ++ other))) header
+          ∙ ap (λ (s : ℕ). nat_lt (container_length (header_length (front ++ other)) s most) (length (front ++ other))) size)
+          (ap (λ (n : ℕ). has_plaintext (header_length (front ++ rest)) (size_in (front ++ rest)) most n) same
+          ∙ ap (λ (h : ℕ). has_plaintext h (size_in (front ++ rest)) most (length (front ++ other))) header
+          ∙ ap (λ (s : ℕ). has_plaintext (header_length (front ++ other)) s most (length (front ++ other))) size)
+          ∙ sym (early-by_two key most (front ++ other) _ _ _ (two-front front other whole ∙ is) refl refl refl)
+      | inr no_two ↦
+          early-by_one key most (front ++ rest) _ _ _ (two-front front rest whole ∙ no_two) fault
+          (ap (λ (n : ℕ). nat_lt (container_length 24 65536 most) n) same) (ap (λ (n : ℕ). has_plaintext 24 65536 most n) same)
+          ∙ sym (early-by_one key most (front ++ other) _ _ _ (two-front front other whole ∙ no_two) refl refl refl)
+    ]
 
--- the fault that the tests of a container name, from its length to its cutting
-abbrev named_by : (long short alien version exponent hint cut : Bool) → Option OpenFault
-named_by long short alien version exponent hint cut =
-    first_fault (if long then Some TooLong else None)
-    (first_fault (if short then Some ShortHeader else
-    (if alien then Some BadMagic else
-    (if version then Some BadVersion else
-    (if exponent then Some BadExponent else
-    (if hint then Some KeyMismatch else None)))))
-    (if cut then Some BadLength else None))
+-- a beginning that has all of the header, or that is all
+pub record Shows (key front whole : List ℕ) : Type 0 where
+  pub two : is_two whole ≡ is_two front
+  pub header : header_length whole ≡ header_length front
+  pub size : size_in whole ≡ size_in front
+  pub fault : header_fault key whole ≡ header_fault key front
 
-never_memory : (long short alien version exponent hint cut : Bool) → named_by long short alien version exponent hint cut ≡ Some OutOfMemory → ⊥
-never_memory true short alien version exponent hint cut e = absurd (cc e)
-never_memory false true alien version exponent hint cut e = absurd (cc e)
-never_memory false false true version exponent hint cut e = absurd (cc e)
-never_memory false false false true exponent hint cut e = absurd (cc e)
-never_memory false false false false true hint cut e = absurd (cc e)
-never_memory false false false false false true cut e = absurd (cc e)
-never_memory false false false false false false true e = absurd (cc e)
-never_memory false false false false false false false e = none-some OutOfMemory e
-
--- want of memory is no fault that shows before any chunk is opened
-pub early-no_memory : (key bytes : List ℕ) (most : ℕ) (fault : OpenFault) → early_fault key most bytes ≡ Some fault → fault ≡ OutOfMemory → ⊥
-unfolding header_fault early_fault
-early-no_memory key bytes most fault e memory =
-    never_memory (nat_lt (container_length most) (length bytes)) (nat_lt (length bytes) 24) (not (bytes_eq (take 8 bytes) magic))
-    (not (slice_index bytes 8 == 1)) (not (slice_index bytes 9 == 16)) (not (bytes_eq (take 7 (drop 17 bytes)) (hint_of key)))
-    (not (has_plaintext most (length bytes))) (e ∙ ap (λ (f : OpenFault). Some f) memory)
+pub shows : (key front whole : List ℕ) → length front ≤ length whole
+    → (length front < length whole → header_length front ≤ length front) → take (length front) whole ≡ front
+    → Shows key front whole
+shows key front whole fits enough same =
+    elim (cases_lt (length front) (length whole)) [
+      | inl shorter ↦
+          let has = enough shorter in
+          let rest = drop (length front) whole in
+          let parted : whole ≡ front ++ rest =
+          sym (take-append-drop (length front) whole) ∙ ap (λ (l : List ℕ). l ++ rest) same in
+          record {
+            two = ap (λ (l : List ℕ). is_two l) parted ∙ two-front front rest has;
+            header = ap (λ (l : List ℕ). header_length l) parted ∙ length-front front rest has;
+            size = ap (λ (l : List ℕ). size_in l) parted ∙ size-front front rest has;
+            fault = ap (λ (l : List ℕ). header_fault key l) parted ∙ fault-front key front rest has;
+          }
+      | inr all ↦
+          let is : whole ≡ front = sym (take_all (length front) whole all) ∙ same in
+          record {
+            two = ap (λ (l : List ℕ). is_two l) is;
+            header = ap (λ (l : List ℕ). header_length l) is;
+            size = ap (λ (l : List ℕ). size_in l) is;
+            fault = ap (λ (l : List ℕ). header_fault key l) is;
+          }
+    ]
 
 -- a fault that shows early is what opening answers
 pub opening-early : (key : List ℕ) (most : ℕ) (bytes : List ℕ) (fault : OpenFault) → early_fault key most bytes ≡ Some fault
     → opening key most bytes ≡ Err fault
 unfolding opening
 opening-early key most bytes fault e =
-    ap (λ (f : Option OpenFault). unless f (unsealed key (take 24 bytes) 0 (sealed_chunks (drop 24 bytes)))) e
+    ap (λ (f : Option OpenFault). unless f (unsealed key (take (header_length bytes) bytes) 0 (sealed_chunks (size_in bytes) (drop (header_length bytes) bytes)))) e
 
 -- else it answers what the chunks give
-pub opening-unsealed : (key : List ℕ) (most : ℕ) (bytes header body : List ℕ) → early_fault key most bytes ≡ None
-    → header ≡ take 24 bytes → body ≡ drop 24 bytes → opening key most bytes ≡ unsealed key header 0 (sealed_chunks body)
+pub opening-unsealed : (key : List ℕ) (most : ℕ) (bytes header body : List ℕ) (size : ℕ) → early_fault key most bytes ≡ None
+    → header ≡ take (header_length bytes) bytes → size ≡ size_in bytes → body ≡ drop (header_length bytes) bytes
+    → opening key most bytes ≡ unsealed key header 0 (sealed_chunks size body)
 unfolding opening
-opening-unsealed key most bytes header body e front back =
-    ap (λ (f : Option OpenFault). unless f (unsealed key (take 24 bytes) 0 (sealed_chunks (drop 24 bytes)))) e
-    ∙ ap (λ (h : List ℕ). unsealed key h 0 (sealed_chunks (drop 24 bytes))) (sym front)
-    ∙ ap (λ (b : List ℕ). unsealed key header 0 (sealed_chunks b)) (sym back)
-
-pub opening-too_long : (key : List ℕ) (most : ℕ) (bytes : List ℕ) → container_length most < length bytes
-    → opening key most bytes ≡ Err TooLong
-opening-too_long key most bytes long = opening-early key most bytes TooLong (early-too_long key most bytes long)
+opening-unsealed key most bytes header body size e front sized back =
+    let end = header_length bytes in
+    ap (λ (f : Option OpenFault). unless f (unsealed key (take end bytes) 0 (sealed_chunks (size_in bytes) (drop end bytes)))) e
+    ∙ ap (λ (h : List ℕ). unsealed key h 0 (sealed_chunks (size_in bytes) (drop end bytes))) (sym front)
+    ∙ ap (λ (s : ℕ). unsealed key header 0 (sealed_chunks s (drop end bytes))) (sym sized)
+    ∙ ap (λ (b : List ℕ). unsealed key header 0 (sealed_chunks size b)) (sym back)

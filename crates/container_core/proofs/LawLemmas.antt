@@ -1,24 +1,30 @@
 -- The laws over the definitions.
 use Rattle.std.proofs.Common.{◌≡◌, ℕ, ◌+◌, ◌^◌, ◌<◌, ◌≤◌, ◌↔◌, Bool, true, false, eqb, not, List, [], ◌∷◌, ◌++◌}
-use Rattle.std.proofs.Common.{length, length-append, get_or, take, drop, Option, Some, None, Result, Ok, Err}
-use Rattle.std.proofs.Common.{if◌then◌else◌, refl, ap, sym, ◌∙◌, arith}
+use Rattle.std.proofs.Common.{length, length-append, get_or, take, drop, Option, Some, None, Result, Ok, Err, inl, inr}
+use Rattle.std.proofs.Common.{if◌then◌else◌, refl, ap, sym, ◌∙◌, subst, arith}
 use Rattle.std.proofs.lemmas.List.{take_at, drop_at, same_from_push}
 use Rattle.std.proofs.lemmas.Nat.{from_be_bytes-to_be_bytes_4}
+use Rattle.std.proofs.lemmas.Bool.{cases_Bool}
 use Rattle.std.proofs.lemmas.Result.{IfErr-at_err}
 use Rattle.std.specs.Prelude.{codes, nat_lt, IfSome, IfErr}
 use Rattle.std.specs.Str.{bytes_eq}
 use Rattle.std.specs.Int.{w32, to_be_bytes, from_be_bytes}
 use Rattle.container_core.specs.declared.fault.OpenFault.{OpenFault}
 use Rattle.container_core.specs.declared.fault.OpenFault.TheVariants.{TooLong, ShortHeader, BadMagic, BadVersion}
-use Rattle.container_core.specs.declared.fault.OpenFault.TheVariants.{BadExponent, KeyMismatch, BadLength, Forged}
+use Rattle.container_core.specs.declared.fault.OpenFault.TheVariants.{BadExponent, KeyMismatch, BadLength, Forged, OutOfMemory}
 use Rattle.container_core.specs.Chunks.{chunks, sealed_chunks, container_length, has_plaintext}
+use Rattle.container_core.specs.Shape.{ShapeView, IsShape, size_of}
 use Rattle.container_core.specs.Stream.{nonce_of, prefix_in, is_nil, stream, opened_chunk}
-use Rattle.container_core.specs.Container.{hint_of, header_of, container}
+use Rattle.container_core.specs.Container.{hint_of, header_of, front_of, version_of, label_bytes, container, is_two, header_length}
+use Rattle.container_core.specs.Container.{size_in, shape_in}
 use Rattle.container_core.specs.Faults.{IsOfBytes}
-use Rattle.container_core.specs.Opening.{header_fault, first_fault, early_fault, unsealed, unless, opening, joined}
-use Rattle.container_core.proofs.PartsLemmas.{container_length-grows, has_plaintext-of, plaintext_of-has}
-use Rattle.container_core.proofs.HeaderLemmas.{length-hint_of, length-prefix_in, prefix_in-header_of, not_below}
-use Rattle.container_core.proofs.OpeningLemmas.{opening-container, container-opening, length-body}
+use Rattle.container_core.specs.Opening.{header_fault, header_fault_one, header_fault_two, first_fault, early_fault, longest}
+use Rattle.container_core.specs.Opening.{unsealed, unless, opening, joined}
+use Rattle.container_core.proofs.PartsLemmas.{container_length-grows, container_length-more, has_plaintext-of, plaintext_of-has}
+use Rattle.container_core.proofs.HeaderLemmas.{length-hint_of, length-prefix_in, prefix_in-header_of, shape_in-of, not_below}
+use Rattle.container_core.proofs.HeaderLemmas.{fault-one, fault-two}
+use Rattle.container_core.proofs.OpeningLemmas.{opening-container, container-opening, early-by_one, early-by_two, some_size}
+use Rattle.container_core.proofs.FaultLemmas.{longest-one, longest-two}
 
 same_flag : (a b : Bool) → ◌≡◌ {A = ℕ} (if a then 1 else 0) (if b then 1 else 0) → a ≡ b
 same_flag true true e = refl
@@ -48,45 +54,66 @@ nonce_of-injective prefix other number another last end long small tiny e =
       same_flag last end flags,
     )
 
--- a container's own prefix
-pub prefix_in-container : (key prefix plain : List ℕ) → length prefix ≡ 7 → prefix_in (container key prefix plain) ≡ prefix
+-- what a container names
+pub prefix_in-container : (key prefix plain : List ℕ) (shape : ShapeView) → length prefix ≡ 7
+    → prefix_in (container key shape prefix plain) ≡ prefix
 unfolding container
-prefix_in-container key prefix plain seven =
-    prefix_in-header_of key prefix (stream key (header_of key prefix) 0 (chunks plain)) seven
+prefix_in-container key prefix plain shape seven =
+    prefix_in-header_of key prefix (stream key (header_of key shape prefix) 0 (chunks (size_of shape) plain)) shape seven
+
+pub shape_in-container : (key prefix plain : List ℕ) (shape : ShapeView) → length prefix ≡ 7
+    → shape_in (container key shape prefix plain) ≡ shape
+unfolding container
+shape_in-container key prefix plain shape seven =
+    shape_in-of key prefix (stream key (header_of key shape prefix) 0 (chunks (size_of shape) plain)) shape seven
 
 same_ok : (plain another : List ℕ) (answer : Result (List ℕ) OpenFault) → answer ≡ Ok plain → answer ≡ Ok another → plain ≡ another
 same_ok plain another answer e f = cc
 
-pub container-injective : (key prefix other plain another : List ℕ) → length prefix ≡ 7 → length other ≡ 7
-    → container key prefix plain ≡ container key other another → (prefix ≡ other) × (plain ≡ another)
-container-injective key prefix other plain another seven also e =
-    let most = length plain + length another in (
-      sym (prefix_in-container key prefix plain seven) ∙ ap (λ (l : List ℕ). prefix_in l) e ∙ prefix_in-container key other another also,
-      same_ok plain another (opening key most (container key prefix plain))
-          (opening-container key prefix plain most seven (omega arith))
-          (ap (λ (l : List ℕ). opening key most l) e ∙ opening-container key other another most also (omega arith)),
+-- shape and prefix, whatever the keys are
+pub names-injective : (key prefix plain other another more : List ℕ) (shape form : ShapeView) → length prefix ≡ 7 → length other ≡ 7
+    → container key shape prefix plain ≡ container another form other more → (shape ≡ form) × (prefix ≡ other)
+names-injective key prefix plain other another more shape form seven also e = (
+  sym (shape_in-container key prefix plain shape seven) ∙ ap (λ (l : List ℕ). shape_in l) e ∙ shape_in-container another other more form also,
+  sym (prefix_in-container key prefix plain shape seven) ∙ ap (λ (l : List ℕ). prefix_in l) e ∙ prefix_in-container another other more form also,
+)
+
+pub container-injective : (key prefix other plain another : List ℕ) (shape form : ShapeView) → IsShape shape → IsShape form
+    → length prefix ≡ 7 → length other ≡ 7
+    → container key shape prefix plain ≡ container key form other another → (shape ≡ form) × (prefix ≡ other) × (plain ≡ another)
+container-injective key prefix other plain another shape form lawful formal seven also e =
+    let most = length plain + length another in
+    let (shapes, prefixes) = names-injective key prefix plain other key another shape form seven also e in (
+      shapes,
+      prefixes,
+      same_ok plain another (opening key most (container key shape prefix plain))
+          (opening-container key prefix plain shape most lawful seven (omega arith))
+          (ap (λ (l : List ℕ). opening key most l) e ∙ opening-container key other another form most formal also (omega arith)),
     )
 
 -- a container is longer than a header, whatever stands for its prefix
-longer : (key prefix plain : List ℕ) → 24 ≤ length (container key prefix plain)
+longer : (key prefix plain : List ℕ) (shape : ShapeView) → 17 ≤ length (container key shape prefix plain)
 unfolding container header_of
-longer key prefix plain =
-    let header = header_of key prefix in
-    let body = stream key header 0 (chunks plain) in
+longer key prefix plain shape =
+    let header = header_of key shape prefix in
+    let front = front_of key (version_of shape.label) shape.exponent prefix in
+    let body = stream key header 0 (chunks (size_of shape) plain) in
     let hint = length-hint_of key in
-    let bytes = length-body key header plain in
     let both = length-append prefix (hint_of key) in
+    let begins = length-append front (label_bytes shape.label) in
     let all = length-append header body in
     omega arith
 
 pub opens_exactly : (key bytes plain : List ℕ) (most : ℕ)
-    → (opening key most bytes ≡ Ok plain) ↔ ((length plain ≤ most) × (bytes ≡ container key (prefix_in bytes) plain))
+    → (opening key most bytes ≡ Ok plain)
+    ↔ ((length plain ≤ most) × IsShape (shape_in bytes) × (bytes ≡ container key (shape_in bytes) (prefix_in bytes) plain))
 opens_exactly key bytes plain most = (
-  λ opens. let both = container-opening key bytes plain most opens in (both.0, sym both.1),
-  λ same. let long : 24 ≤ length (container key (prefix_in bytes) plain) = longer key (prefix_in bytes) plain in
-      let as_long = ap (λ (l : List ℕ). length l) same.1 in
-      ap (λ (l : List ℕ). opening key most l) same.1
-      ∙ opening-container key (prefix_in bytes) plain most (length-prefix_in bytes (omega arith)) same.0,
+  λ opens. let (few, lawful, same) = container-opening key bytes plain most opens in (few, lawful, sym same),
+  λ found. let (few, lawful, same) = found in
+      let long : 17 ≤ length bytes = let l = longer key (prefix_in bytes) plain (shape_in bytes) in
+      subst (λ (b : List ℕ). 17 ≤ length b) (sym same) l in
+      ap (λ (l : List ℕ). opening key most l) same
+      ∙ opening-container key (prefix_in bytes) plain (shape_in bytes) most lawful (length-prefix_in bytes long) few,
 )
 
 of_all_tests : (a b c d e : Bool)
@@ -98,11 +125,26 @@ of_all_tests false true true false e = tt
 of_all_tests false true true true false = tt
 of_all_tests false true true true true = tt
 
+of_two_tests : (a b c d e : Bool)
+    → IfSome (if a then Some ShortHeader else (if b then Some BadExponent else (if c then Some BadExponent else (if not d then Some KeyMismatch else (if e then Some ShortHeader else None))))) IsOfBytes
+of_two_tests true b c d e = tt
+of_two_tests false true c d e = tt
+of_two_tests false false true d e = tt
+of_two_tests false false false false e = tt
+of_two_tests false false false true true = tt
+of_two_tests false false false true false = tt
+
 pub header_fault-of_bytes : (key bytes : List ℕ) → IfSome (header_fault key bytes) IsOfBytes
-unfolding header_fault
+unfolding header_fault_one header_fault_two
 header_fault-of_bytes key bytes =
-    of_all_tests (nat_lt (length bytes) 24) (bytes_eq (take 8 bytes) (codes "STRMSEAL")) (eqb (get_or bytes 8 0) 1)
-    (eqb (get_or bytes 9 0) 16) (bytes_eq (take 7 (drop 17 bytes)) (hint_of key))
+    elim (cases_Bool (is_two bytes)) [
+      | inl begins ↦ subst (λ (o : Option OpenFault). IfSome o IsOfBytes) (sym (fault-two key bytes begins))
+          (of_two_tests (nat_lt (length bytes) 24) (nat_lt (get_or bytes 9 0) 12) (nat_lt 20 (get_or bytes 9 0))
+          (bytes_eq (take 7 (drop 17 bytes)) (hint_of key)) (nat_lt (length bytes) (header_length bytes)))
+      | inr other ↦ subst (λ (o : Option OpenFault). IfSome o IsOfBytes) (sym (fault-one key bytes other))
+          (of_all_tests (nat_lt (length bytes) 24) (bytes_eq (take 8 bytes) (codes "STRMSEAL")) (eqb (get_or bytes 8 0) 1)
+          (eqb (get_or bytes 9 0) 16) (bytes_eq (take 7 (drop 17 bytes)) (hint_of key)))
+    ]
 
 joined-of_bytes : (number : ℕ) (o : Option (List ℕ)) (r : Result (List ℕ) OpenFault) → IfErr r IsOfBytes
     → IfErr (joined (Forged number) o r) IsOfBytes
@@ -117,58 +159,110 @@ unsealed-of_bytes key header number (part ∷ rest) =
     joined-of_bytes number (opened_chunk key header number (is_nil rest) part) (unsealed key header (number + 1) rest)
     (unsealed-of_bytes key header (number + 1) rest)
 
-early-of_bytes : (long : Bool) (f : Option OpenFault) (has : Bool) (r : Result (List ℕ) OpenFault) → IfSome f IsOfBytes → IfErr r IsOfBytes
-    → IfErr (unless (first_fault (if long then Some TooLong else None) (first_fault f (if not has then Some BadLength else None))) r) IsOfBytes
-early-of_bytes true f has r g h = tt
-early-of_bytes false (Some fault) has r g h = g
-early-of_bytes false None false r g h = tt
-early-of_bytes false None true r g h = h
+first-of_bytes : (f g : Option OpenFault) → IfSome f IsOfBytes → IfSome g IsOfBytes → IfSome (first_fault f g) IsOfBytes
+first-of_bytes (Some fault) g h i = h
+first-of_bytes None g h i = i
+
+long-of_bytes : (long : Bool) → IfSome (if long then Some TooLong else None) IsOfBytes
+long-of_bytes true = tt
+long-of_bytes false = tt
+
+bad-of_bytes : (has : Bool) → IfSome (if not has then Some BadLength else None) IsOfBytes
+bad-of_bytes true = tt
+bad-of_bytes false = tt
+
+pub early-of_bytes : (key : List ℕ) (most : ℕ) (bytes : List ℕ) → IfSome (early_fault key most bytes) IsOfBytes
+early-of_bytes key most bytes =
+    let header = header_fault-of_bytes key bytes in
+    elim (cases_Bool (is_two bytes)) [
+      | inl begins ↦ subst (λ (o : Option OpenFault). IfSome o IsOfBytes) (sym (early-by_two key most bytes _ _ _ begins refl refl refl))
+          (first-of_bytes (header_fault key bytes) (first_fault (if nat_lt (container_length (header_length bytes) (size_in bytes) most) (length bytes) then Some TooLong else None) (if not (has_plaintext (header_length bytes) (size_in bytes) most (length bytes)) then Some BadLength else None)) header
+          (first-of_bytes (if nat_lt (container_length (header_length bytes) (size_in bytes) most) (length bytes) then Some TooLong else None) (if not (has_plaintext (header_length bytes) (size_in bytes) most (length bytes)) then Some BadLength else None)
+          (long-of_bytes (nat_lt (container_length (header_length bytes) (size_in bytes) most) (length bytes)))
+          (bad-of_bytes (has_plaintext (header_length bytes) (size_in bytes) most (length bytes)))))
+      | inr other ↦ subst (λ (o : Option OpenFault). IfSome o IsOfBytes) (sym (early-by_one key most bytes _ _ _ other refl refl refl))
+          (first-of_bytes (if nat_lt (container_length 24 65536 most) (length bytes) then Some TooLong else None) (first_fault (header_fault key bytes) (if not (has_plaintext 24 65536 most (length bytes)) then Some BadLength else None))
+          (long-of_bytes (nat_lt (container_length 24 65536 most) (length bytes)))
+          (first-of_bytes (header_fault key bytes) (if not (has_plaintext 24 65536 most (length bytes)) then Some BadLength else None) header
+          (bad-of_bytes (has_plaintext 24 65536 most (length bytes)))))
+    ]
+
+unless-of_bytes : (f : Option OpenFault) (r : Result (List ℕ) OpenFault) → IfSome f IsOfBytes → IfErr r IsOfBytes → IfErr (unless f r) IsOfBytes
+unless-of_bytes (Some fault) r h i = h
+unless-of_bytes None r h i = i
 
 answer-of_bytes : (key : List ℕ) (most : ℕ) (bytes : List ℕ) → IfErr (opening key most bytes) IsOfBytes
-unfolding opening early_fault
+unfolding opening
 answer-of_bytes key most bytes =
-    early-of_bytes (nat_lt (container_length most) (length bytes)) (header_fault key bytes) (has_plaintext most (length bytes))
-    (unsealed key (take 24 bytes) 0 (sealed_chunks (drop 24 bytes))) (header_fault-of_bytes key bytes)
-    (unsealed-of_bytes key (take 24 bytes) 0 (sealed_chunks (drop 24 bytes)))
+    let answer = unsealed key (take (header_length bytes) bytes) 0 (sealed_chunks (size_in bytes) (drop (header_length bytes) bytes)) in
+    unless-of_bytes (early_fault key most bytes) answer (early-of_bytes key most bytes)
+    (unsealed-of_bytes key (take (header_length bytes) bytes) 0 (sealed_chunks (size_in bytes) (drop (header_length bytes) bytes)))
+
+-- so it is none of memory
+pub early-no_memory : (key bytes : List ℕ) (most : ℕ) (fault : OpenFault) → early_fault key most bytes ≡ Some fault → fault ≡ OutOfMemory → ⊥
+early-no_memory key bytes most fault e memory =
+    subst (λ (f : OpenFault). IsOfBytes f) memory (subst (λ (o : Option OpenFault). IfSome o IsOfBytes) e (early-of_bytes key most bytes))
 
 pub opening-of_bytes : (key : List ℕ) (most : ℕ) (bytes : List ℕ) (fault : OpenFault) → opening key most bytes ≡ Err fault → IsOfBytes fault
 opening-of_bytes key most bytes fault e = IfErr-at_err IsOfBytes e (answer-of_bytes key most bytes)
 
 -- within a lesser limit the greater one makes no difference
-pub opening-limits : (key : List ℕ) (most more : ℕ) (bytes : List ℕ) → most ≤ more → length bytes ≤ container_length most
+same_bool : (a b : Bool) → (a ≡ true → b ≡ true) → (b ≡ true → a ≡ true) → a ≡ b
+same_bool true b f g = sym (f refl)
+same_bool false true f g = g refl
+same_bool false false f g = refl
+
+same_has : (header size most more bytes : ℕ) → 0 < size → most ≤ more → bytes ≤ container_length header size most
+    → has_plaintext header size most bytes ≡ has_plaintext header size more bytes
+same_has header size most more bytes some few within =
+    same_bool (has_plaintext header size most bytes) (has_plaintext header size more bytes)
+    (λ (e : has_plaintext header size most bytes ≡ true). let (n, small, long) = plaintext_of-has header size most bytes e in
+    has_plaintext-of header size more bytes n (omega arith) long)
+    (λ (e : has_plaintext header size more bytes ≡ true). let (n, small, long) = plaintext_of-has header size more bytes e in
+    has_plaintext-of header size most bytes n (container_length-grows header size most n some (omega (arith, long, within))) long)
+
+pub early-limits : (key : List ℕ) (most more : ℕ) (bytes : List ℕ) → most ≤ more → length bytes ≤ longest most bytes
+    → early_fault key most bytes ≡ early_fault key more bytes
+early-limits key most more bytes few within =
+    elim (cases_Bool (is_two bytes)) [
+      | inl begins ↦
+          let some = some_size bytes in
+          let least : length bytes ≤ container_length (header_length bytes) (size_in bytes) most =
+          subst (λ (n : ℕ). length bytes ≤ n) (longest-two most bytes begins) within in
+          let grows = container_length-more (header_length bytes) (size_in bytes) most more some few in
+          early-by_two key most bytes _ _ _ begins refl
+          (not_below (container_length (header_length bytes) (size_in bytes) most) (length bytes) least)
+          (same_has (header_length bytes) (size_in bytes) most more (length bytes) some few least)
+          ∙ sym (early-by_two key more bytes _ _ _ begins refl
+          (not_below (container_length (header_length bytes) (size_in bytes) more) (length bytes) (omega (arith, grows, least))) refl)
+      | inr other ↦
+          let least : length bytes ≤ container_length 24 65536 most =
+          subst (λ (n : ℕ). length bytes ≤ n) (longest-one most bytes other) within in
+          let grows = container_length-more 24 65536 most more (omega arith) few in
+          early-by_one key most bytes _ _ _ other refl
+          (not_below (container_length 24 65536 most) (length bytes) least)
+          (same_has 24 65536 most more (length bytes) (omega arith) few least)
+          ∙ sym (early-by_one key more bytes _ _ _ other refl
+          (not_below (container_length 24 65536 more) (length bytes) (omega (arith, grows, least))) refl)
+    ]
+
+pub opening-limits : (key : List ℕ) (most more : ℕ) (bytes : List ℕ) → most ≤ more → length bytes ≤ longest most bytes
     → opening key most bytes ≡ opening key more bytes
-unfolding opening early_fault
+unfolding opening
 opening-limits key most more bytes few within =
-    let answer = unsealed key (take 24 bytes) 0 (sealed_chunks (drop 24 bytes)) in
-    let also : length bytes ≤ container_length more = omega arith in
-    let short : nat_lt (container_length most) (length bytes) ≡ nat_lt (container_length more) (length bytes) =
-    not_below (container_length most) (length bytes) within ∙ sym (not_below (container_length more) (length bytes) also) in
-    let same : has_plaintext most (length bytes) ≡ has_plaintext more (length bytes) =
-    same_bool (has_plaintext most (length bytes)) (has_plaintext more (length bytes))
-    (λ (e : has_plaintext most (length bytes) ≡ true). let (n, small, long) = plaintext_of-has most (length bytes) e in
-    has_plaintext-of more (length bytes) n (omega arith) long)
-    (λ (e : has_plaintext more (length bytes) ≡ true). let (n, small, long) = plaintext_of-has more (length bytes) e in
-    has_plaintext-of most (length bytes) n (container_length-grows most n (omega arith)) long) in
-    ap (λ (b : Bool). unless (first_fault (if b then Some TooLong else None) (first_fault (header_fault key bytes)
-    (if not (has_plaintext most (length bytes)) then Some BadLength else None))) answer) short
-    ∙ ap (λ (b : Bool). unless (first_fault (if nat_lt (container_length more) (length bytes) then Some TooLong else None) (first_fault (header_fault key bytes)
-    (if not b then Some BadLength else None))) answer) same
-  where
-    same_bool : (a b : Bool) → (a ≡ true → b ≡ true) → (b ≡ true → a ≡ true) → a ≡ b
-    same_bool true b f g = sym (f refl)
-    same_bool false true f g = g refl
-    same_bool false false f g = refl
+    ap (λ (f : Option OpenFault). unless f (unsealed key (take (header_length bytes) bytes) 0 (sealed_chunks (size_in bytes) (drop (header_length bytes) bytes))))
+    (early-limits key most more bytes few within)
 
 same_answer : (plain : List ℕ) (fault : OpenFault) (answer : Result (List ℕ) OpenFault) → answer ≡ Err fault → answer ≡ Ok plain → ⊥
 same_answer plain fault answer e f = cc
 
 -- what opens is the plaintext of which the bytes are the container, and such bytes have no fault
 pub opened_plaintext : (key bytes out plain : List ℕ) (most : ℕ) → opening key most bytes ≡ Ok out
-    → length plain ≤ most → bytes ≡ container key (prefix_in bytes) plain → out ≡ plain
-opened_plaintext key bytes out plain most opens few same =
-    same_ok out plain (opening key most bytes) opens ((opens_exactly key bytes plain most).1 (few, same))
+    → length plain ≤ most → IsShape (shape_in bytes) → bytes ≡ container key (shape_in bytes) (prefix_in bytes) plain → out ≡ plain
+opened_plaintext key bytes out plain most opens few lawful same =
+    same_ok out plain (opening key most bytes) opens ((opens_exactly key bytes plain most).1 (few, lawful, same))
 
 pub no_fault : (key bytes plain : List ℕ) (most : ℕ) (fault : OpenFault) → opening key most bytes ≡ Err fault
-    → length plain ≤ most → bytes ≡ container key (prefix_in bytes) plain → ⊥
-no_fault key bytes plain most fault e few same =
-    same_answer plain fault (opening key most bytes) e ((opens_exactly key bytes plain most).1 (few, same))
+    → length plain ≤ most → IsShape (shape_in bytes) → bytes ≡ container key (shape_in bytes) (prefix_in bytes) plain → ⊥
+no_fault key bytes plain most fault e few lawful same =
+    same_answer plain fault (opening key most bytes) e ((opens_exactly key bytes plain most).1 (few, lawful, same))

@@ -1,4 +1,5 @@
 pub mod PartsLemmas
+pub mod CutLemmas
 pub mod StreamLemmas
 pub mod HeaderLemmas
 pub mod OpeningLemmas

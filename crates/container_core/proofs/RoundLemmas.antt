@@ -10,7 +10,7 @@ use Rattle.container_core.specs.Stream.{is_nil, sealed_chunk, opened_chunk, stre
 use Rattle.container_core.specs.Opening.{unsealed, unsealed_by, joined, behind}
 use Rattle.container_core.proofs.PartsLemmas.{chunks-append, sealed_chunks-append, length-whole_chunks}
 use Rattle.container_core.proofs.PartsLemmas.{length-whole_sealed_chunks, is_nil-chunks, is_nil-sealed_chunks}
-use Rattle.container_core.proofs.PartsLemmas.{body_count}
+use Rattle.container_core.proofs.PartsLemmas.{body_count, body-full}
 use Rattle.container_core.proofs.StreamLemmas.{length-stream_by, length-opened_chunk, parted}
 use Rattle.container_core.proofs.OpeningLemmas.{behind-behind, behind-nil, joined-some}
 
@@ -41,21 +41,21 @@ stream_by-append key header number last (x ∷ xs) ys more =
     ∙ sym (append_assoc one front (stream_by key header (number + 1 + length xs) last ys))
     ∙ ap (λ (m : ℕ). (one ++ front) ++ stream_by key header m last ys) n
 
-pub stream_by-chunks : (key header : List ℕ) (number : ℕ) (last : Bool) (xs ys : List ℕ) (k : ℕ)
-    → length xs ≡ k * 65536 → 0 < k → 0 < length ys
-    → stream_by key header number last (chunks (xs ++ ys))
-    ≡ stream_by key header number false (chunks xs) ++ stream_by key header (number + k) last (chunks ys)
-stream_by-chunks key header number last xs ys k is some more =
-    let front = stream_by key header number false (chunks xs) in
-    ap (λ (cs : List (List ℕ)). stream_by key header number last cs) (chunks-append xs ys k is some more)
-    ∙ stream_by-append key header number last (chunks xs) (chunks ys) (is_nil-chunks ys)
-    ∙ ap (λ (n : ℕ). front ++ stream_by key header (number + n) last (chunks ys)) (length-whole_chunks xs k is some)
+pub stream_by-chunks : (key header : List ℕ) (size number : ℕ) (last : Bool) (xs ys : List ℕ) (k : ℕ)
+    → 0 < size → length xs ≡ k * size → 0 < k → 0 < length ys
+    → stream_by key header number last (chunks size (xs ++ ys))
+    ≡ stream_by key header number false (chunks size xs) ++ stream_by key header (number + k) last (chunks size ys)
+stream_by-chunks key header size number last xs ys k full is some more =
+    let front = stream_by key header number false (chunks size xs) in
+    ap (λ (cs : List (List ℕ)). stream_by key header number last cs) (chunks-append size xs ys k full is some more)
+    ∙ stream_by-append key header number last (chunks size xs) (chunks size ys) (is_nil-chunks size ys)
+    ∙ ap (λ (n : ℕ). front ++ stream_by key header (number + n) last (chunks size ys)) (length-whole_chunks size xs k full is some)
 
-pub length-round : (key header : List ℕ) (number : ℕ) (last : Bool) (plain : List ℕ)
-    → length (stream_by key header number last (chunks plain)) ≡ body_length (length plain)
+pub length-round : (key header : List ℕ) (size number : ℕ) (last : Bool) (plain : List ℕ) → 0 < size
+    → length (stream_by key header number last (chunks size plain)) ≡ body_length size (length plain)
 unfolding chunks cut_every
-length-round key header number last plain =
-    length-stream_by key header number last ((length plain - 1) / 65536) plain
+length-round key header size number last plain some =
+    length-stream_by size key header number last ((length plain - 1) / size) plain ∙ sym (body-full size (length plain))
 
 pub unsealed_by-true : (key header : List ℕ) (number : ℕ) (cs : List (List ℕ))
     → unsealed_by key header number true cs ≡ unsealed key header number cs
@@ -99,43 +99,43 @@ unsealed_by-append key header number last (x ∷ xs) ys more =
     ∙ joined-followed (Forged number) one front (unsealed_by key header (number + 1 + length xs) last ys)
     ∙ ap (λ (m : ℕ). followed (joined (Forged number) one front) (unsealed_by key header m last ys)) n
 
-unsealed_by-chunks : (key header : List ℕ) (number : ℕ) (last : Bool) (xs ys : List ℕ) (k : ℕ)
-    → length xs ≡ k * 65552 → 0 < k → 0 < length ys
-    → unsealed_by key header number last (sealed_chunks (xs ++ ys))
-    ≡ followed (unsealed_by key header number false (sealed_chunks xs))
-    (unsealed_by key header (number + k) last (sealed_chunks ys))
-unsealed_by-chunks key header number last xs ys k is some more =
-    let front = unsealed_by key header number false (sealed_chunks xs) in
-    ap (λ (cs : List (List ℕ)). unsealed_by key header number last cs) (sealed_chunks-append xs ys k is some more)
-    ∙ unsealed_by-append key header number last (sealed_chunks xs) (sealed_chunks ys) (is_nil-sealed_chunks ys)
-    ∙ ap (λ (n : ℕ). followed front (unsealed_by key header (number + n) last (sealed_chunks ys)))
-    (length-whole_sealed_chunks xs k is some)
+unsealed_by-chunks : (key header : List ℕ) (size number : ℕ) (last : Bool) (xs ys : List ℕ) (k : ℕ)
+    → length xs ≡ k * (size + 16) → 0 < k → 0 < length ys
+    → unsealed_by key header number last (sealed_chunks size (xs ++ ys))
+    ≡ followed (unsealed_by key header number false (sealed_chunks size xs))
+    (unsealed_by key header (number + k) last (sealed_chunks size ys))
+unsealed_by-chunks key header size number last xs ys k is some more =
+    let front = unsealed_by key header number false (sealed_chunks size xs) in
+    ap (λ (cs : List (List ℕ)). unsealed_by key header number last cs) (sealed_chunks-append size xs ys k is some more)
+    ∙ unsealed_by-append key header number last (sealed_chunks size xs) (sealed_chunks size ys) (is_nil-sealed_chunks size ys)
+    ∙ ap (λ (n : ℕ). followed front (unsealed_by key header (number + n) last (sealed_chunks size ys)))
+    (length-whole_sealed_chunks size xs k is some)
 
-pub unsealed_by-opened : (key header : List ℕ) (number : ℕ) (last : Bool) (xs ys plain : List ℕ) (k : ℕ)
-    → length xs ≡ k * 65552 → 0 < k → 0 < length ys
-    → unsealed_by key header number false (sealed_chunks xs) ≡ Ok plain
-    → unsealed_by key header number last (sealed_chunks (xs ++ ys))
-    ≡ behind plain (unsealed_by key header (number + k) last (sealed_chunks ys))
-unsealed_by-opened key header number last xs ys plain k is some more opens =
-    let rest = unsealed_by key header (number + k) last (sealed_chunks ys) in
-    unsealed_by-chunks key header number last xs ys k is some more
+pub unsealed_by-opened : (key header : List ℕ) (size number : ℕ) (last : Bool) (xs ys plain : List ℕ) (k : ℕ)
+    → length xs ≡ k * (size + 16) → 0 < k → 0 < length ys
+    → unsealed_by key header number false (sealed_chunks size xs) ≡ Ok plain
+    → unsealed_by key header number last (sealed_chunks size (xs ++ ys))
+    ≡ behind plain (unsealed_by key header (number + k) last (sealed_chunks size ys))
+unsealed_by-opened key header size number last xs ys plain k is some more opens =
+    let rest = unsealed_by key header (number + k) last (sealed_chunks size ys) in
+    unsealed_by-chunks key header size number last xs ys k is some more
     ∙ ap (λ (r : Result (List ℕ) OpenFault). followed r rest) opens
 
-pub unsealed_by-refused : (key header : List ℕ) (number : ℕ) (last : Bool) (xs ys : List ℕ) (k : ℕ)
-    (fault : OpenFault) → length xs ≡ k * 65552 → 0 < k → 0 < length ys
-    → unsealed_by key header number false (sealed_chunks xs) ≡ Err fault
-    → unsealed_by key header number last (sealed_chunks (xs ++ ys)) ≡ Err fault
-unsealed_by-refused key header number last xs ys k fault is some more fails =
-    let rest = unsealed_by key header (number + k) last (sealed_chunks ys) in
-    unsealed_by-chunks key header number last xs ys k is some more
+pub unsealed_by-refused : (key header : List ℕ) (size number : ℕ) (last : Bool) (xs ys : List ℕ) (k : ℕ)
+    (fault : OpenFault) → length xs ≡ k * (size + 16) → 0 < k → 0 < length ys
+    → unsealed_by key header number false (sealed_chunks size xs) ≡ Err fault
+    → unsealed_by key header number last (sealed_chunks size (xs ++ ys)) ≡ Err fault
+unsealed_by-refused key header size number last xs ys k fault is some more fails =
+    let rest = unsealed_by key header (number + k) last (sealed_chunks size ys) in
+    unsealed_by-chunks key header size number last xs ys k is some more
     ∙ ap (λ (r : Result (List ℕ) OpenFault). followed r rest) fails
 
 -- opening a round takes the tags away
-length-unsealed_by : (key header : List ℕ) (number : ℕ) (last : Bool) (full : ℕ) (body plain : List ℕ)
-    → unsealed_by key header number last (parts 65552 full body) ≡ Ok plain
+length-unsealed_by : (key header : List ℕ) (size number : ℕ) (last : Bool) (full : ℕ) (body plain : List ℕ)
+    → unsealed_by key header number last (parts (size + 16) full body) ≡ Ok plain
     → length body ≡ length plain + 16 * (full + 1)
 unfolding unsealed_by parts
-length-unsealed_by key header number last zero body plain e =
+length-unsealed_by key header size number last zero body plain e =
     let one = opened_chunk key header number last body in
     let (chunk, more, opens, ends, all) = parted (Forged number) one (Ok []) plain e in
     let bytes = length-opened_chunk key header number last body chunk opens in
@@ -144,26 +144,27 @@ length-unsealed_by key header number last zero body plain e =
     let both = length-append chunk more in
     let nothing : length more ≡ 0 = ap (λ (l : List ℕ). length l) none in
     omega arith
-length-unsealed_by key header number last (suc full) body plain e =
-    let rest = parts 65552 full (drop 65552 body) in
+length-unsealed_by key header size number last (suc full) body plain e =
+    let rest = parts (size + 16) full (drop (size + 16) body) in
     let ending = is_nil rest && last in
-    let one = opened_chunk key header number ending (take 65552 body) in
+    let one = opened_chunk key header number ending (take (size + 16) body) in
     let answer = unsealed_by key header (number + 1) last rest in
     let (chunk, more, opens, ends, all) = parted (Forged number) one answer plain e in
-    let bytes = length-opened_chunk key header number ending (take 65552 body) chunk opens in
-    let others = length-unsealed_by key header (number + 1) last full (drop 65552 body) more ends in
+    let bytes = length-opened_chunk key header number ending (take (size + 16) body) chunk opens in
+    let others = length-unsealed_by key header size (number + 1) last full (drop (size + 16) body) more ends in
     let long : length plain ≡ length (chunk ++ more) = ap (λ (l : List ℕ). length l) all in
     let both = length-append chunk more in
-    let cut = length-append (take 65552 body) (drop 65552 body) in
-    let whole : length (take 65552 body ++ drop 65552 body) ≡ length body =
-    ap (λ (l : List ℕ). length l) (take-append-drop 65552 body) in
+    let cut = length-append (take (size + 16) body) (drop (size + 16) body) in
+    let whole : length (take (size + 16) body ++ drop (size + 16) body) ≡ length body =
+    ap (λ (l : List ℕ). length l) (take-append-drop (size + 16) body) in
     omega arith
 
-pub length-opened_round : (key header : List ℕ) (number : ℕ) (last : Bool) (body plain : List ℕ) (bytes : ℕ)
-    → length body ≡ body_length bytes → unsealed_by key header number last (sealed_chunks body) ≡ Ok plain
+pub length-opened_round : (key header : List ℕ) (size number : ℕ) (last : Bool) (body plain : List ℕ) (bytes : ℕ)
+    → 0 < size → length body ≡ body_length size bytes → unsealed_by key header number last (sealed_chunks size body) ≡ Ok plain
     → length plain ≡ bytes
 unfolding sealed_chunks cut_every
-length-opened_round key header number last body plain bytes long opens =
-    let count = body_count bytes (length body) long in
-    let tags = length-unsealed_by key header number last ((length body - 1) / 65552) body plain opens in
-    omega arith
+length-opened_round key header size number last body plain bytes some long opens =
+    let count = body_count size bytes (length body) some long in
+    let all = long ∙ body-full size bytes in
+    let tags = length-unsealed_by key header size number last ((length body - 1) / (size + 16)) body plain opens in
+    omega (arith, tags, count, all)

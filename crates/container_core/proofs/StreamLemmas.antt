@@ -71,31 +71,31 @@ stream_by-true key header number (c ∷ cs) =
     ∙ ap (λ (s : List ℕ). sealed_chunk key header number (is_nil cs) c ++ s) (stream_by-true key header (number + 1) cs)
 
 -- a round adds a tag to each chunk
-pub length-stream_by : (key header : List ℕ) (number : ℕ) (last : Bool) (full : ℕ) (plain : List ℕ)
-    → length (stream_by key header number last (parts 65536 full plain)) ≡ length plain + 16 * (full + 1)
+pub length-stream_by : (size : ℕ) (key header : List ℕ) (number : ℕ) (last : Bool) (full : ℕ) (plain : List ℕ)
+    → length (stream_by key header number last (parts size full plain)) ≡ length plain + 16 * (full + 1)
 unfolding stream_by parts
-length-stream_by key header number last zero plain =
+length-stream_by size key header number last zero plain =
     let one = length-sealed_chunk key header number last plain in
     let sealed = sealed_chunk key header number last plain in
     let all = length-append sealed [] in
     omega arith
-length-stream_by key header number last (suc full) plain =
-    let rest = parts 65536 full (drop 65536 plain) in
+length-stream_by size key header number last (suc full) plain =
+    let rest = parts size full (drop size plain) in
     let ends = is_nil rest && last in
-    let sealed = sealed_chunk key header number ends (take 65536 plain) in
-    let one = length-sealed_chunk key header number ends (take 65536 plain) in
-    let more = length-stream_by key header (number + 1) last full (drop 65536 plain) in
+    let sealed = sealed_chunk key header number ends (take size plain) in
+    let one = length-sealed_chunk key header number ends (take size plain) in
+    let more = length-stream_by size key header (number + 1) last full (drop size plain) in
     let all = length-append sealed (stream_by key header (number + 1) last rest) in
-    let cut = length-append (take 65536 plain) (drop 65536 plain) in
-    let whole : length (take 65536 plain ++ drop 65536 plain) ≡ length plain =
-    ap (λ (l : List ℕ). length l) (take-append-drop 65536 plain) in
+    let cut = length-append (take size plain) (drop size plain) in
+    let whole : length (take size plain ++ drop size plain) ≡ length plain =
+    ap (λ (l : List ℕ). length l) (take-append-drop size plain) in
     omega arith
 
-pub length-stream : (key header : List ℕ) (number full : ℕ) (plain : List ℕ)
-    → length (stream key header number (parts 65536 full plain)) ≡ length plain + 16 * (full + 1)
-length-stream key header number full plain =
-    ap (λ (s : List ℕ). length s) (sym (stream_by-true key header number (parts 65536 full plain)))
-    ∙ length-stream_by key header number true full plain
+pub length-stream : (size : ℕ) (key header : List ℕ) (number full : ℕ) (plain : List ℕ)
+    → length (stream key header number (parts size full plain)) ≡ length plain + 16 * (full + 1)
+length-stream size key header number full plain =
+    ap (λ (s : List ℕ). length s) (sym (stream_by-true key header number (parts size full plain)))
+    ∙ length-stream_by size key header number true full plain
 
 -- a chunk that checks, before others that do
 pub unsealed-cons : (key header : List ℕ) (number : ℕ) (sealed : List ℕ) (rest : List (List ℕ)) (last : Bool) (plain more : List ℕ)
@@ -115,29 +115,29 @@ ok_nil : (plain : List ℕ) (answer : Result (List ℕ) OpenFault) → answer �
 ok_nil plain answer e f = cc
 
 -- what is opened of STREAM is the plaintext
-pub unsealed-stream : (key header : List ℕ) (number full : ℕ) (plain : List ℕ) → full * 65536 ≤ length plain
-    → unsealed key header number (parts 65552 full (stream key header number (parts 65536 full plain))) ≡ Ok plain
+pub unsealed-stream : (size : ℕ) (key header : List ℕ) (number full : ℕ) (plain : List ℕ) → full * size ≤ length plain
+    → unsealed key header number (parts (size + 16) full (stream key header number (parts size full plain))) ≡ Ok plain
 unfolding stream parts
-unsealed-stream key header number zero plain room =
+unsealed-stream size key header number zero plain room =
     let sealed = sealed_chunk key header number true plain in
     ap (λ (s : List ℕ). unsealed key header number (s ∷ [])) (append-nil sealed)
     ∙ unsealed-cons key header number sealed [] true plain [] refl (opened_chunk-sealed_chunk key header number true plain) (unsealed-nil key header (number + 1))
     ∙ ap (λ (p : List ℕ). Ok p) (append-nil plain)
-unsealed-stream key header number (suc full) plain room =
-    let chunk = take 65536 plain in
-    let rest = drop 65536 plain in
-    let behind = stream key header (number + 1) (parts 65536 full rest) in
-    let last = is_nil (parts 65536 full rest) in
+unsealed-stream size key header number (suc full) plain room =
+    let chunk = take size plain in
+    let rest = drop size plain in
+    let behind = stream key header (number + 1) (parts size full rest) in
+    let last = is_nil (parts size full rest) in
     let sealed = sealed_chunk key header number last chunk in
-    let left = length-drop 65536 plain in
-    let whole : length chunk ≡ 65536 = length-take-le 65536 plain (omega arith) in
-    let long : length sealed ≡ 65552 = length-sealed_chunk key header number last chunk ∙ ap (λ k. k + 16) whole in
-    let same : is_nil (parts 65552 full behind) ≡ last = is_nil-parts 65552 full behind ∙ sym (is_nil-parts 65536 full rest) in
-    ap (λ (s : List ℕ). unsealed key header number (s ∷ parts 65552 full (drop 65552 (sealed ++ behind)))) (take_at sealed behind 65552 long)
-    ∙ ap (λ (s : List ℕ). unsealed key header number (sealed ∷ parts 65552 full s)) (drop_at sealed behind 65552 long)
-    ∙ unsealed-cons key header number sealed (parts 65552 full behind) last chunk rest same
-    (opened_chunk-sealed_chunk key header number last chunk) (unsealed-stream key header (number + 1) full rest (omega arith))
-    ∙ ap (λ (p : List ℕ). Ok p) (take-append-drop 65536 plain)
+    let left = length-drop size plain in
+    let whole : length chunk ≡ size = length-take-le size plain (omega arith) in
+    let long : length sealed ≡ (size + 16) = length-sealed_chunk key header number last chunk ∙ ap (λ k. k + 16) whole in
+    let same : is_nil (parts (size + 16) full behind) ≡ last = is_nil-parts (size + 16) full behind ∙ sym (is_nil-parts size full rest) in
+    ap (λ (s : List ℕ). unsealed key header number (s ∷ parts (size + 16) full (drop (size + 16) (sealed ++ behind)))) (take_at sealed behind (size + 16) long)
+    ∙ ap (λ (s : List ℕ). unsealed key header number (sealed ∷ parts (size + 16) full s)) (drop_at sealed behind (size + 16) long)
+    ∙ unsealed-cons key header number sealed (parts (size + 16) full behind) last chunk rest same
+    (opened_chunk-sealed_chunk key header number last chunk) (unsealed-stream size key header (number + 1) full rest (omega arith))
+    ∙ ap (λ (p : List ℕ). Ok p) (take-append-drop size plain)
 
 -- the first of several chunks checks where all do
 pub record FirstOpens (key header : List ℕ) (number : ℕ) (sealed : List ℕ) (rest : List (List ℕ)) (plain : List ℕ) : Type 0 where
@@ -163,31 +163,31 @@ first_opens key header number sealed rest plain e =
     record { chunk = chunk; more = more; opens = opens; ends = ends; all = all }
 
 -- what opens is STREAM of its plaintext
-pub stream-unsealed : (key header : List ℕ) (number full : ℕ) (body plain : List ℕ) → full * 65552 + 16 ≤ length body
-    → unsealed key header number (parts 65552 full body) ≡ Ok plain
-    → stream key header number (parts 65536 full plain) ≡ body
+pub stream-unsealed : (size : ℕ) (key header : List ℕ) (number full : ℕ) (body plain : List ℕ) → full * (size + 16) + 16 ≤ length body
+    → unsealed key header number (parts (size + 16) full body) ≡ Ok plain
+    → stream key header number (parts size full plain) ≡ body
 unfolding stream parts
-stream-unsealed key header number zero body plain room e =
+stream-unsealed size key header number zero body plain room e =
     let first = first_opens key header number body [] plain e in
     let none : first.more ≡ [] = ok_nil first.more (unsealed key header (number + 1) []) (unsealed-nil key header (number + 1)) first.ends in
     let all : plain ≡ first.chunk = first.all ∙ ap (λ (m : List ℕ). first.chunk ++ m) none ∙ append-nil first.chunk in
     append-nil (sealed_chunk key header number true plain)
     ∙ ap (λ (p : List ℕ). sealed_chunk key header number true p) all
     ∙ sealed_chunk-opened_chunk key header number true body first.chunk first.opens
-stream-unsealed key header number (suc full) body plain room e =
-    let part = take 65552 body in
-    let behind = parts 65552 full (drop 65552 body) in
+stream-unsealed size key header number (suc full) body plain room e =
+    let part = take (size + 16) body in
+    let behind = parts (size + 16) full (drop (size + 16) body) in
     let first = first_opens key header number part behind plain e in
-    let left = length-drop 65552 body in
-    let whole : length part ≡ 65552 = length-take-le 65552 body (omega arith) in
+    let left = length-drop (size + 16) body in
+    let whole : length part ≡ (size + 16) = length-take-le (size + 16) body (omega arith) in
     let bytes = length-opened_chunk key header number (is_nil behind) part first.chunk first.opens in
-    let long : length first.chunk ≡ 65536 = omega arith in
-    let front : take 65536 plain ≡ first.chunk = ap (λ (p : List ℕ). take 65536 p) first.all ∙ take_at first.chunk first.more 65536 long in
-    let back : drop 65536 plain ≡ first.more = ap (λ (p : List ℕ). drop 65536 p) first.all ∙ drop_at first.chunk first.more 65536 long in
-    let same : is_nil (parts 65536 full first.more) ≡ is_nil behind = is_nil-parts 65536 full first.more ∙ sym (is_nil-parts 65552 full (drop 65552 body)) in
-    ap (λ (d : List ℕ). sealed_chunk key header number (is_nil (parts 65536 full d)) (take 65536 plain) ++ stream key header (number + 1) (parts 65536 full d)) back
-    ∙ ap (λ (c : List ℕ). sealed_chunk key header number (is_nil (parts 65536 full first.more)) c ++ stream key header (number + 1) (parts 65536 full first.more)) front
-    ∙ ap (λ (b : Bool). sealed_chunk key header number b first.chunk ++ stream key header (number + 1) (parts 65536 full first.more)) same
-    ∙ ap (λ (s : List ℕ). s ++ stream key header (number + 1) (parts 65536 full first.more)) (sealed_chunk-opened_chunk key header number (is_nil behind) part first.chunk first.opens)
-    ∙ ap (λ (s : List ℕ). part ++ s) (stream-unsealed key header (number + 1) full (drop 65552 body) first.more (omega arith) first.ends)
-    ∙ take-append-drop 65552 body
+    let long : length first.chunk ≡ size = omega arith in
+    let front : take size plain ≡ first.chunk = ap (λ (p : List ℕ). take size p) first.all ∙ take_at first.chunk first.more size long in
+    let back : drop size plain ≡ first.more = ap (λ (p : List ℕ). drop size p) first.all ∙ drop_at first.chunk first.more size long in
+    let same : is_nil (parts size full first.more) ≡ is_nil behind = is_nil-parts size full first.more ∙ sym (is_nil-parts (size + 16) full (drop (size + 16) body)) in
+    ap (λ (d : List ℕ). sealed_chunk key header number (is_nil (parts size full d)) (take size plain) ++ stream key header (number + 1) (parts size full d)) back
+    ∙ ap (λ (c : List ℕ). sealed_chunk key header number (is_nil (parts size full first.more)) c ++ stream key header (number + 1) (parts size full first.more)) front
+    ∙ ap (λ (b : Bool). sealed_chunk key header number b first.chunk ++ stream key header (number + 1) (parts size full first.more)) same
+    ∙ ap (λ (s : List ℕ). s ++ stream key header (number + 1) (parts size full first.more)) (sealed_chunk-opened_chunk key header number (is_nil behind) part first.chunk first.opens)
+    ∙ ap (λ (s : List ℕ). part ++ s) (stream-unsealed size key header (number + 1) full (drop (size + 16) body) first.more (omega arith) first.ends)
+    ∙ take-append-drop (size + 16) body

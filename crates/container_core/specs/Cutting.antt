@@ -2,10 +2,10 @@
 use Rattle.std.specs.Prelude.{◌≢◌, ℕ, ◌<◌, ◌≤◌}
 use Rattle.container_core.specs.declared.fault.OpenFault.{OpenFault}
 use Rattle.container_core.specs.declared.fault.OpenFault.TheVariants.{TooLong, BadLength}
-use Rattle.container_core.specs.Chunks.{body_length, max_body}
+use Rattle.container_core.specs.Chunks.{body_length, max_plain}
 
 -- there are more than the greatest plaintext has, or no plaintext has so many; and no other fault
-abbrev pub RefusesCut : ℕ → OpenFault → Type 0
-RefusesCut body TooLong = max_body < body
-RefusesCut body BadLength = (body ≤ max_body) × ((plain : ℕ) → body ≢ body_length plain)
-RefusesCut body _ = ⊥
+abbrev pub RefusesCut : ℕ → ℕ → OpenFault → Type 0
+RefusesCut size body TooLong = body_length size max_plain < body
+RefusesCut size body BadLength = (body ≤ body_length size max_plain) × ((plain : ℕ) → body ≢ body_length size plain)
+RefusesCut size body _ = ⊥

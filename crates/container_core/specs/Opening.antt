@@ -5,30 +5,70 @@ use Rattle.std.specs.Str.{bytes_eq}
 use Rattle.container_core.specs.declared.fault.OpenFault.{OpenFault}
 use Rattle.container_core.specs.declared.fault.OpenFault.TheVariants.{TooLong, ShortHeader, BadMagic, BadVersion}
 use Rattle.container_core.specs.declared.fault.OpenFault.TheVariants.{BadExponent, KeyMismatch, BadLength, Forged}
-use Rattle.container_core.specs.Chunks.{header_size, container_length, has_plaintext, sealed_chunks}
+use Rattle.container_core.specs.Chunks.{container_length, has_plaintext, sealed_chunks}
 use Rattle.container_core.specs.Stream.{is_nil, opened_chunk}
-use Rattle.container_core.specs.Container.{magic, hint_of}
+use Rattle.container_core.specs.Container.{magic, hint_of, is_two, header_length, size_in}
 
--- the first fault of the header
-unfoldable pub header_fault : List ℕ → List ℕ → Option OpenFault
-header_fault key bytes =
-    if nat_lt (length bytes) header_size then Some ShortHeader else
+-- the first fault of a header that isn't of version 2
+unfoldable pub header_fault_one : List ℕ → List ℕ → Option OpenFault
+header_fault_one key bytes =
+    if nat_lt (length bytes) 24 then Some ShortHeader else
     (if not (bytes_eq (take 8 bytes) magic) then Some BadMagic else
     (if not (slice_index bytes 8 == 1) then Some BadVersion else
     (if not (slice_index bytes 9 == 16) then Some BadExponent else
     (if not (bytes_eq (take 7 (drop 17 bytes)) (hint_of key)) then Some KeyMismatch else None))))
+
+-- the first fault of a header of version 2, whose label has as many bytes as byte 24 says
+unfoldable pub header_fault_two : List ℕ → List ℕ → Option OpenFault
+header_fault_two key bytes =
+    if nat_lt (length bytes) 24 then Some ShortHeader else
+    (if nat_lt (slice_index bytes 9) 12 then Some BadExponent else
+    (if nat_lt 20 (slice_index bytes 9) then Some BadExponent else
+    (if not (bytes_eq (take 7 (drop 17 bytes)) (hint_of key)) then Some KeyMismatch else
+    (if nat_lt (length bytes) (header_length bytes) then Some ShortHeader else None))))
+
+-- the first fault of a header
+unfoldable pub header_fault : List ℕ → List ℕ → Option OpenFault
+header_fault key bytes = if is_two bytes then header_fault_two key bytes else header_fault_one key bytes
 
 -- the first of two faults, the earlier one named first
 abbrev pub first_fault : Option OpenFault → Option OpenFault → Option OpenFault
 first_fault (Some fault) later = Some fault
 first_fault None later = later
 
--- the first fault that shows before any chunk is opened, where a plaintext may have `most` bytes
+-- more bytes than the container of `most` plaintext bytes has
+abbrev pub too_long : ℕ → ℕ → ℕ → ℕ → Option OpenFault
+too_long header size most bytes =
+    if nat_lt (container_length header size most) bytes then Some TooLong else None
+
+-- no plaintext of at most so many bytes has a container of so many
+abbrev pub bad_length : ℕ → ℕ → ℕ → ℕ → Option OpenFault
+bad_length header size most bytes =
+    if not (has_plaintext header size most bytes) then Some BadLength else None
+
+-- the first fault that shows before any chunk is opened, where a plaintext may have `most` bytes. Of version 2 the
+-- header's comes before its length, as the header says how long its container may be
+unfoldable pub early_fault_two : List ℕ → ℕ → List ℕ → Option OpenFault
+early_fault_two key most bytes =
+    first_fault (header_fault_two key bytes)
+    (first_fault (too_long (header_length bytes) (size_in bytes) most (length bytes))
+    (bad_length (header_length bytes) (size_in bytes) most (length bytes)))
+
+-- of all other bytes
+unfoldable pub early_fault_one : List ℕ → ℕ → List ℕ → Option OpenFault
+early_fault_one key most bytes =
+    first_fault (too_long 24 65536 most (length bytes))
+    (first_fault (header_fault_one key bytes) (bad_length 24 65536 most (length bytes)))
+
 unfoldable pub early_fault : List ℕ → ℕ → List ℕ → Option OpenFault
 early_fault key most bytes =
-    first_fault (if nat_lt (container_length most) (length bytes) then Some TooLong else None)
-    (first_fault (header_fault key bytes)
-    (if not (has_plaintext most (length bytes)) then Some BadLength else None))
+    if is_two bytes then early_fault_two key most bytes else early_fault_one key most bytes
+
+-- how many bytes a container may have that begins so, where its plaintext may have `most`
+unfoldable pub longest : ℕ → List ℕ → ℕ
+longest most bytes =
+    if is_two bytes then container_length (header_length bytes) (size_in bytes) most
+    else container_length 24 65536 most
 
 -- the plaintext of a chunk goes before that of the rest, unless one of them doesn't check
 abbrev pub joined : OpenFault → Option (List ℕ) → Result (List ℕ) OpenFault → Result (List ℕ) OpenFault
@@ -63,5 +103,6 @@ unless None answer = answer
 -- what opening a container answers, where a plaintext may have `most` bytes: its first fault, or its plaintext
 unfoldable pub opening : List ℕ → ℕ → List ℕ → Result (List ℕ) OpenFault
 opening key most bytes =
+    let header = header_length bytes in
     unless (early_fault key most bytes)
-    (unsealed key (take header_size bytes) 0 (sealed_chunks (drop header_size bytes)))
+    (unsealed key (take header bytes) 0 (sealed_chunks (size_in bytes) (drop header bytes)))

@@ -5,11 +5,12 @@
 ghost use Rattle.std.specs.Prelude.{◌≡◌, ℕ, ◌++◌, ◌+◌, ◌-◌, ◌≤◌, List, length, vec_len, vec_capacity, IsTrue, Some};
 ghost use Rattle.std.specs.Prelude.{None, false, if◌then◌else◌};
 ghost use Rattle.std.specs.Bool.{OnTrue, OnFalse};
+ghost use Rattle.container_core.specs.Container.{size_in};
 ghost use Rattle.container_core.specs.Stream.{nonce_of, sealed_chunk, opened_chunk};
 
+use crate::TAG;
 use crate::header::Header;
 use crate::key::Key;
-use crate::{CHUNK, SEALED, TAG};
 use aead_core::{check, open_in_place, seal_in_place};
 use std::alloc::AllocError;
 
@@ -23,17 +24,17 @@ pub fn nonce(prefix: [u8; 7], chunk: u32, last: bool) -> [u8; 12]
     [a, b, c, d, e, f, g, h, i, j, k, if last { 1 } else { 0 }]
 }
 
-/// Seals a chunk of at most 65,536 bytes in place, and answers its tag.
+/// Seals a chunk of at most as many bytes as the header names in place, and answers its tag.
 #[tactic(auto, unfolding(crate::specs::Stream::sealed_chunk))]
 pub fn seal_chunk(key: &Key, header: &Header, number: u32, last: bool, text: &mut [u8]) -> [u8; 16]
-    requires { length text.old ≤ CHUNK }
+    requires { length text.old ≤ size_in header.now }
     ensures { text.new ++ result ≡ sealed_chunk key.now header.now number last text.old }
 {
     let nonce = nonce(header.prefix(), number, last);
-    seal_in_place(key.bytes(), &nonce, header.as_bytes(), text)
+    seal_in_place(key.bytes(), &nonce, header.bytes(), text)
 }
 
-/// Opens a chunk of at most 65,536 bytes in place, where `tag` is its tag, and answers whether it is. Where it isn't,
+/// Opens a chunk of at most as many bytes as the header names in place, where `tag` is its tag, and answers whether it is. Where it isn't,
 /// the chunk stays as it was.
 pub fn open_chunk(
     key: &Key,
@@ -43,14 +44,14 @@ pub fn open_chunk(
     text: &mut [u8],
     tag: &[u8; 16],
 ) -> bool
-    requires { length text.old ≤ CHUNK }
+    requires { length text.old ≤ size_in header.now }
     ensures value { opened_chunk key.now header.now number last (text.old ++ tag.now)
         ≡ (if result then Some text.new else None) }
     ensures was_sealed { IsTrue result → sealed_chunk key.now header.now number last text.new ≡ text.old ++ tag.now }
     ensures unchanged { result ≡ false → text.new ≡ text.old }
 {
     let nonce = nonce(header.prefix(), number, last);
-    open_in_place(key.bytes(), &nonce, header.as_bytes(), text, tag)
+    open_in_place(key.bytes(), &nonce, header.bytes(), text, tag)
 }
 
 // Appends bytes for which there is room.
@@ -66,7 +67,7 @@ pub(crate) fn append(out: &mut Vec<u8>, bytes: &[u8])
     }
 }
 
-/// Appends a chunk of at most 65,536 bytes sealed, its tag behind it, where there is room for both.
+/// Appends a chunk of at most as many bytes as the header names sealed, its tag behind it, where there is room for both.
 pub fn append_sealed(
     out: &mut Vec<u8>,
     key: &Key,
@@ -75,7 +76,7 @@ pub fn append_sealed(
     last: bool,
     chunk: &[u8],
 )
-    requires small { length chunk.now ≤ CHUNK }
+    requires small { length chunk.now ≤ size_in header.now }
     requires room { vec_len out.old + (length chunk.now + TAG) ≤ vec_capacity out.old }
     ensures sealed { out.new.items ≡ out.old.items ++ sealed_chunk key.now header.now number last chunk.now }
     ensures capacity { vec_capacity out.old ≤ vec_capacity out.new }
@@ -97,7 +98,7 @@ pub fn append_opened(
     sealed: &[u8],
 ) -> bool
     requires tag { TAG ≤ length sealed.now }
-    requires small { length sealed.now ≤ SEALED }
+    requires small { length sealed.now ≤ size_in header.now + TAG }
     requires room { vec_len out.old + (length sealed.now - TAG) ≤ vec_capacity out.old }
     ensures opened { OnTrue result ((plain : List ℕ)
         × (opened_chunk key.now header.now number last sealed.now ≡ Some plain)
@@ -130,5 +131,5 @@ pub fn check_chunk(key: &Key, header: &Header, number: u32, last: bool, sealed: 
     let mut tag = [0; TAG];
     tag.copy_from_slice(end);
     let nonce = nonce(header.prefix(), number, last);
-    check(key.bytes(), &nonce, header.as_bytes(), text, &tag)
+    check(key.bytes(), &nonce, header.bytes(), text, &tag)
 }

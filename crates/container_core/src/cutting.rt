@@ -1,138 +1,184 @@
 //! How a plaintext, and what stands behind the header of its container, are cut into chunks, and how long a container
 //! is.
 //!
-//! A `Cut` is determined by the number of plaintext bytes. It gives each chunk by its number, of the plaintext and of
-//! the container. Nothing here takes memory.
-ghost use Rattle.std.specs.Prelude.{◌≡◌, ℕ, ◌+◌, ◌-◌, ◌*◌, ◌<◌, ◌≤◌, List, [], length, take, drop, min, slice_index_or};
-ghost use Rattle.std.specs.Prelude.{IfOk, IfErr};
+//! A `Cut` is a size of chunks and the number of plaintext bytes. It gives each chunk by its number, of the plaintext
+//! and of the container. Nothing here takes memory.
+ghost use Rattle.std.specs.Prelude.{◌≡◌, ℕ, ◌+◌, ◌-◌, ◌*◌, ◌^◌, ◌<◌, ◌≤◌, List, [], length, take, drop, min, slice_index_or};
+ghost use Rattle.std.specs.Prelude.{◌≢◌, IfOk, IfErr, IfSome, IfNone};
 ghost use Rattle.container_core.specs.Chunks.{chunks, chunk_count, body_length, container_length, sealed_chunks};
+ghost use Rattle.container_core.specs.Container.{label_bytes, size_in};
+ghost use Rattle.container_core.specs.Shape.{size_of};
 ghost use Rattle.container_core.specs.Cutting.{RefusesCut};
 
 use crate::fault::OpenFault;
-use crate::{CHUNK, HEADER, MAX_BODY, MAX_PLAIN, SEALED, TAG};
+use crate::header::Header;
+use crate::shape::Shape;
+use crate::{MAX_PLAIN, TAG};
 use std::marker::Model;
 
-// How many chunks a plaintext of so many bytes has.
-fn chunks_of(plain: u64) -> u64
-    ensures { result ≡ chunk_count plain }
+// How many chunks of a size a plaintext of so many bytes has.
+#[tactic(auto, unfolding(crate::specs::Chunks::chunk_count))]
+fn chunks_of(size: u64, plain: u64) -> u64
+    requires size { 0 < size }
+    requires plain { plain ≤ MAX_PLAIN }
+    ensures count { result ≡ chunk_count size plain }
+    ensures few { result ≤ plain + 1 }
+    ensures fewer { 4096 ≤ size → result ≤ 2 ^ 28 }
 {
-    plain.saturating_sub(1) / CHUNK as u64 + 1
+    plain.saturating_sub(1) / size + 1
 }
 
-/// How many bytes the container of so many plaintext bytes has: 24 for the header, the plaintext, and 16 for each
+// How many bytes a container of so many plaintext bytes has, under a header of so many, in chunks of a size.
+#[tactic(auto, unfolding(crate::specs::Chunks::body_length))]
+pub(crate) fn container_of(header: u64, size: u64, plain: u64) -> u64
+    requires header { header ≤ 280 }
+    requires size { 0 < size }
+    requires plain { plain ≤ MAX_PLAIN }
+    ensures { result ≡ container_length header size plain }
+{
+    header + plain + TAG as u64 * chunks_of(size, plain)
+}
+
+/// How many bytes the container of so many plaintext bytes has in a shape: the header's, the plaintext's, and 16 for each
 /// chunk.
-pub fn container_bytes(plain: u64) -> u64
+pub fn container_bytes(shape: &Shape, plain: u64) -> u64
     requires { plain ≤ MAX_PLAIN }
-    ensures { result ≡ container_length plain }
+    ensures { result ≡ container_length (24 + length (label_bytes shape.now.label)) (size_of shape.now) plain }
 {
-    HEADER as u64 + plain + TAG as u64 * chunks_of(plain)
+    container_of(shape.header_bytes() as u64, shape.chunk() as u64, plain)
 }
 
-/// How a plaintext, or what stands behind the header of its container, is cut into chunks. Contracts see the number of
-/// plaintext bytes, at most 2^40, which determines it.
+/// How a plaintext, or what stands behind the header of its container, is cut into chunks. Contracts see the size of the
+/// chunks, 2^12 to 2^20 bytes, and the number of plaintext bytes, at most 2^40.
 #[derive(Clone, Copy, PartialEq, Eq, Debug)]
 pub struct Cut {
+    size: u64,
     plain: u64,
 }
 
 impl Model for Cut {
-    ghost use Rattle.std.specs.Prelude.{ℕ, ◌≤◌};
-    ghost use Rattle.container_core.specs.Chunks.{max_plain};
+    ghost use Rattle.container_core.specs.Views.{CutView, IsCut};
 
-    ghost Value = { ℕ };
+    ghost Value = { CutView };
 
-    ghost view = { λ c. c.plain };
+    ghost view = { λ c. record { size = c.size; plain = c.plain } };
 
-    ghost invariant = { λ c. c.plain ≤ max_plain };
+    ghost invariant = { λ c. IsCut (record { size = c.size; plain = c.plain }) };
 
-    ghost inverse = { λ n. record { plain = n } };
+    ghost inverse = { λ v. record { size = v.size; plain = v.plain } };
 }
 
 impl Cut {
-    /// The cut of a plaintext of so many bytes, and of its container.
-    pub fn of(plain: u64) -> Cut
+    /// The cut of a plaintext of so many bytes, and of its container, into the chunks that a header names.
+    pub fn of(header: &Header, plain: u64) -> Cut
         requires { plain ≤ MAX_PLAIN }
-        ensures { result ≡ plain }
+        ensures size { result.size ≡ size_in header.now }
+        ensures plain { result.plain ≡ plain }
     {
-        Cut { plain }
+        Cut {
+            size: header.chunk() as u64,
+            plain,
+        }
     }
 
-    /// The cut of so many bytes behind a header. `TooLong` over 1,099,780,063,232 bytes; else `BadLength` where no
-    /// plaintext has a container with so many bytes behind its header.
+    /// The cut of so many bytes behind a header, into chunks of 2^e bytes by the exponent e that it names. `TooLong` over
+    /// 2^40 + 16 * 2^(40 - e) bytes; else `BadLength` where no plaintext has a container with so many bytes behind its
+    /// header.
     ///
-    /// All chunks but the last have 65,552 bytes with their tags. The last has 17 to 65,552, or 16 where it is the
+    /// All chunks but the last have 2^e + 16 bytes with their tags. The last has 17 to 2^e + 16, or 16 where it is the
     /// only one.
-    pub fn of_body(body: u64) -> Result<Cut, OpenFault>
-        ensures places { IfOk result (λ plain. body ≡ body_length plain) }
-        ensures within { IfOk result (λ plain. plain ≤ MAX_PLAIN) }
-        ensures refused { IfErr result (RefusesCut body) }
+    pub fn of_body(header: &Header, body: u64) -> Result<Cut, OpenFault>
+        ensures size { IfOk result (λ cut. cut.size ≡ size_in header.now) }
+        ensures places { IfOk result (λ cut. body ≡ body_length cut.size cut.plain) }
+        ensures within { IfOk result (λ cut. cut.plain ≤ MAX_PLAIN) }
+        ensures refused { IfErr result (RefusesCut (size_in header.now) body) }
     {
-        if body > MAX_BODY {
+        let size = header.chunk() as u64;
+        if body > container_of(0, size, MAX_PLAIN) {
             return Err(OpenFault::TooLong);
         }
-        let full = body / SEALED as u64;
-        let rest = body % SEALED as u64;
-        let tag = TAG as u64;
-        if rest == 0 && full > 0 {
-            Ok(Cut::of(body - tag * full))
-        } else if rest > tag || (rest == tag && full == 0) {
-            Ok(Cut::of(body - tag * (full + 1)))
-        } else {
-            Err(OpenFault::BadLength)
+        match plain_of(size, body) {
+            Some(plain) => Ok(Cut { size, plain }),
+            None => Err(OpenFault::BadLength),
         }
     }
 
     /// How many bytes the plaintext has.
     pub fn plain(self) -> u64
-        ensures { result ≡ self }
+        ensures { result ≡ self.plain }
     {
         self.plain
     }
 
     /// How many chunks there are: at least one.
     pub fn count(self) -> u32
-        ensures { result ≡ chunk_count self }
+        ensures count { result ≡ chunk_count self.size self.plain }
+        ensures some { 0 < result }
+        ensures few { result ≤ 2 ^ 28 }
     {
-        chunks_of(self.plain) as u32
+        chunks_of(self.size, self.plain) as u32
     }
 
     /// Where the ciphertext of a chunk begins, counted from the byte behind the header, and how many bytes it has.
     /// Its tag follows.
     pub fn place(self, number: u32) -> (u64, u32)
-        requires { number < chunk_count self }
-        ensures begin { result.0 ≡ number * SEALED }
-        ensures bytes { result.1 ≡ min CHUNK (self - number * CHUNK) }
-        ensures chunk { (body : List ℕ) → length body ≡ body_length self
-            → slice_index_or (sealed_chunks body) number [] ≡ take (result.1 + TAG) (drop result.0 body) }
+        requires { number < chunk_count self.size self.plain }
+        ensures begin { result.0 ≡ number * (self.size + TAG) }
+        ensures bytes { result.1 ≡ min self.size (self.plain - number * self.size) }
+        ensures within { number * self.size ≤ self.plain }
+        ensures chunk { (body : List ℕ) → length body ≡ body_length self.size self.plain
+            → slice_index_or (sealed_chunks self.size body) number [] ≡ take (result.1 + TAG) (drop result.0 body) }
+        ensures inside { result.0 + (result.1 + TAG) ≤ body_length self.size self.plain }
     {
-        let before = u64::from(number) * CHUNK as u64;
-        let bytes = (self.plain - before).min(CHUNK as u64);
-        (u64::from(number) * SEALED as u64, bytes as u32)
+        let before = u64::from(number) * self.size;
+        let bytes = (self.plain - before).min(self.size);
+        (u64::from(number) * (self.size + TAG as u64), bytes as u32)
     }
 
     /// The chunk of this number of a plaintext.
     pub fn chunk_of(self, plain: &[u8], number: u32) -> &[u8]
-        requires number { number < chunk_count self }
-        requires plain { length plain.now ≡ self }
-        ensures chunk { result.now ≡ slice_index_or (chunks plain.now) number [] }
-        ensures bytes { length result.now ≡ min CHUNK (self - number * CHUNK) }
+        requires number { number < chunk_count self.size self.plain }
+        requires plain { length plain.now ≡ self.plain }
+        ensures chunk { result.now ≡ slice_index_or (chunks self.size plain.now) number [] }
+        ensures bytes { length result.now ≡ min self.size (self.plain - number * self.size) }
     {
         let (_, bytes) = self.place(number);
-        let (_, rest) = plain.split_at(number as usize * CHUNK);
+        let (_, rest) = plain.split_at(number as usize * self.size as usize);
         let (chunk, _) = rest.split_at(bytes as usize);
         chunk
     }
 
     /// The sealed chunk of this number, its tag behind it, of what stands behind a header.
     pub fn sealed_of(self, body: &[u8], number: u32) -> &[u8]
-        requires number { number < chunk_count self }
-        requires body { length body.now ≡ body_length self }
-        ensures sealed { result.now ≡ slice_index_or (sealed_chunks body.now) number [] }
-        ensures bytes { length result.now ≡ min CHUNK (self - number * CHUNK) + TAG }
+        requires number { number < chunk_count self.size self.plain }
+        requires body { length body.now ≡ body_length self.size self.plain }
+        ensures sealed { result.now ≡ slice_index_or (sealed_chunks self.size body.now) number [] }
+        ensures bytes { length result.now ≡ min self.size (self.plain - number * self.size) + TAG }
     {
         let (begin, bytes) = self.place(number);
         let (_, rest) = body.split_at(begin as usize);
         let (sealed, _) = rest.split_at(bytes as usize + TAG);
         sealed
+    }
+}
+
+// The number of plaintext bytes of a container with so many bytes behind its header, if there is one.
+fn plain_of(size: u64, body: u64) -> Option<u64>
+    requires size { (4096 ≤ size) × (size ≤ 1048576) }
+    requires body { body ≤ body_length size MAX_PLAIN }
+    ensures some { IfSome result (λ plain. body ≡ body_length size plain) }
+    ensures within { IfSome result (λ plain. plain ≤ MAX_PLAIN) }
+    ensures none { IfNone result ((plain : ℕ) → body ≢ body_length size plain) }
+{
+    let tag = TAG as u64;
+    let sealed = size + tag;
+    let full = body / sealed;
+    let rest = body % sealed;
+    if rest == 0 && full > 0 {
+        Some(body - tag * full)
+    } else if rest > tag || (rest == tag && full == 0) {
+        Some(body - tag * (full + 1))
+    } else {
+        None
     }
 }

@@ -1,13 +1,14 @@
 //! What follows of the definitions alone, each law the contract of a function that does nothing.
-ghost use Rattle.std.specs.Prelude.{◌≡◌, ℕ, ◌+◌, ◌*◌, ◌^◌, ◌<◌, ◌≤◌, ◌↔◌, Bool, true, false, List, [], ◌∷◌, ◌++◌};
+ghost use Rattle.std.specs.Prelude.{◌≡◌, ℕ, ◌+◌, ◌-◌, ◌*◌, ◌^◌, ◌<◌, ◌≤◌, ◌↔◌, Bool, true, false, List, [], ◌∷◌, ◌++◌};
 ghost use Rattle.std.specs.Prelude.{length, take, drop, slice_index_or, None, Ok, Err};
-ghost use Rattle.container_core.specs.Chunks.{chunk_size, sealed_size, header_size, chunks, chunk_count, sealed_chunks};
+ghost use Rattle.container_core.specs.Chunks.{chunks, chunk_count, sealed_chunks};
 ghost use Rattle.container_core.specs.Chunks.{body_length, container_length, has_plaintext};
+ghost use Rattle.container_core.specs.Shape.{ShapeView, IsShape, size_of};
 ghost use Rattle.container_core.specs.Stream.{nonce_of, prefix_in, stream, stream_by};
-ghost use Rattle.container_core.specs.Container.{container, header_of};
+ghost use Rattle.container_core.specs.Container.{container, header_of, header_length, is_two, label_bytes, shape_in, size_in};
 ghost use Rattle.container_core.specs.declared.fault.OpenFault.{OpenFault};
 ghost use Rattle.container_core.specs.Faults.{IsOfBytes};
-ghost use Rattle.container_core.specs.Opening.{header_fault, early_fault, opening, unsealed, unsealed_by, behind};
+ghost use Rattle.container_core.specs.Opening.{header_fault, early_fault, longest, opening, unsealed, unsealed_by, behind};
 
 /// Two chunks have one nonce only where prefix, number and place as the last are the same.
 pub fn nonces_differ()
@@ -17,23 +18,40 @@ pub fn nonces_differ()
         → (prefix ≡ other) × (number ≡ another) × (last ≡ end) }
 {}
 
-/// Bytes open to a plaintext exactly where they are its container, under the prefix that their header names.
+/// Bytes open to a plaintext exactly where they are its container, of the shape and under the prefix that their header
+/// names.
 pub fn opens_exactly_its_container()
     ensures { (key bytes plain : List ℕ) (most : ℕ)
         → (opening key most bytes ≡ Ok plain)
-        ↔ ((length plain ≤ most) × (bytes ≡ container key (prefix_in bytes) plain)) }
+        ↔ ((length plain ≤ most) × IsShape (shape_in bytes)
+        × (bytes ≡ container key (shape_in bytes) (prefix_in bytes) plain)) }
 {}
 
 /// Opening what was sealed gives the plaintext back.
 pub fn sealed_opens()
-    ensures { (key prefix plain : List ℕ) (most : ℕ) → length prefix ≡ 7 → length plain ≤ most
-        → opening key most (container key prefix plain) ≡ Ok plain }
+    ensures { (key prefix plain : List ℕ) (shape : ShapeView) (most : ℕ) → IsShape shape → length prefix ≡ 7
+        → length plain ≤ most → opening key most (container key shape prefix plain) ≡ Ok plain }
 {}
 
-/// Bytes whose header has no fault begin with the header of the key and of the prefix that they name.
+/// Bytes whose header has no fault begin with the header of the key, of the shape and of the prefix that they name.
 pub fn faultless_headers()
-    ensures { (key bytes : List ℕ) → header_fault key bytes ≡ None
-        → take header_size bytes ≡ header_of key (prefix_in bytes) }
+    ensures shape { (key bytes : List ℕ) → header_fault key bytes ≡ None → IsShape (shape_in bytes) }
+    ensures header { (key bytes : List ℕ) → header_fault key bytes ≡ None
+        → take (header_length bytes) bytes ≡ header_of key (shape_in bytes) (prefix_in bytes) }
+    ensures enough { (key bytes : List ℕ) → header_fault key bytes ≡ None → header_length bytes ≤ length bytes }
+{}
+
+/// What a header of a shape names: its size, its length, its prefix, and the shape.
+pub fn headers_name_their_shape()
+    ensures size { (key prefix : List ℕ) (shape : ShapeView) → size_in (header_of key shape prefix) ≡ size_of shape }
+    ensures length { (key prefix : List ℕ) (shape : ShapeView) → length prefix ≡ 7
+        → length (header_of key shape prefix) ≡ 24 + length (label_bytes shape.label) }
+    ensures whole { (key prefix rest : List ℕ) (shape : ShapeView) → length prefix ≡ 7
+        → header_length (header_of key shape prefix ++ rest) ≡ 24 + length (label_bytes shape.label) }
+    ensures prefix { (key prefix rest : List ℕ) (shape : ShapeView) → length prefix ≡ 7
+        → prefix_in (header_of key shape prefix ++ rest) ≡ prefix }
+    ensures shape { (key prefix rest : List ℕ) (shape : ShapeView) → length prefix ≡ 7
+        → shape_in (header_of key shape prefix ++ rest) ≡ shape }
 {}
 
 /// Opening names faults of the bytes alone, never one of memory, a reader or a writer.
@@ -44,61 +62,87 @@ pub fn opening_faults()
 
 /// Bytes that are no longer than the container of the greatest plaintext allowed open alike where more is allowed.
 pub fn limits_agree()
-    ensures { (key bytes : List ℕ) (most more : ℕ) → most ≤ more → length bytes ≤ container_length most
+    ensures { (key bytes : List ℕ) (most more : ℕ) → most ≤ more → length bytes ≤ longest most bytes
         → opening key most bytes ≡ opening key more bytes }
 {}
 
-/// A container names the prefix under which it was sealed; and of one key, two plaintexts with one container are the
-/// same.
-pub fn containers_differ()
-    ensures prefix { (key prefix plain : List ℕ) → length prefix ≡ 7 → prefix_in (container key prefix plain) ≡ prefix }
-    ensures plaintext { (key prefix other plain another : List ℕ) → length prefix ≡ 7 → length other ≡ 7
-        → container key prefix plain ≡ container key other another → (prefix ≡ other) × (plain ≡ another) }
+/// How long a container may be that begins as some bytes do: what does not begin as version 2 is held to version 1.
+pub fn longest_containers()
+    ensures one { (bytes : List ℕ) (most : ℕ) → is_two bytes ≡ false → longest most bytes ≡ container_length 24 65536 most }
+    ensures two { (bytes : List ℕ) (most : ℕ) → is_two bytes ≡ true
+        → longest most bytes ≡ container_length (header_length bytes) (size_in bytes) most }
+    ensures good { (key bytes : List ℕ) (most : ℕ) → header_fault key bytes ≡ None
+        → longest most bytes ≡ container_length (header_length bytes) (size_in bytes) most }
 {}
 
-/// The chunks of a plaintext: the first 65,536 bytes, then the chunks of the rest. The sealed chunks of what stands
-/// behind a header: the first 65,552 bytes, then the sealed chunks of the rest.
+/// A container names the shape and the prefix under which it was sealed, whatever the keys are; and of one key, two
+/// plaintexts with one container are the same.
+pub fn containers_differ()
+    ensures shape { (key prefix plain other another more : List ℕ) (shape form : ShapeView)
+        → length prefix ≡ 7 → length other ≡ 7 → container key shape prefix plain ≡ container another form other more → (shape ≡ form) × (prefix ≡ other) }
+    ensures plaintext { (key prefix other plain another : List ℕ) (shape form : ShapeView) → IsShape shape → IsShape form
+        → length prefix ≡ 7 → length other ≡ 7
+        → container key shape prefix plain ≡ container key form other another
+        → (shape ≡ form) × (prefix ≡ other) × (plain ≡ another) }
+{}
+
+/// The chunks of a plaintext: the first `size` bytes, then the chunks of the rest. The sealed chunks of what stands
+/// behind a header: the first `size` + 16 bytes, then the sealed chunks of the rest.
 pub fn chunks_recur()
-    ensures short { (plain : List ℕ) → length plain ≤ chunk_size → chunks plain ≡ plain ∷ [] }
-    ensures long { (plain : List ℕ) → chunk_size < length plain
-        → chunks plain ≡ take chunk_size plain ∷ chunks (drop chunk_size plain) }
-    ensures short_sealed { (body : List ℕ) → length body ≤ sealed_size → sealed_chunks body ≡ body ∷ [] }
-    ensures long_sealed { (body : List ℕ) → sealed_size < length body
-        → sealed_chunks body ≡ take sealed_size body ∷ sealed_chunks (drop sealed_size body) }
+    ensures short { (size : ℕ) (plain : List ℕ) → 0 < size → length plain ≤ size → chunks size plain ≡ plain ∷ [] }
+    ensures long { (size : ℕ) (plain : List ℕ) → 0 < size → size < length plain
+        → chunks size plain ≡ take size plain ∷ chunks size (drop size plain) }
+    ensures short_sealed { (size : ℕ) (body : List ℕ) → length body ≤ size + 16 → sealed_chunks size body ≡ body ∷ [] }
+    ensures long_sealed { (size : ℕ) (body : List ℕ) → size + 16 < length body
+        → sealed_chunks size body ≡ take (size + 16) body ∷ sealed_chunks size (drop (size + 16) body) }
 {}
 
 /// Where the chunks of a plaintext stand, and how many there are.
 pub fn chunks_by_number()
-    ensures count { (plain : List ℕ) → length (chunks plain) ≡ chunk_count (length plain) }
-    ensures chunk { (plain : List ℕ) (number : ℕ) → number < chunk_count (length plain)
-        → slice_index_or (chunks plain) number [] ≡ take chunk_size (drop (number * chunk_size) plain) }
-    ensures sealed_count { (body : List ℕ) (n : ℕ) → length body ≡ body_length n
-        → length (sealed_chunks body) ≡ chunk_count n }
+    ensures count { (size : ℕ) (plain : List ℕ) → length (chunks size plain) ≡ chunk_count size (length plain) }
+    ensures chunk { (size : ℕ) (plain : List ℕ) (number : ℕ) → 0 < size → number < chunk_count size (length plain)
+        → slice_index_or (chunks size plain) number [] ≡ take size (drop (number * size) plain) }
+    ensures sealed_count { (size : ℕ) (body : List ℕ) (n : ℕ) → 0 < size → length body ≡ body_length size n
+        → length (sealed_chunks size body) ≡ chunk_count size n }
 {}
 
-/// A container is 24 bytes longer than its plaintext, and 16 more for each chunk.
+/// How many chunks there are: one of a plaintext of up to `size` bytes, else one more than of what is left without so many;
+/// and in how many bytes they stand.
+pub fn chunks_counted()
+    ensures one { (size n : ℕ) → 0 < size → n ≤ size → chunk_count size n ≡ 1 }
+    ensures whole { (size k : ℕ) → 0 < size → 0 < k → chunk_count size (k * size) ≡ k }
+    ensures more { (size k n : ℕ) → 0 < size → 0 < n → chunk_count size (k * size + n) ≡ k + chunk_count size n }
+    ensures bytes { (size n : ℕ) → body_length size n ≡ n + 16 * chunk_count size n }
+    ensures enough { (size n : ℕ) → 0 < size → n ≤ chunk_count size n * size }
+    ensures tight { (size n : ℕ) → 0 < n → (chunk_count size n - 1) * size < n }
+    ensures some { (size n : ℕ) → 0 < chunk_count size n }
+    ensures grows { (size m n : ℕ) → 0 < size → m ≤ n → chunk_count size m ≤ chunk_count size n }
+{}
+
+/// A container is longer than its plaintext by its header, and 16 bytes for each chunk.
 pub fn length_of_container()
-    ensures { (key prefix plain : List ℕ) → length prefix ≡ 7
-        → length (container key prefix plain) ≡ container_length (length plain) }
+    ensures { (key prefix plain : List ℕ) (shape : ShapeView) → length prefix ≡ 7
+        → length (container key shape prefix plain)
+        ≡ container_length (24 + length (label_bytes shape.label)) (size_of shape) (length plain) }
 {}
 
 /// A length is tested to be one of a container exactly where some plaintext has a container so long.
 pub fn lengths_of_containers()
-    ensures { (most bytes : ℕ) → (has_plaintext most bytes ≡ true)
-        ↔ ((plain : ℕ) × (plain ≤ most) × (bytes ≡ container_length plain)) }
+    ensures { (header size most bytes : ℕ) → (has_plaintext header size most bytes ≡ true)
+        ↔ ((plain : ℕ) × (plain ≤ most) × (bytes ≡ container_length header size plain)) }
 {}
 
 /// Whole chunks, and any bytes behind them: their chunks are those of the one, then those of the other; and the same of
 /// sealed chunks.
 pub fn chunks_of_two_parts()
-    ensures chunks { (front rest : List ℕ) (count : ℕ) → length front ≡ count * chunk_size → 0 < count → 0 < length rest
-        → chunks (front ++ rest) ≡ chunks front ++ chunks rest }
-    ensures count { (front : List ℕ) (count : ℕ) → length front ≡ count * chunk_size → 0 < count
-        → length (chunks front) ≡ count }
-    ensures sealed { (front rest : List ℕ) (count : ℕ) → length front ≡ count * sealed_size → 0 < count
-        → 0 < length rest → sealed_chunks (front ++ rest) ≡ sealed_chunks front ++ sealed_chunks rest }
-    ensures sealed_count { (front : List ℕ) (count : ℕ) → length front ≡ count * sealed_size → 0 < count
-        → length (sealed_chunks front) ≡ count }
+    ensures chunks { (size : ℕ) (front rest : List ℕ) (count : ℕ) → 0 < size → length front ≡ count * size → 0 < count
+        → 0 < length rest → chunks size (front ++ rest) ≡ chunks size front ++ chunks size rest }
+    ensures count { (size : ℕ) (front : List ℕ) (count : ℕ) → 0 < size → length front ≡ count * size → 0 < count
+        → length (chunks size front) ≡ count }
+    ensures sealed { (size : ℕ) (front rest : List ℕ) (count : ℕ) → length front ≡ count * (size + 16) → 0 < count
+        → 0 < length rest → sealed_chunks size (front ++ rest) ≡ sealed_chunks size front ++ sealed_chunks size rest }
+    ensures sealed_count { (size : ℕ) (front : List ℕ) (count : ℕ) → length front ≡ count * (size + 16) → 0 < count
+        → length (sealed_chunks size front) ≡ count }
 {}
 
 /// STREAM is a round that is the last; a round is two rounds, one behind the other, wherever it is parted between two
@@ -109,12 +153,13 @@ pub fn rounds_of_a_stream()
     ensures pieces { (key header : List ℕ) (number : ℕ) (last : Bool) (front rest : List (List ℕ)) → 0 < length rest
         → stream_by key header number last (front ++ rest)
         ≡ stream_by key header number false front ++ stream_by key header (number + length front) last rest }
-    ensures bytes { (key header : List ℕ) (number : ℕ) (last : Bool) (front rest : List ℕ) (count : ℕ)
-        → length front ≡ count * chunk_size → 0 < count → 0 < length rest
-        → stream_by key header number last (chunks (front ++ rest))
-        ≡ stream_by key header number false (chunks front) ++ stream_by key header (number + count) last (chunks rest) }
-    ensures length { (key header : List ℕ) (number : ℕ) (last : Bool) (plain : List ℕ)
-        → length (stream_by key header number last (chunks plain)) ≡ body_length (length plain) }
+    ensures bytes { (key header : List ℕ) (size number : ℕ) (last : Bool) (front rest : List ℕ) (count : ℕ)
+        → 0 < size → length front ≡ count * size → 0 < count → 0 < length rest
+        → stream_by key header number last (chunks size (front ++ rest))
+        ≡ stream_by key header number false (chunks size front)
+        ++ stream_by key header (number + count) last (chunks size rest) }
+    ensures length { (key header : List ℕ) (size number : ℕ) (last : Bool) (plain : List ℕ) → 0 < size
+        → length (stream_by key header number last (chunks size plain)) ≡ body_length size (length plain) }
 {}
 
 /// Opening all chunks is opening a round that is the last. A round opens as two rounds do, one behind the other: to the
@@ -123,24 +168,30 @@ pub fn rounds_of_a_stream()
 pub fn rounds_open()
     ensures whole { (key header : List ℕ) (number : ℕ) (pieces : List (List ℕ))
         → unsealed_by key header number true pieces ≡ unsealed key header number pieces }
-    ensures opened { (key header : List ℕ) (number : ℕ) (last : Bool) (front rest plain : List ℕ) (count : ℕ)
-        → length front ≡ count * sealed_size → 0 < count → 0 < length rest
-        → unsealed_by key header number false (sealed_chunks front) ≡ Ok plain
-        → unsealed_by key header number last (sealed_chunks (front ++ rest))
-        ≡ behind plain (unsealed_by key header (number + count) last (sealed_chunks rest)) }
-    ensures refused { (key header : List ℕ) (number : ℕ) (last : Bool) (front rest : List ℕ) (count : ℕ)
-        (fault : OpenFault) → length front ≡ count * sealed_size → 0 < count → 0 < length rest
-        → unsealed_by key header number false (sealed_chunks front) ≡ Err fault
-        → unsealed_by key header number last (sealed_chunks (front ++ rest)) ≡ Err fault }
-    ensures length { (key header : List ℕ) (number : ℕ) (last : Bool) (body plain : List ℕ) (bytes : ℕ)
-        → length body ≡ body_length bytes → unsealed_by key header number last (sealed_chunks body) ≡ Ok plain
+    ensures opened { (key header : List ℕ) (size number : ℕ) (last : Bool) (front rest plain : List ℕ) (count : ℕ)
+        → length front ≡ count * (size + 16) → 0 < count → 0 < length rest
+        → unsealed_by key header number false (sealed_chunks size front) ≡ Ok plain
+        → unsealed_by key header number last (sealed_chunks size (front ++ rest))
+        ≡ behind plain (unsealed_by key header (number + count) last (sealed_chunks size rest)) }
+    ensures refused { (key header : List ℕ) (size number : ℕ) (last : Bool) (front rest : List ℕ) (count : ℕ)
+        (fault : OpenFault) → length front ≡ count * (size + 16) → 0 < count → 0 < length rest
+        → unsealed_by key header number false (sealed_chunks size front) ≡ Err fault
+        → unsealed_by key header number last (sealed_chunks size (front ++ rest)) ≡ Err fault }
+    ensures length { (key header : List ℕ) (size number : ℕ) (last : Bool) (body plain : List ℕ) (bytes : ℕ) → 0 < size
+        → length body ≡ body_length size bytes
+        → unsealed_by key header number last (sealed_chunks size body) ≡ Ok plain
         → length plain ≡ bytes }
 {}
 
-/// A header's first fault shows in the first 24 bytes, and the first fault of all that show before any chunk is opened
-/// in these and in the length.
+/// What shows before any chunk is opened shows in the header and in the length: in a beginning that has all of the
+/// header, or that is all.
 pub fn headers_stand_in_front()
-    ensures header { (key bytes : List ℕ) → header_fault key (take header_size bytes) ≡ header_fault key bytes }
-    ensures early { (key bytes other : List ℕ) (most : ℕ) → length bytes ≡ length other
-        → take header_size bytes ≡ take header_size other → early_fault key most bytes ≡ early_fault key most other }
+    ensures length { (front rest : List ℕ) → header_length front ≤ length front
+        → header_length (front ++ rest) ≡ header_length front }
+    ensures size { (front rest : List ℕ) → header_length front ≤ length front → size_in (front ++ rest) ≡ size_in front }
+    ensures two { (front rest : List ℕ) → header_length front ≤ length front → is_two (front ++ rest) ≡ is_two front }
+    ensures header { (key front rest : List ℕ) → header_length front ≤ length front
+        → header_fault key (front ++ rest) ≡ header_fault key front }
+    ensures early { (key front rest other : List ℕ) (most : ℕ) → header_length front ≤ length front
+        → length rest ≡ length other → early_fault key most (front ++ rest) ≡ early_fault key most (front ++ other) }
 {}

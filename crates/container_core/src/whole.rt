@@ -1,27 +1,40 @@
 //! A whole container in memory. `begin` reads the header and the cut of any bytes, or names their first fault, and
-//! `begin_within` does so from the first 24 of them and their number; `seal_into` and `open_into` seal and open the
+//! `begin_within` does so from the header alone and the number of bytes; `seal_into` and `open_into` seal and open the
 //! chunks into room that the caller made; `seal` and `open` make this room, and call them.
 //!
 //! The room for the whole is the only memory that is asked for, and it is there before the first chunk is touched:
 //! what the chunks answer can't be that memory was refused.
-ghost use Rattle.std.specs.Prelude.{◌≡◌, ℕ, ◌+◌, ◌<◌, ◌≤◌, ◌++◌, ◌⊎◌, ◌↔◌, List, length, take, min, vec_len};
-ghost use Rattle.std.specs.Prelude.{vec_capacity, Ok, Err, Some, None, IfOk, IfErr, OnOk, OnErr, MatchResult};
-ghost use Rattle.container_core.specs.Container.{container};
+ghost use Rattle.std.specs.Prelude.{◌≡◌, ℕ, ◌+◌, ◌<◌, ◌≤◌, ◌++◌, ◌⊎◌, ◌↔◌, List, length, take, drop, vec_len};
+ghost use Rattle.std.specs.Bool.{OnTrue, OnFalse};
+ghost use Rattle.std.specs.Prelude.{false, vec_capacity, Ok, Err, Some, None, IfOk, IfErr, OnOk, OnErr, MatchResult};
+ghost use Rattle.container_core.specs.Container.{container, header_length, is_two, label_bytes, shape_in, size_in};
 ghost use Rattle.container_core.specs.Chunks.{body_length, container_length, sealed_chunks};
 ghost use Rattle.container_core.specs.Opening.{early_fault, opening, unsealed};
+ghost use Rattle.container_core.specs.Shape.{size_of, IsShape};
 ghost use Rattle.container_core.specs.Stream.{prefix_in};
 
+use crate::MAX_PLAIN;
 use crate::chunk::{append, append_opened, append_sealed};
 use crate::cutting::{Cut, container_bytes};
 use crate::fault::{OpenFault, SealFault};
-use crate::header::{Header, read_header};
+use crate::header::{Header, begins_as_two, read_header};
 use crate::key::Key;
-use crate::{HEADER, MAX_PLAIN};
+use crate::shape::Shape;
 use std::alloc::Global;
 
+// Whether a container that doesn't begin as version 2 has more bytes than one of version 1 of `most` plaintext bytes.
+fn is_long_one(front: &[u8], bytes: u64, most: u64) -> bool
+    requires { most ≤ MAX_PLAIN }
+    ensures long { OnTrue result ((is_two front.now ≡ false) × (container_length 24 65536 most < bytes)) }
+    ensures within { OnFalse result (is_two front.now ≡ false → bytes ≤ container_length 24 65536 most) }
+{
+    !begins_as_two(front) && bytes > container_bytes(&Shape::one(), most)
+}
+
 /// The header and the cut of a container of so many bytes under a key, of at most `most` plaintext bytes, or the first
-/// fault that shows before any chunk is opened: those of `OpenFault` from `TooLong` to `BadLength`, in this order.
-/// `front` is the container's first 24 bytes, or all that it has. Takes no memory.
+/// fault that shows before any chunk is opened. `front` is the container's beginning: its header at least, or all that
+/// it has. Of version 2 the header's faults come first, then `TooLong` and `BadLength`; else `TooLong`, the header's and
+/// `BadLength`. Takes no memory.
 pub fn begin_within(
     key: &Key,
     front: &[u8],
@@ -29,18 +42,22 @@ pub fn begin_within(
     most: u64,
 ) -> Result<(Header, Cut), OpenFault>
     requires most { most ≤ MAX_PLAIN }
-    requires front { length front.now ≡ min HEADER bytes }
-    ensures header { IfOk result (λ begun. begun.0 ≡ front.now) }
-    ensures cut { IfOk result (λ begun. bytes ≡ container_length begun.1) }
-    ensures within { IfOk result (λ begun. begun.1 ≤ most) }
+    requires front { length front.now ≤ bytes }
+    requires header { length front.now < bytes → header_length front.now ≤ length front.now }
+    ensures header { IfOk result (λ begun. begun.0 ≡ take (header_length front.now) front.now) }
+    ensures enough { OnOk result (header_length front.now ≤ length front.now) }
+    ensures size { IfOk result (λ begun. begun.1.size ≡ size_in begun.0) }
+    ensures named { IfOk result (λ begun. begun.1.size ≡ size_in front.now) }
+    ensures cut { IfOk result (λ begun. bytes ≡ container_length (header_length front.now) begun.1.size begun.1.plain) }
+    ensures within { IfOk result (λ begun. begun.1.plain ≤ most) }
 
     // Of every container of so many bytes that begins so.
-    ensures faultless { OnOk result ((whole : List ℕ) → length whole ≡ bytes → take HEADER whole ≡ front.now
+    ensures faultless { OnOk result ((whole : List ℕ) → length whole ≡ bytes → take (length front.now) whole ≡ front.now
         → early_fault key.now most whole ≡ None) }
-    ensures fault { IfErr result (λ fault. (whole : List ℕ) → length whole ≡ bytes → take HEADER whole ≡ front.now
-        → early_fault key.now most whole ≡ Some fault) }
+    ensures fault { IfErr result (λ fault. (whole : List ℕ) → length whole ≡ bytes
+        → take (length front.now) whole ≡ front.now → early_fault key.now most whole ≡ Some fault) }
 {
-    let long = bytes > container_bytes(most);
+    let long = is_long_one(front, bytes, most);
     if long {
         return Err(OpenFault::TooLong);
     }
@@ -48,45 +65,58 @@ pub fn begin_within(
         Ok(header) => header,
         Err(fault) => return Err(fault),
     };
-    match Cut::of_body(bytes - HEADER as u64) {
+    let too_long = bytes > header.container_bytes(most);
+    if too_long {
+        return Err(OpenFault::TooLong);
+    }
+    match Cut::of_body(&header, bytes - header.bytes().len() as u64) {
         Ok(cut) => Ok((header, cut)),
         Err(fault) => Err(fault),
     }
 }
 
 /// The header and the cut of a container under a key, of at most 2^40 plaintext bytes, or the first fault that shows
-/// before any chunk is opened: those of `OpenFault` from `TooLong` to `BadLength`, in this order. Takes no memory.
+/// before any chunk is opened: as `begin_within` names it. Takes no memory.
 pub fn begin(key: &Key, bytes: &[u8]) -> Result<(Header, Cut), OpenFault>
-    ensures header { IfOk result (λ begun. begun.0 ≡ take HEADER bytes.now) }
-    ensures cut { IfOk result (λ begun. length bytes.now ≡ container_length begun.1) }
+    ensures header { IfOk result (λ begun. begun.0 ≡ take (header_length bytes.now) bytes.now) }
+    ensures size { IfOk result (λ begun. begun.1.size ≡ size_in begun.0) }
+    ensures named { IfOk result (λ begun. begun.1.size ≡ size_in bytes.now) }
+    ensures cut { IfOk result (λ begun. length bytes.now
+        ≡ container_length (header_length bytes.now) begun.1.size begun.1.plain) }
     ensures faultless { OnOk result (early_fault key.now MAX_PLAIN bytes.now ≡ None) }
     ensures fault { IfErr result (λ fault. early_fault key.now MAX_PLAIN bytes.now ≡ Some fault) }
 {
-    let (front, _) = bytes.split_at(HEADER.min(bytes.len()));
-    begin_within(key, front, bytes.len() as u64, MAX_PLAIN)
+    begin_within(key, bytes, bytes.len() as u64, MAX_PLAIN)
 }
 
-/// Appends the container of a plaintext of at most 2^40 bytes under a key and a prefix, where there is room for it: for
-/// `container_bytes` of the plaintext's length. Takes no memory.
-pub fn seal_into(out: &mut Vec<u8>, key: &Key, prefix: [u8; 7], plain: &[u8])
+/// Appends the container of a plaintext of at most 2^40 bytes under a key and a prefix, in a shape, where there is room
+/// for it: for `container_bytes` of the shape and the plaintext's length. Takes no memory.
+pub fn seal_into(out: &mut Vec<u8>, key: &Key, shape: &Shape, prefix: [u8; 7], plain: &[u8])
     requires plain { length plain.now ≤ MAX_PLAIN }
-    requires room { vec_len out.old + container_length (length plain.now) ≤ vec_capacity out.old }
-    ensures { out.new.items ≡ out.old.items ++ container key.now prefix plain.now }
+    requires room { vec_len out.old + container_length (24 + length (label_bytes shape.now.label)) (size_of shape.now)
+        (length plain.now) ≤ vec_capacity out.old }
+    ensures { out.new.items ≡ out.old.items ++ container key.now shape.now prefix plain.now }
 {
-    let header = Header::of(key, prefix);
-    let cut = Cut::of(plain.len() as u64);
+    let header = Header::of(key, shape, prefix);
+    let cut = Cut::of(&header, plain.len() as u64);
     let count = cut.count();
-    append(out, &header.bytes());
+    append(out, header.bytes());
     for number in 0..count {
         let chunk = cut.chunk_of(plain, number);
         append_sealed(out, key, &header, number, number + 1 == count, chunk);
     }
 }
 
-/// The container of a plaintext under a key and a prefix. `TooLong` over 2^40 bytes, `OutOfMemory` where memory was
-/// refused.
-pub fn seal(alloc: Global, key: &Key, prefix: [u8; 7], plain: &[u8]) -> Result<Vec<u8>, SealFault>
-    ensures container { IfOk result (λ out. out.items ≡ container key.now prefix plain.now) }
+/// The container of a plaintext under a key and a prefix, in a shape. `TooLong` over 2^40 bytes, `OutOfMemory` where
+/// memory was refused.
+pub fn seal(
+    alloc: Global,
+    key: &Key,
+    shape: &Shape,
+    prefix: [u8; 7],
+    plain: &[u8],
+) -> Result<Vec<u8>, SealFault>
+    ensures container { IfOk result (λ out. out.items ≡ container key.now shape.now prefix plain.now) }
     ensures too_long { (result ≡ Err SealFault.TooLong) ↔ (MAX_PLAIN < length plain.now) }
     ensures faults { IfErr result (λ fault. (fault ≡ SealFault.TooLong) ⊎ (fault ≡ SealFault.OutOfMemory)) }
 {
@@ -94,10 +124,10 @@ pub fn seal(alloc: Global, key: &Key, prefix: [u8; 7], plain: &[u8]) -> Result<V
     if bytes > MAX_PLAIN {
         return Err(SealFault::TooLong);
     }
-    let Ok(mut out) = Vec::with_capacity(alloc, container_bytes(bytes) as usize) else {
+    let Ok(mut out) = Vec::with_capacity(alloc, container_bytes(shape, bytes) as usize) else {
         return Err(SealFault::OutOfMemory);
     };
-    seal_into(&mut out, key, prefix, plain);
+    seal_into(&mut out, key, shape, prefix, plain);
     Ok(out)
 }
 
@@ -110,12 +140,14 @@ pub fn open_into(
     cut: Cut,
     body: &[u8],
 ) -> Result<(), OpenFault>
-    requires body { length body.now ≡ body_length cut }
-    requires room { vec_len out.old + cut ≤ vec_capacity out.old }
+    requires size { cut.size ≡ size_in header.now }
+    requires body { length body.now ≡ body_length cut.size cut.plain }
+    requires room { vec_len out.old + cut.plain ≤ vec_capacity out.old }
     ensures plaintext { OnOk result ((plain : List ℕ)
-        × (unsealed key.now header.now 0 (sealed_chunks body.now) ≡ Ok plain)
+        × (unsealed key.now header.now 0 (sealed_chunks cut.size body.now) ≡ Ok plain)
         × (out.new.items ≡ out.old.items ++ plain)) }
-    ensures forged { IfErr result (λ fault. unsealed key.now header.now 0 (sealed_chunks body.now) ≡ Err fault) }
+    ensures forged { IfErr result (λ fault.
+        unsealed key.now header.now 0 (sealed_chunks cut.size body.now) ≡ Err fault) }
     ensures unchanged { OnErr result (out.new.items ≡ out.old.items) }
 {
     let before = out.len();
@@ -130,9 +162,9 @@ pub fn open_into(
     Ok(())
 }
 
-/// The plaintext of a container under a key, of at most 2^40 bytes, or the first fault that applies of those of
-/// `OpenFault` from `TooLong` to `Forged`. `OutOfMemory` where the room for the plaintext was refused, which is asked
-/// for once all but the tags was tested, and before any of these is.
+/// The plaintext of a container under a key, of at most 2^40 bytes, or the first fault that applies: those that `begin`
+/// names, and then `Forged`. `OutOfMemory` where the room for the plaintext was refused, which is asked for once all but
+/// the tags was tested, and before any of these is.
 pub fn open(alloc: Global, key: &Key, bytes: &[u8]) -> Result<Vec<u8>, OpenFault>
     ensures plaintext { IfOk result (λ out. opening key.now MAX_PLAIN bytes.now ≡ Ok out.items) }
     ensures fault { IfErr result (λ fault. (fault ≡ OpenFault.OutOfMemory)
@@ -141,10 +173,12 @@ pub fn open(alloc: Global, key: &Key, bytes: &[u8]) -> Result<Vec<u8>, OpenFault
     // Memory is taken only where neither the length nor the header has a fault.
     ensures memory { result ≡ Err OpenFault.OutOfMemory → early_fault key.now MAX_PLAIN bytes.now ≡ None }
 
-    // What opens is the container of its plaintext under the prefix that its header names, and such a container opens.
-    ensures sealed { IfOk result (λ out. bytes.now ≡ container key.now (prefix_in bytes.now) out.items) }
-    ensures opens { (plain : List ℕ) → length plain ≤ MAX_PLAIN
-        → bytes.now ≡ container key.now (prefix_in bytes.now) plain
+    // What opens is the container of its plaintext, of the shape and under the prefix that its header names, and such a
+    // container opens.
+    ensures sealed { IfOk result (λ out. bytes.now ≡ container key.now (shape_in bytes.now) (prefix_in bytes.now) out.items) }
+    ensures shape { OnOk result (IsShape (shape_in bytes.now)) }
+    ensures opens { (plain : List ℕ) → length plain ≤ MAX_PLAIN → IsShape (shape_in bytes.now)
+        → bytes.now ≡ container key.now (shape_in bytes.now) (prefix_in bytes.now) plain
         → MatchResult result (λ out. out.items ≡ plain) (λ fault. fault ≡ OpenFault.OutOfMemory) }
 {
     let (header, cut) = match begin(key, bytes) {
@@ -154,7 +188,7 @@ pub fn open(alloc: Global, key: &Key, bytes: &[u8]) -> Result<Vec<u8>, OpenFault
     let Ok(mut out) = Vec::with_capacity(alloc, cut.plain() as usize) else {
         return Err(OpenFault::OutOfMemory);
     };
-    let (_, body) = bytes.split_at(HEADER);
+    let (_, body) = bytes.split_at(header.bytes().len());
     match open_into(&mut out, key, &header, cut, body) {
         Ok(()) => Ok(out),
         Err(fault) => Err(fault),

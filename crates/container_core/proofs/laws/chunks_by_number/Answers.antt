@@ -6,7 +6,7 @@ pub returns-clause-count : goal.returns-clause-count
 returns-clause-count c = length-chunks
 
 pub returns-clause-chunk : goal.returns-clause-chunk
-returns-clause-chunk c = λ plain number below. get_or-chunks plain number [] below
+returns-clause-chunk c = λ size plain number some below. get_or-chunks size plain number [] some below
 
 pub returns-clause-sealed_count : goal.returns-clause-sealed_count
 returns-clause-sealed_count c = length-sealed_chunks

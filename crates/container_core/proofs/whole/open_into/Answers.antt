@@ -6,12 +6,17 @@ use Rattle.container_core.specs.Opening.{unsealed}
 use Rattle.container_core.specs.Stream.{opened_chunk}
 use Rattle.container_core.proofs.PartsLemmas.{length-sealed_chunks}
 use Rattle.container_core.proofs.StreamLemmas.{length-opened_chunk}
-use Rattle.container_core.proofs.OpeningLemmas.{behind-nil, opened_more, forged_more, opened_all}
+use Rattle.container_core.proofs.OpeningLemmas.{some_size, behind-nil, opened_more, forged_more, opened_all}
+use Rattle.container_core.specs.Views.{CutView}
+use Rattle.container_core.specs.Container.{size_in}
 use Rattle.container_core.proofs.whole.open_into.Goals as goal
+
+some_sized : (cut : CutView) (header : List ℕ) → cut.size ≡ size_in header → 0 < cut.size
+some_sized cut header is = let some = some_size header in omega (arith, some, is)
 
 pub loop-number-init : goal.loop-number-init
 loop-number-init c =
-    ([], sym (append-nil c.args.out.now.items), behind-nil (unsealed c.args.key.now c.args.header.now 0 (sealed_chunks c.args.body.now)), omega arith, c.requires.room)
+    ([], sym (append-nil c.args.out.now.items), behind-nil (unsealed c.args.key.now c.args.header.now 0 (sealed_chunks c.args.cut.size c.args.body.now)), omega arith, c.requires.room)
 
 pub append_opened-requires-clause-room : goal.append_opened-requires-clause-room
 append_opened-requires-clause-room c =
@@ -25,9 +30,9 @@ returns-then-not-append_opened-clause-forged c =
     let key = c.args.key.now in
     let header = c.args.header.now in
     let number = c.loop-number.number in
-    let cs = sealed_chunks c.args.body.now in
+    let cs = sealed_chunks c.args.cut.size c.args.body.now in
     let (plain, grown, left, few, room) = c.loop-number.invariant in
-    let count : c.count-count.result ≡ length cs = c.count-count.ensures ∙ sym (length-sealed_chunks c.args.body.now c.args.cut c.requires.body) in
+    let count : c.count-count.result ≡ length cs = c.count-count.ensures.count ∙ sym (length-sealed_chunks c.args.cut.size c.args.body.now c.args.cut.plain (some_sized c.args.cut c.args.header.now c.requires.size) c.requires.body) in
     let below : number < length cs = subst (λ (n : ℕ). number < n) count c.loop-number-test.true in
     forged_more key header number cs plain (unsealed key header 0 cs) below left
     (ap (λ (n : ℕ). opened_chunk key header number (eqb (number + 1) n) (get_or cs number [])) (sym count)
@@ -39,10 +44,10 @@ loop-number-preserved c =
     let key = c.args.key.now in
     let header = c.args.header.now in
     let number = c.loop-number.number in
-    let cs = sealed_chunks c.args.body.now in
+    let cs = sealed_chunks c.args.cut.size c.args.body.now in
     let (plain, grown, left, few, room) = c.loop-number.invariant in
     let (chunk, opens, more) = c.if-not-append_opened.ensures.opened in
-    let count : c.count-count.result ≡ length cs = c.count-count.ensures ∙ sym (length-sealed_chunks c.args.body.now c.args.cut c.requires.body) in
+    let count : c.count-count.result ≡ length cs = c.count-count.ensures.count ∙ sym (length-sealed_chunks c.args.cut.size c.args.body.now c.args.cut.plain (some_sized c.args.cut c.args.header.now c.requires.size) c.requires.body) in
     let below : number < length cs = subst (λ (n : ℕ). number < n) count c.loop-number-test.true in
     let bytes = length-opened_chunk key header number (eqb (number + 1) c.count-count.result) c.sealed_of-sealed.result.now chunk opens in
     let both = length-append plain chunk in (
@@ -58,8 +63,8 @@ loop-number-preserved c =
 
 pub returns-clause-plaintext : goal.returns-clause-plaintext
 returns-clause-plaintext c =
-    let cs = sealed_chunks c.args.body.now in
+    let cs = sealed_chunks c.args.cut.size c.args.body.now in
     let (plain, grown, left, few, room) = c.loop-number.invariant in
-    let count : c.count-count.result ≡ length cs = c.count-count.ensures ∙ sym (length-sealed_chunks c.args.body.now c.args.cut c.requires.body) in
+    let count : c.count-count.result ≡ length cs = c.count-count.ensures.count ∙ sym (length-sealed_chunks c.args.cut.size c.args.body.now c.args.cut.plain (some_sized c.args.cut c.args.header.now c.requires.size) c.requires.body) in
     let over : length cs ≤ c.loop-number.number = subst (λ (n : ℕ). n ≤ c.loop-number.number) count c.loop-number-test.false in
     (plain, opened_all c.args.key.now c.args.header.now c.loop-number.number cs plain (unsealed c.args.key.now c.args.header.now 0 cs) over left, grown)

@@ -8,6 +8,6 @@ use Rattle.container_core.proofs.whole.open_into.Given as goal
 abbrev pub invariant-loop-number : goal.invariant-loop-number
 invariant-loop-number l = (plain : List ℕ)
     × (l.out.items ≡ l.fn.out.items ++ plain)
-    × (behind plain (unsealed l.key l.header l.number (drop l.number (sealed_chunks l.body))) ≡ unsealed l.key l.header 0 (sealed_chunks l.body))
-    × (length plain ≡ min (l.number * 65536) l.cut)
-    × (vec_len l.fn.out + l.cut ≤ vec_capacity l.out)
+    × (behind plain (unsealed l.key l.header l.number (drop l.number (sealed_chunks l.cut.size l.body))) ≡ unsealed l.key l.header 0 (sealed_chunks l.cut.size l.body))
+    × (length plain ≡ min (l.number * l.cut.size) l.cut.plain)
+    × (vec_len l.fn.out + l.cut.plain ≤ vec_capacity l.out)

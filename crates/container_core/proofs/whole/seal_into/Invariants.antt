@@ -1,12 +1,13 @@
 -- What is out, followed by STREAM of the chunks that are left, is the container; and there is room for it.
 use Rattle.std.proofs.Common.{◌≡◌, ◌≤◌, ◌++◌, length, drop, vec_capacity}
 use Rattle.container_core.specs.Chunks.{chunks}
+use Rattle.container_core.specs.Shape.{size_of}
 use Rattle.container_core.specs.Stream.{stream}
 use Rattle.container_core.specs.Container.{container}
 use Rattle.container_core.proofs.whole.seal_into.Given as goal
 
 abbrev pub invariant-loop-number : goal.invariant-loop-number
 invariant-loop-number l = record {
-  left : l.out.items ++ stream l.key l.header l.number (drop l.number (chunks l.plain)) ≡ l.fn.out.items ++ container l.key l.fn.prefix l.plain;
-  room : length (l.fn.out.items ++ container l.key l.fn.prefix l.plain) ≤ vec_capacity l.out;
+  left : l.out.items ++ stream l.key l.header l.number (drop l.number (chunks (size_of l.shape) l.plain)) ≡ l.fn.out.items ++ container l.key l.shape l.fn.prefix l.plain;
+  room : length (l.fn.out.items ++ container l.key l.shape l.fn.prefix l.plain) ≤ vec_capacity l.out;
 }
