@@ -14,9 +14,7 @@ use crate::rounds::{Rooms, open_rounds, seal_rounds};
 use container_core::laws::{
     chunks_by_number, headers_name_their_shape, opening_faults, rounds_of_a_stream, rounds_open,
 };
-use container_core::{
-    Cut, Header, Key, MAX_HEADER, MAX_PLAIN, OpenFault, Shape, TAG, begin,
-};
+use container_core::{Cut, Header, Key, MAX_HEADER, MAX_PLAIN, OpenFault, Shape, TAG, begin};
 use ledger_core::{Grant, Spent};
 use round_core::Task;
 use std::alloc::{AllocError, Global};

@@ -1,4 +1,4 @@
-use Rattle.std.proofs.Common.{rules, ◌≡◌, ◌+◌, ◌*◌, ◌-◌, ◌<◌, ◌≤◌, ◌++◌, true, false, min, [], List, ℕ, Option, Ok, Err, length, ap, sym, ◌∙◌, subst, arith, length-append}
+use Rattle.std.proofs.Common.{◌≡◌, ◌+◌, ◌*◌, ◌-◌, ◌<◌, ◌≤◌, ◌++◌, true, false, min, [], List, ℕ, Option, Ok, Err, length, ap, sym, ◌∙◌, subst, arith, length-append}
 use Rattle.container_core.specs.declared.fault.OpenFault.TheVariants.{Forged}
 use Rattle.container_core.specs.Chunks.{sealed_chunks, body_length, chunk_count}
 use Rattle.container_core.specs.Container.{size_in}

@@ -1,11 +1,11 @@
-use Rattle.std.proofs.Common.{rules, ◌≡◌, ◌+◌, ◌*◌, ◌<◌, ◌≤◌, ◌++◌, false, min, List, ℕ, length, subst, sym, ap, ◌∙◌, arith, length-append}
+use Rattle.std.proofs.Common.{◌≡◌, ◌+◌, ◌*◌, ◌<◌, ◌≤◌, ◌++◌, false, List, ℕ, length, subst, sym, ap, ◌∙◌, arith, length-append}
 use Rattle.container_core.specs.Chunks.{chunks, chunk_count}
 use Rattle.container_core.specs.Container.{size_in}
 use Rattle.container_core.specs.Stream.{stream_by}
 use Rattle.container_core.proofs.PartsLemmas.{count-some}
 use Rattle.round_core.specs.declared.round.Task.TheVariants.{Sealing}
 use Rattle.round_core.specs.Answer.{joined}
-use Rattle.round_core.specs.Values.{round_of, values_of}
+use Rattle.round_core.specs.Values.{values_of}
 use Rattle.round_core.specs.Views.{RoundView}
 use Rattle.crew_core.specs.Rounds.{CanMake, round_count}
 use Rattle.crew_core.proofs.RoundLemmas.{can-less, count-within, sealed-next}

@@ -1,6 +1,5 @@
-use Rattle.std.proofs.Common.{◌≡◌, ℕ, ◌+◌, ◌*◌, ◌-◌, ◌<◌, ◌≤◌, List, ◌++◌, length, subst, ap, sym, ◌∙◌, arith, length-take-le}
+use Rattle.std.proofs.Common.{◌≡◌, ℕ, ◌+◌, ◌*◌, ◌-◌, ◌<◌, List, length, subst, ap, ◌∙◌, arith, length-take-le}
 use Rattle.std.proofs.lemmas.List.{length-drop}
-use Rattle.container_core.specs.Chunks.{chunk_count, body_length}
 use Rattle.crew_core.proofs.RoundLemmas.{round-body, round-fits, round-left}
 use Rattle.crew_core.proofs.rounds.split_sealed.Goals as goal
 
@@ -15,7 +14,7 @@ pub returns-clause-left : goal.returns-clause-left
 returns-clause-left c =
     let step = c.args.count * (c.args.size + 16) in
     let back : length c.split_at.result.1.now ≡ length c.args.rest.now - step =
-        ap (λ (l : List ℕ). length l) c.split_at.ensures.back ∙ length-drop step c.args.rest.now in
+    ap (λ (l : List ℕ). length l) c.split_at.ensures.back ∙ length-drop step c.args.rest.now in
     let left = (round-left c.args.size c.args.count c.args.plain c.requires.size (returns-clause-fits c)).1 in
     omega (arith, back, left, c.requires.body)
 

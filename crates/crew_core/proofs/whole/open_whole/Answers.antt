@@ -1,4 +1,4 @@
-use Rattle.std.proofs.Common.{rules, ◌≡◌, ◌∙◌, ap, List, ℕ, length, drop, inr, Some, arith}
+use Rattle.std.proofs.Common.{◌≡◌, ◌∙◌, ap, List, ℕ, length, drop, inr, Some, arith}
 use Rattle.container_core.specs.declared.TheConstants.{MAX_PLAIN}
 use Rattle.container_core.specs.declared.fault.OpenFault.TheVariants.{OutOfMemory}
 use Rattle.container_core.specs.Opening.{early_fault}
