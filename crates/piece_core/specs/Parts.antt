@@ -7,8 +7,8 @@ use Rattle.container_core.specs.Views.{CutView}
 use Rattle.piece_core.specs.declared.work.Kind.{Kind}
 use Rattle.piece_core.specs.declared.work.Kind.TheVariants.{Sealing, Opening}
 
--- how many bytes the body has, of a plaintext of so many in chunks of a size: it is the plaintext, or what stands behind
--- a header
+-- how many bytes the body has, of a plaintext of so many in chunks of a size: it is the plaintext, or what stands
+-- behind a header
 abbrev pub body_bytes : Kind → ℕ → ℕ → ℕ
 body_bytes Sealing size plain = plain
 body_bytes Opening size plain = body_length size plain

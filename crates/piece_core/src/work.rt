@@ -1,6 +1,6 @@
 //! One sealing or opening, cut into pieces that can be made one by one, in any order.
-ghost use Rattle.std.specs.Prelude.{◌≡◌, ℕ, ◌+◌, ◌-◌, ◌*◌, ◌^◌, ◌<◌, ◌≤◌, List, [], length, min, slice_index_or, None, Some};
-ghost use Rattle.std.specs.Prelude.{IfOk, IfErr, OnOk, option_map};
+ghost use Rattle.std.specs.Prelude.{◌≡◌, ℕ, ◌+◌, ◌-◌, ◌*◌, ◌^◌, ◌<◌, ◌≤◌, List, [], length, min, slice_index_or};
+ghost use Rattle.std.specs.Prelude.{None, Some, IfOk, IfErr, OnOk, option_map};
 ghost use Rattle.container_core.specs.Chunks.{chunk_count};
 ghost use Rattle.container_core.specs.Container.{size_in};
 ghost use Rattle.container_core.specs.Opening.{early_fault};
@@ -127,8 +127,9 @@ impl<'a> Work<'a> {
         }
     }
 
-    /// The work of opening a container of at most 2^40 plaintext bytes, of version 1 or 2, or the first fault that shows
-    /// before any chunk is opened: as `container_core::begin` names it. Takes no memory.
+    /// The work of opening a container of at most 2^40 plaintext bytes, of either version, or the first fault that
+    /// shows before any chunk is opened, as `container_core::begin` names it: from `TooLong` and those of the header to
+    /// `BadLength`. Takes no memory.
     pub fn opening(key: &'a Key, container: &'a [u8]) -> Result<Work<'a>, OpenFault>
         ensures work { IfOk result (λ w. w ≡ opening_of key.now container.now) }
         ensures faultless { OnOk result (early_fault key.now MAX_PLAIN container.now ≡ None) }
