@@ -1,7 +1,7 @@
 //! What the commands take, a row for each option: its name, what its value may be, and its line in the help.
 
 use clap::{Arg, ArgAction, Command, Error, value_parser};
-use container_core::MAX_PLAIN;
+use container_core::{MAX_EXPONENT, MAX_PLAIN, MIN_EXPONENT};
 use crew_core::{MAX_LANES, MAX_WINDOW, MAX_WORKERS};
 use ledger_core::Device;
 use std::alloc::Global;
@@ -12,11 +12,13 @@ enum Takes {
     Path {
         is_required: bool,
     },
-    // A number in a range, and the one that stands where none is given. Without one it has to be given.
+    // A text, which need not be given.
+    Text,
+    // A number in a range, and what stands where none is given.
     Number {
         least: u32,
         most: u32,
-        default: Option<&'static str>,
+        absent: Absent,
     },
     // A number of bytes up to the greatest of a plaintext, and the one that stands where none is given.
     Bytes {
@@ -26,6 +28,16 @@ enum Takes {
     Nothing,
     // The files of a command, one at least. Its name is no option's.
     Files,
+}
+
+// What stands where a number isn't given.
+enum Absent {
+    // This number.
+    Default(&'static str),
+    // Nothing: that it isn't given tells something.
+    Nothing,
+    // It has to be given.
+    Fault,
 }
 
 /// An option of a command, or its files.
@@ -47,7 +59,7 @@ pub(crate) static FILE_ROWS: [Row; 4] = [
         takes: Takes::Number {
             least: 1,
             most: MAX_WORKERS,
-            default: Some("1"),
+            absent: Absent::Default("1"),
         },
         help: "Workers on one file, side by side, 1 to 16",
     },
@@ -65,8 +77,22 @@ pub(crate) static FILE_ROWS: [Row; 4] = [
     },
 ];
 
+/// What `open` and `verify` take besides.
+pub(crate) static LABEL_ROWS: [Row; 1] = [Row {
+    name: "label",
+    takes: Takes::Text,
+    help: "Another label than this fails, 0 to 255 bytes of UTF-8; without it any label or none is taken",
+}];
+
+/// What `verify` takes besides these.
+pub(crate) static SHOW_ROWS: [Row; 1] = [Row {
+    name: "show",
+    takes: Takes::Nothing,
+    help: "Behind the line of a good FILE print its version, bytes of a chunk, device, number and label",
+}];
+
 /// What `seal` takes besides.
-pub(crate) static SEAL_ROWS: [Row; 6] = [
+pub(crate) static SEAL_ROWS: [Row; 8] = [
     Row {
         name: "ledger",
         takes: Takes::Path { is_required: true },
@@ -82,7 +108,7 @@ pub(crate) static SEAL_ROWS: [Row; 6] = [
         takes: Takes::Number {
             least: 0,
             most: Device::MAX,
-            default: None,
+            absent: Absent::Fault,
         },
         help: "The number of this ledger under this key, 0 to 16777215: no two ledgers share one",
     },
@@ -91,7 +117,7 @@ pub(crate) static SEAL_ROWS: [Row; 6] = [
         takes: Takes::Number {
             least: 1,
             most: MAX_LANES,
-            default: Some("1"),
+            absent: Absent::Default("1"),
         },
         help: "Files sealed side by side at most, 1 to 16; above 1 only with one worker",
     },
@@ -100,9 +126,23 @@ pub(crate) static SEAL_ROWS: [Row; 6] = [
         takes: Takes::Number {
             least: 1,
             most: MAX_WINDOW,
-            default: Some("16"),
+            absent: Absent::Default("16"),
         },
-        help: "Chunks of 64 KiB that are sealed at a time, 1 to 256; of no effect with more than one lane",
+        help: "Chunks that are sealed at a time, 1 to 256, of 64 KiB without --exponent; of no effect with more than one lane",
+    },
+    Row {
+        name: "exponent",
+        takes: Takes::Number {
+            least: MIN_EXPONENT,
+            most: MAX_EXPONENT,
+            absent: Absent::Nothing,
+        },
+        help: "Version 2, with chunks of 2^N bytes, 12 to 20; with --label alone 16",
+    },
+    Row {
+        name: "label",
+        takes: Takes::Text,
+        help: "Version 2, with this label, which is not secret: 0 to 255 bytes of UTF-8; with --exponent alone empty",
     },
     Row {
         name: "journal",
@@ -111,15 +151,16 @@ pub(crate) static SEAL_ROWS: [Row; 6] = [
     },
 ];
 
-// A number in a range, with the one that stands where none is given.
-fn number<'a>(arg: Arg<'a>, least: u32, most: u32, default: Option<&'static str>) -> Arg<'a> {
+// A number in a range, with what stands where none is given.
+fn number<'a>(arg: Arg<'a>, least: u32, most: u32, absent: &Absent) -> Arg<'a> {
     let range = i64::from(least)..=i64::from(most);
     let arg = arg
         .value_name("N")
         .value_parser(value_parser!(u32).range(range));
-    match default {
-        Some(text) => arg.default_value(text),
-        None => arg.required(true),
+    match absent {
+        Absent::Default(text) => arg.default_value(text),
+        Absent::Nothing => arg,
+        Absent::Fault => arg.required(true),
     }
 }
 
@@ -130,11 +171,12 @@ fn arg_of<'a>(alloc: Global, row: &Row) -> Arg<'a> {
         Takes::Files => arg.required(true).num_args(1..).action(ArgAction::Append),
         Takes::Nothing => arg.long(row.name).action(ArgAction::SetTrue),
         Takes::Path { is_required } => arg.long(row.name).value_name("F").required(*is_required),
+        Takes::Text => arg.long(row.name).value_name("TEXT"),
         Takes::Number {
             least,
             most,
-            default,
-        } => number(arg.long(row.name), *least, *most, *default),
+            absent,
+        } => number(arg.long(row.name), *least, *most, absent),
         Takes::Bytes { default } => arg
             .long(row.name)
             .value_name("N")

@@ -335,7 +335,7 @@ plaintext_of-has header size (suc most) bytes has =
     wider (n, within, e) = (n, omega arith, e)
 
 -- a sealed chunk by its place: where it begins, and its bytes with the tag
-chunk_bytes : (size n i : ℕ) → 0 < size → i < chunk_count size n
+pub chunk_bytes : (size n i : ℕ) → 0 < size → i < chunk_count size n
     → min (size + 16) (body_length size n - i * (size + 16)) ≡ min size (n - i * size) + 16
 chunk_bytes size n i some below =
     let long = body-full size n in

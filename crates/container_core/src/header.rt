@@ -78,6 +78,15 @@ impl Header {
         }
     }
 
+    /// The same header once more. Takes no memory.
+    pub fn copy(&self) -> Header
+        ensures { result ≡ self.now }
+    {
+        let mut image = Image::new();
+        image.append(self.bytes());
+        Header { image }
+    }
+
     /// The prefix of all nonces.
     #[tactic(auto, unfolding(crate::specs::Stream::prefix_in))]
     pub fn prefix(&self) -> [u8; 7]

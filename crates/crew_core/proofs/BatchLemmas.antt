@@ -96,11 +96,11 @@ module _ (batch : BatchView) (lanes : ℕ) (used used' : List SeatView) (places 
         let P = IsDone batch from.0 (get_or used' from.0 (no_seat batch)) in
         (from.0, low, All-contains P (done_at places from.0) (done_of n o) its from.2)
 
-    pub outcomes : AreOutcomes batch.key batch.jobs out
+    pub outcomes : AreOutcomes batch.key batch.shape batch.jobs out
     outcomes = record {
       count = ordered.count;
       each = λ n job o at_job at_out.
-          subst (λ j. IsOutcome batch.key j o) (get_or_from_slice_get batch.jobs n job [] at_job)
+          subst (λ j. IsOutcome batch.key batch.shape j o) (get_or_from_slice_get batch.jobs n job [] at_job)
           (made_at n o at_out).2.outcome;
     }
 

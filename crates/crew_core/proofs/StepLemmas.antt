@@ -19,6 +19,7 @@ use Rattle.journal_core.proofs.Owners.{owned, count_calls_le, count_more, count_
 use Rattle.ledger_core.specs.declared.fault.IssueFault.{IssueFault}
 use Rattle.ledger_core.specs.declared.fault.IssueFault.TheVariants.{Exhausted as NoNumber, SeatClosed, OutOfMemory as NoMemory}
 use Rattle.ledger_core.specs.Shared.{SeatView, SpentView, Knows, Extends, Holds, IsClosedSeat, IsSameSeat}
+use Rattle.container_core.specs.Shape.{ShapeView}
 use Rattle.crew_core.specs.declared.outcome.Outcome.{Outcome}
 use Rattle.crew_core.specs.declared.outcome.Outcome.TheVariants.{Sealed, Spoiled, Unissued}
 use Rattle.crew_core.specs.Batch.{seat_of, issue_of, issues, IsAt, IsFaultAt, IsOutcome}
@@ -83,15 +84,15 @@ holds_keeps old new more spent same is none h =
     let un = h.2 in
     (h.0 ∙ sym (ap (λ t. t.range.device) same.terms), omega arith, omega arith)
 
-pub at_keeps : (key job : List ℕ) (lane : ℕ) (old new : SeatView) (o p : Outcome) → IsStep key job lane old new o → IsAt old p → IsAt new p
-at_keeps key job lane old new o (Sealed seat bytes spent) step at = holds_keeps old new (issues old.number (o ∷ [])) spent step.same step.mine (settles_none spent.number old.number o) at
-at_keeps key job lane old new o (Spoiled seat spent) step at = holds_keeps old new (issues old.number (o ∷ [])) spent step.same step.mine (settles_none spent.number old.number o) at
-at_keeps key job lane old new o (Unissued seat fault) step at = fault_keeps old new (issues old.number (o ∷ [])) fault step.mine at
+pub at_keeps : (key : List ℕ) (shape : ShapeView) (job : List ℕ) (lane : ℕ) (old new : SeatView) (o p : Outcome) → IsStep key shape job lane old new o → IsAt old p → IsAt new p
+at_keeps key shape job lane old new o (Sealed seat bytes spent) step at = holds_keeps old new (issues old.number (o ∷ [])) spent step.same step.mine (settles_none spent.number old.number o) at
+at_keeps key shape job lane old new o (Spoiled seat spent) step at = holds_keeps old new (issues old.number (o ∷ [])) spent step.same step.mine (settles_none spent.number old.number o) at
+at_keeps key shape job lane old new o (Unissued seat fault) step at = fault_keeps old new (issues old.number (o ∷ [])) fault step.mine at
 
 -- the step of a job that got a number
-pub step_granted : (key job : List ℕ) (lane : ℕ) (old new : SeatView) (n : ℕ) (o : Outcome) → IsSameSeat old new → Extends old (Granted n) new
-    → issue_of o ≡ Granted n ∷ [] → IsOutcome key job o → seat_of o ≡ lane → IsAt new o → IsStep key job lane old new o
-step_granted key job lane old new n o same extends named outcome seat at = record {
+pub step_granted : (key : List ℕ) (shape : ShapeView) (job : List ℕ) (lane : ℕ) (old new : SeatView) (n : ℕ) (o : Outcome) → IsSameSeat old new → Extends old (Granted n) new
+    → issue_of o ≡ Granted n ∷ [] → IsOutcome key shape job o → seat_of o ≡ lane → IsAt new o → IsStep key shape job lane old new o
+step_granted key shape job lane old new n o same extends named outcome seat at = record {
   outcome = outcome;
   seat = seat;
   stands = at;
@@ -148,14 +149,14 @@ ascends_push (x ∷ xs) n up below =
 
 -- a lane has done one job more
 pub worked_next : (batch : BatchView) (lane job : ℕ) (old was new : SeatView) (done : List Done) (o : Outcome)
-    → IsWorked batch lane old was done → IsStep batch.key (get_or batch.jobs job []) lane was new o
+    → IsWorked batch lane old was done → IsStep batch.key batch.shape (get_or batch.jobs job []) lane was new o
     → ((x : ℕ) → 0 < times x (jobs_of done) → x < job) → IsWorked batch lane old new (done ++ done_of job o ∷ [])
 worked_next batch lane job old was new done o worked step last = record {
   each =
       let before : All (IsDone batch lane new) done = λ k d below.
       let is = worked.each k d below in
       let its = get_or done k d in
-      let stands = at_keeps batch.key (get_or batch.jobs job []) lane was new o its.outcome step is.stands in
+      let stands = at_keeps batch.key batch.shape (get_or batch.jobs job []) lane was new o its.outcome step is.stands in
       record { outcome = is.outcome; seat = is.seat; stands = stands } in
       let this : IsDone batch lane new (done_of job o) =
       record { outcome = step.outcome; seat = step.seat; stands = step.stands } in

@@ -2,6 +2,7 @@
 use Rattle.std.specs.Prelude.{◌≡◌, ℕ, ◌<◌, nat_eq, List, [], ◌∷◌, ◌++◌, length, map, filter, slice_get, Some, ⊤}
 use Rattle.std.specs.List.{flat_map}
 use Rattle.container_core.specs.Container.{container}
+use Rattle.container_core.specs.Shape.{ShapeView}
 use Rattle.journal_core.specs.declared.entry.Way.TheVariants.{Sealed as AsSealed, Void as AsVoid}
 use Rattle.journal_core.specs.declared.entry.Event.{Event}
 use Rattle.journal_core.specs.declared.entry.Event.TheVariants.{Granted, Exhausted}
@@ -41,19 +42,19 @@ issues number outcomes = map (entry number) (flat_map issue_of outcomes)
 abbrev pub of_seat : ℕ → List Outcome → List Outcome
 of_seat place outcomes = filter (λ o. nat_eq (seat_of o) place) outcomes
 
--- the outcome is one of this job: its container under the prefix of a number spent as sealed, or a number spent as
+-- the outcome is one of this job: its container in a shape, under the prefix of a number spent as sealed, or a number spent as
 -- void, or no number
-abbrev pub IsOutcome : List ℕ → List ℕ → Outcome → Type 0
-IsOutcome key job (Sealed seat bytes spent) =
-    (bytes.items ≡ container key (prefix_of spent.device spent.number) job) × (spent.way ≡ AsSealed)
-IsOutcome key job (Spoiled seat spent) = spent.way ≡ AsVoid
-IsOutcome key job (Unissued seat fault) = ⊤
+abbrev pub IsOutcome : List ℕ → ShapeView → List ℕ → Outcome → Type 0
+IsOutcome key shape job (Sealed seat bytes spent) =
+    (bytes.items ≡ container key shape (prefix_of spent.device spent.number) job) × (spent.way ≡ AsSealed)
+IsOutcome key shape job (Spoiled seat spent) = spent.way ≡ AsVoid
+IsOutcome key shape job (Unissued seat fault) = ⊤
 
 -- one outcome for each job, in the order of the jobs
-pub record AreOutcomes (key : List ℕ) (jobs : List (List ℕ)) (outcomes : List Outcome) : Type 0 where
+pub record AreOutcomes (key : List ℕ) (shape : ShapeView) (jobs : List (List ℕ)) (outcomes : List Outcome) : Type 0 where
   pub count : length outcomes ≡ length jobs
   pub each : (n : ℕ) (job : List ℕ) (o : Outcome) → slice_get jobs n ≡ Some job
-      → slice_get outcomes n ≡ Some o → IsOutcome key job o
+      → slice_get outcomes n ≡ Some o → IsOutcome key shape job o
 
 -- what a fault says of the seat: one that got no number, or is closed, has met the end of the range
 abbrev pub IsFaultAt : SeatView → IssueFault → Type 0

@@ -1,6 +1,7 @@
 -- Inside: what all lanes of a batch share, and what one lane leaves behind it.
 use Rattle.std.specs.Prelude.{◌≡◌, ℕ, ◌+◌, ◌<◌, ◌≤◌, List, [], ◌∷◌, ◌++◌, length, slice_index_or, All}
 use Rattle.container_core.specs.declared.TheConstants.{MAX_PLAIN}
+use Rattle.container_core.specs.Shape.{ShapeView}
 use Rattle.journal_core.specs.History.{Begins}
 use Rattle.ledger_core.specs.Shared.{LedgerId, SeatView, IsSameSeat}
 use Rattle.claim_core.specs.Claims.{ClaimsView, ClaimantView}
@@ -13,12 +14,13 @@ use Rattle.crew_core.specs.Places.{PlacesView, Ascends, done_at, jobs_of, outcom
 -- what all lanes share: the claims are on the numbers of the jobs, and lanes are their workers
 pub record BatchView : Type 0 where
   pub key : List ℕ
+  pub shape : ShapeView
   pub ledger : LedgerId
   pub jobs : List (List ℕ)
   pub claims : ClaimsView
 
-abbrev pub batch_of : List ℕ → LedgerId → List (List ℕ) → ClaimsView → BatchView
-batch_of key ledger jobs claims = record { key = key; ledger = ledger; jobs = jobs; claims = claims }
+abbrev pub batch_of : List ℕ → ShapeView → LedgerId → List (List ℕ) → ClaimsView → BatchView
+batch_of key shape ledger jobs claims = record { key = key; shape = shape; ledger = ledger; jobs = jobs; claims = claims }
 
 -- at most 65,535 jobs, each of at most 2^40 bytes, whose numbers are those that are claimed
 pub record IsBatch (batch : BatchView) : Type 0 where
@@ -35,8 +37,8 @@ abbrev pub ended : ClaimsView → ℕ → List ℕ → ClaimantView
 ended claims lanes drawn = claimant_of claims lanes drawn lanes
 
 -- what one job does to its lane's seat
-pub record IsStep (key job : List ℕ) (lane : ℕ) (old new : SeatView) (o : Outcome) : Type 0 where
-  pub outcome : IsOutcome key job o
+pub record IsStep (key : List ℕ) (shape : ShapeView) (job : List ℕ) (lane : ℕ) (old new : SeatView) (o : Outcome) : Type 0 where
+  pub outcome : IsOutcome key shape job o
   pub seat : seat_of o ≡ lane
   pub stands : IsAt new o
   pub mine : new.mine ≡ old.mine ++ issues old.number (o ∷ [])
@@ -45,7 +47,7 @@ pub record IsStep (key job : List ℕ) (lane : ℕ) (old new : SeatView) (o : Ou
 
 -- a job that a lane has done, and its outcome, which names the lane's seat and says of it what holds by now
 pub record IsDone (batch : BatchView) (lane : ℕ) (now : SeatView) (d : Done) : Type 0 where
-  pub outcome : IsOutcome batch.key (slice_index_or batch.jobs d.job []) d.outcome
+  pub outcome : IsOutcome batch.key batch.shape (slice_index_or batch.jobs d.job []) d.outcome
   pub seat : seat_of d.outcome ≡ lane
   pub stands : IsAt now d.outcome
 

@@ -1,13 +1,18 @@
--- Inside: when a crew can make a round.
-use Rattle.std.specs.Prelude.{◌≡◌, ℕ, ◌≤◌, []}
+-- Inside: how many chunks a round has, and when a crew can make one.
+use Rattle.std.specs.Prelude.{◌≡◌, ℕ, ◌/◌, ◌≤◌, []}
 use Rattle.round_core.specs.declared.round.Task.{Task}
 use Rattle.round_core.specs.Parts.{room_of}
 use Rattle.round_core.specs.Views.{PlacesView}
 use Rattle.worker_core.specs.Crew.{CrewView}
+use Rattle.crew_core.specs.declared.rounds.TheConstants.{ROUND}
 
--- a crew without pieces can make so many of a task, and the places take them
-pub record CanMake (task : Task) (pieces : ℕ) (crew : CrewView) (places : PlacesView) : Type 0 where
+-- the chunks of this size in a round that isn't the last
+unfoldable pub round_count : ℕ → ℕ
+round_count size = ROUND / size
+
+-- a crew without pieces can make so many of a task, of chunks of this size, and the places take them
+pub record CanMake (task : Task) (size pieces : ℕ) (crew : CrewView) (places : PlacesView) : Type 0 where
   pub idle : crew.made ≡ []
-  pub size : room_of task ≤ crew.size
+  pub room : room_of task size ≤ crew.size
   pub sizes : places.size ≡ crew.size
   pub rooms : (pieces ≤ crew.room) × (pieces ≤ places.room)

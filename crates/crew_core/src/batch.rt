@@ -7,13 +7,13 @@ use crate::lanes::{Batch, work_lanes};
 use crate::outcome::Outcome;
 use crate::places::{all_places, put_in_order};
 use crate::{MAX_JOBS, MAX_LANES};
-use container_core::{Key, MAX_PLAIN};
+use container_core::{Key, MAX_PLAIN, Shape};
 use ledger_core::{Ledger, Seat};
 use std::alloc::{AllocError, Global};
 use std::thread::Threads;
 use worker_core::Gate;
 
-/// Seals at most 65,535 jobs, each of at most 2^40 bytes, by 1 to 16 lanes. Lane i uses the seat at place i. The lanes
+/// Seals at most 65,535 jobs, each of at most 2^40 bytes, in one shape, by 1 to 16 lanes. Lane i uses the seat at place i. The lanes
 /// draw the jobs in the order of their numbers, each its next when it is done with the last, till none is left: for
 /// each a lane passes the gate with the job's number, issues a number, and seals the job on its own thread. So a lane
 /// that is held up holds up one job alone. The caller's thread is lane 0, and a lane that can't be started is left out.
@@ -26,6 +26,7 @@ pub fn seal_batch<R: Threads + Sync, G: Gate + Sync>(
     rt: &R,
     alloc: Global,
     key: &Key,
+    shape: &Shape,
     ledger: &Ledger,
     seats: &mut [Seat],
     jobs: &[Vec<u8>],
@@ -37,7 +38,7 @@ pub fn seal_batch<R: Threads + Sync, G: Gate + Sync>(
     requires ours { (i : ℕ) (seat : SeatView) → slice_get seats.old i ≡ Some seat → seat.ledger ≡ ledger.now.ledger }
     requires few { length jobs.now ≤ MAX_JOBS }
     requires short { All (λ job. length job.items ≤ MAX_PLAIN) jobs.now }
-    ensures outcomes { IfOk result (λ out. AreOutcomes key.now (map (λ job. job.items) jobs.now) out.items) }
+    ensures outcomes { IfOk result (λ out. AreOutcomes key.now shape.now (map (λ job. job.items) jobs.now) out.items) }
     ensures issued { IfOk result (λ out. AreIssued seats.old seats.new out.items) }
     ensures at_seats { IfOk result (λ out. AreAmong lanes seats.new out.items) }
     ensures seen { GoOn seats.old seats.new }
@@ -49,7 +50,7 @@ pub fn seal_batch<R: Threads + Sync, G: Gate + Sync>(
     let lanes = lanes.min(count).max(1);
     let mut outcomes = Vec::with_capacity(alloc, jobs.len())?;
     let mut all = all_places(alloc, jobs.len(), lanes)?;
-    let (batch, mut claimant) = Batch::open(alloc, key, ledger, jobs, lanes)?;
+    let (batch, mut claimant) = Batch::open(alloc, key, shape, ledger, jobs, lanes)?;
     let places = all.as_mut_slice();
     let (used, _) = seats.split_at_mut(lanes as usize);
     work_lanes(rt, alloc, &batch, lanes, gate, used, places, &mut claimant);

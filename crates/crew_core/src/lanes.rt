@@ -10,7 +10,7 @@ use crate::outcome::Outcome;
 use crate::places::{Done, Places};
 use crate::{MAX_JOBS, MAX_LANES};
 use claim_core::{Claimant, Claims};
-use container_core::{Key, MAX_PLAIN, seal};
+use container_core::{Key, MAX_PLAIN, Shape, seal};
 use ledger_core::{Ledger, Seat};
 use std::alloc::{AllocError, Global};
 use std::marker::Model;
@@ -21,6 +21,7 @@ use worker_core::Gate;
 #[derive(Drop)]
 pub(crate) struct Batch<'a> {
     key: &'a Key,
+    shape: &'a Shape,
     ledger: &'a Ledger,
     jobs: &'a [Vec<u8>],
     claims: Claims,
@@ -32,10 +33,10 @@ impl<'a> Model for Batch<'a> {
 
     ghost Value = { BatchView };
 
-    ghost view = { λ b. batch_of b.key.now b.ledger.now.ledger (map (λ job. job.items) b.jobs.now) b.claims };
+    ghost view = { λ b. batch_of b.key.now b.shape.now b.ledger.now.ledger (map (λ job. job.items) b.jobs.now) b.claims };
 
     ghost invariant = { λ b. IsBatch
-        (batch_of b.key.now b.ledger.now.ledger (map (λ job. job.items) b.jobs.now) b.claims) };
+        (batch_of b.key.now b.shape.now b.ledger.now.ledger (map (λ job. job.items) b.jobs.now) b.claims) };
 }
 
 impl<'a> Batch<'a> {
@@ -43,6 +44,7 @@ impl<'a> Batch<'a> {
     pub(crate) fn open(
         alloc: Global,
         key: &'a Key,
+        shape: &'a Shape,
         ledger: &'a Ledger,
         jobs: &'a [Vec<u8>],
         lanes: u32,
@@ -51,6 +53,7 @@ impl<'a> Batch<'a> {
         requires few { length jobs.now ≤ MAX_JOBS }
         requires short { All (λ job. length job.items ≤ MAX_PLAIN) jobs.now }
         ensures key { IfOk result (λ r. r.0.key ≡ key.now) }
+        ensures shape { IfOk result (λ r. r.0.shape ≡ shape.now) }
         ensures ledger { IfOk result (λ r. r.0.ledger ≡ ledger.now.ledger) }
         ensures jobs { IfOk result (λ r. r.0.jobs ≡ map (λ job. job.items) jobs.now) }
         ensures lanes { IfOk result (λ r. r.0.claims.workers ≡ lanes) }
@@ -59,6 +62,7 @@ impl<'a> Batch<'a> {
         let (claims, claimant) = Claims::open(alloc, jobs.len() as u32, lanes)?;
         let batch = Batch {
             key,
+            shape,
             ledger,
             jobs,
             claims,
@@ -108,6 +112,7 @@ impl<'a> Batch<'a> {
     {
         let Batch {
             key: _,
+            shape: _,
             ledger: _,
             jobs: _,
             claims,
@@ -119,11 +124,12 @@ impl<'a> Batch<'a> {
     fn seal_job(&self, alloc: Global, lane: u32, job: u32, seat: &mut Seat) -> Outcome
         requires job { job < length self.now.jobs }
         requires ours { seat.old.ledger ≡ self.now.ledger }
-        ensures { IsStep self.now.key (slice_index_or self.now.jobs job []) lane seat.old seat.new result }
+        ensures { IsStep self.now.key self.now.shape (slice_index_or self.now.jobs job []) lane seat.old seat.new result }
     {
         sealed_job(
             alloc,
             self.key,
+            self.shape,
             self.ledger,
             lane,
             self.jobs[job as usize].as_slice(),
@@ -136,6 +142,7 @@ impl<'a> Batch<'a> {
 fn sealed_job(
     alloc: Global,
     key: &Key,
+    shape: &Shape,
     ledger: &Ledger,
     lane: u32,
     job: &[u8],
@@ -143,13 +150,13 @@ fn sealed_job(
 ) -> Outcome
     requires ours { seat.old.ledger ≡ ledger.now.ledger }
     requires short { length job.now ≤ MAX_PLAIN }
-    ensures { IsStep key.now job.now lane seat.old seat.new result }
+    ensures { IsStep key.now shape.now job.now lane seat.old seat.new result }
 {
     let grant = match ledger.issue(seat) {
         Ok(grant) => grant,
         Err(fault) => return Outcome::Unissued { seat: lane, fault },
     };
-    match seal(alloc, key, grant.prefix(), job) {
+    match seal(alloc, key, shape, grant.prefix(), job) {
         Ok(bytes) => Outcome::Sealed {
             seat: lane,
             bytes,

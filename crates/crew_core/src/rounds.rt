@@ -3,28 +3,94 @@
 //!
 //! The room of the crew is made before the first piece is, and so is that of the whole, by the caller: from then on
 //! nothing answers that memory was refused. Each round asks for one word more, and does without it.
-ghost use Rattle.std.specs.Prelude.{◌≡◌, ◌+◌, ◌*◌, ◌^◌, ◌<◌, ◌≤◌, ◌++◌, ℕ, [], length, min, true, Ok, Err};
+ghost use Rattle.std.specs.Prelude.{◌≡◌, ◌+◌, ◌-◌, ◌*◌, ◌^◌, ◌<◌, ◌≤◌, ◌++◌, ℕ, [], length, min, false, true, Ok, Err};
 ghost use Rattle.std.specs.Prelude.{vec_len, vec_capacity, IfOk, IfErr, OnOk};
 ghost use Rattle.container_core.specs.declared.fault.OpenFault.TheVariants.{Forged};
 ghost use Rattle.container_core.specs.Chunks.{body_length, chunk_count, chunks, sealed_chunks};
 ghost use Rattle.container_core.specs.Opening.{unsealed_by};
 ghost use Rattle.container_core.specs.Stream.{stream_by};
 ghost use Rattle.round_core.specs.Answer.{answer, joined, named};
-ghost use Rattle.round_core.specs.Parts.{room_of};
-ghost use Rattle.crew_core.specs.Rounds.{CanMake};
+ghost use Rattle.round_core.specs.Parts.{body_bytes, room_of};
+ghost use Rattle.round_core.specs.Values.{round_of};
+ghost use Rattle.container_core.specs.Container.{size_in};
+ghost use Rattle.crew_core.specs.Rounds.{CanMake, round_count};
 ghost use Rattle.worker_core.specs.Crew.{idle};
 
-use container_core::laws::{chunks_by_number, rounds_of_a_stream, rounds_open};
-use container_core::{CHUNK, Cut, Header, Key, MAX_PLAIN, SEALED};
+use container_core::laws::{chunks_by_number, chunks_counted, rounds_of_a_stream, rounds_open};
+use container_core::{Cut, Header, Key, MAX_PLAIN, TAG};
 use round_core::laws::{pieces_by_number, refused_pieces, rounds_are_opened, rounds_are_sealed};
 use round_core::{Places, Round, Task};
 use std::alloc::{AllocError, Global};
 use std::thread::Threads;
 use worker_core::{Crew, Gate, MAX_WORKERS};
 
-// Chunks of a round that isn't the last: 4 MiB, sealed in some 5 ms by one worker, where a thread starts in less than
-// 0.1 ms.
-const ROUND: u32 = 64;
+// Plaintext bytes of a round that isn't the last: 4 MiB, sealed in some 5 ms by one worker, where a thread starts in less
+// than 0.1 ms. It has 4 chunks of 1 MiB, 64 of 64 KiB, or 1,024 of 4 KiB.
+const ROUND: usize = 1 << 22;
+
+// How many chunks of this size a round has that isn't the last.
+#[tactic(auto, unfolding(crate::specs::Rounds::round_count))]
+fn chunks_of_round(size: usize) -> u32
+    requires { (4096 ≤ size) × (size ≤ 1048576) }
+    ensures value { result ≡ round_count size }
+    ensures some { 0 < result }
+    ensures few { result ≤ 1024 }
+    ensures bytes { result * size ≤ ROUND }
+{
+    (ROUND / size) as u32
+}
+
+// So many whole chunks of a plaintext, and what stands behind them.
+fn split_plain(size: usize, count: u32, rest: &[u8]) -> (&[u8], &[u8])
+    requires size { 0 < size }
+    requires full { count * size < length rest.now }
+    ensures parts { rest.now ≡ result.0.now ++ result.1.now }
+    ensures whole { length result.0.now ≡ count * size }
+    ensures more { 0 < length result.1.now }
+    ensures counted { chunk_count size (length rest.now) ≡ count + chunk_count size (length result.1.now) }
+{
+    rest.split_at(count as usize * size)
+}
+
+// So many whole sealed chunks of a body that has so many plaintext bytes, and what stands behind them.
+fn split_sealed(size: usize, count: u32, plain: u64, rest: &[u8]) -> (&[u8], &[u8])
+    requires size { 0 < size }
+    requires count { 0 < count }
+    requires body { length rest.now ≡ body_length size plain }
+    requires full { count * (size + TAG) < length rest.now }
+    ensures parts { rest.now ≡ result.0.now ++ result.1.now }
+    ensures whole { length result.0.now ≡ count * (size + TAG) }
+    ensures round { length result.0.now ≡ body_length size (count * size) }
+    ensures more { 0 < length result.1.now }
+    ensures fits { count * size < plain }
+    ensures left { length result.1.now ≡ body_length size (plain - count * size) }
+    ensures counted { chunk_count size plain ≡ count + chunk_count size (plain - count * size) }
+{
+    rest.split_at(count as usize * (size + TAG))
+}
+
+// The round of some whole chunks, none of which is the last of all.
+fn full_round<'a>(
+    task: Task,
+    key: &'a Key,
+    header: &'a Header,
+    first: u32,
+    count: u32,
+    body: &'a [u8],
+) -> Round<'a>
+    requires count { (0 < count) × (count ≤ 1024) }
+    requires numbers { first + count ≤ 2 ^ 32 }
+    requires body { length body.now ≡ body_bytes task (size_in header.now) (count * size_in header.now) }
+    requires small { count * size_in header.now ≤ ROUND }
+    ensures round { result ≡ round_of task key.now header.now first false body.now }
+    ensures count { length result.values ≡ count }
+{
+    pieces_by_number();
+    chunks_by_number();
+    chunks_counted();
+    let cut = Cut::of(header, count as u64 * header.chunk() as u64);
+    Round::new(task, key, header, first, false, cut, body)
+}
 
 // A crew, and the places of a round.
 #[derive(Drop)]
@@ -34,24 +100,27 @@ pub(crate) struct Rooms {
 }
 
 impl Rooms {
-    // The room for a body of so many chunks, for no more workers than a round has pieces. `AllocError` where memory was
-    // refused.
+    // The room for a body of so many chunks of a size, for no more workers than a round has pieces. `AllocError` where
+    // memory was refused.
     pub(crate) fn new(
         alloc: Global,
         task: Task,
+        size: usize,
         chunks: u32,
         workers: u32,
     ) -> Result<Rooms, AllocError>
+        requires size { (4096 ≤ size) × (size ≤ 1048576) }
         requires chunks { 0 < chunks }
         requires workers { (0 < workers) × (workers ≤ MAX_WORKERS) }
         ensures crew { IfOk result (λ rooms. rooms.crew
-            ≡ idle (min workers (min ROUND chunks)) (min ROUND chunks) (room_of task)) }
-        ensures ready { IfOk result (λ rooms. CanMake task (min ROUND chunks) rooms.crew rooms.places) }
+            ≡ idle (min workers (min (round_count size) chunks)) (min (round_count size) chunks) (room_of task size)) }
+        ensures ready { IfOk result (λ rooms. CanMake task size (min (round_count size) chunks) rooms.crew rooms.places) }
         ensures empty { IfOk result (λ rooms. rooms.places.values ≡ []) }
     {
-        let pieces = chunks.min(ROUND);
-        let crew = Crew::new(alloc, workers.min(pieces), pieces, task.room())?;
-        let places = Places::new(alloc, pieces, task.room())?;
+        let pieces = chunks.min(chunks_of_round(size));
+        let room = task.room(size);
+        let crew = Crew::new(alloc, workers.min(pieces), pieces, room)?;
+        let places = Places::new(alloc, pieces, room)?;
         Ok(Rooms { crew, places })
     }
 }
@@ -77,13 +146,13 @@ fn make_round<R: Threads + Sync, G: Gate + Sync>(
     out: &mut Vec<u8>,
     gate: &G,
 )
-    requires ready { CanMake round.now.task (length round.now.values) rooms.old.crew rooms.old.places }
+    requires ready { CanMake round.now.task round.now.size (length round.now.values) rooms.old.crew rooms.old.places }
     requires room { vec_len out.old + length (joined rooms.old.places.values) ≤ vec_capacity out.old }
     ensures values { rooms.new.places.values ≡ round.now.values }
     ensures items { out.new.items ≡ out.old.items ++ joined rooms.old.places.values }
     ensures room { vec_capacity out.old ≤ vec_capacity out.new }
-    ensures ready { (task : Task) (pieces : ℕ) → CanMake task pieces rooms.old.crew rooms.old.places
-        → CanMake task pieces rooms.new.crew rooms.new.places }
+    ensures ready { (task : Task) (size pieces : ℕ) → CanMake task size pieces rooms.old.crew rooms.old.places
+        → CanMake task size pieces rooms.new.crew rooms.new.places }
 {
     let Rooms { crew, places } = rooms;
     let waiting = &*places;
@@ -111,29 +180,33 @@ pub(crate) fn seal_rounds<R: Threads + Sync, G: Gate + Sync>(
     gate: &G,
 )
     requires plain { length plain.now ≤ MAX_PLAIN }
-    requires numbers { first + chunk_count (length plain.now) ≤ 2 ^ 32 }
-    requires ready { CanMake Task.Sealing (min ROUND (chunk_count (length plain.now))) rooms.crew rooms.places }
+    requires numbers { first + chunk_count (size_in header.now) (length plain.now) ≤ 2 ^ 32 }
+    requires ready { CanMake Task.Sealing (size_in header.now)
+        (min (round_count (size_in header.now)) (chunk_count (size_in header.now) (length plain.now)))
+        rooms.crew rooms.places }
     requires empty { rooms.places.values ≡ [] }
-    requires room { vec_len out.old + body_length (length plain.now) ≤ vec_capacity out.old }
-    ensures { out.new.items ≡ out.old.items ++ stream_by key.now header.now first last (chunks plain.now) }
+    requires room { vec_len out.old + body_length (size_in header.now) (length plain.now) ≤ vec_capacity out.old }
+    ensures { out.new.items ≡ out.old.items
+        ++ stream_by key.now header.now first last (chunks (size_in header.now) plain.now) }
 {
     // Rounds one behind the other are STREAM, and the pieces of a round its part of it.
     rounds_of_a_stream();
     rounds_are_sealed();
     pieces_by_number();
     chunks_by_number();
-    let size = ROUND as usize * CHUNK;
+    let size = header.chunk();
+    let count = chunks_of_round(size);
+    let step = count as usize * size;
     let mut number = first;
     let mut rest = plain;
-    'rounds: while rest.len() > size {
-        let (bytes, more) = rest.split_at(size);
-        let cut = Cut::of(size as u64);
-        let round = Round::new(Task::Sealing, key, header, number, false, cut, bytes);
+    'rounds: while rest.len() > step {
+        let (bytes, more) = split_plain(size, count, rest);
+        let round = full_round(Task::Sealing, key, header, number, count, bytes);
         make_round(rt, alloc, &round, &mut rooms, out, gate);
-        number += ROUND;
+        number += count;
         rest = more;
     }
-    let cut = Cut::of(rest.len() as u64);
+    let cut = Cut::of(header, rest.len() as u64);
     let round = Round::new(Task::Sealing, key, header, number, last, cut, rest);
     make_round(rt, alloc, &round, &mut rooms, out, gate);
     append_pieces(out, &rooms.places);
@@ -166,40 +239,43 @@ pub(crate) fn open_rounds<R: Threads + Sync, G: Gate + Sync>(
     out: &mut Vec<u8>,
     gate: &G,
 ) -> Result<(), u32>
-    requires plain { cut ≤ MAX_PLAIN }
-    requires body { length body.now ≡ body_length cut }
-    requires ready { CanMake Task.Opening (min ROUND (chunk_count cut)) rooms.crew rooms.places }
+    requires size { cut.size ≡ size_in header.now }
+    requires plain { cut.plain ≤ MAX_PLAIN }
+    requires body { length body.now ≡ body_length cut.size cut.plain }
+    requires ready { CanMake Task.Opening cut.size (min (round_count cut.size) (chunk_count cut.size cut.plain))
+        rooms.crew rooms.places }
     requires empty { (rooms.places.values ≡ []) × (out.old.items ≡ []) }
-    requires room { cut ≤ vec_capacity out.old }
+    requires room { cut.plain ≤ vec_capacity out.old }
     ensures opened { OnOk result
-        (unsealed_by key.now header.now 0 true (sealed_chunks body.now) ≡ Ok out.new.items) }
+        (unsealed_by key.now header.now 0 true (sealed_chunks cut.size body.now) ≡ Ok out.new.items) }
     ensures refused { IfErr result (λ chunk.
-        unsealed_by key.now header.now 0 true (sealed_chunks body.now) ≡ Err (Forged chunk)) }
+        unsealed_by key.now header.now 0 true (sealed_chunks cut.size body.now) ≡ Err (Forged chunk)) }
 {
     // Rounds one behind the other open as all chunks do, and the pieces of a round as its chunks.
     rounds_open();
     rounds_are_opened();
     pieces_by_number();
     chunks_by_number();
-    let size = ROUND as usize * SEALED;
-    let step = ROUND as u64 * CHUNK as u64;
+    let size = header.chunk();
+    let count = chunks_of_round(size);
+    let step = count as usize * size;
+    let sealed = count as usize * (size + TAG);
     let mut plain = cut.plain();
     let mut number = 0;
     let mut rest = body;
-    'rounds: while rest.len() > size {
-        let (bytes, more) = rest.split_at(size);
-        let cut = Cut::of(step);
-        let round = Round::new(Task::Opening, key, header, number, false, cut, bytes);
+    'rounds: while rest.len() > sealed {
+        let (bytes, more) = split_sealed(size, count, plain, rest);
+        let round = full_round(Task::Opening, key, header, number, count, bytes);
         make_round(rt, alloc, &round, &mut rooms, out, gate);
         match checked(&rooms.places, number) {
             Ok(()) => {}
             Err(chunk) => return Err(chunk),
         }
-        number += ROUND;
-        plain -= step;
+        number += count;
+        plain -= step as u64;
         rest = more;
     }
-    let cut = Cut::of(plain);
+    let cut = Cut::of(header, plain);
     let round = Round::new(Task::Opening, key, header, number, true, cut, rest);
     make_round(rt, alloc, &round, &mut rooms, out, gate);
     match checked(&rooms.places, number) {

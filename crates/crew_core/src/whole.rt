@@ -2,7 +2,7 @@
 ghost use Rattle.std.specs.Prelude.{◌≡◌, ◌≢◌, ℕ, ◌+◌, ◌*◌, ◌^◌, ◌<◌, ◌≤◌, ◌++◌, ◌⊎◌, List, true, false, None, length, Ok, Err};
 ghost use Rattle.std.specs.Prelude.{IfOk, IfErr, OnOk, OnErr};
 ghost use Rattle.container_core.specs.Chunks.{chunk_count, chunks};
-ghost use Rattle.container_core.specs.Container.{container};
+ghost use Rattle.container_core.specs.Container.{container, size_in};
 ghost use Rattle.container_core.specs.Opening.{early_fault, opening};
 ghost use Rattle.container_core.specs.Stream.{stream, stream_by};
 ghost use Rattle.crew_core.specs.Spending.{spent_as};
@@ -11,10 +11,10 @@ ghost use Rattle.ledger_core.specs.Range.{prefix_of};
 
 use crate::MAX_WORKERS;
 use crate::rounds::{Rooms, open_rounds, seal_rounds};
-use container_core::laws::{chunks_by_number, opening_faults, rounds_of_a_stream, rounds_open};
-use container_core::{
-    CHUNK, Cut, HEADER, Header, Key, MAX_PLAIN, OpenFault, begin, container_bytes,
+use container_core::laws::{
+    chunks_by_number, headers_name_their_shape, opening_faults, rounds_of_a_stream, rounds_open,
 };
+use container_core::{Cut, Header, Key, MAX_HEADER, MAX_PLAIN, OpenFault, Shape, TAG, begin};
 use ledger_core::{Grant, Spent};
 use round_core::Task;
 use std::alloc::{AllocError, Global};
@@ -35,15 +35,17 @@ fn sealed_behind<R: Threads + Sync, G: Gate + Sync>(
     workers: u32,
     gate: &G,
 ) -> Result<Vec<u8>, AllocError>
-    requires front { length front.now ≤ HEADER }
+    requires front { length front.now ≤ MAX_HEADER }
     requires plain { length plain.now ≤ MAX_PLAIN }
-    requires numbers { first + chunk_count (length plain.now) ≤ 2 ^ 32 }
+    requires numbers { first + chunk_count (size_in header.now) (length plain.now) ≤ 2 ^ 32 }
     requires workers { (0 < workers) × (workers ≤ MAX_WORKERS) }
-    ensures { IfOk result (λ out. out.items ≡ front.now ++ stream_by key.now header.now first last (chunks plain.now)) }
+    ensures { IfOk result (λ out. out.items
+        ≡ front.now ++ stream_by key.now header.now first last (chunks (size_in header.now) plain.now)) }
 {
     let bytes = plain.len() as u64;
-    let rooms = Rooms::new(alloc, Task::Sealing, Cut::of(bytes).count(), workers)?;
-    let behind = container_bytes(bytes) as usize - HEADER;
+    let chunks = Cut::of(header, bytes).count();
+    let rooms = Rooms::new(alloc, Task::Sealing, header.chunk(), chunks, workers)?;
+    let behind = plain.len() + TAG * chunks as usize;
     let mut out = Vec::with_capacity(alloc, front.len() + behind)?;
     match out.extend_from_slice(front) {
         Ok(()) => {}
@@ -55,14 +57,15 @@ fn sealed_behind<R: Threads + Sync, G: Gate + Sync>(
     Ok(out)
 }
 
-/// Seals a plaintext of at most 2^40 bytes under the prefix of a grant, by 1 to 16 workers, of which the caller's
+/// Seals a plaintext of at most 2^40 bytes under the prefix of a grant, in a shape, by 1 to 16 workers, of which the caller's
 /// thread is the first. The answer is the container, whatever the number of workers and the gate; or that memory was
 /// refused, before any chunk was sealed. The grant comes back spent: sealed with the container, void without one. Beside
-/// the container it takes room for 64 chunks, or as many as there are, and for as many again for each worker.
+/// the container it takes room for 4 MiB of chunks, or as many as there are, and for as many again for each worker.
 pub fn seal_whole<R: Threads + Sync, G: Gate + Sync>(
     rt: &R,
     alloc: Global,
     key: &Key,
+    shape: &Shape,
     grant: Grant,
     plain: &[u8],
     workers: u32,
@@ -71,17 +74,18 @@ pub fn seal_whole<R: Threads + Sync, G: Gate + Sync>(
     requires plain { length plain.now ≤ MAX_PLAIN }
     requires workers { (0 < workers) × (workers ≤ MAX_WORKERS) }
     ensures container { IfOk result.0 (λ out. out.items
-        ≡ container key.now (prefix_of grant.device grant.number) plain.now) }
+        ≡ container key.now shape.now (prefix_of grant.device grant.number) plain.now) }
     ensures sealed { OnOk result.0 (result.1 ≡ spent_as grant Sealed) }
     ensures void { OnErr result.0 (result.1 ≡ spent_as grant Void) }
 {
-    // All chunks are a round that is the last.
+    // All chunks are a round that is the last, of the size that the header names.
     rounds_of_a_stream();
-    let header = Header::of(key, grant.prefix());
+    headers_name_their_shape();
+    let header = Header::of(key, shape, grant.prefix());
     match sealed_behind(
         rt,
         alloc,
-        &header.bytes(),
+        header.bytes(),
         key,
         &header,
         0,
@@ -112,19 +116,24 @@ pub fn seal_round<R: Threads + Sync, G: Gate + Sync>(
     workers: u32,
     gate: &G,
 ) -> Result<Vec<u8>, AllocError>
-    requires few { length plain.now ≤ MAX_WINDOW * CHUNK }
-    requires numbers { first + chunk_count (length plain.now) ≤ 2 ^ 32 }
-    requires whole { last ≡ false → length plain.now ≡ chunk_count (length plain.now) * CHUNK }
+    requires few { length plain.now ≤ MAX_WINDOW * size_in header.now }
+    requires numbers { first + chunk_count (size_in header.now) (length plain.now) ≤ 2 ^ 32 }
+    requires whole { last ≡ false
+        → length plain.now ≡ chunk_count (size_in header.now) (length plain.now) * size_in header.now }
     requires empty { length plain.now ≡ 0 → first ≡ 0 }
     requires workers { (0 < workers) × (workers ≤ MAX_WORKERS) }
-    ensures last { IfOk result (λ out. last ≡ true → out.items ≡ stream key.now header.now first (chunks plain.now)) }
+    ensures last { IfOk result (λ out. last ≡ true
+        → out.items ≡ stream key.now header.now first (chunks (size_in header.now) plain.now)) }
     ensures begins { IfOk result (λ out. last ≡ false → (more : List (List ℕ)) → 0 < length more
-        → stream key.now header.now first (chunks plain.now ++ more)
-        ≡ out.items ++ stream key.now header.now (first + chunk_count (length plain.now)) more) }
+        → stream key.now header.now first (chunks (size_in header.now) plain.now ++ more)
+        ≡ out.items
+        ++ stream key.now header.now (first + chunk_count (size_in header.now) (length plain.now)) more) }
 {
     // STREAM is a round that is the last, and two rounds, one behind the other, are one.
     rounds_of_a_stream();
     chunks_by_number();
+    // A header's chunks are of at most 2^20 bytes.
+    header.chunk();
     sealed_behind(
         rt,
         alloc,
@@ -166,8 +175,8 @@ pub fn open_whole<R: Threads + Sync, G: Gate + Sync>(
         Ok(begun) => begun,
         Err(fault) => return Err(fault),
     };
-    let (_, body) = container.split_at(HEADER);
-    let Ok(rooms) = Rooms::new(alloc, Task::Opening, cut.count(), workers) else {
+    let (_, body) = container.split_at(header.bytes().len());
+    let Ok(rooms) = Rooms::new(alloc, Task::Opening, header.chunk(), cut.count(), workers) else {
         return Err(OpenFault::OutOfMemory);
     };
     let Ok(mut out) = Vec::with_capacity(alloc, cut.plain() as usize) else {

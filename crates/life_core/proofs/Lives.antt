@@ -4,6 +4,7 @@ use mathlib.Core.Logic.{dite}
 use native.Mathlib.Decide.{dec_le}
 use Rattle.std.specs.Prelude.{slice_get}
 use Rattle.std.specs.List.{AllByRecursion}
+use Rattle.std.proofs.Math.Nat.{pow-le-pow_right}
 use Rattle.std.proofs.lemmas.Option.{slice_get_within}
 use Rattle.journal_core.specs.declared.entry.Event.TheVariants.{Granted}
 use Rattle.journal_core.specs.declared.entry.Entry.{Entry}
@@ -13,12 +14,13 @@ use Rattle.journal_core.proofs.Prefixes.{numbers_once, prefix_tells}
 use Rattle.container_core.specs.Chunks.{chunks}
 use Rattle.container_core.specs.Container.{container, header_of}
 use Rattle.container_core.specs.Stream.{nonce_of, prefix_in, is_nil, sealed_chunk, stream}
-use Rattle.container_core.proofs.PartsLemmas.{length-chunks}
-use Rattle.container_core.proofs.HeaderLemmas.{prefix_in-header_of}
+use Rattle.container_core.specs.Shape.{ShapeView, IsShape, size_of}
+use Rattle.container_core.proofs.PartsLemmas.{length-chunks, count-few}
+use Rattle.container_core.proofs.HeaderLemmas.{prefix_in-header_of, shape-bounds}
 use Rattle.container_core.proofs.LawLemmas.{nonce_of-injective}
 use Rattle.ranges_core.specs.Reservations.{TakenRange, Adjacent}
 use Rattle.ranges_core.proofs.Behind.{behind}
-use Rattle.life_core.specs.Life.{Run, Refused, CutOff, Acknowledged, reserved, history_of, IsRun, IsLife, Lives, Grant, HasGrant, prefix_by, stream_nonces, container_nonces, sealed_under}
+use Rattle.life_core.specs.Life.{Run, Refused, CutOff, Acknowledged, reserved, history_of, IsRun, IsLife, Lives, Grant, HasGrant, Sealing, prefix_by, stream_nonces, container_nonces, sealed_under}
 
 -- ranges of a list
 
@@ -209,27 +211,37 @@ nonce_at header number (chunk ∷ rest) (suc k) nonce at =
     let there : number + 1 + k ≡ number + suc k = omega arith in
     (last, omega arith, is ∙ ap (λ (m : ℕ). nonce_of (prefix_in header) m last) there)
 
-header_prefix : (key prefix : List ℕ) → length prefix ≡ 7 → prefix_in (header_of key prefix) ≡ prefix
-header_prefix key prefix seven =
-    ap prefix_in (sym (append-nil (header_of key prefix))) ∙ prefix_in-header_of key prefix [] seven
+header_prefix : (key prefix : List ℕ) (shape : ShapeView) → length prefix ≡ 7 → prefix_in (header_of key shape prefix) ≡ prefix
+header_prefix key prefix shape seven =
+    ap prefix_in (sym (append-nil (header_of key shape prefix))) ∙ prefix_in-header_of key prefix [] shape seven
 
-chunks_few : (plain : List ℕ) → length plain ≤ 2 ^ 40 → length (chunks plain) < 2 ^ 32
-chunks_few plain few = let h = length-chunks plain in omega arith
+-- a chunk has 4096 bytes at least
+chunks_few : (shape : ShapeView) (plain : List ℕ) → IsShape shape → length plain ≤ 2 ^ 40
+    → length (chunks (size_of shape) plain) < 2 ^ 32
+chunks_few shape plain lawful few =
+    let bounds = shape-bounds shape.exponent shape.label lawful in
+    let least : 4096 ≤ size_of shape = pow-le-pow_right {n = 2} (omega arith) bounds.0 in
+    let h = length-chunks (size_of shape) plain in
+    let count = count-few (size_of shape) (length plain) least few in
+    omega (arith, h, count)
 
-pub one_nonce : (key : List ℕ) (lives : Lives) (sealed : Grant → List ℕ) (one other : Grant) (chunk another : ℕ) (nonce : List ℕ)
+pub one_nonce : (key : List ℕ) (lives : Lives) (sealed : Grant → Sealing) (one other : Grant) (chunk another : ℕ) (nonce : List ℕ)
     → HasGrant lives one → HasGrant lives other
-    → length (sealed one) ≤ 2 ^ 40 → length (sealed other) ≤ 2 ^ 40
+    → IsShape (sealed one).shape → IsShape (sealed other).shape
+    → length (sealed one).plain ≤ 2 ^ 40 → length (sealed other).plain ≤ 2 ^ 40
     → slice_get (container_nonces key one (sealed one)) chunk ≡ Some nonce
     → slice_get (container_nonces key other (sealed other)) another ≡ Some nonce
     → (one ≡ other) × (chunk ≡ another)
 unfolding container_nonces
-one_nonce key lives sealed one other chunk another nonce has also few slight at place =
-    let (last, small, is) = nonce_at (header_of key (prefix_by one)) 0 (chunks (sealed one)) chunk nonce at in
-    let (end, tiny, same) = nonce_at (header_of key (prefix_by other)) 0 (chunks (sealed other)) another nonce place in
-    let a = chunks_few (sealed one) few in
-    let b = chunks_few (sealed other) slight in
-    let p = header_prefix key (prefix_by one) refl in
-    let q = header_prefix key (prefix_by other) refl in
+one_nonce key lives sealed one other chunk another nonce has also lawful proper few slight at place =
+    let shape = (sealed one).shape in
+    let form = (sealed other).shape in
+    let (last, small, is) = nonce_at (header_of key shape (prefix_by one)) 0 (chunks (size_of shape) (sealed one).plain) chunk nonce at in
+    let (end, tiny, same) = nonce_at (header_of key form (prefix_by other)) 0 (chunks (size_of form) (sealed other).plain) another nonce place in
+    let a = chunks_few shape (sealed one).plain lawful few in
+    let b = chunks_few form (sealed other).plain proper slight in
+    let p = header_prefix key (prefix_by one) shape refl in
+    let q = header_prefix key (prefix_by other) form refl in
     let mine : nonce ≡ nonce_of (prefix_by one) (0 + chunk) last = is ∙ ap (λ (z : List ℕ). nonce_of z (0 + chunk) last) p in
     let yours : nonce ≡ nonce_of (prefix_by other) (0 + another) end = same ∙ ap (λ (z : List ℕ). nonce_of z (0 + another) end) q in
     let (prefixes, numbers, flags) = nonce_of-injective (prefix_by one) (prefix_by other) (0 + chunk) (0 + another) last end refl (omega arith) (omega arith) (sym mine ∙ yours) in
@@ -244,9 +256,11 @@ stream_under key header number [] = refl
 stream_under key header number (chunk ∷ rest) =
     ap (λ (s : List ℕ). sealed_chunk key header number (is_nil rest) chunk ++ s) (stream_under key header (number + 1) rest)
 
-pub container_under : (key : List ℕ) (grant : Grant) (plain : List ℕ)
-    → container key (prefix_by grant) plain
-    ≡ header_of key (prefix_by grant) ++ sealed_under key (header_of key (prefix_by grant)) (container_nonces key grant plain) (chunks plain)
+pub container_under : (key : List ℕ) (grant : Grant) (sealing : Sealing)
+    → container key sealing.shape (prefix_by grant) sealing.plain
+    ≡ header_of key sealing.shape (prefix_by grant) ++ sealed_under key (header_of key sealing.shape (prefix_by grant))
+    (container_nonces key grant sealing) (chunks (size_of sealing.shape) sealing.plain)
 unfolding container container_nonces
-container_under key grant plain =
-    ap (λ (s : List ℕ). header_of key (prefix_by grant) ++ s) (stream_under key (header_of key (prefix_by grant)) 0 (chunks plain))
+container_under key grant sealing =
+    let header = header_of key sealing.shape (prefix_by grant) in
+    ap (λ (s : List ℕ). header ++ s) (stream_under key header 0 (chunks (size_of sealing.shape) sealing.plain))

@@ -6,9 +6,10 @@ ghost use Rattle.std.specs.Prelude.{◌≡◌, ◌≢◌, ℕ, ◌+◌, ◌^◌,
 ghost use Rattle.journal_core.specs.Range.{prefix_of};
 ghost use Rattle.container_core.specs.Chunks.{chunks};
 ghost use Rattle.container_core.specs.Container.{container, header_of};
+ghost use Rattle.container_core.specs.Shape.{IsShape, size_of};
 ghost use Rattle.ranges_core.specs.Reservations.{TakenRange};
-ghost use Rattle.life_core.specs.Life.{Grant, HasGrant, IsLife, Lives, Run, container_nonces, prefix_by, reserved};
-ghost use Rattle.life_core.specs.Life.{sealed_under};
+ghost use Rattle.life_core.specs.Life.{Grant, HasGrant, IsLife, Lives, Run, Sealing};
+ghost use Rattle.life_core.specs.Life.{container_nonces, prefix_by, reserved, sealed_under};
 
 /// In the life of a key and device no number is in two of the ranges that its runs reserved.
 pub fn ranges_are_apart()
@@ -25,23 +26,25 @@ pub fn no_prefix_is_granted_twice()
 {}
 
 /// No nonce is used twice under one key: over all runs of all its devices, where under each grant one plaintext at most
-/// is sealed, two sealed chunks with one nonce are the same chunk of the same container. A sealing that was broken off
-/// wrote a beginning of such a container, so its chunks are among these.
+/// is sealed, in one shape, two sealed chunks with one nonce are the same chunk of the same container, whatever the
+/// shapes are. A sealing that was broken off wrote a beginning of such a container, so its chunks are among these.
 pub fn no_nonce_is_used_twice()
-    ensures { (key : List ℕ) (lives : Lives) (sealed : Grant
-        → List ℕ) (one other : Grant) (chunk another : ℕ) (nonce : List ℕ)
+    ensures { (key : List ℕ) (lives : Lives) (sealed : Grant → Sealing) (one other : Grant)
+        (chunk another : ℕ) (nonce : List ℕ)
         → HasGrant lives one → HasGrant lives other
-        → length (sealed one) ≤ 2 ^ 40 → length (sealed other) ≤ 2 ^ 40
+        → IsShape (sealed one).shape → IsShape (sealed other).shape
+        → length (sealed one).plain ≤ 2 ^ 40 → length (sealed other).plain ≤ 2 ^ 40
         → slice_get (container_nonces key one (sealed one)) chunk ≡ Some nonce
         → slice_get (container_nonces key other (sealed other)) another ≡ Some nonce
         → (one ≡ other) × (chunk ≡ another) }
 {}
 
-/// These nonces are those of STREAM: the container of a plaintext under a grant is its header, and behind it the
-/// plaintext's chunks in order, each sealed by the AEAD under the nonce at its place.
+/// These nonces are those of STREAM: the container of a plaintext under a grant, in a shape, is its header, and behind
+/// it the plaintext's chunks in order, each sealed by the AEAD under the nonce at its place.
 pub fn containers_are_sealed_under_their_nonces()
-    ensures { (key : List ℕ) (grant : Grant) (plain : List ℕ)
-        → container key (prefix_by grant) plain
-        ≡ header_of key (prefix_by grant) ++ sealed_under key (header_of key (prefix_by grant))
-        (container_nonces key grant plain) (chunks plain) }
+    ensures { (key : List ℕ) (grant : Grant) (sealing : Sealing)
+        → container key sealing.shape (prefix_by grant) sealing.plain
+        ≡ header_of key sealing.shape (prefix_by grant)
+        ++ sealed_under key (header_of key sealing.shape (prefix_by grant))
+        (container_nonces key grant sealing) (chunks (size_of sealing.shape) sealing.plain) }
 {}

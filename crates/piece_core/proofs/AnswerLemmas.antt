@@ -1,5 +1,5 @@
 -- What a shelf answers, and what a work does.
-use Rattle.std.proofs.Common.{◌≡◌, ◌≢◌, ℕ, ◌+◌, ◌<◌, List, [], ◌∷◌, length, get_or, take, drop, map, refl, ap, arith, Option, Some, None, Result, Ok, Err, suc, zero, sym, ◌∙◌, unwrap_or, replicate, length-set, inl, inr, add-zero}
+use Rattle.std.proofs.Common.{◌≡◌, ◌≢◌, ℕ, ◌+◌, ◌<◌, List, [], ◌∷◌, ◌++◌, length, get_or, take, drop, map, refl, ap, arith, Option, Some, None, Result, Ok, Err, suc, zero, sym, ◌∙◌, unwrap_or, replicate, length-set, inl, inr, add-zero}
 use Rattle.std.specs.List.{flat_map}
 use Rattle.std.proofs.lemmas.Bool.{cases_eq}
 use Rattle.std.proofs.lemmas.List.{ext_get_or, get_or-map, length-map, length-replicate, get_or-set_same, get_or-set_other}
@@ -7,8 +7,12 @@ use Rattle.container_core.specs.declared.fault.OpenFault.{OpenFault}
 use Rattle.container_core.specs.declared.fault.OpenFault.TheVariants as opens
 use Rattle.container_core.specs.Chunks.{chunks, sealed_chunks}
 use Rattle.container_core.specs.Stream.{is_nil, sealed_chunk, opened_chunk, stream}
-use Rattle.container_core.specs.Container.{header_of, container}
-use Rattle.container_core.specs.Opening.{joined, early_fault, unsealed, unless, opening}
+use Rattle.container_core.specs.Container.{header_of, header_length, size_in, container}
+use Rattle.container_core.specs.Opening.{joined, early_fault, unsealed, opening}
+use Rattle.container_core.specs.Shape.{ShapeView}
+use Rattle.container_core.proofs.FaultLemmas.{opening-unsealed}
+use Rattle.container_core.proofs.HeaderLemmas.{good_header, named_size, size-header_of}
+use Rattle.container_core.proofs.OpeningLemmas.{parts_of_early}
 use Rattle.piece_core.specs.Pieces.{PieceView, WorkView, ShelfView, piece_of, empty_shelf, Fits, with_piece}
 use Rattle.piece_core.specs.Values.{numbered, values_of, sealing_of, opening_of}
 use Rattle.piece_core.specs.Answer.{named, answer, after_piece, after_front, value_in, IsFull, IsOf, shelf_whole, whole_of}
@@ -54,7 +58,7 @@ IsOf-empty_shelf w = record {
 }
 
 pub Fits-piece_of : (w : WorkView) (s : ShelfView) (n : ℕ) → IsOf w s → n < length w.values → Fits s (piece_of w n)
-Fits-piece_of w s n of at = record { kind = sym of.kind; prefix = rw of.header refl; number = rw of.count at }
+Fits-piece_of w s n of at = record { kind = sym of.kind; header = sym of.header; number = rw of.count at }
 
 pub IsOf-with_piece : (w : WorkView) (s : ShelfView) (n : ℕ) → IsOf w s → n < length w.values → IsOf w (with_piece s (piece_of w n))
 IsOf-with_piece w s n of at = record {
@@ -90,10 +94,13 @@ answer-stream key header i [] = refl
 answer-stream key header i (part ∷ rest) = rw (answer-stream key header (i + 1) rest) refl
 
 -- the answer of one thread to a sealing is the container
-pub whole_of_sealing : (key prefix plain : List ℕ) → whole_of (sealing_of key prefix plain) ≡ Ok (container key prefix plain)
+pub whole_of_sealing : (key prefix plain : List ℕ) (shape : ShapeView)
+    → whole_of (sealing_of key shape prefix plain) ≡ Ok (container key shape prefix plain)
 unfolding values_of container
-whole_of_sealing key prefix plain =
-    ap (after_front (header_of key prefix)) (answer-stream key (header_of key prefix) 0 (chunks plain))
+whole_of_sealing key prefix plain shape =
+    let header = header_of key shape prefix in
+    ap (after_front header) (answer-stream key header 0 (chunks (size_in header) plain))
+    ∙ ap (λ (size : ℕ). Ok (header ++ stream key header 0 (chunks size plain))) (size-header_of key prefix shape)
 
 -- the fault of a piece that doesn't check, counted from the first piece's number
 abbrev forged_from : ℕ → Result (List ℕ) ℕ → Result (List ℕ) OpenFault
@@ -123,13 +130,11 @@ named-front (Err n) = ap (λ m. Err (opens.Forged m)) (zero_first n)
     zero_first m = omega arith
 
 pub opening-whole_of : (key bytes : List ℕ) (most : ℕ) → early_fault key most bytes ≡ None → opening key most bytes ≡ named (whole_of (opening_of key bytes))
-unfolding values_of opening
+unfolding values_of
 opening-whole_of key bytes most none =
-    let header = take 24 bytes in
-    let parts = sealed_chunks (drop 24 bytes) in
-    ap (λ f. unless f (unsealed key header 0 parts)) none
+    let header = take (header_length bytes) bytes in
+    let body = drop (header_length bytes) bytes in
+    let parts = sealed_chunks (size_in header) body in
+    let good = good_header key bytes (parts_of_early key most bytes none).header in
+    opening-unsealed key most bytes header body (size_in header) none refl (named_size bytes header refl good.whole) refl
     ∙ answer-unsealed key header 0 parts ∙ named-front (answer (numbered (opened_chunk key header) 0 parts))
-
-pub opening-early : (key bytes : List ℕ) (most : ℕ) (fault : OpenFault) → early_fault key most bytes ≡ Some fault → opening key most bytes ≡ Err fault
-unfolding opening
-opening-early key bytes most fault some = ap (λ f. unless f (unsealed key (take 24 bytes) 0 (sealed_chunks (drop 24 bytes)))) some

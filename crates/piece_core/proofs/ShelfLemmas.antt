@@ -8,148 +8,147 @@ use Rattle.piece_core.specs.declared.work.Kind.{Kind}
 use Rattle.piece_core.specs.declared.shelf.Place.{Place}
 use Rattle.piece_core.specs.declared.shelf.Place.TheVariants.{Empty, Forged, Here, Apart}
 use Rattle.piece_core.specs.Pieces.{PieceView, ShelfView, Fits, with_piece}
-use Rattle.container_core.specs.Stream.{prefix_in}
 use Rattle.piece_core.specs.Answer.{value_in, IsFull, HasGap, shelf_whole, front_of, after_front}
 use Rattle.piece_core.specs.Rooms.{all_of, shown, places_from, shelf_of, bytes_in, held, held_from, IsWithout, HasAll, IsFirstWithout, AllCheck, Keeps, piece_at}
 use Rattle.piece_core.proofs.AnswerLemmas.{answer_ok, answer_err}
 
-pub length-places_from : (kind : Kind) (prefix : List ℕ) (i : ℕ) (places : List Place) (parts : List (List ℕ)) → length (places_from kind prefix i places parts) ≡ length places
+pub length-places_from : (kind : Kind) (header : List ℕ) (i : ℕ) (places : List Place) (parts : List (List ℕ)) → length (places_from kind header i places parts) ≡ length places
 unfolding places_from
-length-places_from kind prefix i [] parts = refl
-length-places_from kind prefix i (place ∷ rest) parts = let h = length-places_from kind prefix (i + 1) rest parts in omega arith
+length-places_from kind header i [] parts = refl
+length-places_from kind header i (place ∷ rest) parts = let h = length-places_from kind header (i + 1) rest parts in omega arith
 
-pub get_or-places_from : (kind : Kind) (prefix : List ℕ) (i : ℕ) (places : List Place) (parts : List (List ℕ)) (n : ℕ) → n < length places
-    → get_or (places_from kind prefix i places parts) n None ≡ shown kind prefix (i + n) (get_or places n Empty) (get_or parts (i + n) [])
+pub get_or-places_from : (kind : Kind) (header : List ℕ) (i : ℕ) (places : List Place) (parts : List (List ℕ)) (n : ℕ) → n < length places
+    → get_or (places_from kind header i places parts) n None ≡ shown kind header (i + n) (get_or places n Empty) (get_or parts (i + n) [])
 unfolding places_from
-get_or-places_from kind prefix i [] parts n at = absurd (omega arith)
-get_or-places_from kind prefix i (place ∷ rest) parts zero at = ap (λ m. shown kind prefix m place (get_or parts m [])) (plus_zero i)
+get_or-places_from kind header i [] parts n at = absurd (omega arith)
+get_or-places_from kind header i (place ∷ rest) parts zero at = ap (λ m. shown kind header m place (get_or parts m [])) (plus_zero i)
   where
     plus_zero : (m : ℕ) → m ≡ m + 0
     plus_zero m = omega arith
-get_or-places_from kind prefix i (place ∷ rest) parts (suc n) at =
-    get_or-places_from kind prefix (i + 1) rest parts n (omega arith)
-    ∙ ap (λ m. shown kind prefix m (get_or rest n Empty) (get_or parts m [])) (next i n)
+get_or-places_from kind header i (place ∷ rest) parts (suc n) at =
+    get_or-places_from kind header (i + 1) rest parts n (omega arith)
+    ∙ ap (λ m. shown kind header m (get_or rest n Empty) (get_or parts m [])) (next i n)
   where
     next : (k l : ℕ) → k + 1 + l ≡ k + suc l
     next k l = omega arith
 
 -- what stands at a place, by its number
-place_shows : (kind : Kind) (prefix : List ℕ) (places : List Place) (parts : List (List ℕ)) (n : ℕ) → n < length places
-    → get_or (places_from kind prefix 0 places parts) n None ≡ shown kind prefix n (get_or places n Empty) (get_or parts n [])
-place_shows kind prefix places parts n at =
-    get_or-places_from kind prefix 0 places parts n at ∙ ap (λ m. shown kind prefix m (get_or places n Empty) (get_or parts m [])) (zero-add n)
+place_shows : (kind : Kind) (header : List ℕ) (places : List Place) (parts : List (List ℕ)) (n : ℕ) → n < length places
+    → get_or (places_from kind header 0 places parts) n None ≡ shown kind header n (get_or places n Empty) (get_or parts n [])
+place_shows kind header places parts n at =
+    get_or-places_from kind header 0 places parts n at ∙ ap (λ m. shown kind header m (get_or places n Empty) (get_or parts m [])) (zero-add n)
 
 -- no piece has come yet
-pub places_from-empty : (kind : Kind) (prefix : List ℕ) (i count : ℕ) (parts : List (List ℕ)) → places_from kind prefix i (replicate count Empty) parts ≡ replicate count None
+pub places_from-empty : (kind : Kind) (header : List ℕ) (i count : ℕ) (parts : List (List ℕ)) → places_from kind header i (replicate count Empty) parts ≡ replicate count None
 unfolding places_from
-places_from-empty kind prefix i zero parts = refl
-places_from-empty kind prefix i (suc count) parts = ap (λ rest. None ∷ rest) (places_from-empty kind prefix (i + 1) count parts)
+places_from-empty kind header i zero parts = refl
+places_from-empty kind header i (suc count) parts = ap (λ rest. None ∷ rest) (places_from-empty kind header (i + 1) count parts)
 
 -- one place filled
-pub places_from-set : (kind : Kind) (prefix : List ℕ) (places : List Place) (old new : List (List ℕ)) (n : ℕ) (place : Place) (p : PieceView)
-    → n < length places → shown kind prefix n place (get_or new n []) ≡ Some p → ((m : ℕ) → m ≢ n → get_or new m [] ≡ get_or old m [])
-    → places_from kind prefix 0 (set places n place) new ≡ set (places_from kind prefix 0 places old) n (Some p)
-places_from-set kind prefix places old new n place p at shows others =
-    let was = places_from kind prefix 0 places old in
-    let is = places_from kind prefix 0 (set places n place) new in
-    let same : length is ≡ length places = length-places_from kind prefix 0 (set places n place) new ∙ length-set places n place in
-    let long : length was ≡ length places = length-places_from kind prefix 0 places old in
+pub places_from-set : (kind : Kind) (header : List ℕ) (places : List Place) (old new : List (List ℕ)) (n : ℕ) (place : Place) (p : PieceView)
+    → n < length places → shown kind header n place (get_or new n []) ≡ Some p → ((m : ℕ) → m ≢ n → get_or new m [] ≡ get_or old m [])
+    → places_from kind header 0 (set places n place) new ≡ set (places_from kind header 0 places old) n (Some p)
+places_from-set kind header places old new n place p at shows others =
+    let was = places_from kind header 0 places old in
+    let is = places_from kind header 0 (set places n place) new in
+    let same : length is ≡ length places = length-places_from kind header 0 (set places n place) new ∙ length-set places n place in
+    let long : length was ≡ length places = length-places_from kind header 0 places old in
     ext_get_or None is (set was n (Some p)) (same ∙ sym (length-set was n (Some p) ∙ long)) (λ m below.
     let inside : m < length places = rw same at below in
-    let shown_new : get_or is m None ≡ shown kind prefix m (get_or (set places n place) m Empty) (get_or new m []) =
-    place_shows kind prefix (set places n place) new m (rw (length-set places n place) inside) in
+    let shown_new : get_or is m None ≡ shown kind header m (get_or (set places n place) m Empty) (get_or new m []) =
+    place_shows kind header (set places n place) new m (rw (length-set places n place) inside) in
     elim (cases_eq m n) [
       | inl here ↦
-          shown_new ∙ ap (λ q. shown kind prefix m q (get_or new m [])) (ap (λ k. get_or (set places n place) k Empty) here ∙ get_or-set_same places n place Empty at)
-          ∙ ap (λ k. shown kind prefix k place (get_or new k [])) here ∙ shows
+          shown_new ∙ ap (λ q. shown kind header m q (get_or new m [])) (ap (λ k. get_or (set places n place) k Empty) here ∙ get_or-set_same places n place Empty at)
+          ∙ ap (λ k. shown kind header k place (get_or new k [])) here ∙ shows
           ∙ sym (ap (λ k. get_or (set was n (Some p)) k None) here ∙ get_or-set_same was n (Some p) None (rw long at))
       | inr other ↦
-          shown_new ∙ ap (λ q. shown kind prefix m q (get_or new m [])) (get_or-set_other places n m place Empty other)
-          ∙ ap (λ part. shown kind prefix m (get_or places m Empty) part) (others m other)
-          ∙ sym (get_or-set_other was n m (Some p) None other ∙ place_shows kind prefix places old m inside)
+          shown_new ∙ ap (λ q. shown kind header m q (get_or new m [])) (get_or-set_other places n m place Empty other)
+          ∙ ap (λ part. shown kind header m (get_or places m Empty) part) (others m other)
+          ∙ sym (get_or-set_other was n m (Some p) None other ∙ place_shows kind header places old m inside)
     ])
 
-shown_none : (kind : Kind) (prefix : List ℕ) (n : ℕ) (place : Place) (part : List ℕ) → shown kind prefix n place part ≡ None → place ≡ Empty
-shown_none kind prefix n Empty part e = refl
-shown_none kind prefix n Forged part e = cc
-shown_none kind prefix n Here part e = cc
-shown_none kind prefix n (Apart bytes) part e = cc
+shown_none : (kind : Kind) (header : List ℕ) (n : ℕ) (place : Place) (part : List ℕ) → shown kind header n place part ≡ None → place ≡ Empty
+shown_none kind header n Empty part e = refl
+shown_none kind header n Forged part e = cc
+shown_none kind header n Here part e = cc
+shown_none kind header n (Apart bytes) part e = cc
 
-shown_without : (kind : Kind) (prefix : List ℕ) (n : ℕ) (place : Place) (part : List ℕ) → IsWithout place → value_in (shown kind prefix n place part) ≡ None
-shown_without kind prefix n Empty part e = refl
-shown_without kind prefix n Forged part e = refl
-shown_without kind prefix n Here part e = absurd e
-shown_without kind prefix n (Apart bytes) part e = absurd e
+shown_without : (kind : Kind) (header : List ℕ) (n : ℕ) (place : Place) (part : List ℕ) → IsWithout place → value_in (shown kind header n place part) ≡ None
+shown_without kind header n Empty part e = refl
+shown_without kind header n Forged part e = refl
+shown_without kind header n Here part e = absurd e
+shown_without kind header n (Apart bytes) part e = absurd e
 
-shown_with : (kind : Kind) (prefix : List ℕ) (n : ℕ) (place : Place) (part : List ℕ) → (IsWithout place → ⊥) → value_in (shown kind prefix n place part) ≢ None
-shown_with kind prefix n Empty part some e = some tt
-shown_with kind prefix n Forged part some e = some tt
-shown_with kind prefix n Here part some e = cc
-shown_with kind prefix n (Apart bytes) part some e = cc
+shown_with : (kind : Kind) (header : List ℕ) (n : ℕ) (place : Place) (part : List ℕ) → (IsWithout place → ⊥) → value_in (shown kind header n place part) ≢ None
+shown_with kind header n Empty part some e = some tt
+shown_with kind header n Forged part some e = some tt
+shown_with kind header n Here part some e = cc
+shown_with kind header n (Apart bytes) part some e = cc
 
-pub place_empty : (kind : Kind) (prefix : List ℕ) (places : List Place) (parts : List (List ℕ)) (n : ℕ) → n < length places → get_or places n Empty ≡ Empty
-    → get_or (places_from kind prefix 0 places parts) n None ≡ None
-place_empty kind prefix places parts n at e = place_shows kind prefix places parts n at ∙ ap (λ p. shown kind prefix n p (get_or parts n [])) e
+pub place_empty : (kind : Kind) (header : List ℕ) (places : List Place) (parts : List (List ℕ)) (n : ℕ) → n < length places → get_or places n Empty ≡ Empty
+    → get_or (places_from kind header 0 places parts) n None ≡ None
+place_empty kind header places parts n at e = place_shows kind header places parts n at ∙ ap (λ p. shown kind header n p (get_or parts n [])) e
 
-pub place_taken : (kind : Kind) (prefix : List ℕ) (places : List Place) (parts : List (List ℕ)) (n : ℕ) → n < length places → get_or places n Empty ≢ Empty
-    → get_or (places_from kind prefix 0 places parts) n None ≢ None
-place_taken kind prefix places parts n at some e =
-    some (shown_none kind prefix n (get_or places n Empty) (get_or parts n []) (sym (place_shows kind prefix places parts n at) ∙ e))
+pub place_taken : (kind : Kind) (header : List ℕ) (places : List Place) (parts : List (List ℕ)) (n : ℕ) → n < length places → get_or places n Empty ≢ Empty
+    → get_or (places_from kind header 0 places parts) n None ≢ None
+place_taken kind header places parts n at some e =
+    some (shown_none kind header n (get_or places n Empty) (get_or parts n []) (sym (place_shows kind header places parts n at) ∙ e))
 
-pub gap_of : (kind : Kind) (header prefix : List ℕ) (places : List Place) (parts : List (List ℕ)) (n : ℕ) → n < length places → get_or places n Empty ≡ Empty
-    → HasGap (shelf_of kind header (places_from kind prefix 0 places parts))
-gap_of kind header prefix places parts n at e =
-    record { at = n; below = rw (length-places_from kind prefix 0 places parts) at; empty = place_empty kind prefix places parts n at e }
+pub gap_of : (kind : Kind) (header : List ℕ) (places : List Place) (parts : List (List ℕ)) (n : ℕ) → n < length places → get_or places n Empty ≡ Empty
+    → HasGap (shelf_of kind header (places_from kind header 0 places parts))
+gap_of kind header places parts n at e =
+    record { at = n; below = rw (length-places_from kind header 0 places parts) at; empty = place_empty kind header places parts n at e }
 
-pub full_of : (kind : Kind) (header prefix : List ℕ) (places : List Place) (parts : List (List ℕ)) → ((n : ℕ) → n < length places → get_or places n Empty ≢ Empty)
-    → IsFull (shelf_of kind header (places_from kind prefix 0 places parts))
-full_of kind header prefix places parts some n at = place_taken kind prefix places parts n (inside n at) (some n (inside n at))
+pub full_of : (kind : Kind) (header : List ℕ) (places : List Place) (parts : List (List ℕ)) → ((n : ℕ) → n < length places → get_or places n Empty ≢ Empty)
+    → IsFull (shelf_of kind header (places_from kind header 0 places parts))
+full_of kind header places parts some n at = place_taken kind header places parts n (inside n at) (some n (inside n at))
   where
-    inside : (m : ℕ) → m < length (places_from kind prefix 0 places parts) → m < length places
-    inside m below = rw (length-places_from kind prefix 0 places parts) at below
+    inside : (m : ℕ) → m < length (places_from kind header 0 places parts) → m < length places
+    inside m below = rw (length-places_from kind header 0 places parts) at below
 
-pub forged_of : (kind : Kind) (header prefix : List ℕ) (places : List Place) (parts : List (List ℕ)) (n : ℕ) → IsFirstWithout places n
-    → shelf_whole (shelf_of kind header (places_from kind prefix 0 places parts)) ≡ Err n
-forged_of kind header prefix places parts n first =
-    let ps = places_from kind prefix 0 places parts in
-    let long = length-places_from kind prefix 0 places parts in
+pub forged_of : (kind : Kind) (header : List ℕ) (places : List Place) (parts : List (List ℕ)) (n : ℕ) → IsFirstWithout places n
+    → shelf_whole (shelf_of kind header (places_from kind header 0 places parts)) ≡ Err n
+forged_of kind header places parts n first =
+    let ps = places_from kind header 0 places parts in
+    let long = length-places_from kind header 0 places parts in
     let below = first.below in
     ap (after_front (front_of kind header))
     (answer_err ps n
     (λ k less. shows_some k (omega arith) (first.before k less))
     (omega arith)
-    (ap value_in (place_shows kind prefix places parts n below) ∙ shown_without kind prefix n (get_or places n Empty) (get_or parts n []) first.without))
+    (ap value_in (place_shows kind header places parts n below) ∙ shown_without kind header n (get_or places n Empty) (get_or parts n []) first.without))
   where
-    shows_some : (k : ℕ) → k < length places → (IsWithout (get_or places k Empty) → ⊥) → value_in (get_or (places_from kind prefix 0 places parts) k None) ≢ None
+    shows_some : (k : ℕ) → k < length places → (IsWithout (get_or places k Empty) → ⊥) → value_in (get_or (places_from kind header 0 places parts) k None) ≢ None
     shows_some k at some e =
-        shown_with kind prefix k (get_or places k Empty) (get_or parts k []) some (ap value_in (sym (place_shows kind prefix places parts k at)) ∙ e)
+        shown_with kind header k (get_or places k Empty) (get_or parts k []) some (ap value_in (sym (place_shows kind header places parts k at)) ∙ e)
 
-pub all_check : (kind : Kind) (header prefix : List ℕ) (places : List Place) (parts : List (List ℕ)) → HasAll places
-    → AllCheck (shelf_of kind header (places_from kind prefix 0 places parts))
-all_check kind header prefix places parts all n at e =
-    let below : n < length places = rw (length-places_from kind prefix 0 places parts) at at in
-    shown_with kind prefix n (get_or places n Empty) (get_or parts n []) (all n below) (ap value_in (sym (place_shows kind prefix places parts n below)) ∙ e)
+pub all_check : (kind : Kind) (header : List ℕ) (places : List Place) (parts : List (List ℕ)) → HasAll places
+    → AllCheck (shelf_of kind header (places_from kind header 0 places parts))
+all_check kind header places parts all n at e =
+    let below : n < length places = rw (length-places_from kind header 0 places parts) at at in
+    shown_with kind header n (get_or places n Empty) (get_or parts n []) (all n below) (ap value_in (sym (place_shows kind header places parts n below)) ∙ e)
 
-held_shown : (kind : Kind) (prefix : List ℕ) (n : ℕ) (place : Place) (part : List ℕ) → bytes_in (shown kind prefix n place part) ≡ held place part
-held_shown kind prefix n Empty part = refl
-held_shown kind prefix n Forged part = refl
-held_shown kind prefix n Here part = refl
-held_shown kind prefix n (Apart bytes) part = refl
+held_shown : (kind : Kind) (header : List ℕ) (n : ℕ) (place : Place) (part : List ℕ) → bytes_in (shown kind header n place part) ≡ held place part
+held_shown kind header n Empty part = refl
+held_shown kind header n Forged part = refl
+held_shown kind header n Here part = refl
+held_shown kind header n (Apart bytes) part = refl
 
-flat_held : (kind : Kind) (prefix : List ℕ) (i : ℕ) (places : List Place) (parts : List (List ℕ)) → flat_map bytes_in (places_from kind prefix i places parts) ≡ held_from i places parts
+flat_held : (kind : Kind) (header : List ℕ) (i : ℕ) (places : List Place) (parts : List (List ℕ)) → flat_map bytes_in (places_from kind header i places parts) ≡ held_from i places parts
 unfolding places_from
-flat_held kind prefix i [] parts = refl
-flat_held kind prefix i (place ∷ rest) parts =
-    ap (λ b. b ++ flat_map bytes_in (places_from kind prefix (i + 1) rest parts)) (held_shown kind prefix i place (get_or parts i []))
-    ∙ ap (λ b. held place (get_or parts i []) ++ b) (flat_held kind prefix (i + 1) rest parts)
+flat_held kind header i [] parts = refl
+flat_held kind header i (place ∷ rest) parts =
+    ap (λ b. b ++ flat_map bytes_in (places_from kind header (i + 1) rest parts)) (held_shown kind header i place (get_or parts i []))
+    ∙ ap (λ b. held place (get_or parts i []) ++ b) (flat_held kind header (i + 1) rest parts)
 
 -- where every piece is there and checks, the whole is what the places hold
-pub whole_held : (kind : Kind) (header prefix : List ℕ) (places : List Place) (parts : List (List ℕ))
-    → AllCheck (shelf_of kind header (places_from kind prefix 0 places parts))
-    → shelf_whole (shelf_of kind header (places_from kind prefix 0 places parts)) ≡ Ok (front_of kind header ++ held_from 0 places parts)
-whole_held kind header prefix places parts all =
-    ap (after_front (front_of kind header)) (answer_ok (places_from kind prefix 0 places parts) all)
-    ∙ ap (λ b. Ok (front_of kind header ++ b)) (flat_held kind prefix 0 places parts)
+pub whole_held : (kind : Kind) (header : List ℕ) (places : List Place) (parts : List (List ℕ))
+    → AllCheck (shelf_of kind header (places_from kind header 0 places parts))
+    → shelf_whole (shelf_of kind header (places_from kind header 0 places parts)) ≡ Ok (front_of kind header ++ held_from 0 places parts)
+whole_held kind header places parts all =
+    ap (after_front (front_of kind header)) (answer_ok (places_from kind header 0 places parts) all)
+    ∙ ap (λ b. Ok (front_of kind header ++ b)) (flat_held kind header 0 places parts)
 
 -- where all bytes stand in the whole, the places hold all its parts
 held_here : (i : ℕ) (places : List Place) (parts : List (List ℕ)) → i + length places ≡ length parts
@@ -205,31 +204,31 @@ pub full_checked : (s : ShelfView) → AllCheck s → IsFull s
 full_checked s all n at e = all n at (ap value_in e)
 
 -- the joined places are the whole
-pub joined_whole : (kind : Kind) (header prefix : List ℕ) (places slice : List Place) (parts : List (List ℕ)) (front bytes : List ℕ)
-    → AllCheck (shelf_of kind header (places_from kind prefix 0 places parts)) → front ≡ front_of kind header → slice ≡ places
+pub joined_whole : (kind : Kind) (header : List ℕ) (places slice : List Place) (parts : List (List ℕ)) (front bytes : List ℕ)
+    → AllCheck (shelf_of kind header (places_from kind header 0 places parts)) → front ≡ front_of kind header → slice ≡ places
     → bytes ≡ front ++ held_from 0 slice parts
-    → IsFull (shelf_of kind header (places_from kind prefix 0 places parts)) × (shelf_whole (shelf_of kind header (places_from kind prefix 0 places parts)) ≡ Ok bytes)
-joined_whole kind header prefix places slice parts front bytes all e f g = (
-  full_checked (shelf_of kind header (places_from kind prefix 0 places parts)) all,
-  whole_held kind header prefix places parts all
+    → IsFull (shelf_of kind header (places_from kind header 0 places parts)) × (shelf_whole (shelf_of kind header (places_from kind header 0 places parts)) ≡ Ok bytes)
+joined_whole kind header places slice parts front bytes all e f g = (
+  full_checked (shelf_of kind header (places_from kind header 0 places parts)) all,
+  whole_held kind header places parts all
       ∙ ap (λ x. Ok x) (ap (λ ps. front_of kind header ++ held_from 0 ps parts) (sym f) ∙ ap (λ x. x ++ held_from 0 slice parts) (sym e) ∙ sym g),
 )
 
 -- where all bytes stand in the whole, it is that
-pub here_whole : (kind : Kind) (header prefix : List ℕ) (places slice : List Place) (parts : List (List ℕ)) (front bytes : List ℕ)
-    → AllCheck (shelf_of kind header (places_from kind prefix 0 places parts)) → front ≡ front_of kind header → slice ≡ places
+pub here_whole : (kind : Kind) (header : List ℕ) (places slice : List Place) (parts : List (List ℕ)) (front bytes : List ℕ)
+    → AllCheck (shelf_of kind header (places_from kind header 0 places parts)) → front ≡ front_of kind header → slice ≡ places
     → length places ≡ length parts → ((n : ℕ) → n < length slice → get_or slice n Empty ≡ Here) → bytes ≡ front ++ all_of parts
-    → IsFull (shelf_of kind header (places_from kind prefix 0 places parts)) × (shelf_whole (shelf_of kind header (places_from kind prefix 0 places parts)) ≡ Ok bytes)
-here_whole kind header prefix places slice parts front bytes all e f long here g =
-    joined_whole kind header prefix places slice parts front bytes all e f
+    → IsFull (shelf_of kind header (places_from kind header 0 places parts)) × (shelf_whole (shelf_of kind header (places_from kind header 0 places parts)) ≡ Ok bytes)
+here_whole kind header places slice parts front bytes all e f long here g =
+    joined_whole kind header places slice parts front bytes all e f
     (g ∙ ap (λ x. front ++ x) (sym (whole_here slice parts (ap (λ ps. length ps) f ∙ long) here)))
 
 -- the shelf with a piece kept
-pub put_view : (kind : Kind) (header prefix : List ℕ) (places : List Place) (old new : List (List ℕ)) (place : Place) (p : PieceView)
-    → prefix ≡ prefix_in header → Fits (shelf_of kind header (places_from kind prefix 0 places old)) p → Keeps old new p.number p.value place
-    → shelf_of kind header (places_from kind prefix 0 (set places p.number place) new) ≡ with_piece (shelf_of kind header (places_from kind prefix 0 places old)) p
-put_view kind header prefix places old new place p e fits kept =
-    let at : p.number < length places = rw (length-places_from kind prefix 0 places old) at fits.number in
-    let named : piece_at kind prefix p.number p.value ≡ p = rw (e, ← fits.prefix, ← fits.kind) refl in
+pub put_view : (kind : Kind) (header : List ℕ) (places : List Place) (old new : List (List ℕ)) (place : Place) (p : PieceView)
+    → Fits (shelf_of kind header (places_from kind header 0 places old)) p → Keeps old new p.number p.value place
+    → shelf_of kind header (places_from kind header 0 (set places p.number place) new) ≡ with_piece (shelf_of kind header (places_from kind header 0 places old)) p
+put_view kind header places old new place p fits kept =
+    let at : p.number < length places = rw (length-places_from kind header 0 places old) at fits.number in
+    let named : piece_at kind header p.number p.value ≡ p = rw (← fits.header, ← fits.kind) refl in
     ap (shelf_of kind header)
-    (places_from-set kind prefix places old new p.number place p at (kept.shows kind prefix p.number ∙ ap (λ x. Some x) named) kept.others)
+    (places_from-set kind header places old new p.number place p at (kept.shows kind header p.number ∙ ap (λ x. Some x) named) kept.others)

@@ -1,19 +1,20 @@
 -- The values of a work by their numbers.
-use Rattle.std.proofs.Common.{◌≡◌, ℕ, ◌+◌, ◌-◌, ◌*◌, ◌<◌, Bool, eqb, List, [], ◌∷◌, length, get_or, drop, min, refl, ap, sym, ◌∙◌, arith, suc, zero, None, Some, unwrap_or, zero-add, add-zero, add-one, ◌≤◌, inl, inr}
+use Rattle.std.proofs.Common.{◌≡◌, ℕ, ◌+◌, ◌-◌, ◌*◌, ◌<◌, Bool, eqb, List, [], ◌∷◌, length, get_or, drop, min, refl, ap, sym, ◌∙◌, arith, suc, zero, None, Some, unwrap_or, zero-add, add-zero, add-one, ◌≤◌}
 use Rattle.std.proofs.lemmas.List.{length-take, length-drop}
-use Rattle.std.proofs.lemmas.Bool.{cases_lt}
 use Rattle.std.proofs.lemmas.Bool.Decides.{nat_tests}
 use Rattle.container_core.specs.Stream.{is_nil, sealed_chunk}
-use Rattle.container_core.specs.declared.TheConstants.{CHUNK, MAX_BODY, MAX_PLAIN, SEALED}
+use Rattle.container_core.specs.declared.TheConstants.{MAX_PLAIN}
 use Rattle.container_core.specs.Chunks.{chunk_count, container_length}
+use Rattle.container_core.specs.Container.{header_length, size_in}
 use Rattle.container_core.specs.Opening.{early_fault}
-use Rattle.container_core.proofs.FaultLemmas.{early-too_long}
+use Rattle.container_core.specs.Views.{CutView}
+use Rattle.container_core.proofs.OpeningLemmas.{parts_of_early, some_size}
 use Rattle.container_core.proofs.StreamLemmas.{length-sealed_chunk, sealed_chunk-opened_chunk}
 use Rattle.container_core.proofs.PartsLemmas.{length-chunks, length-sealed_chunks, get_or-chunks, get_or-sealed_chunks}
+use Rattle.container_core.proofs.PartsLemmas.{body-count, count-below, count-enough, count-some, chunk_bytes, container_length-grows}
 use Rattle.piece_core.specs.declared.work.Kind.{Kind}
 use Rattle.piece_core.specs.declared.work.Kind.TheVariants.{Sealing, Opening}
 use Rattle.piece_core.specs.Values.{numbered, parts_of, value_at, values_of}
-use Rattle.piece_core.specs.declared.work.TheConstants.{MAX_PIECES}
 use Rattle.piece_core.specs.Parts.{body_bytes, part_size, piece_size, piece_bytes, pieces_sum, IsCut}
 
 pub length-numbered : {A : Type 0} (f : ℕ → Bool → List ℕ → A) (i : ℕ) (parts : List (List ℕ)) → length (numbered f i parts) ≡ length parts
@@ -40,42 +41,74 @@ get_or-numbered f i (part ∷ rest) (suc n) d e at =
     h ∙ rw (place, next, eqb-next (n + 1) (length rest)) refl
 
 -- as many values as parts, and each is of its part
-pub length-values : (kind : Kind) (key header body : List ℕ) → length (values_of kind key header body) ≡ length (parts_of kind body)
+pub length-values : (kind : Kind) (key header body : List ℕ)
+    → length (values_of kind key header body) ≡ length (parts_of kind (size_in header) body)
 unfolding values_of
-length-values kind key header body = length-numbered (value_at kind key header) 0 (parts_of kind body)
+length-values kind key header body = length-numbered (value_at kind key header) 0 (parts_of kind (size_in header) body)
 
-pub get_or-values : (kind : Kind) (key header body : List ℕ) (n : ℕ) → n < length (parts_of kind body)
-    → get_or (values_of kind key header body) n None ≡ value_at kind key header n (eqb (n + 1) (length (parts_of kind body))) (get_or (parts_of kind body) n [])
+pub get_or-values : (kind : Kind) (key header body : List ℕ) (n : ℕ) → n < length (parts_of kind (size_in header) body)
+    → get_or (values_of kind key header body) n None
+    ≡ value_at kind key header n (eqb (n + 1) (length (parts_of kind (size_in header) body))) (get_or (parts_of kind (size_in header) body) n [])
 unfolding values_of
 get_or-values kind key header body n at =
-    get_or-numbered (value_at kind key header) 0 (parts_of kind body) n None [] at
-    ∙ ap (λ m. value_at kind key header m (eqb (n + 1) (length (parts_of kind body))) (get_or (parts_of kind body) n [])) (zero-add n)
+    let parts = parts_of kind (size_in header) body in
+    get_or-numbered (value_at kind key header) 0 parts n None [] at
+    ∙ ap (λ m. value_at kind key header m (eqb (n + 1) (length parts)) (get_or parts n [])) (zero-add n)
+
+-- the chunks that a header names have a byte
+some_bytes : (header : List ℕ) (size : ℕ) → size ≡ size_in header → 0 < size
+some_bytes header size e = omega (arith, e, some_size header)
 
 -- as many parts as chunks
-pub length-parts_of : (kind : Kind) (plain : ℕ) (body : List ℕ) → IsCut kind plain body
-    → length (parts_of kind body) ≡ chunk_count plain
-length-parts_of Sealing plain body cut = length-chunks body ∙ ap chunk_count cut.bytes
-length-parts_of Opening plain body cut = length-sealed_chunks body plain cut.bytes
+length-parts : (kind : Kind) (size plain : ℕ) (body : List ℕ) → 0 < size → length body ≡ body_bytes kind size plain
+    → length (parts_of kind size body) ≡ chunk_count size plain
+length-parts Sealing size plain body some bytes = length-chunks size body ∙ ap (λ n. chunk_count size n) bytes
+length-parts Opening size plain body some bytes = length-sealed_chunks size body plain some bytes
+
+pub length-parts_of : (kind : Kind) (header : List ℕ) (cut : CutView) (body : List ℕ) → IsCut kind header cut body
+    → length (parts_of kind cut.size body) ≡ chunk_count cut.size cut.plain
+length-parts_of kind header cut body is =
+    length-parts kind cut.size cut.plain body (some_bytes header cut.size is.size) is.bytes
 
 -- how many bytes the part of this number has
-length-part : (kind : Kind) (plain : ℕ) (body : List ℕ) (n : ℕ) → IsCut kind plain body → n < chunk_count plain
-    → length (get_or (parts_of kind body) n []) ≡ min (part_size kind) (length body - n * part_size kind)
-length-part Sealing plain body n cut at =
-    ap (λ p. length p) (get_or-chunks body n [] (rw cut.bytes at)) ∙ length-take CHUNK (drop (n * CHUNK) body)
-    ∙ ap (min CHUNK) (length-drop (n * CHUNK) body)
-length-part Opening plain body n cut at =
-    ap (λ p. length p) (get_or-sealed_chunks body plain n [] cut.bytes at) ∙ length-take SEALED (drop (n * SEALED) body)
-    ∙ ap (min SEALED) (length-drop (n * SEALED) body)
+length-part : (kind : Kind) (size plain : ℕ) (body : List ℕ) (n : ℕ) → 0 < size → length body ≡ body_bytes kind size plain
+    → n < chunk_count size plain
+    → length (get_or (parts_of kind size body) n []) ≡ min (part_size kind size) (length body - n * part_size kind size)
+length-part Sealing size plain body n some bytes at =
+    ap (λ p. length p) (get_or-chunks size body n [] some (rw bytes at)) ∙ length-take size (drop (n * size) body)
+    ∙ ap (min size) (length-drop (n * size) body)
+length-part Opening size plain body n some bytes at =
+    ap (λ p. length p) (get_or-sealed_chunks size body plain n [] some bytes at)
+    ∙ length-take (size + 16) (drop (n * (size + 16)) body) ∙ ap (min (size + 16)) (length-drop (n * (size + 16)) body)
 
-pub some_few : (plain : ℕ) → plain ≤ MAX_PLAIN → (0 < chunk_count plain) × (chunk_count plain ≤ MAX_PIECES)
-some_few plain few = (omega arith, omega arith)
+-- all chunks but the last are full
+least_bytes : (size plain : ℕ) → (chunk_count size plain - 1) * size ≤ plain
+least_bytes size plain = count-below size plain (chunk_count size plain - 1) (omega (arith, count-some size plain))
 
 -- the bytes of all pieces
-pub pieces_bounds : (kind : Kind) (plain : ℕ) → plain ≤ MAX_PLAIN
-    → ((chunk_count plain - 1) * piece_size kind ≤ pieces_sum kind plain)
-    × (pieces_sum kind plain ≤ chunk_count plain * piece_size kind) × (pieces_sum kind plain ≤ MAX_BODY)
-pieces_bounds Sealing plain few = (omega arith, omega arith, omega arith)
-pieces_bounds Opening plain few = (omega arith, omega arith, omega arith)
+pieces_bounds : (kind : Kind) (size plain : ℕ) → 0 < size
+    → ((chunk_count size plain - 1) * piece_size kind size ≤ pieces_sum kind size plain)
+    × (pieces_sum kind size plain ≤ chunk_count size plain * piece_size kind size)
+pieces_bounds Sealing size plain some =
+    let least = least_bytes size plain in
+    let most = count-enough size plain some in
+    let sum = body-count size plain in
+    (omega (arith, least, sum), omega (arith, most, sum))
+pieces_bounds Opening size plain some = (least_bytes size plain, count-enough size plain some)
+
+-- as many values as chunks
+pub length-values_of : (kind : Kind) (key header : List ℕ) (cut : CutView) (body : List ℕ) → IsCut kind header cut body
+    → length (values_of kind key header body) ≡ chunk_count cut.size cut.plain
+length-values_of kind key header cut body is =
+    length-values kind key header body ∙ ap (λ size. length (parts_of kind size body)) (sym is.size)
+    ∙ length-parts_of kind header cut body is
+
+pub pieces_of : (kind : Kind) (key header : List ℕ) (cut : CutView) (body : List ℕ) → IsCut kind header cut body
+    → ((length (values_of kind key header body) - 1) * piece_size kind (size_in header) ≤ pieces_sum kind cut.size cut.plain)
+    × (pieces_sum kind cut.size cut.plain ≤ length (values_of kind key header body) * piece_size kind (size_in header))
+pieces_of kind key header cut body is =
+    rw (length-values_of kind key header cut body is, ← is.size)
+    (pieces_bounds kind cut.size cut.plain (some_bytes header cut.size is.size))
 
 unwrapped : (xs ys : List ℕ) → Some xs ≡ Some ys → xs ≡ ys
 unwrapped xs ys e = ap (λ o. unwrap_or o []) e
@@ -91,34 +124,36 @@ length-value_at Opening key header n last part bytes e =
     let long = length-sealed_chunk key header n last bytes in
     omega arith
 
-sizes_agree : (kind : Kind) (plain bytes n part : ℕ) → bytes ≡ body_bytes kind plain → n < chunk_count plain
-    → part ≡ min (part_size kind) (bytes - n * part_size kind)
-    → piece_bytes kind part ≡ min (piece_size kind) (pieces_sum kind plain - n * piece_size kind)
-sizes_agree Sealing plain bytes n part is at e = omega arith
-sizes_agree Opening plain bytes n part is at e = omega arith
+sizes_agree : (kind : Kind) (size plain bytes n part : ℕ) → 0 < size → bytes ≡ body_bytes kind size plain
+    → n < chunk_count size plain → part ≡ min (part_size kind size) (bytes - n * part_size kind size)
+    → piece_bytes kind part ≡ min (piece_size kind size) (pieces_sum kind size plain - n * piece_size kind size)
+sizes_agree Sealing size plain bytes n part some is at e =
+    ap (λ k. k + 16) (e ∙ ap (λ b. min size (b - n * size)) is) ∙ sym (chunk_bytes size plain n some at)
+sizes_agree Opening size plain bytes n part some is at e =
+    let sealed = e ∙ ap (λ b. min (size + 16) (b - n * (size + 16))) is ∙ chunk_bytes size plain n some at in
+    omega (arith, sealed)
 
 -- how many bytes the piece of this number has
-pub length-value : (kind : Kind) (key header : List ℕ) (plain : ℕ) (body : List ℕ) (n : ℕ) (bytes : List ℕ)
-    → IsCut kind plain body → n < chunk_count plain → get_or (values_of kind key header body) n None ≡ Some bytes
-    → length bytes ≡ min (piece_size kind) (pieces_sum kind plain - n * piece_size kind)
-length-value kind key header plain body n bytes cut at e =
-    let part = get_or (parts_of kind body) n [] in
-    let inside : n < length (parts_of kind body) = rw (length-parts_of kind plain body cut) at in
-    let one = length-value_at kind key header n (eqb (n + 1) (length (parts_of kind body))) part bytes
+pub length-value : (kind : Kind) (key header : List ℕ) (cut : CutView) (body : List ℕ) (n : ℕ) (bytes : List ℕ)
+    → IsCut kind header cut body → n < length (values_of kind key header body)
+    → get_or (values_of kind key header body) n None ≡ Some bytes
+    → length bytes ≡ min (piece_size kind (size_in header)) (pieces_sum kind cut.size cut.plain - n * piece_size kind (size_in header))
+length-value kind key header cut body n bytes is at e =
+    let some = some_bytes header cut.size is.size in
+    let part = get_or (parts_of kind (size_in header) body) n [] in
+    let below : n < chunk_count cut.size cut.plain = rw (← length-values_of kind key header cut body is) at in
+    let inside : n < length (parts_of kind (size_in header) body) = rw (← length-values kind key header body) at in
+    let one = length-value_at kind key header n (eqb (n + 1) (length (parts_of kind (size_in header) body))) part bytes
     (sym (get_or-values kind key header body n inside) ∙ e) in
-    one ∙ sizes_agree kind plain (length body) n (length part) cut.bytes at (length-part kind plain body n cut at)
+    let long = length-part kind cut.size cut.plain body n some is.bytes below in
+    one
+    ∙ ap (λ size. piece_bytes kind (length (get_or (parts_of kind size body) n []))) (sym is.size)
+    ∙ sizes_agree kind cut.size cut.plain (length body) n (length (get_or (parts_of kind cut.size body) n [])) some is.bytes below long
+    ∙ ap (λ size. min (piece_size kind size) (pieces_sum kind cut.size cut.plain - n * piece_size kind size)) is.size
 
-pub length-values_of : (kind : Kind) (key header : List ℕ) (plain : ℕ) (body : List ℕ) → IsCut kind plain body
-    → length (values_of kind key header body) ≡ chunk_count plain
-length-values_of kind key header plain body cut = length-values kind key header body ∙ length-parts_of kind plain body cut
-
--- what has no early fault is no longer than the container of the greatest plaintext
-pub early_within : (key : List ℕ) (most : ℕ) (bytes : List ℕ) → early_fault key most bytes ≡ None
-    → length bytes ≤ container_length most
-early_within key most bytes none = elim (cases_lt (container_length most) (length bytes)) [
-  | inl long ↦ let e = early-too_long key most bytes long in absurd (cc (e, none))
-  | inr short ↦ short
-]
-
-pub few_plain : (plain bytes : ℕ) → bytes ≡ container_length plain → bytes ≤ container_length MAX_PLAIN → plain ≤ MAX_PLAIN
-few_plain plain bytes is few = omega arith
+-- what has no early fault has at most the greatest plaintext
+pub few_plain : (key bytes : List ℕ) (size plain : ℕ) → early_fault key MAX_PLAIN bytes ≡ None → size ≡ size_in bytes
+    → length bytes ≡ container_length (header_length bytes) size plain → plain ≤ MAX_PLAIN
+few_plain key bytes size plain none named is =
+    let within = (parts_of_early key MAX_PLAIN bytes none).within in
+    container_length-grows (header_length bytes) size MAX_PLAIN plain (some_bytes bytes size named) (rw (← is, named) within)

@@ -1,24 +1,28 @@
 -- Inside: the parts of a work's body, and how many bytes its pieces have.
 use Rattle.std.specs.Prelude.{◌≡◌, ℕ, ◌+◌, ◌-◌, ◌≤◌, List, length}
-use Rattle.container_core.specs.declared.TheConstants.{CHUNK, MAX_PLAIN, SEALED, TAG}
+use Rattle.container_core.specs.declared.TheConstants.{MAX_PLAIN, TAG}
 use Rattle.container_core.specs.Chunks.{body_length}
+use Rattle.container_core.specs.Container.{size_in}
+use Rattle.container_core.specs.Views.{CutView}
 use Rattle.piece_core.specs.declared.work.Kind.{Kind}
 use Rattle.piece_core.specs.declared.work.Kind.TheVariants.{Sealing, Opening}
 
--- how many bytes the body has, of a plaintext of so many: it is the plaintext, or what stands behind a header
-abbrev pub body_bytes : Kind → ℕ → ℕ
-body_bytes Sealing plain = plain
-body_bytes Opening plain = body_length plain
+-- how many bytes the body has, of a plaintext of so many in chunks of a size: it is the plaintext, or what stands
+-- behind a header
+abbrev pub body_bytes : Kind → ℕ → ℕ → ℕ
+body_bytes Sealing size plain = plain
+body_bytes Opening size plain = body_length size plain
 
--- the body is cut as a plaintext of so many bytes is, or its container
-pub record IsCut (kind : Kind) (plain : ℕ) (body : List ℕ) : Type 0 where
-  pub few : plain ≤ MAX_PLAIN
-  pub bytes : length body ≡ body_bytes kind plain
+-- the body is cut into the chunks that its header names, as a plaintext of at most 2^40 bytes is, or its container
+pub record IsCut (kind : Kind) (header : List ℕ) (cut : CutView) (body : List ℕ) : Type 0 where
+  pub size : cut.size ≡ size_in header
+  pub few : cut.plain ≤ MAX_PLAIN
+  pub bytes : length body ≡ body_bytes kind cut.size cut.plain
 
 -- how many bytes every part of a body has but the last
-abbrev pub part_size : Kind → ℕ
-part_size Sealing = CHUNK
-part_size Opening = SEALED
+abbrev pub part_size : Kind → ℕ → ℕ
+part_size Sealing size = size
+part_size Opening size = size + TAG
 
 -- how many bytes a part has at least
 abbrev pub least_part : Kind → ℕ
@@ -26,9 +30,9 @@ least_part Sealing = 0
 least_part Opening = TAG
 
 -- how many bytes every piece has but the last
-abbrev pub piece_size : Kind → ℕ
-piece_size Sealing = SEALED
-piece_size Opening = CHUNK
+abbrev pub piece_size : Kind → ℕ → ℕ
+piece_size Sealing size = size + TAG
+piece_size Opening size = size
 
 -- how many bytes the piece of a part of so many has: its tag more, or less
 abbrev pub piece_bytes : Kind → ℕ → ℕ
@@ -36,6 +40,6 @@ piece_bytes Sealing part = part + TAG
 piece_bytes Opening part = part - TAG
 
 -- how many bytes all pieces have together
-abbrev pub pieces_sum : Kind → ℕ → ℕ
-pieces_sum Sealing plain = body_length plain
-pieces_sum Opening plain = plain
+abbrev pub pieces_sum : Kind → ℕ → ℕ → ℕ
+pieces_sum Sealing size plain = body_length size plain
+pieces_sum Opening size plain = plain

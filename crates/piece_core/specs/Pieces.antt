@@ -1,12 +1,11 @@
 -- Works, pieces and shelves, as contracts see them.
 use Rattle.std.specs.Prelude.{◌≡◌, ℕ, ◌<◌, List, length, replicate, Option, Some, None, slice_index_or, slice_set}
-use Rattle.container_core.specs.Stream.{prefix_in}
 use Rattle.piece_core.specs.declared.work.Kind.{Kind}
 
--- a piece of a work: a chunk sealed or opened, or None where the chunk doesn't check
+-- a piece of a work, whose container has this header: a chunk sealed or opened, or None where the chunk doesn't check
 pub record PieceView : Type 0 where
   pub kind : Kind
-  pub prefix : List ℕ
+  pub header : List ℕ
   pub number : ℕ
   pub value : Option (List ℕ)
 
@@ -24,16 +23,16 @@ pub record ShelfView : Type 0 where
 
 -- a work's piece of a number
 abbrev pub piece_of : WorkView → ℕ → PieceView
-piece_of w n = record { kind = w.kind; prefix = prefix_in w.header; number = n; value = slice_index_or w.values n None }
+piece_of w n = record { kind = w.kind; header = w.header; number = n; value = slice_index_or w.values n None }
 
 -- the shelf of a work with all places empty
 abbrev pub empty_shelf : WorkView → ShelfView
 empty_shelf w = record { kind = w.kind; header = w.header; places = replicate (length w.values) None }
 
--- the piece has a place on the shelf: it is of the same kind and prefix, and its number is below the count
+-- the piece has a place on the shelf: it is of the same kind and header, and its number is below the count
 pub record Fits (s : ShelfView) (p : PieceView) : Type 0 where
   pub kind : p.kind ≡ s.kind
-  pub prefix : p.prefix ≡ prefix_in s.header
+  pub header : p.header ≡ s.header
   pub number : p.number < length s.places
 
 -- what stands at the piece's place

@@ -18,20 +18,20 @@ all_of [] = []
 all_of (part ∷ rest) = part ++ all_of rest
 
 abbrev pub piece_at : Kind → List ℕ → ℕ → Option (List ℕ) → PieceView
-piece_at kind prefix n value = record { kind = kind; prefix = prefix; number = n; value = value }
+piece_at kind header n value = record { kind = kind; header = header; number = n; value = value }
 
 -- the piece at a place, if there is one, where this is its part of the whole
 abbrev pub shown : Kind → List ℕ → ℕ → Place → List ℕ → Option PieceView
-shown kind prefix n Empty part = None
-shown kind prefix n Forged part = Some (piece_at kind prefix n None)
-shown kind prefix n Here part = Some (piece_at kind prefix n (Some part))
-shown kind prefix n (Apart bytes) part = Some (piece_at kind prefix n (Some bytes.items))
+shown kind header n Empty part = None
+shown kind header n Forged part = Some (piece_at kind header n None)
+shown kind header n Here part = Some (piece_at kind header n (Some part))
+shown kind header n (Apart bytes) part = Some (piece_at kind header n (Some bytes.items))
 
 -- the pieces at all places from a number on
 unfoldable pub places_from : Kind → List ℕ → ℕ → List Place → List (List ℕ) → List (Option PieceView)
-places_from kind prefix n [] parts = []
-places_from kind prefix n (place ∷ rest) parts =
-    shown kind prefix n place (slice_index_or parts n []) ∷ places_from kind prefix (n + 1) rest parts
+places_from kind header n [] parts = []
+places_from kind header n (place ∷ rest) parts =
+    shown kind header n place (slice_index_or parts n []) ∷ places_from kind header (n + 1) rest parts
 
 abbrev pub shelf_of : Kind → List ℕ → List (Option PieceView) → ShelfView
 shelf_of kind header places = record { kind = kind; header = header; places = places }
@@ -75,7 +75,7 @@ AllCheck s = (n : ℕ) → n < length s.places → value_in (slice_index_or s.pl
 
 -- a place shows this value, and the parts of the other places stay
 pub record Keeps (old new : List (List ℕ)) (n : ℕ) (value : Option (List ℕ)) (place : Place) : Type 0 where
-  pub shows : (kind : Kind) (prefix : List ℕ) (m : ℕ)
-      → shown kind prefix m place (slice_index_or new n []) ≡ Some (piece_at kind prefix m value)
+  pub shows : (kind : Kind) (header : List ℕ) (m : ℕ)
+      → shown kind header m place (slice_index_or new n []) ≡ Some (piece_at kind header m value)
   pub others : (m : ℕ) → m ≢ n → slice_index_or new m [] ≡ slice_index_or old m []
   pub count : length new ≡ length old

@@ -10,7 +10,7 @@ pub enum PutFault {
     /// The piece's place is taken.
     #[error("the place is taken")]
     Double,
-    /// The piece is of another kind or prefix, or its number isn't below the count.
+    /// The piece is of another kind or header, or its number isn't below the count.
     #[error("a piece of another work")]
     Stranger,
 }

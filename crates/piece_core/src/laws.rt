@@ -1,7 +1,8 @@
 //! What follows of the definitions alone, each law the contract of a function that does nothing.
 ghost use Rattle.std.specs.Prelude.{◌≡◌, ℕ, ◌+◌, ◌==◌, ◌<◌, List, [], length, slice_index_or, None, Ok};
-ghost use Rattle.container_core.specs.Container.{container};
+ghost use Rattle.container_core.specs.Container.{container, size_in};
 ghost use Rattle.container_core.specs.Opening.{early_fault, opening};
+ghost use Rattle.container_core.specs.Shape.{ShapeView};
 ghost use Rattle.piece_core.specs.declared.work.Kind.{Kind};
 ghost use Rattle.piece_core.specs.Answer.{IsOf, named, whole_of};
 ghost use Rattle.piece_core.specs.Pieces.{WorkView, ShelfView, empty_shelf, piece_of, with_piece};
@@ -9,8 +10,8 @@ ghost use Rattle.piece_core.specs.Values.{parts_of, value_at, values_of, sealing
 
 /// The whole of a sealing is the container; the whole of an opening without an early fault is what opening answers.
 pub fn wholes_of_works()
-    ensures sealing { (key prefix plain : List ℕ)
-        → whole_of (sealing_of key prefix plain) ≡ Ok (container key prefix plain) }
+    ensures sealing { (key prefix plain : List ℕ) (shape : ShapeView)
+        → whole_of (sealing_of key shape prefix plain) ≡ Ok (container key shape prefix plain) }
     ensures opening { (key bytes : List ℕ) (most : ℕ) → early_fault key most bytes ≡ None
         → opening key most bytes ≡ named (whole_of (opening_of key bytes)) }
 {}
@@ -18,10 +19,12 @@ pub fn wholes_of_works()
 /// A work has a piece for each chunk, in order: the chunk sealed or opened under its number, as the last where it is.
 pub fn pieces_by_number()
     ensures count { (kind : Kind) (key header body : List ℕ)
-        → length (values_of kind key header body) ≡ length (parts_of kind body) }
-    ensures value { (kind : Kind) (key header body : List ℕ) (n : ℕ) → n < length (parts_of kind body)
+        → length (values_of kind key header body) ≡ length (parts_of kind (size_in header) body) }
+    ensures value { (kind : Kind) (key header body : List ℕ) (n : ℕ)
+        → n < length (parts_of kind (size_in header) body)
         → slice_index_or (values_of kind key header body) n None
-        ≡ value_at kind key header n (n + 1 == length (parts_of kind body)) (slice_index_or (parts_of kind body) n []) }
+        ≡ value_at kind key header n (n + 1 == length (parts_of kind (size_in header) body))
+        (slice_index_or (parts_of kind (size_in header) body) n []) }
 {}
 
 /// A new shelf of a work has none but the work's pieces, and so has one that takes another of them.

@@ -1,4 +1,4 @@
-//! One sealing or opening cut into pieces, and the shelf that joins them, for whoever makes pieces on threads of his own.
+//! One sealing or opening cut into pieces, and the shelf that joins them, for whoever makes pieces on his own threads.
 //!
 //! A `Work` is one sealing or one opening, cut into pieces: a piece is one chunk sealed or opened, and can be made by
 //! itself. A `Shelf` has a place for each piece of a work and joins them once every place is filled, so it makes no

@@ -1,14 +1,16 @@
 //! One piece of a work: what came of one chunk, and which of the work's pieces it is.
 ghost use Rattle.std.specs.Prelude.{◌≡◌, option_map};
+ghost use Rattle.container_core.specs.Stream.{prefix_in};
 
 use crate::work::Kind;
+use container_core::Header;
 use std::marker::Model;
 
 /// One chunk sealed, or opened; or that the chunk doesn't check. `Work::piece` makes it.
 #[derive(Drop)]
 pub struct Piece {
     pub(crate) kind: Kind,
-    pub(crate) prefix: [u8; 7],
+    pub(crate) header: Header,
     pub(crate) number: u32,
     pub(crate) value: Option<Vec<u8>>,
 }
@@ -21,7 +23,7 @@ impl Model for Piece {
 
     ghost view = { λ p. record {
       kind = p.kind;
-      prefix = p.prefix;
+      header = p.header;
       number = p.number;
       value = option_map (λ v. v.items) p.value;
     } };
@@ -35,11 +37,18 @@ impl Piece {
         self.kind
     }
 
-    /// The prefix of the work's nonces.
-    pub fn prefix(&self) -> [u8; 7]
-        ensures { result ≡ self.now.prefix }
+    /// The header of the work's container.
+    pub fn header(&self) -> &Header
+        ensures { result.now ≡ self.now.header }
     {
-        self.prefix
+        &self.header
+    }
+
+    /// The prefix of the work's nonces, which the header names.
+    pub fn prefix(&self) -> [u8; 7]
+        ensures { result ≡ prefix_in self.now.header }
+    {
+        self.header.prefix()
     }
 
     /// The number of its chunk.

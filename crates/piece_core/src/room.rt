@@ -1,12 +1,13 @@
 //! The whole that the pieces of a work are joined to: one buffer, reserved once, with a part for each piece.
 ghost use Rattle.std.specs.Prelude.{◌≡◌, ℕ, ◌+◌, ◌*◌, ◌^◌, ◌<◌, ◌≤◌, ◌++◌, List, [], length, take, drop, replicate};
 ghost use Rattle.std.specs.Prelude.{slice_index_or, slice_set, None, Some, IfOk, OnOk};
+ghost use Rattle.container_core.specs.Container.{size_in};
 ghost use Rattle.piece_core.specs.Answer.{front_of};
 ghost use Rattle.piece_core.specs.Parts.{piece_size};
 ghost use Rattle.piece_core.specs.Rooms.{all_of};
 
 use crate::work::{Kind, Work};
-use container_core::{CHUNK, HEADER, MAX_BODY, SEALED};
+use container_core::{Header, TAG};
 use std::alloc::{AllocError, Global};
 use std::marker::Model;
 
@@ -45,24 +46,25 @@ fn append_zeros(bytes: &mut Vec<u8>, count: usize) -> Result<(), AllocError>
 }
 
 // Bytes of every piece but the last.
-fn size_of_piece(kind: Kind) -> usize
-    ensures { result ≡ piece_size kind }
+fn size_of_piece(kind: Kind, header: &Header) -> usize
+    ensures { result ≡ piece_size kind (size_in header.now) }
 {
     match kind {
-        Kind::Sealing => SEALED,
-        Kind::Opening => CHUNK,
+        Kind::Sealing => header.chunk() + TAG,
+        Kind::Opening => header.chunk(),
     }
 }
 
 // What stands before the pieces, with room for so many bytes in all.
 fn front_bytes(alloc: Global, work: &Work, bytes: usize) -> Result<Vec<u8>, AllocError>
-    requires { bytes ≤ MAX_BODY }
+    requires { bytes ≤ 2 ^ 41 }
     ensures front { IfOk result (λ v. v.items ≡ front_of work.now.kind work.now.header) }
-    ensures short { IfOk result (λ v. length v.items ≤ HEADER) }
+    ensures short { IfOk result (λ v. length v.items ≤ 280) }
 {
-    let mut front = Vec::with_capacity(alloc, HEADER + bytes)?;
+    let header = work.header().bytes();
+    let mut front = Vec::with_capacity(alloc, header.len() + bytes)?;
     match work.kind() {
-        Kind::Sealing => front.extend_from_slice(&work.header().bytes())?,
+        Kind::Sealing => front.extend_from_slice(header)?,
         Kind::Opening => {}
     }
     Ok(front)
@@ -120,7 +122,7 @@ impl Room {
         append_zeros(&mut whole, bytes)?;
         Ok(Room {
             front,
-            size: size_of_piece(work.kind()),
+            size: size_of_piece(work.kind(), work.header()),
             count: work.count(),
             whole,
         })

@@ -14,6 +14,7 @@ use crate::fault::{PutFault, ShelfFault};
 use crate::piece::Piece;
 use crate::room::Room;
 use crate::work::{Kind, MAX_PIECES, Work};
+use container_core::Header;
 use std::alloc::{AllocError, Global};
 use std::marker::Model;
 
@@ -34,15 +35,13 @@ pub(crate) enum Place {
 #[derive(Drop)]
 pub struct Shelf {
     kind: Kind,
-    header: [u8; 24],
-    prefix: [u8; 7],
+    header: Header,
     room: Room,
     places: Vec<Place>,
 }
 
 impl Model for Shelf {
     ghost use Rattle.std.specs.Prelude.{◌≡◌, ◌≤◌, length, vec_len};
-    ghost use Rattle.container_core.specs.Stream.{prefix_in};
     ghost use Rattle.piece_core.specs.Answer.{front_of};
     ghost use Rattle.piece_core.specs.Pieces.{ShelfView};
     ghost use Rattle.piece_core.specs.Rooms.{places_from};
@@ -53,10 +52,10 @@ impl Model for Shelf {
     ghost view = { λ s. record {
       kind = s.kind;
       header = s.header;
-      places = places_from s.kind s.prefix 0 s.places.items s.room.parts;
+      places = places_from s.kind s.header 0 s.places.items s.room.parts;
     } };
 
-    ghost invariant = { λ s. (s.prefix ≡ prefix_in s.header) × (s.room.front ≡ front_of s.kind s.header)
+    ghost invariant = { λ s. (s.room.front ≡ front_of s.kind s.header)
         × (length s.places.items ≡ length s.room.parts) × (vec_len s.places ≤ MAX_PIECES) };
 }
 
@@ -196,11 +195,9 @@ impl Shelf {
     {
         let room = Room::new(alloc, work)?;
         let places = empty_places(alloc, work.count())?;
-        let header = work.header();
         Ok(Shelf {
             kind: work.kind(),
-            header: header.bytes(),
-            prefix: header.prefix(),
+            header: work.header().copy(),
             room,
             places,
         })
@@ -219,7 +216,7 @@ impl Shelf {
         ensures no { OnFalse result (Fits self.now piece.now → ⊥) }
     {
         piece.kind == self.kind
-            && piece.prefix == self.prefix
+            && piece.header.bytes() == self.header.bytes()
             && (piece.number as usize) < self.count()
     }
 
@@ -249,7 +246,7 @@ impl Shelf {
         }
     }
 
-    /// Puts a piece on its place. `Stranger` is tested first: where the piece is of another kind or prefix, or its
+    /// Puts a piece on its place. `Stranger` is tested first: where the piece is of another kind or header, or its
     /// number isn't below the count. Else `Double` where its place is taken. At both nothing changes, and the piece is
     /// handed back. Takes no memory.
     pub fn put(&mut self, piece: Piece) -> Result<(), (PutFault, Piece)>

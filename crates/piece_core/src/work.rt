@@ -1,7 +1,8 @@
 //! One sealing or opening, cut into pieces that can be made one by one, in any order.
-ghost use Rattle.std.specs.Prelude.{◌≡◌, ℕ, ◌+◌, ◌-◌, ◌*◌, ◌<◌, ◌≤◌, List, [], length, min, slice_index_or, None, Some};
-ghost use Rattle.std.specs.Prelude.{IfOk, IfErr, OnOk, option_map};
+ghost use Rattle.std.specs.Prelude.{◌≡◌, ℕ, ◌+◌, ◌-◌, ◌*◌, ◌^◌, ◌<◌, ◌≤◌, List, [], length, min, slice_index_or};
+ghost use Rattle.std.specs.Prelude.{None, Some, IfOk, IfErr, OnOk, option_map};
 ghost use Rattle.container_core.specs.Chunks.{chunk_count};
+ghost use Rattle.container_core.specs.Container.{size_in};
 ghost use Rattle.container_core.specs.Opening.{early_fault};
 ghost use Rattle.piece_core.specs.Pieces.{piece_of};
 ghost use Rattle.piece_core.specs.Values.{parts_of, value_at, sealing_of, opening_of};
@@ -9,14 +10,13 @@ ghost use Rattle.piece_core.specs.Parts.{body_bytes, part_size, least_part, piec
 
 use crate::piece::Piece;
 use container_core::{
-    Cut, HEADER, Header, Key, MAX_BODY, MAX_PLAIN, OpenFault, TAG, append_opened, append_sealed,
-    begin, container_bytes,
+    Cut, Header, Key, MAX_PLAIN, OpenFault, Shape, TAG, append_opened, append_sealed, begin,
 };
 use std::alloc::{AllocError, Global};
 use std::marker::Model;
 
-/// The most pieces of a work: as many as the greatest plaintext has chunks.
-pub const MAX_PIECES: u32 = 1 << 24;
+/// The most pieces of a work: as many as the greatest plaintext has of the least chunks.
+pub const MAX_PIECES: u32 = 1 << 28;
 
 /// What is done to each chunk.
 #[derive(Clone, Copy, PartialEq, Eq, Debug)]
@@ -27,7 +27,7 @@ pub enum Kind {
     Opening,
 }
 
-/// A plaintext to be sealed under a key and a prefix, or a container to be opened under a key.
+/// A plaintext to be sealed under a key and a prefix in a shape, or a container to be opened under a key.
 #[derive(Drop)]
 pub struct Work<'a> {
     kind: Kind,
@@ -50,16 +50,16 @@ impl<'a> Model for Work<'a> {
       values = values_of w.kind w.key.now w.header w.body.now;
     } };
 
-    ghost invariant = { λ w. IsCut w.kind w.cut w.body.now };
+    ghost invariant = { λ w. IsCut w.kind w.header w.cut w.body.now };
 }
 
 // The part of a body that the piece of this number is made of.
 fn part_at(kind: Kind, cut: Cut, body: &[u8], number: u32) -> &[u8]
-    requires number { number < chunk_count cut }
-    requires cut { length body.now ≡ body_bytes kind cut }
-    ensures part { result.now ≡ slice_index_or (parts_of kind body.now) number [] }
+    requires number { number < chunk_count cut.size cut.plain }
+    requires cut { length body.now ≡ body_bytes kind cut.size cut.plain }
+    ensures part { result.now ≡ slice_index_or (parts_of kind cut.size body.now) number [] }
     ensures enough { least_part kind ≤ length result.now }
-    ensures small { length result.now ≤ part_size kind }
+    ensures small { length result.now ≤ part_size kind cut.size }
 {
     match kind {
         Kind::Sealing => cut.chunk_of(body, number),
@@ -78,7 +78,7 @@ fn value_of(
     part: &[u8],
 ) -> Result<Option<Vec<u8>>, AllocError>
     requires enough { least_part kind ≤ length part.now }
-    requires small { length part.now ≤ part_size kind }
+    requires small { length part.now ≤ part_size kind (size_in header.now) }
     ensures { IfOk result (λ o. option_map (λ v. v.items) o ≡ value_at kind key.now header.now number last part.now) }
 {
     match kind {
@@ -100,33 +100,36 @@ fn value_of(
 
 // Bytes of all pieces of a body that is cut so.
 fn sum_of_pieces(kind: Kind, cut: Cut) -> usize
-    requires { cut ≤ MAX_PLAIN }
-    ensures { result ≡ pieces_sum kind cut }
+    requires { cut.plain ≤ MAX_PLAIN }
+    ensures sum { result ≡ pieces_sum kind cut.size cut.plain }
+    ensures few { result ≤ 2 ^ 41 }
 {
     match kind {
-        Kind::Sealing => container_bytes(cut.plain()) as usize - HEADER,
+        Kind::Sealing => cut.plain() as usize + TAG * cut.count() as usize,
         Kind::Opening => cut.plain() as usize,
     }
 }
 
 impl<'a> Work<'a> {
-    /// The work of sealing a plaintext of at most 2^40 bytes. Takes no memory.
-    pub fn sealing(key: &'a Key, prefix: [u8; 7], plain: &'a [u8]) -> Work<'a>
+    /// The work of sealing a plaintext of at most 2^40 bytes in a shape. Takes no memory.
+    pub fn sealing(key: &'a Key, shape: &Shape, prefix: [u8; 7], plain: &'a [u8]) -> Work<'a>
         requires { length plain.now ≤ MAX_PLAIN }
-        ensures { result ≡ sealing_of key.now prefix plain.now }
+        ensures { result ≡ sealing_of key.now shape.now prefix plain.now }
     {
+        let header = Header::of(key, shape, prefix);
+        let cut = Cut::of(&header, plain.len() as u64);
         Work {
             kind: Kind::Sealing,
             key,
-            header: Header::of(key, prefix),
-            cut: Cut::of(plain.len() as u64),
+            header,
+            cut,
             body: plain,
         }
     }
 
-    /// The work of opening a container, or the first fault that shows before any chunk is opened: those of `OpenFault`
-    /// from `TooLong` (more bytes than the container of 2^40 plaintext bytes) to `BadLength`, in this order. Takes no
-    /// memory.
+    /// The work of opening a container of at most 2^40 plaintext bytes, of either version, or the first fault that
+    /// shows before any chunk is opened, as `container_core::begin` names it: from `TooLong` and those of the header to
+    /// `BadLength`. Takes no memory.
     pub fn opening(key: &'a Key, container: &'a [u8]) -> Result<Work<'a>, OpenFault>
         ensures work { IfOk result (λ w. w ≡ opening_of key.now container.now) }
         ensures faultless { OnOk result (early_fault key.now MAX_PLAIN container.now ≡ None) }
@@ -134,7 +137,7 @@ impl<'a> Work<'a> {
     {
         match begin(key, container) {
             Ok((header, cut)) => {
-                let (_, body) = container.split_at(HEADER);
+                let (_, body) = container.split_at(header.bytes().len());
                 Ok(Work {
                     kind: Kind::Opening,
                     key,
@@ -163,11 +166,12 @@ impl<'a> Work<'a> {
         ensures { IfOk result (λ p. p ≡ piece_of self.now number) }
     {
         let part = part_at(self.kind, self.cut, self.body, number);
-        let last = number + 1 == self.cut.count();
+        let count = self.count();
+        let last = number + 1 == count;
         let value = value_of(alloc, self.kind, self.key, &self.header, number, last, part)?;
         Ok(Piece {
             kind: self.kind,
-            prefix: self.header.prefix(),
+            header: self.header.copy(),
             number,
             value,
         })
@@ -175,15 +179,16 @@ impl<'a> Work<'a> {
 
     // Bytes of all pieces together.
     pub(crate) fn bytes_of_pieces(&self) -> usize
-        ensures least { (length self.now.values - 1) * piece_size self.now.kind ≤ result }
-        ensures most { result ≤ length self.now.values * piece_size self.now.kind }
-        ensures few { result ≤ MAX_BODY }
+        ensures least { (length self.now.values - 1) * piece_size self.now.kind (size_in self.now.header) ≤ result }
+        ensures most { result ≤ length self.now.values * piece_size self.now.kind (size_in self.now.header) }
+        ensures few { result ≤ 2 ^ 41 }
 
         // Every piece that checks has the length of a part, where as many bytes are cut behind each `piece_size` of
         // them.
         ensures each { (n : ℕ) (bytes : List ℕ)
             → n < length self.now.values → slice_index_or self.now.values n None ≡ Some bytes
-            → length bytes ≡ min (piece_size self.now.kind) (result - n * piece_size self.now.kind) }
+            → length bytes ≡ min (piece_size self.now.kind (size_in self.now.header))
+            (result - n * piece_size self.now.kind (size_in self.now.header)) }
     {
         sum_of_pieces(self.kind, self.cut)
     }

@@ -1,10 +1,9 @@
 -- What the pieces of a round are together.
-use Rattle.std.proofs.Common.{◌≡◌, ℕ, zero, suc, ◌+◌, ◌<◌, Bool, List, [], ◌∷◌, ◌++◌, length, take, get_or, Option}
-use Rattle.std.proofs.Common.{Some, None, option_map, Result, Err, refl, sym, ap, ◌∙◌, arith, add-zero}
-use Rattle.std.proofs.Common.{append_assoc}
-use Rattle.std.proofs.lemmas.List.{append-nil}
+use Rattle.std.proofs.Common.{◌≡◌, ℕ, zero, suc, ◌+◌, ◌<◌, Bool, List, [], ◌∷◌, ◌++◌, length, get_or, Option}
+use Rattle.std.proofs.Common.{Some, None, option_map, Result, Err, refl, ap, ◌∙◌, arith, add-zero}
 use Rattle.container_core.specs.declared.fault.OpenFault.{OpenFault}
 use Rattle.container_core.specs.declared.fault.OpenFault.TheVariants.{Forged}
+use Rattle.container_core.specs.Container.{size_in}
 use Rattle.container_core.specs.Stream.{stream_by}
 use Rattle.container_core.specs.Opening.{unsealed_by}
 use Rattle.container_core.specs.Opening.{joined as joined_chunk}
@@ -28,14 +27,14 @@ none_refused-numbered key header i last [] = refl
 none_refused-numbered key header i last (part ∷ rest) = rw (none_refused-numbered key header (i + 1) last rest) refl
 
 pub joined-sealing : (key header : List ℕ) (first : ℕ) (last : Bool) (plain : List ℕ)
-    → joined (values_of Sealing key header first last plain) ≡ stream_by key header first last (chunks plain)
+    → joined (values_of Sealing key header first last plain) ≡ stream_by key header first last (chunks (size_in header) plain)
 unfolding values_of
-joined-sealing key header first last plain = joined-numbered key header first last (chunks plain)
+joined-sealing key header first last plain = joined-numbered key header first last (chunks (size_in header) plain)
 
 pub none_refused-sealing : (key header : List ℕ) (first : ℕ) (last : Bool) (plain : List ℕ)
     → first_refused (values_of Sealing key header first last plain) ≡ None
 unfolding values_of
-none_refused-sealing key header first last plain = none_refused-numbered key header first last (chunks plain)
+none_refused-sealing key header first last plain = none_refused-numbered key header first last (chunks (size_in header) plain)
 
 -- an opening: one chunk, and what the rest answers
 named_next : (i : ℕ) (refused : Option ℕ) (bytes rest : List ℕ)
@@ -64,9 +63,9 @@ named-numbered key header i last (part ∷ rest) =
 
 pub named-opening : (key header : List ℕ) (first : ℕ) (last : Bool) (body : List ℕ)
     → named first (answer (values_of Opening key header first last body))
-    ≡ unsealed_by key header first last (sealed_chunks body)
+    ≡ unsealed_by key header first last (sealed_chunks (size_in header) body)
 unfolding values_of
-named-opening key header first last body = named-numbered key header first last (sealed_chunks body)
+named-opening key header first last body = named-numbered key header first last (sealed_chunks (size_in header) body)
 
 -- a checking
 same_refused : (value : Option (List ℕ)) (checks opens : List (Option (List ℕ)))
@@ -89,7 +88,7 @@ pub refused-checking : (key header : List ℕ) (first : ℕ) (last : Bool) (body
     → first_refused (values_of Checking key header first last body)
     ≡ first_refused (values_of Opening key header first last body)
 unfolding values_of
-refused-checking key header first last body = refused-numbered key header first last (sealed_chunks body)
+refused-checking key header first last body = refused-numbered key header first last (sealed_chunks (size_in header) body)
 
 -- the pieces before the least that is refused, or all of them
 some_under : (o : Option ℕ) (n : ℕ) → option_map suc o ≡ Some n → (m : ℕ) × (o ≡ Some m) × (n ≡ suc m)

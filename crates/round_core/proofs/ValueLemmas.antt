@@ -4,12 +4,15 @@ use Rattle.std.proofs.Common.{◌∙◌, sym, refl, arith, add-zero, add-one}
 use Rattle.std.proofs.lemmas.Bool.Decides.{nat_tests}
 use Rattle.container_core.specs.Stream.{is_nil}
 use Rattle.container_core.specs.Chunks.{chunk_count}
+use Rattle.container_core.specs.Container.{size_in}
+use Rattle.container_core.specs.Views.{CutView}
 use Rattle.container_core.proofs.PartsLemmas.{length-chunks, length-sealed_chunks}
+use Rattle.container_core.proofs.OpeningLemmas.{some_size}
 use Rattle.round_core.specs.declared.round.Task.{Task}
 use Rattle.round_core.specs.declared.round.Task.TheVariants.{Sealing, Opening, Checking}
 use Rattle.round_core.specs.Views.{RoundView}
 use Rattle.round_core.specs.Values.{numbered, parts_of, value_at, values_of, round_of}
-use Rattle.round_core.specs.Parts.{body_bytes}
+use Rattle.round_core.specs.Parts.{body_bytes, IsCutBy}
 
 pub length-numbered : {A : Type 0} (f : ℕ → Bool → List ℕ → A) (i : ℕ) (last : Bool) (parts : List (List ℕ))
     → length (numbered f i last parts) ≡ length parts
@@ -40,58 +43,68 @@ get_or-numbered f i last (part ∷ rest) (suc n) d e at =
     h ∙ rw (place, next, eqb-next (n + 1) (length rest)) refl
 
 -- as many parts as chunks
-pub length-parts_of : (task : Task) (plain : ℕ) (body : List ℕ) → length body ≡ body_bytes task plain
-    → length (parts_of task body) ≡ chunk_count plain
-length-parts_of Sealing plain body bytes = length-chunks body ∙ ap chunk_count bytes
-length-parts_of Opening plain body bytes = length-sealed_chunks body plain bytes
-length-parts_of Checking plain body bytes = length-sealed_chunks body plain bytes
+pub length-parts_of : (task : Task) (size plain : ℕ) (body : List ℕ) → 0 < size → length body ≡ body_bytes task size plain
+    → length (parts_of task size body) ≡ chunk_count size plain
+length-parts_of Sealing size plain body some bytes = length-chunks size body ∙ ap (chunk_count size) bytes
+length-parts_of Opening size plain body some bytes = length-sealed_chunks size body plain some bytes
+length-parts_of Checking size plain body some bytes = length-sealed_chunks size body plain some bytes
+
+-- the parts of a body that is cut by its header
+parts-cut : (task : Task) (header : List ℕ) (first : ℕ) (cut : CutView) (body : List ℕ) → IsCutBy task header first cut body
+    → length (parts_of task (size_in header) body) ≡ chunk_count cut.size cut.plain
+parts-cut task header first cut body is =
+    ap (λ (s : ℕ). length (parts_of task s body)) (sym is.size)
+    ∙ length-parts_of task cut.size cut.plain body (let some = some_size header in omega (arith, some, is.size)) is.bytes
 
 -- as many values as chunks, and each is of its part
-pub length-values_of : (task : Task) (key header : List ℕ) (first : ℕ) (last : Bool) (plain : ℕ) (body : List ℕ)
-    → length body ≡ body_bytes task plain → length (values_of task key header first last body) ≡ chunk_count plain
+pub length-values_of : (task : Task) (key header : List ℕ) (first : ℕ) (last : Bool) (cut : CutView) (body : List ℕ)
+    → IsCutBy task header first cut body
+    → length (values_of task key header first last body) ≡ chunk_count cut.size cut.plain
 unfolding values_of
-length-values_of task key header first last plain body bytes =
-    length-numbered (value_at task key header) first last (parts_of task body) ∙ length-parts_of task plain body bytes
+length-values_of task key header first last cut body is =
+    length-numbered (value_at task key header) first last (parts_of task (size_in header) body)
+    ∙ parts-cut task header first cut body is
 
-pub get_or-values_of : (task : Task) (key header : List ℕ) (first : ℕ) (last : Bool) (plain : ℕ) (body : List ℕ) (n : ℕ)
-    → length body ≡ body_bytes task plain → n < chunk_count plain
+pub get_or-values_of : (task : Task) (key header : List ℕ) (first : ℕ) (last : Bool) (cut : CutView) (body : List ℕ) (n : ℕ)
+    → IsCutBy task header first cut body → n < chunk_count cut.size cut.plain
     → get_or (values_of task key header first last body) n None
-    ≡ value_at task key header (first + n) (eqb (n + 1) (chunk_count plain) && last) (get_or (parts_of task body) n [])
+    ≡ value_at task key header (first + n) (eqb (n + 1) (chunk_count cut.size cut.plain) && last) (get_or (parts_of task cut.size body) n [])
 unfolding values_of
-get_or-values_of task key header first last plain body n bytes at =
-    let count = length-parts_of task plain body bytes in
-    get_or-numbered (value_at task key header) first last (parts_of task body) n None [] (rw count at)
-    ∙ ap (λ k. value_at task key header (first + n) (eqb (n + 1) k && last) (get_or (parts_of task body) n [])) count
+get_or-values_of task key header first last cut body n is at =
+    let count = parts-cut task header first cut body is in
+    get_or-numbered (value_at task key header) first last (parts_of task (size_in header) body) n None [] (rw count at)
+    ∙ ap (λ k. value_at task key header (first + n) (eqb (n + 1) k && last) (get_or (parts_of task (size_in header) body) n [])) count
+    ∙ ap (λ (s : ℕ). value_at task key header (first + n) (eqb (n + 1) (chunk_count cut.size cut.plain) && last) (get_or (parts_of task s body) n [])) (sym is.size)
 
 -- the same of a round that is this one
-pub length-round : (task : Task) (key header : List ℕ) (first : ℕ) (last : Bool) (plain : ℕ) (body : List ℕ)
+pub length-round : (task : Task) (key header : List ℕ) (first : ℕ) (last : Bool) (cut : CutView) (body : List ℕ)
     (round : RoundView)
-    → length body ≡ body_bytes task plain → round_of task key header first last body ≡ round
-    → chunk_count plain ≡ length round.values
-length-round task key header first last plain body round bytes is =
-    sym (length-values_of task key header first last plain body bytes) ∙ ap (λ r. length r.values) is
+    → IsCutBy task header first cut body → round_of task key header first last body ≡ round
+    → chunk_count cut.size cut.plain ≡ length round.values
+length-round task key header first last cut body round by is =
+    sym (length-values_of task key header first last cut body by) ∙ ap (λ r. length r.values) is
 
-pub get_or-round : (task : Task) (key header : List ℕ) (first : ℕ) (last : Bool) (plain : ℕ) (body : List ℕ)
+pub get_or-round : (task : Task) (key header : List ℕ) (first : ℕ) (last : Bool) (cut : CutView) (body : List ℕ)
     (round : RoundView) (n : ℕ)
-    → length body ≡ body_bytes task plain → round_of task key header first last body ≡ round → n < length round.values
+    → IsCutBy task header first cut body → round_of task key header first last body ≡ round → n < length round.values
     → get_or round.values n None
-    ≡ value_at task key header (first + n) (eqb (n + 1) (chunk_count plain) && last) (get_or (parts_of task body) n [])
-get_or-round task key header first last plain body round n bytes is at =
-    let below : n < chunk_count plain = rw (length-round task key header first last plain body round bytes is) at in
-    ap (λ r. get_or r.values n None) (sym is) ∙ get_or-values_of task key header first last plain body n bytes below
+    ≡ value_at task key header (first + n) (eqb (n + 1) (chunk_count cut.size cut.plain) && last) (get_or (parts_of task cut.size body) n [])
+get_or-round task key header first last cut body round n by is at =
+    let below : n < chunk_count cut.size cut.plain = rw (length-round task key header first last cut body round by is) at in
+    ap (λ r. get_or r.values n None) (sym is) ∙ get_or-values_of task key header first last cut body n by below
 
 -- as many pieces as chunks, and each by its number
 pub length-values : (task : Task) (key header : List ℕ) (first : ℕ) (last : Bool) (body : List ℕ)
-    → length (values_of task key header first last body) ≡ length (parts_of task body)
+    → length (values_of task key header first last body) ≡ length (parts_of task (size_in header) body)
 unfolding values_of
 length-values task key header first last body =
-    length-numbered (value_at task key header) first last (parts_of task body)
+    length-numbered (value_at task key header) first last (parts_of task (size_in header) body)
 
 pub get_or-values : (task : Task) (key header : List ℕ) (first : ℕ) (last : Bool) (body : List ℕ) (n : ℕ)
-    → n < length (parts_of task body)
+    → n < length (parts_of task (size_in header) body)
     → get_or (values_of task key header first last body) n None
-    ≡ value_at task key header (first + n) (eqb (n + 1) (length (parts_of task body)) && last)
-    (get_or (parts_of task body) n [])
+    ≡ value_at task key header (first + n) (eqb (n + 1) (length (parts_of task (size_in header) body)) && last)
+    (get_or (parts_of task (size_in header) body) n [])
 unfolding values_of
 get_or-values task key header first last body n at =
-    get_or-numbered (value_at task key header) first last (parts_of task body) n None [] at
+    get_or-numbered (value_at task key header) first last (parts_of task (size_in header) body) n None [] at

@@ -1,6 +1,7 @@
 -- What the pieces of a round are.
 use Rattle.std.specs.Prelude.{ℕ, ◌+◌, Bool, ◌&&◌, List, [], ◌∷◌, Option, Some, option_map}
 use Rattle.container_core.specs.Chunks.{chunks, sealed_chunks}
+use Rattle.container_core.specs.Container.{size_in}
 use Rattle.container_core.specs.Stream.{is_nil, sealed_chunk, opened_chunk}
 use Rattle.round_core.specs.declared.round.Task.{Task}
 use Rattle.round_core.specs.declared.round.Task.TheVariants.{Sealing, Opening, Checking}
@@ -12,11 +13,11 @@ unfoldable pub numbered : {A : Type 0} → (ℕ → Bool → List ℕ → A) →
 numbered f number last [] = []
 numbered f number last (part ∷ rest) = f number (is_nil rest && last) part ∷ numbered f (number + 1) last rest
 
--- the parts of a body: the chunks of a plaintext, or sealed chunks
-abbrev pub parts_of : Task → List ℕ → List (List ℕ)
-parts_of Sealing plain = chunks plain
-parts_of Opening sealed = sealed_chunks sealed
-parts_of Checking sealed = sealed_chunks sealed
+-- the parts of a body, by the size of chunks: the chunks of a plaintext, or sealed chunks
+abbrev pub parts_of : Task → ℕ → List ℕ → List (List ℕ)
+parts_of Sealing size plain = chunks size plain
+parts_of Opening size sealed = sealed_chunks size sealed
+parts_of Checking size sealed = sealed_chunks size sealed
 
 -- what comes of one part: the chunk sealed; the chunk opened, where it checks; or that it checks, with no bytes
 abbrev pub value_at : Task → List ℕ → List ℕ → ℕ → Bool → List ℕ → Option (List ℕ)
@@ -27,9 +28,9 @@ value_at Checking key header number last part = option_map (λ _. []) (opened_ch
 -- the values of all pieces of a round whose first chunk has this number, in order; the flag says whether its last chunk
 -- is the whole's last
 unfoldable pub values_of : Task → List ℕ → List ℕ → ℕ → Bool → List ℕ → List (Option (List ℕ))
-values_of task key header first last body = numbered (value_at task key header) first last (parts_of task body)
+values_of task key header first last body = numbered (value_at task key header) first last (parts_of task (size_in header) body)
 
 -- a round of a body
 abbrev pub round_of : Task → List ℕ → List ℕ → ℕ → Bool → List ℕ → RoundView
 round_of task key header first last body =
-    record { task = task; first = first; values = values_of task key header first last body }
+    record { task = task; size = size_in header; first = first; values = values_of task key header first last body }

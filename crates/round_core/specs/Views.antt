@@ -2,10 +2,11 @@
 use Rattle.std.specs.Prelude.{ℕ, List, Option}
 use Rattle.round_core.specs.declared.round.Task.{Task}
 
--- a round is what is done to its chunks, the number of the first of them, and what comes of each, in order: None where
--- a chunk doesn't check
+-- a round is what is done to its chunks, their size, the number of the first of them, and what comes of each, in order:
+-- None where a chunk doesn't check
 pub record RoundView : Type 0 where
   pub task : Task
+  pub size : ℕ
   pub first : ℕ
   pub values : List (Option (List ℕ))
 

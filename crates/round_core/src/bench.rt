@@ -71,7 +71,7 @@ impl Bench {
     pub fn make(&mut self, round: &Round, number: u32)
         requires spare { 0 < self.old.spare }
         requires number { number < length round.now.values }
-        requires room { room_of round.now.task ≤ self.old.size }
+        requires room { room_of round.now.task round.now.size ≤ self.old.size }
         ensures made { self.new.made ≡ self.old.made ++ piece_of round.now number ∷ [] }
         ensures spare { self.new.spare + 1 ≡ self.old.spare }
         ensures size { self.new.size ≡ self.old.size }

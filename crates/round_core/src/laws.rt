@@ -2,6 +2,7 @@
 ghost use Rattle.std.specs.Prelude.{◌≡◌, ℕ, ◌+◌, ◌==◌, ◌&&◌, ◌<◌, Bool, List, [], length, slice_index_or};
 ghost use Rattle.std.specs.Prelude.{Option, None, Some};
 ghost use Rattle.container_core.specs.Chunks.{chunks, sealed_chunks};
+ghost use Rattle.container_core.specs.Container.{size_in};
 ghost use Rattle.container_core.specs.Stream.{stream_by};
 ghost use Rattle.container_core.specs.Opening.{unsealed_by};
 ghost use Rattle.round_core.specs.declared.round.Task.{Task};
@@ -13,12 +14,12 @@ ghost use Rattle.round_core.specs.Answer.{joined, first_refused, answer, named};
 /// all where it is.
 pub fn pieces_by_number()
     ensures count { (task : Task) (key header : List ℕ) (first : ℕ) (last : Bool) (body : List ℕ)
-        → length (values_of task key header first last body) ≡ length (parts_of task body) }
+        → length (values_of task key header first last body) ≡ length (parts_of task (size_in header) body) }
     ensures value { (task : Task) (key header : List ℕ) (first : ℕ) (last : Bool) (body : List ℕ) (n : ℕ)
-        → n < length (parts_of task body)
+        → n < length (parts_of task (size_in header) body)
         → slice_index_or (values_of task key header first last body) n None
-        ≡ value_at task key header (first + n) ((n + 1 == length (parts_of task body)) && last)
-        (slice_index_or (parts_of task body) n []) }
+        ≡ value_at task key header (first + n) ((n + 1 == length (parts_of task (size_in header) body)) && last)
+        (slice_index_or (parts_of task (size_in header) body) n []) }
 {}
 
 /// Each piece of a sealing has bytes, and joined they are STREAM of the chunks.
@@ -26,14 +27,15 @@ pub fn rounds_are_sealed()
     ensures all { (key header : List ℕ) (first : ℕ) (last : Bool) (plain : List ℕ)
         → first_refused (values_of Sealing key header first last plain) ≡ None }
     ensures joined { (key header : List ℕ) (first : ℕ) (last : Bool) (plain : List ℕ)
-        → joined (values_of Sealing key header first last plain) ≡ stream_by key header first last (chunks plain) }
+        → joined (values_of Sealing key header first last plain)
+        ≡ stream_by key header first last (chunks (size_in header) plain) }
 {}
 
 /// The pieces of an opening are the plaintext of the sealed chunks, joined, or name the first chunk that doesn't check.
 pub fn rounds_are_opened()
     ensures { (key header : List ℕ) (first : ℕ) (last : Bool) (body : List ℕ)
         → named first (answer (values_of Opening key header first last body))
-        ≡ unsealed_by key header first last (sealed_chunks body) }
+        ≡ unsealed_by key header first last (sealed_chunks (size_in header) body) }
 {}
 
 /// The least piece that a checking refuses is the least that an opening refuses.

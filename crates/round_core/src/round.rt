@@ -7,10 +7,11 @@ ghost use Rattle.std.specs.Prelude.{◌≡◌, ◌+◌, ◌^◌, ◌==◌, ◌&&
 ghost use Rattle.std.specs.Prelude.{vec_capacity};
 ghost use Rattle.std.specs.Bool.{OnTrue, OnFalse};
 ghost use Rattle.container_core.specs.Chunks.{chunk_count};
+ghost use Rattle.container_core.specs.Container.{size_in};
 ghost use Rattle.round_core.specs.Values.{parts_of, value_at, round_of};
 ghost use Rattle.round_core.specs.Parts.{body_bytes, room_of, part_size, least_part};
 
-use container_core::{CHUNK, Cut, Header, Key, SEALED, append_opened, append_sealed, check_chunk};
+use container_core::{Cut, Header, Key, TAG, append_opened, append_sealed, check_chunk};
 use std::marker::Model;
 
 /// What is done to each chunk of a round.
@@ -25,13 +26,14 @@ pub enum Task {
 }
 
 impl Task {
-    /// Bytes of room that a piece needs.
-    pub fn room(self) -> usize
-        ensures { result ≡ room_of self }
+    /// Bytes of room that a piece needs, of a chunk of at most so many bytes (2^20 at most).
+    pub fn room(self, size: usize) -> usize
+        requires { size ≤ 1048576 }
+        ensures { result ≡ room_of self size }
     {
         match self {
-            Task::Sealing => SEALED,
-            Task::Opening => CHUNK,
+            Task::Sealing => size + TAG,
+            Task::Opening => size,
             Task::Checking => 0,
         }
     }
@@ -52,26 +54,28 @@ pub struct Round<'a> {
 impl<'a> Model for Round<'a> {
     ghost use Rattle.round_core.specs.Views.{RoundView};
     ghost use Rattle.round_core.specs.Values.{values_of};
-    ghost use Rattle.round_core.specs.Parts.{IsCut};
+    ghost use Rattle.round_core.specs.Parts.{IsCutBy};
+    ghost use Rattle.container_core.specs.Container.{size_in};
 
     ghost Value = { RoundView };
 
     ghost view = { λ r. record {
       task = r.task;
+      size = size_in r.header.now;
       first = r.first;
       values = values_of r.task r.key.now r.header.now r.first r.last r.body.now;
     } };
 
-    ghost invariant = { λ r. IsCut r.task r.first r.cut r.body.now };
+    ghost invariant = { λ r. IsCutBy r.task r.header.now r.first r.cut r.body.now };
 }
 
 // The part of a body that the piece of this number is made of.
 fn part_at(task: Task, cut: Cut, body: &[u8], number: u32) -> &[u8]
-    requires number { number < chunk_count cut }
-    requires body { length body.now ≡ body_bytes task cut }
-    ensures part { result.now ≡ slice_index_or (parts_of task body.now) number [] }
+    requires number { number < chunk_count cut.size cut.plain }
+    requires body { length body.now ≡ body_bytes task cut.size cut.plain }
+    ensures part { result.now ≡ slice_index_or (parts_of task cut.size body.now) number [] }
     ensures enough { least_part task ≤ length result.now }
-    ensures small { length result.now ≤ part_size task }
+    ensures small { length result.now ≤ part_size task cut.size }
 {
     match task {
         Task::Sealing => cut.chunk_of(body, number),
@@ -98,9 +102,9 @@ fn make_value(
     out: &mut Vec<u8>,
 ) -> bool
     requires enough { least_part task ≤ length part.now }
-    requires small { length part.now ≤ part_size task }
+    requires small { length part.now ≤ part_size task (size_in header.now) }
     requires empty { out.old.items ≡ [] }
-    requires room { room_of task ≤ vec_capacity out.old }
+    requires room { room_of task (size_in header.now) ≤ vec_capacity out.old }
     ensures made { OnTrue result (value_at task key.now header.now number last part.now ≡ Some out.new.items) }
     ensures refused { OnFalse result ((value_at task key.now header.now number last part.now ≡ None)
         × (out.new.items ≡ [])) }
@@ -119,7 +123,7 @@ fn make_value(
 impl<'a> Round<'a> {
     /// The round of a body: of a plaintext whose chunks are sealed, or of sealed chunks that are opened or checked.
     /// `first` is the number of its first chunk, `last` says whether its last chunk is the last of all, and `cut` is
-    /// the cut of so many plaintext bytes as it has.
+    /// the cut of so many plaintext bytes as it has into the header's chunks.
     pub fn new(
         task: Task,
         key: &'a Key,
@@ -129,8 +133,9 @@ impl<'a> Round<'a> {
         cut: Cut,
         body: &'a [u8],
     ) -> Round<'a>
-        requires numbers { first + chunk_count cut ≤ 2 ^ 32 }
-        requires body { length body.now ≡ body_bytes task cut }
+        requires size { cut.size ≡ size_in header.now }
+        requires numbers { first + chunk_count cut.size cut.plain ≤ 2 ^ 32 }
+        requires body { length body.now ≡ body_bytes task cut.size cut.plain }
         ensures { result ≡ round_of task key.now header.now first last body.now }
     {
         Round {
@@ -149,6 +154,14 @@ impl<'a> Round<'a> {
         ensures { result ≡ self.now.task }
     {
         self.task
+    }
+
+    /// Plaintext bytes of each chunk but the last of all.
+    pub fn size(&self) -> usize
+        ensures value { result ≡ self.now.size }
+        ensures most { result ≤ 1048576 }
+    {
+        self.header.chunk()
     }
 
     /// The number of its first chunk.
@@ -181,7 +194,7 @@ impl<'a> Round<'a> {
     pub fn make(&self, number: u32, out: &mut Vec<u8>) -> bool
         requires number { number < length self.now.values }
         requires empty { out.old.items ≡ [] }
-        requires room { room_of self.now.task ≤ vec_capacity out.old }
+        requires room { room_of self.now.task self.now.size ≤ vec_capacity out.old }
         ensures made { OnTrue result (slice_index_or self.now.values number None ≡ Some out.new.items) }
         ensures refused { OnFalse result ((slice_index_or self.now.values number None ≡ None)
             × (out.new.items ≡ [])) }

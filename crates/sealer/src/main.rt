@@ -17,7 +17,7 @@ ghost use Rattle.reserve_core.specs.NextRun.{IsFound};
 ghost use Rattle.sealer_core.specs.Sealing.{FoldsFiles, HasSealed, IsWritten, ReservesFilesOnce};
 
 use clap::{ArgMatches, Error};
-use command_line::{command, max_bytes, seal_request, workers};
+use command_line::{command, open_request, seal_request};
 use container_core::Key;
 use ledger_core::{FromRead, Sink, ToWrite};
 use sealer_core::{
@@ -138,6 +138,7 @@ fn seal<R: Files + AllocGlobal + Eprint + Threads + Sync, O: Write + Drop, E: Wr
         lanes: request.lanes,
         window: request.window,
         max_bytes: request.max_bytes,
+        shape: request.shape,
     };
     let mut out = Outs {
         lines: ToWrite(output),
@@ -222,20 +223,20 @@ fn over_files<R: Files + AllocGlobal + Eprint + Threads + Sync, O: Write + Drop,
     errors: E,
     only_verify: bool,
 ) -> u8 {
-    let (Some(path), Some(files)) = (matches.get_str("key"), matches.get_strs("FILE")) else {
-        return FAULT;
+    let request = match open_request(matches) {
+        Ok(request) => request,
+        Err(fault) => return complain(rt, "usage", fault),
     };
-    if files.is_empty() {
-        return FAULT;
-    }
-    let key = match key_of(rt, path) {
+    let key = match key_of(rt, request.key) {
         Ok(key) => key,
         Err(fault) => return complain(rt, "key", fault),
     };
     let options = OpenOptions {
-        files,
-        workers: workers(matches),
-        max_bytes: max_bytes(matches),
+        files: request.files,
+        workers: request.workers,
+        max_bytes: request.max_bytes,
+        label: request.label,
+        show: request.show,
     };
     let mut folder = SystemFiles(rt);
     let mut out = Outs {

@@ -1,11 +1,11 @@
 -- The pieces of several benches, and how often a number stands among theirs.
 use Rattle.std.proofs.Common.{◌≡◌, ℕ, zero, suc, ◌+◌, ◌<◌, ◌≤◌, cond, nat_eq, List, [], ◌∷◌, ◌++◌, length, map, All, refl, sym, ap, ap₂, subst, ◌∙◌, arith}
-use Rattle.std.proofs.Common.{append_assoc, append-nil, length-append, get_or, take, drop, take_at, inl, inr, ◌⊎◌, ⊎_elim, eq-eqb}
-use Rattle.std.proofs.lemmas.Bool.{cases_lt, cases_eq}
+use Rattle.std.proofs.Common.{append_assoc, append-nil, length-append, get_or, take, drop, take_at, inl, inr, eq-eqb}
+use Rattle.std.proofs.lemmas.Bool.{cases_lt}
 use Rattle.claim_core.specs.Claims.{times, once_below}
 use Rattle.round_core.specs.Pieces.{all_made, number_of, emptied, IsPiece, Covers}
 use Rattle.round_core.specs.Views.{RoundView, MadeView, BenchView}
-use Rattle.claim_core.specs.Claims.{ClaimsView, ClaimantView, IsOf, newcomer, joined}
+use Rattle.claim_core.specs.Claims.{ClaimsView, ClaimantView, joined}
 use Rattle.worker_core.specs.Crew.{IsReady, IsWorked, AreWorked, HasDrawn, IsOfCrew}
 use Rattle.std.proofs.lemmas.List.Elements.{All-push, All-append}
 use Rattle.std.proofs.Common.{set}
@@ -170,7 +170,7 @@ all_made_none (b ∷ bs) none =
     all_cons (λ bench. bench.made ≡ []) b bs both.0 (all_made_none bs both.1)
 
 pub all_ready : (round : RoundView) (room size : ℕ) (benches : List BenchView) → All (IsOfCrew room size) benches → all_made benches ≡ []
-    → length round.values ≤ room → room_of round.task ≤ size → All (IsReady round) benches
+    → length round.values ≤ room → room_of round.task round.size ≤ size → All (IsReady round) benches
 all_ready round room size benches crew none fits big k d below =
     let c = crew k d below in
     let m = all_made_none benches none k d below in

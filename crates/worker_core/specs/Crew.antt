@@ -7,7 +7,7 @@ use Rattle.round_core.specs.Views.{RoundView, MadeView, BenchView}
 
 -- a bench has room for all pieces of a round, and none on it
 pub record IsReady (round : RoundView) (bench : BenchView) : Type 0 where
-  pub size : room_of round.task ≤ bench.size
+  pub size : room_of round.task round.size ≤ bench.size
   pub spare : length round.values ≤ bench.spare
   pub made : bench.made ≡ []
 

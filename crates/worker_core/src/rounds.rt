@@ -116,7 +116,7 @@ impl Crew {
     ) -> A
         requires idle { self.old.made ≡ [] }
         requires room { length round.now.values ≤ self.old.room }
-        requires size { room_of round.now.task ≤ self.old.size }
+        requires size { room_of round.now.task round.now.size ≤ self.old.size }
         requires chore { C.pre chore.old }
         ensures chore { C.step chore.old result chore.new }
         ensures made { HasMade round.now self.new.made }

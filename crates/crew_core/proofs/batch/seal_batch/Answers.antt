@@ -41,7 +41,8 @@ returns-clause-outcomes g c =
     let ordered = subst (λ n. AreInOrder n made.new.places out) (sym jobs) c.put_in_order.ensures in
     let done = outcomes batch c.max-lanes.result used.result.0.now made.new.seats made.new.places made.ensures.lanes
     used.ensures.front_len out ordered in
-    subst (λ l. AreOutcomes c.args.key.now l out) is.jobs (subst (λ k. AreOutcomes k batch.jobs out) is.key done)
+    subst (λ l. AreOutcomes c.args.key.now c.args.shape.now l out) is.jobs
+    (subst (λ s. AreOutcomes c.args.key.now s batch.jobs out) is.shape (subst (λ k. AreOutcomes k batch.shape batch.jobs out) is.key done))
 
 pub returns-clause-issued : goal.returns-clause-issued
 returns-clause-issued g c =

@@ -9,6 +9,7 @@ use Rattle.crew_core.proofs.lanes.sealed_job.Goals as goal
 pub returns-in-Ok-seal : goal.returns-in-Ok-seal
 returns-in-Ok-seal c =
     let key = c.args.key.now in
+    let shape = c.args.shape.now in
     let job = c.args.job.now in
     let old = c.args.seat.now in
     let new = c.issue.new.seat in
@@ -16,15 +17,16 @@ returns-in-Ok-seal c =
     let spent = c.used.result in
     let is = c.used.ensures in
     let issued = c.in-Ok.ensures in
-    step_granted key job c.args.lane old new grant.number (Sealed c.args.lane c.in-Ok-seal.bytes spent) issued.same issued.granted
+    step_granted key shape job c.args.lane old new grant.number (Sealed c.args.lane c.in-Ok-seal.bytes spent) issued.same issued.granted
     (ap (λ s. Granted s.number ∷ []) is)
-    (c.in-Ok-seal.ensures.container ∙ ap (λ p. container key p job) (c.prefix.ensures ∙ sym (ap (λ s. prefix_of s.device s.number) is)), ap (λ s. s.way) is)
+    (c.in-Ok-seal.ensures.container ∙ ap (λ p. container key shape p job) (c.prefix.ensures ∙ sym (ap (λ s. prefix_of s.device s.number) is)), ap (λ s. s.way) is)
     refl
     (holds_granted old new spent grant.number issued.knows issued.same issued.granted (ap (λ s. s.number) is) (ap (λ s. s.device) is ∙ issued.device))
 
 pub returns-in-Err-seal : goal.returns-in-Err-seal
 returns-in-Err-seal c =
     let key = c.args.key.now in
+    let shape = c.args.shape.now in
     let job = c.args.job.now in
     let old = c.args.seat.now in
     let new = c.issue.new.seat in
@@ -32,6 +34,6 @@ returns-in-Err-seal c =
     let spent = c.waste.result in
     let is = c.waste.ensures in
     let issued = c.in-Ok.ensures in
-    step_granted key job c.args.lane old new grant.number (Spoiled c.args.lane spent) issued.same issued.granted
+    step_granted key shape job c.args.lane old new grant.number (Spoiled c.args.lane spent) issued.same issued.granted
     (ap (λ s. Granted s.number ∷ []) is) (ap (λ s. s.way) is) refl
     (holds_granted old new spent grant.number issued.knows issued.same issued.granted (ap (λ s. s.number) is) (ap (λ s. s.device) is ∙ issued.device))

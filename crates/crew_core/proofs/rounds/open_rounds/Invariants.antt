@@ -4,18 +4,18 @@ use Rattle.container_core.specs.Chunks.{body_length, chunk_count, sealed_chunks}
 use Rattle.container_core.specs.Opening.{behind, unsealed_by}
 use Rattle.round_core.specs.declared.round.Task.TheVariants.{Opening}
 use Rattle.round_core.specs.Answer.{joined}
-use Rattle.crew_core.specs.Rounds.{CanMake}
+use Rattle.crew_core.specs.Rounds.{CanMake, round_count}
 use Rattle.crew_core.proofs.rounds.open_rounds.Given as goal
 
 abbrev pub invariant-rounds : goal.invariant-rounds
 invariant-rounds g l = record {
-  done : unsealed_by l.key l.header 0 true (sealed_chunks l.body)
-      ≡ behind (l.out.items ++ joined l.rooms.places.values) (unsealed_by l.key l.header l.number true (sealed_chunks l.rest));
+  done : unsealed_by l.key l.header 0 true (sealed_chunks l.fn.cut.size l.body)
+      ≡ behind (l.out.items ++ joined l.rooms.places.values) (unsealed_by l.key l.header l.number true (sealed_chunks l.fn.cut.size l.rest));
   fits : vec_len l.out + (length (joined l.rooms.places.values) + l.plain) ≤ vec_capacity l.out;
   few : l.plain ≤ 1099511627776;
-  rest : length l.rest ≡ body_length l.plain;
-  numbers : l.number + chunk_count l.plain ≤ 4294967296;
-  ready : CanMake Opening (min 64 (chunk_count l.plain)) l.rooms.crew l.rooms.places;
+  rest : length l.rest ≡ body_length l.fn.cut.size l.plain;
+  numbers : l.number + chunk_count l.fn.cut.size l.plain ≤ 4294967296;
+  ready : CanMake Opening l.fn.cut.size (min (round_count l.fn.cut.size) (chunk_count l.fn.cut.size l.plain)) l.rooms.crew l.rooms.places;
 }
 
 abbrev pub decreases-rounds : goal.decreases-rounds

@@ -1,8 +1,8 @@
-use Rattle.std.proofs.Common.{rules, ◌≡◌, inr, Some}
+use Rattle.std.proofs.Common.{◌≡◌, ◌∙◌, ap, List, ℕ, length, drop, inr, Some, arith}
 use Rattle.container_core.specs.declared.TheConstants.{MAX_PLAIN}
 use Rattle.container_core.specs.declared.fault.OpenFault.TheVariants.{OutOfMemory}
 use Rattle.container_core.specs.Opening.{early_fault}
-use Rattle.crew_core.proofs.RoundLemmas.{opening-fault, opening-round}
+use Rattle.crew_core.proofs.RoundLemmas.{opening-fault, opening-round, rest-behind}
 use Rattle.crew_core.proofs.whole.open_whole.Goals as goal
 
 pub returns-in-Err-clause-fault : goal.returns-in-Err-clause-fault
@@ -16,10 +16,16 @@ returns-in-Err-clause-memory g c = λ memory.
 
 pub returns-in-Ok-open_rounds-clause-plaintext : goal.returns-in-Ok-open_rounds-clause-plaintext
 returns-in-Ok-open_rounds-clause-plaintext g c =
-    opening-round c.args.key.now c.args.container.now _ _ MAX_PLAIN _ c.in-Ok.ensures.faultless c.in-Ok.ensures.header (search rules)
+    opening-round c.args.key.now c.args.container.now c.in-Ok.begun.0 c.split_at.result.1.now c.in-Ok.begun.1.size MAX_PLAIN _
+    c.in-Ok.ensures.faultless c.in-Ok.ensures.header c.in-Ok.ensures.named
+    (rest-behind c.args.container.now c.in-Ok.begun.0 c.split_at.result.1.now c.in-Ok.ensures.header (omega (arith, c.in-Ok.ensures.cut))
+    (c.split_at.ensures.back ∙ ap (λ (l : List ℕ). drop (length l) c.args.container.now) c.bytes.ensures.bytes))
     (c.rounds_open.ensures.whole c.args.key.now c.in-Ok.begun.0 0) c.in-Ok-open_rounds.ensures.opened
 
 pub returns-in-Err-open_rounds-clause-fault : goal.returns-in-Err-open_rounds-clause-fault
 returns-in-Err-open_rounds-clause-fault g c = inr
-    (opening-round c.args.key.now c.args.container.now _ _ MAX_PLAIN _ c.in-Ok.ensures.faultless c.in-Ok.ensures.header (search rules)
+    (opening-round c.args.key.now c.args.container.now c.in-Ok.begun.0 c.split_at.result.1.now c.in-Ok.begun.1.size MAX_PLAIN _
+    c.in-Ok.ensures.faultless c.in-Ok.ensures.header c.in-Ok.ensures.named
+    (rest-behind c.args.container.now c.in-Ok.begun.0 c.split_at.result.1.now c.in-Ok.ensures.header (omega (arith, c.in-Ok.ensures.cut))
+    (c.split_at.ensures.back ∙ ap (λ (l : List ℕ). drop (length l) c.args.container.now) c.bytes.ensures.bytes))
     (c.rounds_open.ensures.whole c.args.key.now c.in-Ok.begun.0 0) c.in-Err-open_rounds.ensures.refused)

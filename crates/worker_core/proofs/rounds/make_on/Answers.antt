@@ -1,4 +1,4 @@
-use Rattle.std.proofs.Common.{◌≡◌, length, ap, sym, ◌∙◌}
+use Rattle.std.proofs.Common.{length, ap, sym, ◌∙◌}
 use Rattle.worker_core.proofs.Making.{worked_length, all_back, covers_same, worked_same}
 use Rattle.worker_core.proofs.rounds.make_on.Goals as goal
 

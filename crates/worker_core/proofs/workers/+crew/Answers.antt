@@ -1,4 +1,4 @@
-use Rattle.std.proofs.Common.{◌≡◌, ◌+◌, ◌++◌, ℕ, arith, length, take-append-drop}
+use Rattle.std.proofs.Common.{◌≡◌, ◌+◌, ◌++◌, arith, length, take-append-drop}
 use Rattle.worker_core.proofs.Making.{drawn_both, drawn_whole, worked_append, worked_one, worked_whole}
 use Rattle.worker_core.proofs.workers.+crew.Goals as goal
 

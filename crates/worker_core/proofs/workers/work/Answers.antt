@@ -1,4 +1,4 @@
-use Rattle.std.proofs.Common.{rules, ◌≡◌, ◌++◌, ◌∷◌, [], ℕ, List, map, refl, sym, ap, ◌∙◌}
+use Rattle.std.proofs.Common.{rules, ◌++◌, ◌∷◌, [], ℕ, List, map, sym, ap, ◌∙◌}
 use Rattle.claim_core.specs.Claims.{ClaimantView}
 use Rattle.round_core.specs.Pieces.{number_of, piece_of}
 use Rattle.worker_core.proofs.Making.{worked_more, worked_none, numbers_append}

@@ -1,4 +1,4 @@
-use Rattle.std.proofs.Common.{rules, ◌≡◌, ◌++◌, ◌∷◌, [], ◌<◌, ◌+◌, ℕ, List, map, refl, subst, sym, ap, ◌∙◌, arith, length, length-append}
+use Rattle.std.proofs.Common.{rules, ◌∷◌, [], ◌<◌, ◌+◌, ℕ, List, map, refl, subst, sym, ap, ◌∙◌, arith, length, length-append}
 use Rattle.round_core.specs.Pieces.{number_of, piece_of}
 use Rattle.round_core.specs.Views.{MadeView}
 use Rattle.claim_core.specs.Claims.{times}

@@ -6,7 +6,7 @@ returns-then-has_gap-clause-fault c =
     let s = c.self.inside in
     let found = rw c.as_slice.ensures.value at c.if-has_gap.ensures.gap in
     let (n, at, e) = found in
-    ((λ same. cc), rw (← c.self.view_is) (gap_of s.kind s.header s.prefix s.places.items s.room.parts n at e))
+    ((λ same. cc), rw (← c.self.view_is) (gap_of s.kind s.header s.places.items s.room.parts n at e))
 
 pub returns-in-Some-clause-fault : goal.returns-in-Some-clause-fault
 returns-in-Some-clause-fault c =
@@ -15,8 +15,8 @@ returns-in-Some-clause-fault c =
     let first = rw c.as_slice-2.ensures.value at c.in-Some.ensures.found in (
       (λ same. cc),
       rw (← c.self.view_is) (
-        full_of s.kind s.header s.prefix s.places.items s.room.parts full,
-        forged_of s.kind s.header s.prefix s.places.items s.room.parts c.in-Some.chunk first,
+        full_of s.kind s.header s.places.items s.room.parts full,
+        forged_of s.kind s.header s.places.items s.room.parts c.in-Some.chunk first,
       ),
     )
 
@@ -24,4 +24,4 @@ pub returns-in-None-clause-none : goal.returns-in-None-clause-none
 returns-in-None-clause-none c =
     let s = c.self.inside in
     let all = rw c.as_slice-2.ensures.value at c.in-None.ensures.none in
-    rw (← c.self.view_is) (all_check s.kind s.header s.prefix s.places.items s.room.parts all)
+    rw (← c.self.view_is) (all_check s.kind s.header s.places.items s.room.parts all)

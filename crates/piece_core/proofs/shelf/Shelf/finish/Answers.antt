@@ -10,8 +10,8 @@ returns-then-are_here-clause-whole c =
     let s = c.self.inside in
     let all = rw (← c.self.view_is) at c.in_default.ensures.none in
     rw (← c.self.view_is)
-    (here_whole s.kind s.header s.prefix s.places.items c.as_slice.result.now s.room.parts s.room.front c.into_bytes.result.items all c.self.invariant.1
-    c.as_slice.ensures.value c.self.invariant.2 c.if-are_here.ensures.yes c.into_bytes.ensures)
+    (here_whole s.kind s.header s.places.items c.as_slice.result.now s.room.parts s.room.front c.into_bytes.result.items all c.self.invariant.0
+    c.as_slice.ensures.value c.self.invariant.1 c.if-are_here.ensures.yes c.into_bytes.ensures)
 
 pub returns-then-are_here-clause-made : goal.returns-then-are_here-clause-made
 returns-then-are_here-clause-made c = λ work of.
@@ -22,7 +22,7 @@ returns-in-Ok-clause-whole c =
     let s = c.self.inside in
     let all = rw (← c.self.view_is) at c.in_default.ensures.none in
     rw (← c.self.view_is)
-    (joined_whole s.kind s.header s.prefix s.places.items c.as_slice-2.result.now s.room.parts s.room.front c.in-Ok.bytes.items all c.self.invariant.1
+    (joined_whole s.kind s.header s.places.items c.as_slice-2.result.now s.room.parts s.room.front c.in-Ok.bytes.items all c.self.invariant.0
     c.as_slice-2.ensures.value c.in-Ok.ensures)
 
 pub returns-in-Ok-clause-made : goal.returns-in-Ok-clause-made
@@ -33,8 +33,8 @@ pub returns-in-Err-clause-fault : goal.returns-in-Err-clause-fault
 returns-in-Err-clause-fault c =
     let s = c.self.inside in
     let all = rw (← c.self.view_is) at c.in_default.ensures.none in
-    let view = shelf_of s.kind s.header (places_from s.kind s.prefix 0 s.places.items s.room.parts) in
-    rw (← c.self.view_is) (full_checked view all, (_, whole_held s.kind s.header s.prefix s.places.items s.room.parts all))
+    let view = shelf_of s.kind s.header (places_from s.kind s.header 0 s.places.items s.room.parts) in
+    rw (← c.self.view_is) (full_checked view all, (_, whole_held s.kind s.header s.places.items s.room.parts all))
 
 pub returns-in-Some-clause-unmade : goal.returns-in-Some-clause-unmade
 returns-in-Some-clause-unmade c = λ work chunk of e.

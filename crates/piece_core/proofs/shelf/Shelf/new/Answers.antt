@@ -5,6 +5,6 @@ use Rattle.piece_core.proofs.shelf.Shelf.new.Goals as goal
 
 pub returns : goal.returns
 returns c =
-    let same = ap (λ ps. places_from c.kind.result c.prefix.result 0 ps c.in_ok-room.room.parts) c.in_ok-places.ensures
-    ∙ places_from-empty c.kind.result c.prefix.result 0 c.count.result c.in_ok-room.room.parts ∙ ap (λ n. replicate n None) c.count.ensures.count in
-    rw (same, c.kind.ensures, c.bytes.ensures, c.header-header.ensures) refl
+    let same = ap (λ ps. places_from c.kind.result c.copy.result 0 ps c.in_ok-room.room.parts) c.in_ok-places.ensures
+    ∙ places_from-empty c.kind.result c.copy.result 0 c.count.result c.in_ok-room.room.parts ∙ ap (λ n. replicate n None) c.count.ensures.count in
+    rw (same, c.kind.ensures, c.copy.ensures, c.header.ensures) refl

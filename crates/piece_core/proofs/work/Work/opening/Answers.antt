@@ -1,12 +1,15 @@
-use Rattle.std.proofs.Common.{length, arith}
-use Rattle.container_core.specs.declared.TheConstants.{MAX_PLAIN}
-use Rattle.piece_core.proofs.ValueLemmas.{few_plain, early_within}
+use Rattle.std.proofs.Common.{◌≡◌, length, length-take-le, take, arith, ap, ◌∙◌}
+use Rattle.container_core.specs.Container.{header_length}
+use Rattle.piece_core.proofs.ValueLemmas.{few_plain}
 use Rattle.piece_core.proofs.work.Work.opening.Goals as goal
 
 pub invariant_of-result : goal.invariant_of-result
 invariant_of-result c =
     let bytes = c.args.container.now in
+    let header : length c.bytes.result.now ≡ length (take (header_length bytes) bytes) = ap (λ h. length h) (c.bytes.ensures.bytes ∙ c.in-Ok.ensures.header) in
+    let front = length-take-le (header_length bytes) bytes (omega (arith, c.in-Ok.ensures.cut)) in
     record {
-      few = few_plain _ (length bytes) c.in-Ok.ensures.cut (early_within c.args.key.now MAX_PLAIN bytes c.in-Ok.ensures.faultless);
-      bytes = omega (arith, c.in-Ok.ensures.cut);
+      size = c.in-Ok.ensures.size;
+      few = few_plain c.args.key.now bytes _ _ c.in-Ok.ensures.faultless c.in-Ok.ensures.named c.in-Ok.ensures.cut;
+      bytes = omega (arith, c.in-Ok.ensures.cut, header, front);
     }

@@ -1,35 +1,26 @@
-use Rattle.std.proofs.Common.{◌≡◌, ◌<◌, length, ap, ◌∙◌, sym, refl, arith}
+use Rattle.std.proofs.Common.{◌≡◌, ◌<◌, length, ap, ◌∙◌, sym, refl}
 use Rattle.container_core.specs.Chunks.{chunk_count}
+use Rattle.container_core.specs.Container.{size_in}
 use Rattle.piece_core.specs.Values.{parts_of}
-use Rattle.piece_core.proofs.ValueLemmas.{length-parts_of, length-values_of, get_or-values, some_few}
+use Rattle.piece_core.proofs.ValueLemmas.{length-values, length-values_of, get_or-values}
 use Rattle.piece_core.proofs.work.Work.piece.Goals as goal
 
 pub part_at-part-requires-clause-number : goal.part_at-part-requires-clause-number
 part_at-part-requires-clause-number c =
     let w = c.self.inside in
-    let len : chunk_count w.cut ≡ length c.args.self.now.values =
+    let len : chunk_count w.cut.size w.cut.plain ≡ length c.args.self.now.values =
     sym (length-values_of w.kind w.key.now w.header w.cut w.body.now c.self.invariant) ∙ ap (λ v. length v.values) c.self.view_is in
     rw len c.requires
 
 pub part_at-part-requires-clause-cut : goal.part_at-part-requires-clause-cut
 part_at-part-requires-clause-cut c = c.self.invariant.bytes
 
-pub overflow_add-last : goal.overflow_add-last
-overflow_add-last c =
-    let w = c.self.inside in
-    let len : chunk_count w.cut ≡ length c.args.self.now.values =
-    sym (length-values_of w.kind w.key.now w.header w.cut w.body.now c.self.invariant) ∙ ap (λ v. length v.values) c.self.view_is in
-    let below : c.args.number < chunk_count w.cut = rw len c.requires in
-    let few = (some_few w.cut c.self.invariant.few).1 in
-    omega arith
-
 pub returns : goal.returns
 returns c =
     let w = c.self.inside in
-    let len : chunk_count w.cut ≡ length c.args.self.now.values =
-    sym (length-values_of w.kind w.key.now w.header w.cut w.body.now c.self.invariant) ∙ ap (λ v. length v.values) c.self.view_is in
-    let many = length-parts_of w.kind w.cut w.body.now c.self.invariant in
-    let below : c.args.number < length (parts_of w.kind w.body.now) = rw (many, len) c.requires in
+    let many : length (parts_of w.kind (size_in w.header) w.body.now) ≡ length c.args.self.now.values =
+    sym (length-values w.kind w.key.now w.header w.body.now) ∙ ap (λ v. length v.values) c.self.view_is in
+    let below : c.args.number < length (parts_of w.kind (size_in w.header) w.body.now) = rw many c.requires in
     let value = get_or-values w.kind w.key.now w.header w.body.now c.args.number below in
-    rw (← c.self.view_is, value, many, ← c.count.ensures, ← c.prefix.ensures, ← c.part_at-part.ensures.part)
+    rw (← c.self.view_is, value, many, ← c.count-count.ensures.count, c.copy.ensures, ← c.self.invariant.size, ← c.part_at-part.ensures.part)
     (let kept = c.in_ok-value.ensures in rw kept refl)

@@ -1,4 +1,4 @@
-use Rattle.std.proofs.Common.{rules, ◌≡◌, ◌+◌, ◌<◌, ◌≤◌, ◌++◌, length, take, get_or, vec_len, vec_capacity, Some, None, Option, List, ℕ, ap, sym, ◌∙◌, append-nil, arith, length-append}
+use Rattle.std.proofs.Common.{rules, ◌≡◌, ◌<◌, ◌++◌, length, take, get_or, Some, None, List, ℕ, ap, sym, ◌∙◌, append-nil, length-append}
 use Rattle.round_core.specs.Answer.{joined}
 use Rattle.round_core.proofs.AppendLemmas.{appended-more, piece-within}
 use Rattle.round_core.proofs.places.Places.append_to.Goals.{in-Some+in_ok-extend_from_slice, in_default}

@@ -7,5 +7,5 @@ overflow_add-result c =
     let r = c.self.inside in
     let count =
     length-round r.task r.key.now r.header.now r.first r.last r.cut r.body.now c.args.self.now
-    c.self.invariant.bytes c.self.view_is in
+    c.self.invariant c.self.view_is in
     omega (arith, c.requires, c.self.invariant.numbers)

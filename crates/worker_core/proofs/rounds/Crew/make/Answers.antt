@@ -1,4 +1,4 @@
-use Rattle.std.proofs.Common.{◌≡◌, length, ap, sym, ◌∙◌, arith}
+use Rattle.std.proofs.Common.{ap, ◌∙◌, arith}
 use Rattle.worker_core.specs.Crew.{CrewView}
 use Rattle.worker_core.proofs.Making.{all_ready, worked_crew, worked_pieces, worked_length}
 use Rattle.worker_core.proofs.rounds.Crew.make.Goals as goal
