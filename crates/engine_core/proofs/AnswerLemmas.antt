@@ -1,5 +1,5 @@
 -- What a header and what was read behind it open to.
-use Rattle.std.proofs.Common.{◌≡◌, ℕ, ◌+◌, ◌-◌, ◌<◌, ◌≤◌, List, [], ◌∷◌, ◌++◌, length, take, drop, Option, Some, None, Result, Ok, Err, IfErr}
+use Rattle.std.proofs.Common.{◌≡◌, ℕ, ◌+◌, ◌≤◌, List, [], ◌∷◌, ◌++◌, length, take, drop, Option, Some, None, Result, Ok, Err, IfErr}
 use Rattle.std.proofs.Common.{refl, ap, sym, subst, ◌∙◌, arith, length-append}
 use Rattle.std.proofs.lemmas.List.{take_at, drop_at}
 use Rattle.std.proofs.lemmas.Result.{IfErr-at_err}
@@ -35,6 +35,11 @@ opening-body key header body most whole =
 pub reads-all : (limit before : ℕ) (left left' : Option (List ℕ)) (read : List ℕ) → Consumes left left' read → IsAtEnd left'
     → before + length read ≤ limit → ReadsOn limit before left left' read
 reads-all limit before left left' read consumed end within = record { consumed = consumed; within = within; end = λ _. end }
+
+pub reads-same : (limit other before : ℕ) (left left' : Option (List ℕ)) (read : List ℕ) → limit ≡ other
+    → ReadsOn limit before left left' read → ReadsOn other before left left' read
+reads-same limit other before left left' read same reads =
+    subst (λ (n : ℕ). ReadsOn n before left left' read) same reads
 
 -- one byte past the longest container was read
 pub answers-longer : (key header : List ℕ) (most n : ℕ) (left left' : Option (List ℕ)) → SaysLength key header

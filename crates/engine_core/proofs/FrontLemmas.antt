@@ -1,7 +1,7 @@
 -- The front of a container: how long it may be that begins so, and what is answered of what was read behind it.
-use Rattle.std.proofs.Common.{◌≡◌, ℕ, zero, suc, ◌+◌, ◌-◌, ◌*◌, ◌/◌, ◌<◌, ◌≤◌, ◌⊎◌, inl, inr, true, false, List, [], ◌∷◌, ◌++◌}
-use Rattle.std.proofs.Common.{length, take, get_or, Option, Some, None, Result, Ok, Err, IfSome, refl, ap, sym, subst, ◌∙◌, arith}
-use Rattle.std.proofs.Common.{append_assoc, append-nil, length-append, length-take-le, replicate, take-append-drop}
+use Rattle.std.proofs.Common.{◌≡◌, ℕ, ◌+◌, ◌-◌, ◌*◌, ◌/◌, ◌<◌, ◌≤◌, ◌⊎◌, inl, inr, true, false, List, [], ◌∷◌, ◌++◌}
+use Rattle.std.proofs.Common.{length, take, Option, Some, None, Result, Ok, Err, IfSome, refl, ap, sym, subst, ◌∙◌, arith}
+use Rattle.std.proofs.Common.{append_assoc, append-nil, length-append, length-take-le, replicate}
 use Rattle.std.proofs.lemmas.Bool.{cases_Bool, cases_lt}
 use Rattle.std.proofs.lemmas.List.{take_at, take_all, take-append-le, get_or_append_left, get_or_past, length-replicate}
 use Rattle.std.proofs.lemmas.Slice.Eq.{bytes_eq-Decides}
@@ -16,7 +16,7 @@ use Rattle.io_core.specs.Reads.{ConsumesUpTo}
 use Rattle.io_core.specs.Streams.{Consumes, IsAtEnd}
 use Rattle.container_core.specs.declared.fault.OpenFault.{OpenFault}
 use Rattle.container_core.specs.declared.fault.OpenFault.TheVariants.{TooLong}
-use Rattle.container_core.specs.Chunks.{body_length, chunk_count, container_length}
+use Rattle.container_core.specs.Chunks.{chunk_count, container_length}
 use Rattle.container_core.specs.Container.{header_length, is_two, size_in}
 use Rattle.container_core.specs.Faults.{IsOfBytes}
 use Rattle.container_core.specs.Opening.{header_fault, early_fault, longest, opening}
@@ -25,7 +25,7 @@ use Rattle.container_core.proofs.HeaderLemmas.{length-one, length-two, not_two, 
 use Rattle.container_core.proofs.FaultLemmas.{longest-one, longest-two, longest-good, early-too_long_one, early-too_long, opening-early}
 use Rattle.container_core.proofs.FaultLemmas.{two-front, size-front, length-front, fault-front}
 use Rattle.container_core.proofs.LawLemmas.{opening-of_bytes}
-use Rattle.engine_core.specs.Fronts.{SaysLength, ReadsOn, Answers}
+use Rattle.engine_core.specs.Fronts.{SaysLength, Answers}
 
 -- ---- how long a container may be that begins so
 

@@ -1,22 +1,22 @@
 -- What opening did with its reader.
-use Rattle.std.proofs.Common.{◌≡◌, ℕ, ◌+◌, ◌-◌, ◌<◌, ◌≤◌, ◌⊎◌, inl, inr, Bool, true, false, List, [], ◌++◌, length, take, Option}
+use Rattle.std.proofs.Common.{◌≡◌, ℕ, ◌+◌, ◌-◌, ◌<◌, ◌≤◌, ◌⊎◌, inl, inr, Bool, true, false, List, [], ◌++◌, length, Option}
 use Rattle.std.proofs.Common.{Some, None, Result, Ok, Err, IfSome, IfOk, IfErr, OnOk, refl, ap, sym, subst, ◌∙◌, arith, length-append}
-use Rattle.std.proofs.lemmas.Bool.{cases_lt, cases_Bool}
+use Rattle.std.proofs.lemmas.Bool.{cases_lt}
 use Rattle.std.proofs.lemmas.List.{take_at}
 use Rattle.std.proofs.lemmas.Result.{IfOk-weaker, IfErr-weaker}
 use Rattle.std.proofs.KnownBytes.{Consumes-nil, Consumes-trans, Consumes-whole}
 use Rattle.io_core.specs.Reads.{ConsumesUpTo}
 use Rattle.io_core.specs.Streams.{Consumes, IsAtEnd, counted}
 use Rattle.container_core.specs.declared.fault.OpenFault.{OpenFault}
-use Rattle.container_core.specs.declared.fault.OpenFault.TheVariants.{TooLong, ShortHeader, Read, Write}
+use Rattle.container_core.specs.declared.fault.OpenFault.TheVariants.{TooLong, Read, Write}
 use Rattle.container_core.specs.Chunks.{container_length}
 use Rattle.container_core.specs.Container.{header_length, is_two}
 use Rattle.container_core.specs.Faults.{IsOfBytes}
 use Rattle.container_core.specs.Opening.{header_fault, first_fault, early_fault, longest, opening}
 use Rattle.container_core.proofs.HeaderLemmas.{least-length}
-use Rattle.container_core.proofs.FaultLemmas.{early-header_fault, early-too_long_one, longest-one, fault-front, two-front, opening-early}
+use Rattle.container_core.proofs.FaultLemmas.{early-header_fault, early-too_long_one, fault-front, two-front, opening-early}
 use Rattle.container_core.proofs.LawLemmas.{header_fault-of_bytes}
-use Rattle.engine_core.specs.Engine.{HasReadContainer, OpensTo, open_read_failed}
+use Rattle.engine_core.specs.Engine.{HasReadContainer, open_read_failed}
 use Rattle.engine_core.specs.Fronts.{SaysLength, ReadsOn, IsNamed, Answers}
 use Rattle.engine_core.proofs.FrontLemmas.{ended, header-within, header_length-grows, input-answers, longest-most}
 use Rattle.engine_core.proofs.FrontLemmas.{lost-behind, lost-header, lost-longest, lost-one}

@@ -17,7 +17,9 @@ ghost use Rattle.io_core.specs.Streams.{IsAtEnd, counted};
 
 use crate::front::open_front;
 use crate::reading::{read_body, read_plain};
-use container_core::{Header, Key, MAX_PLAIN, OpenFault, SealFault, Shape, begin_within, open_into, seal};
+use container_core::{
+    Header, Key, MAX_PLAIN, OpenFault, SealFault, Shape, begin_within, open_into, seal,
+};
 use ledger_core::{Failed, Sink, Source, write_all};
 use std::alloc::Global;
 

@@ -1,8 +1,5 @@
-use Rattle.std.proofs.Common.{rules, Vec, Global, take, ◌≡◌, ℕ, List, ◌+◌, ◌-◌, ◌≤◌, ◌++◌, length, Ok, Err, sym, ap, subst, ◌∙◌, arith}
-use Rattle.container_core.specs.Chunks.{container_length, sealed_chunks}
+use Rattle.std.proofs.Common.{rules, Vec, Global, take, ◌≡◌, ℕ, List, ◌-◌, ◌++◌, length, Ok, Err, sym, ap, subst, ◌∙◌, arith}
 use Rattle.container_core.specs.Container.{size_in}
-use Rattle.container_core.specs.Opening.{longest, unsealed}
-use Rattle.engine_core.specs.Fronts.{Answers}
 use Rattle.container_core.specs.declared.fault.OpenFault.TheVariants.{TooLong}
 use Rattle.engine_core.proofs.FrontLemmas.{container-few, early-of_bytes, header-within}
 use Rattle.engine_core.proofs.AnswerLemmas.{answers-begun, answers-early, answers-longer, reads-all, unsealed-of_bytes}

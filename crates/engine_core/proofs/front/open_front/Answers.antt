@@ -1,4 +1,4 @@
-use Rattle.std.proofs.Common.{rules, ◌≡◌, ℕ, ◌+◌, ◌≤◌, length, take, sym, ap, ◌∙◌, arith, length-take-le}
+use Rattle.std.proofs.Common.{rules, ◌≡◌, ℕ, ◌+◌, length, take, sym, ap, ◌∙◌, arith, length-take-le}
 use Rattle.container_core.specs.Chunks.{container_length}
 use Rattle.container_core.specs.Container.{label_bytes}
 use Rattle.container_core.specs.Opening.{longest}

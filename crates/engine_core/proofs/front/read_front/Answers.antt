@@ -1,4 +1,4 @@
-use Rattle.std.proofs.Common.{rules, ◌≡◌, ◌+◌, ◌≤◌, ◌++◌, [], length, take, sym, ap, subst, ◌∙◌, arith, length-append, length-take-le}
+use Rattle.std.proofs.Common.{rules, ◌≡◌, ◌+◌, ◌≤◌, ◌++◌, length, take, sym, ap, subst, arith, length-append, length-take-le}
 use Rattle.std.proofs.KnownBytes.{Consumes-nil, Consumes-trans}
 use Rattle.io_core.specs.Streams.{Consumes}
 use Rattle.container_core.specs.Container.{header_length}

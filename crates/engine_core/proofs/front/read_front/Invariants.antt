@@ -1,5 +1,5 @@
 -- What was read is the front so far, and `end` the least that the header has of which it is the front.
-use Rattle.std.proofs.Common.{◌≡◌, ℕ, ◌-◌, ◌≤◌, take}
+use Rattle.std.proofs.Common.{◌≡◌, ◌-◌, ◌≤◌, take}
 use Rattle.container_core.specs.Container.{header_length}
 use Rattle.io_core.specs.Streams.{Consumes}
 use Rattle.engine_core.proofs.front.read_front.Given as goal
