@@ -19,7 +19,8 @@ use Rattle.window_core.specs.Windows.{WindowView}
 use Rattle.engine_core.specs.Engine.{open_read_failed}
 
 -- a round opens, and where it isn't only checked this is its plaintext
-pub record OpensRound (task : Task) (key header : List ℕ) (first : ℕ) (last : Bool) (body joined : List ℕ) : Type 0 where
+pub record OpensRound (task : Task) (key header : List ℕ) (first : ℕ) (last : Bool) (body joined : List ℕ)
+    : Type 0 where
   pub plain : List ℕ
   pub opens : unsealed_by key header first last (sealed_chunks (size_in header) body) ≡ Ok plain
   pub kept : task ≡ Opening → joined ≡ plain
@@ -39,7 +40,8 @@ pub record HasTurned (left left' : Option (List ℕ)) (failures failures' : Opti
   pub fault : IfErr result (λ fault. (fault ≡ opening_fault.OutOfMemory) ⊎ (fault ≡ opening_fault.Read))
   pub count : failures' ≡ counted (open_read_failed result) failures
 
--- so many bytes of a container's body, in chunks of a size, can be opened by the crew, and their pieces put on the places
+-- so many bytes of a container's body, in chunks of a size, can be opened by the crew, and their pieces put on the
+-- places
 pub record IsReady (task : Task) (size bytes : ℕ) (crew : CrewView) (places : PlacesView) : Type 0 where
   pub idle : crew.made ≡ []
   pub sizes : (crew.size ≡ room_of task size) × (places.size ≡ room_of task size)

@@ -23,8 +23,8 @@ use container_core::{
 use ledger_core::{Failed, Sink, Source, write_all};
 use std::alloc::Global;
 
-/// Reads all of an input of at most `max_bytes` bytes (2^40 at most) and writes its container of version 1 under a key and
-/// a prefix.
+/// Reads all of an input of at most `max_bytes` bytes (2^40 at most) and writes its container of version 1 under a key
+/// and a prefix.
 /// Answers the input's length. `TooLong` where a byte more was read, and nothing past it is; at `TooLong`,
 /// `OutOfMemory` and `Read` nothing was written; at `Write` the whole input was read, and a beginning of its container
 /// was written, and not the whole.
@@ -51,8 +51,8 @@ pub fn seal_one<R: Source, W: Sink>(
     }
 }
 
-// The plaintext of a container whose header was read, or its first fault: what stands behind it is read to the end, or to
-// one byte past the longest container.
+// The plaintext of a container whose header was read, or its first fault. What stands behind the header is read to the
+// end, or to one byte past the longest container.
 fn plain_body<R: Source>(
     alloc: Global,
     key: &Key,

@@ -1,8 +1,8 @@
 //! The front of a container, which is its header: read in place, and what is answered where it has a fault.
 //!
-//! Of version 2 a header's fault comes before the container's length, so it is answered at once. Else that a container is
-//! too long, or that its length is wrong, comes before a chunk that doesn't check, and the former before a header's
-//! fault too: so the rest is read and dropped, to its end or to one byte past the longest container.
+//! Of version 2 a header's fault comes before the container's length, so it is answered at once. Else that a container
+//! is too long comes before a header's fault, and that its length is wrong before a chunk that doesn't check: so the rest
+//! is read and dropped, to its end or to one byte past the longest container.
 ghost use Rattle.std.specs.Bool.{OnTrue, OnFalse};
 ghost use Rattle.std.specs.Prelude.{◌≡◌, ◌≢◌, ◌⊎◌, ℕ, ◌+◌, ◌-◌, ◌<◌, ◌≤◌, ◌++◌, true, false, List, length, take, Err};
 ghost use Rattle.std.specs.Prelude.{IfOk, IfErr, OnOk, OnErr, IfSome, is_err};
@@ -91,9 +91,9 @@ fn skip_rest<R: Source>(reader: &mut R, total: usize, limit: usize) -> Result<us
     Ok(read)
 }
 
-// The first fault of a container of which so many bytes were read, which begins with the header `front`, and whose header
-// or chunks have this one as their first. The rest is read and dropped, until there are `limit` bytes: one past the longest
-// container that begins so.
+// The first fault of a container of which so many bytes were read, which begins with the header `front`, and whose
+// header or chunks have this one as their first. The rest is read and dropped, until there are `limit` bytes: one past
+// the longest container that begins so.
 pub(crate) fn refuse<R: Source>(
     key: &Key,
     front: &[u8],
@@ -124,8 +124,8 @@ pub(crate) fn refuse<R: Source>(
     }
 }
 
-// Whether the fault of a header with which a container begins is the container's first: of version 2, and where there is
-// no whole header.
+// Whether the fault of a header with which a container begins is the container's first: of version 2, and where there
+// is no whole header.
 fn comes_first(front: &[u8]) -> bool
     ensures first { OnTrue result ((is_two front.now ≡ true) ⊎ (length front.now < HEADER)) }
     ensures later { OnFalse result ((is_two front.now ≡ false) × (HEADER ≤ length front.now)) }
@@ -133,8 +133,8 @@ fn comes_first(front: &[u8]) -> bool
     front.len() < HEADER || begins_as_two(front)
 }
 
-/// Reads the header of a container of at most `max_bytes` plaintext bytes, or names the container's first fault where the
-/// header has one: of version 2 the header's own, else the first of all. Takes no memory.
+/// Reads the header of a container of at most `max_bytes` plaintext bytes, or names the container's first fault where
+/// the header has one: of version 2 the header's own, else the first of all. Takes no memory.
 pub(crate) fn open_front<R: Source>(
     key: &Key,
     reader: &mut R,

@@ -30,8 +30,8 @@ pub fn read_plain<R: Source>(
     }
 }
 
-/// Reads the rest of a container, of which at most `most` bytes stand behind its header, to its end. Of a longer one one
-/// byte more is read.
+/// Reads what stands behind a container's header, at most `most` bytes, to its end. Of a longer rest one byte more is
+/// read.
 pub(crate) fn read_body<R: Source>(
     alloc: Global,
     reader: &mut R,

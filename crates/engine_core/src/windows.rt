@@ -4,8 +4,8 @@
 //! A full window is opened once one more byte was seen behind it, so its last chunk isn't the last of all. A container
 //! with a chunk that doesn't check is read to its end, or to one byte past the longest: that its length is wrong comes
 //! first.
-ghost use Rattle.std.specs.Prelude.{◌≡◌, ◌≢◌, ◌⊎◌, ℕ, ◌+◌, ◌-◌, ◌*◌, ◌^◌, ◌<◌, ◌≤◌, ◌++◌, Bool, true, false, List, [], ◌∷◌, length, take, min};
-ghost use Rattle.std.specs.Prelude.{slice_index, Ok, Err, IfOk, IfErr, OnOk, OnErr, IfSome};
+ghost use Rattle.std.specs.Prelude.{◌≡◌, ◌≢◌, ◌⊎◌, ℕ, ◌+◌, ◌-◌, ◌*◌, ◌^◌, ◌<◌, ◌≤◌, ◌++◌, Bool, true, false, List};
+ghost use Rattle.std.specs.Prelude.{[], ◌∷◌, length, take, min, slice_index, Ok, Err, IfOk, IfErr, OnOk, OnErr, IfSome};
 ghost use Rattle.container_core.specs.Chunks.{body_length, chunk_count, container_length, sealed_chunks};
 ghost use Rattle.container_core.specs.Container.{size_in};
 ghost use Rattle.container_core.specs.Faults.{IsOfBytes};
@@ -107,8 +107,8 @@ fn pieces_of(bytes: usize, header: &Header, window: u32) -> u32
     (most.saturating_sub(1) / sealed_bytes(1, header) + 1) as u32
 }
 
-// Reads the first round of a container's body, of which at most so many bytes are read, and makes the room of its opening
-// in rounds of `window` chunks: but for the first window no more than a body of one round needs.
+// Reads the first round of a container's body, of which at most so many bytes are read, and makes the room of its
+// opening in rounds of `window` chunks: but for the first window no more than a body of one round needs.
 fn begin<R: Source>(
     alloc: Global,
     task: Task,
@@ -172,8 +172,8 @@ fn full_round<'a>(
     Round::new(task, key, header, first, false, cut, bytes)
 }
 
-// Opens a full round, while the plaintext of the one before is taken and the next one is read, behind the byte of it that
-// was seen.
+// Opens a full round, while the plaintext of the one before is taken and the next one is read, behind the byte of it
+// that was seen.
 fn open_full<T: Threads + Sync, R: Source, G: Gate + Sync>(
     rt: &T,
     alloc: Global,
@@ -353,9 +353,9 @@ fn open_body<T: Threads + Sync, R: Source, G: Gate + Sync>(
     }
 }
 
-/// Opens all that the reader has left in rounds of `window` chunks, by 1 to 16 workers, appends its plaintext where the task is `Opening`,
-/// and answers how many bytes that has; or the first fault of the container. A failure leaves some of the plaintext.
-/// Of an input that is too long one byte past the longest container is read.
+/// Opens all that the reader has left in rounds of `window` chunks, by 1 to 16 workers, appends its plaintext where the
+/// task is `Opening`, and answers how many bytes that has; or the first fault of the container. A failure leaves some of
+/// the plaintext. Of an input that is too long one byte past the longest container is read.
 pub(crate) fn open_rounds<T: Threads + Sync, R: Source, G: Gate + Sync>(
     rt: &T,
     alloc: Global,
