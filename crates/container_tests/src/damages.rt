@@ -91,6 +91,17 @@ fn damaged_headers_are_refused(rt: HostRuntime) -> Result<(), Fail> {
     Ok(())
 }
 
+// The exponents and labels of containers of three chunks: one alone of the greatest chunks, as it has 2 MiB.
+static LONG_SHAPES: [(u32, usize); 7] = [
+    (12, 0),
+    (12, 1),
+    (12, 255),
+    (16, 0),
+    (16, 1),
+    (16, 255),
+    (20, 255),
+];
+
 // Cuts of a container of two whole chunks and a byte: how many whole chunks are left behind the header, how many bytes
 // of the next one, how many of all are taken off again, and the fault.
 static CUTS: [(u8, u8, u8, OpenFault); 13] = [
@@ -195,7 +206,7 @@ fn names_chunk_faults(alloc: Global, exponent: u32, label: usize) -> Result<bool
 
 #[test]
 fn damaged_chunks_are_refused(rt: HostRuntime) -> Result<(), Fail> {
-    for (exponent, label) in &SHAPES {
+    for (exponent, label) in &LONG_SHAPES {
         assert!(rt; names_chunk_faults(rt.alloc(), *exponent, *label)?);
     }
     Ok(())
