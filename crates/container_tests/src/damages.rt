@@ -1,5 +1,5 @@
 //! What opening answers to containers of version 2 that are cut or altered, of each size and label of a table.
-ghost use Rattle.std.specs.Prelude.{◌≡◌, ◌≤◌, ◌+◌, ◌*◌, length};
+ghost use Rattle.std.specs.Prelude.{◌≤◌, ◌+◌, ◌*◌, length};
 
 use crate::alterations::{MOVES, moved};
 use crate::samples::{counting_key, label_of, zeros_sealed};
