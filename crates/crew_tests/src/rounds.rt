@@ -3,7 +3,8 @@ ghost use Rattle.std.specs.Prelude.{◌≡◌, ◌+◌, ◌*◌, ◌<◌, ◌≤
 
 use crate::sealed::{EIGHTEEN, is_digest};
 use crate::{COUNTING, Meeting, Recorder, pattern};
-use container_core::{CHUNK, Header, Key};
+use container_core::laws::headers_name_their_shape;
+use container_core::{CHUNK, Header, Key, Shape};
 use crew_core::{Free, Gate, MAX_WORKERS, seal_round};
 use std::alloc::{AllocError, Global};
 use std::test::Fail;
@@ -35,10 +36,11 @@ fn in_three_rounds<R: Threads + Sync, G: Gate + Sync>(
     requires workers { (0 < workers) × (workers ≤ MAX_WORKERS) }
 {
     let key = Key::new(COUNTING);
-    let header = Header::of(&key, [0, 0, 1, 0, 0, 1, 2]);
+    headers_name_their_shape();
+    let header = Header::of(&key, &Shape::one(), [0, 0, 1, 0, 0, 1, 2]);
     let (front, rest) = plain.split_at(7 * CHUNK);
     let (middle, end) = rest.split_at(CHUNK);
-    let mut whole = Vec::from_slice(alloc, &header.bytes()).ok()?;
+    let mut whole = Vec::from_slice(alloc, header.bytes()).ok()?;
     let round = seal_round(rt, alloc, &key, &header, 0, false, front, workers, gate);
     let begun = append(&mut whole, round);
     let round = seal_round(rt, alloc, &key, &header, 7, false, middle, workers, gate);
@@ -83,7 +85,8 @@ fn gave_up<R: Threads + Sync>(
     requires workers { (0 < workers) × (workers ≤ MAX_WORKERS) }
 {
     let key = Key::new(COUNTING);
-    let header = Header::of(&key, [0, 0, 1, 0, 0, 0, 0]);
+    headers_name_their_shape();
+    let header = Header::of(&key, &Shape::one(), [0, 0, 1, 0, 0, 0, 0]);
     let gate = Meeting::new(2, turns);
     match seal_round(rt, alloc, &key, &header, 3, true, plain, workers, &gate) {
         Ok(sealed) if sealed.len() == CHUNK + 33 => Some(gate.gave_up()),
@@ -104,7 +107,8 @@ fn two_workers_meet_in_a_round(rt: HostRuntime) -> Result<(), Fail> {
 #[test]
 fn a_round_has_the_last_number(rt: HostRuntime) -> Result<(), Fail> {
     let key = Key::new(COUNTING);
-    let header = Header::of(&key, [0, 0, 1, 0, 0, 0, 0]);
+    headers_name_their_shape();
+    let header = Header::of(&key, &Shape::one(), [0, 0, 1, 0, 0, 0, 0]);
     let text = b"a text";
     let sealed = seal_round(
         &rt,
