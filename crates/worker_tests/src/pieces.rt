@@ -70,6 +70,7 @@ fn cut_of(header: &Header, bytes: usize) -> Option<Cut>
         return None;
     }
     let cut = Cut::of(header, bytes as u64);
+    // A cut has at most 2^28 chunks.
     cut.count();
     Some(cut)
 }

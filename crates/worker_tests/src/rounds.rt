@@ -163,6 +163,8 @@ fn opened<R: Threads + Sync>(
     let header = Header::of(&key, &Shape::one(), PREFIX);
     let body = whole.get(HEADER..)?;
     let cut = Cut::of_body(&header, body.len() as u64).ok()?;
+    // A cut has at most 2^28 chunks.
+    cut.count();
     let task = match task {
         Task::Opening => Task::Opening,
         _ => Task::Checking,
