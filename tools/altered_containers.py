@@ -1,8 +1,17 @@
 #!/usr/bin/env python3
-"""What `sealer verify` says of one container, cut and altered, by one worker and by several; prints how many answers were as they should be.
+"""What `sealer verify` says of containers, cut and altered, by one worker and by several; prints how many answers were
+as they should be.
 
-The container of 131,073 zero bytes under the key 00 01 .. 1f, device 1, file 0, is made by tools/seal_container.py; the answers are written
-by hand from docs/FORMATS.md. Where Python's package `cryptography` isn't there it says so and ends well, and under CI it fails.
+    altered_containers.py [--self-check]
+
+The containers hold zero bytes, two chunks and one byte more, under the key 00 01 .. 1f, device 1, file 0: one of
+version 1, and of version 2 those with labels of 0, 1 and 255 bytes at the exponents 12, 16 and 20, all made by
+tools/seal_container.py. The answers are rules written by hand from docs/FORMATS.md; before the program is asked,
+tools/open_container.py, another reading of that text, has to give the same. With --self-check that is all, and no
+program is needed.
+
+The program is crates/sealer/out/sealer, or $SEALER. Where Python's package `cryptography` isn't there it says so and
+ends well, and under CI it fails.
 """
 import os
 import subprocess
@@ -13,67 +22,209 @@ tools = os.path.dirname(os.path.abspath(__file__))
 sys.path.insert(0, tools)
 sys.dont_write_bytecode = True
 try:
+    from open_container import Fault, opened
     from seal_container import sealed
 except SystemExit:
     print("altered_containers: skipped, Python's package cryptography isn't there")
     sys.exit(1 if os.environ.get("CI") else 0)
-sealer = os.path.join(tools, "../crates/sealer/out/sealer")
-HEADER, SEALED = 24, 65552
+sealer = os.path.abspath(os.environ.get("SEALER", os.path.join(tools, "../crates/sealer/out/sealer")))
 key = bytes(range(32))
-whole = sealed(key, 1, 0, bytes(131073))
-other = sealed(key, 1, 1, bytes(131073))
+# Bytes of containers that lie in a folder at a time.
+FOLDER = 1 << 26
+
+SHORT, MAGIC, VERSION = "header cut short", "not a sealed file", "unknown version"
+EXPONENT, ANOTHER_KEY, LENGTH = "unknown chunk size", "sealed under another key", "wrong length"
 
 
 def forged(chunk):
     return f"chunk {chunk} does not check"
 
 
-def flipped(place):
-    return whole[:place] + bytes([whole[place] ^ 1]) + whole[place + 1:]
+class Shape:
+    """A container of three chunks, the last of one byte: version 2 where it has an exponent and a label."""
+
+    def __init__(self, exponent=None, label=None):
+        self.is_second = exponent is not None
+        self.name = f"v2-e{exponent}-b{len(label)}" if self.is_second else "v1"
+        self.given = {"exponent": exponent, "label": label}
+        self.label, self.exponent = label, exponent if self.is_second else 16
+        self.header = 25 + len(label) if self.is_second else 24
+        self.plain = 2 * 2**self.exponent + 1
+        self.chunk = 2**self.exponent + 16
+        self.whole = self.made()
+
+    def made(self, number=0, **other):
+        """The container, or another with something else in its place."""
+        return sealed(key, 1, number, **{"plain": bytes(self.plain), **self.given, **other})
+
+    def chunks_of(self, container):
+        """The sealed chunks of a container with the same plaintext, whatever its header is."""
+        header = len(container) - len(self.whole) + self.header
+        return [container[at:at + self.chunk] for at in range(header, len(container), self.chunk)]
+
+    def put(self, place, value):
+        """The container with this byte at a place."""
+        return self.whole[:place] + bytes([value]) + self.whole[place + 1:]
 
 
-def chunks_of(container):
-    return [container[at:at + SEALED] for at in range(HEADER, len(container), SEALED)]
+# Each of these gives names, containers and answers: a fault's text, or how many zero bytes a good one holds.
 
 
-# a name, its bytes, and what is said of it: None where it is good
-wanted = [("unaltered", whole, None)]
-for least, most, answer in [
-    (0, 23, "header cut short"), (24, 39, "wrong length"), (40, 100, forged(0)), (65500, 65576, forged(0)), (65577, 65592, "wrong length"),
-    (65593, 65700, forged(1)), (131100, 131128, forged(1)), (131129, 131144, "wrong length"),
-]:
-    wanted += [(f"cut-to-{length}", whole[:length], answer) for length in range(least, most + 1)]
-for least, most, answer in [
-    (0, 7, "not a sealed file"), (8, 8, "unknown version"), (9, 9, "unknown chunk size"), (10, 16, forged(0)), (17, 23, "sealed under another key"),
-]:
-    wanted += [(f"byte-{place}-changed", flipped(place), answer) for place in range(least, most + 1)]
-header, (first, second, third) = whole[:HEADER], chunks_of(whole)
-for name, chunks, answer in [
-    ("exchanged", [second, first, third], forged(0)), ("repeated", [first, first, second, third], forged(1)), ("left-out", [first, third], forged(1)),
-    ("repeated-last", [first, second, third, third], forged(2)), ("of-another", [chunks_of(other)[0], second, third], forged(0)),
-]:
-    wanted.append((name, header + b"".join(chunks), answer))
+def cuts(shape):
+    """Its beginnings, of lengths around each boundary, and the container with some bytes behind it."""
+    header, first, second = shape.header, shape.header + shape.chunk, shape.header + 2 * shape.chunk
+    # up to which length, what is said
+    rules = [
+        (header - 1, SHORT), (header + 15, LENGTH), (first, forged(0)), (first + 16, LENGTH), (second, forged(1)),
+        (second + 16, LENGTH), (second + 17, shape.plain), (second + 37, forged(2)),
+    ]
+    for length in sorted({*range(header + 21), *range(first - 20, first + 21), *range(second - 20, second + 38)}):
+        answer = next(answer for most, answer in rules if length <= most)
+        yield f"cut-to-{length}", (shape.whole + bytes(20))[:length], answer
 
-bad = 0
-with tempfile.TemporaryDirectory() as folder:
-    with open(os.path.join(folder, "key"), "w", encoding="ascii") as file:
-        file.write(key.hex())
-    for name, data, _ in wanted:
-        with open(os.path.join(folder, name), "wb") as file:
-            file.write(data)
-    names = [name for name, _, _ in wanted]
-    lines = [f"good {name} bytes 131073" if answer is None else f"failed {name}: {answer}" for name, _, answer in wanted]
-    for workers in (1, 4, 16):
-        words = [sealer, "verify", "--key", "key", "--workers", str(workers), *names]
-        ran = subprocess.run(words, cwd=folder, capture_output=True, text=True, check=False)
-        found = ran.stdout.splitlines()
-        for line, want in zip(found, lines):
-            if line != want:
-                bad += 1
-                print(f"altered_containers: {workers} workers: '{line}', not '{want}'")
-        if (ran.returncode, ran.stderr, len(found)) != (1, "", len(lines)):
-            bad += 1
-            print(f"altered_containers: {workers} workers: status {ran.returncode}, {len(found)} lines, '{ran.stderr}'")
-if bad:
-    sys.exit(1)
-print(f"altered_containers: {3 * len(wanted)} answers as they should be")
+
+def header_bytes(shape):
+    """Each byte of the header changed, but those that tell version, chunk size and the label's length."""
+    rules = [(7, MAGIC), (16, forged(0)), (23, ANOTHER_KEY), (shape.header - 1, forged(0))]
+    for place in range(shape.header):
+        if place not in (8, 9, 24):
+            answer = next(answer for last, answer in rules if place <= last)
+            yield f"byte-{place}-changed", shape.put(place, shape.whole[place] ^ 1), answer
+
+
+def versions(shape):
+    """Other versions. Read as the other one that there is, the chunks begin at another byte."""
+    for value in (0, 3, 255):
+        yield f"version-{value}", shape.put(8, value), VERSION
+    if shape.is_second:
+        yield "version-1", shape.put(8, 1), forged(0) if shape.exponent == 16 else EXPONENT
+    else:
+        # The first byte of ciphertext is then the label's length: the last chunk's 17 bytes become 16 less that.
+        yield "version-2", shape.put(8, 2), LENGTH if shape.whole[24] < 16 else forged(0)
+
+
+def exponents(shape):
+    """Other exponents. Each that there is can cut so many bytes into chunks."""
+    for value in (0, 1, *range(10, 23), 255):
+        if value != shape.exponent:
+            answer = forged(0) if shape.is_second and 12 <= value <= 20 else EXPONENT
+            yield f"exponent-{value}", shape.put(9, value), answer
+
+
+def label_lengths(shape):
+    """Other lengths of the label: the chunks begin earlier or later. The last one has 17 bytes, the empty one 16."""
+    label, empty = len(shape.label), shape.made(plain=b"")
+    yield "empty", empty, 0
+    for value in sorted({0, 1, label - 1, *range(label + 1, label + 19), label + 100, 254, 255} - {label}):
+        if 0 <= value <= 255:
+            takes_last = label < value <= label + 16
+            yield f"label-of-{value}", shape.put(24, value), LENGTH if takes_last else forged(0)
+            answer = forged(0) if value < label else LENGTH if takes_last else SHORT
+            yield f"empty-label-of-{value}", empty[:24] + bytes([value]) + empty[25:], answer
+
+
+def moves(shape):
+    """Its chunks in another order, twice, and left out, and one of another container in the place of its own."""
+    first, second, third = shape.chunks_of(shape.whole)
+    rows = [
+        ("exchanged", [second, first, third], forged(0)), ("left-out", [first, third], forged(1)),
+        ("first-left-out", [second, third], forged(0)), ("last-alone", [third], forged(0)),
+        ("repeated", [first, first, second, third], forged(1)),
+        ("second-repeated", [first, second, second, third], forged(2)),
+        ("repeated-last", [first, second, third, third], forged(2)),
+    ]
+    others = {"file": shape.made(number=1)}
+    if shape.is_second:
+        others["label"] = shape.made(label=shape.label[1:] or b"another")
+    if shape.exponent == 16:
+        others["version"] = sealed(key, 1, 0, bytes(shape.plain), label=None if shape.is_second else b"")
+    for what, other in others.items():
+        theirs = shape.chunks_of(other)
+        rows.append((f"first-of-another-{what}", [theirs[0], second, third], forged(0)))
+        rows.append((f"last-of-another-{what}", [first, second, theirs[2]], forged(2)))
+    for name, chunks, answer in rows:
+        yield name, shape.whole[:shape.header] + b"".join(chunks), answer
+
+
+def altered(shape):
+    """All of a shape, behind the container as it is."""
+    yield f"{shape.name}-unaltered", shape.whole, shape.plain
+    for kind in [cuts, header_bytes, versions, exponents, moves] + [label_lengths] * shape.is_second:
+        for name, container, answer in kind(shape):
+            yield f"{shape.name}-{name}", container, answer
+
+
+def groups(containers):
+    """The containers in groups of at most FOLDER bytes."""
+    group, size = [], 0
+    for row in containers:
+        if group and size + len(row[1]) > FOLDER:
+            yield group
+            group, size = [], 0
+        group.append(row)
+        size += len(row[1])
+    yield group
+
+
+def differs(who, found, wanted):
+    """Tells of an answer that is not the one that is wanted. The answer is whether it is another."""
+    if found != wanted:
+        print(f"altered_containers: {who}: '{found}', not '{wanted}'")
+    return found != wanted
+
+
+def reader_differs(name, container, answer):
+    """Whether open_container.py gives another answer."""
+    try:
+        plain = opened(key, container)
+        found = "other bytes" if any(plain) else len(plain)
+    except Fault as fault:
+        found = str(fault)
+    return differs(f"open_container.py of {name}", found, answer)
+
+
+def line_of(name, answer):
+    return f"failed {name}: {answer}" if isinstance(answer, str) else f"good {name} bytes {answer}"
+
+
+def program_differs(group):
+    """How many answers of the program are others."""
+    bad = 0
+    with tempfile.TemporaryDirectory() as folder:
+        with open(os.path.join(folder, "key"), "w", encoding="ascii") as file:
+            file.write(key.hex())
+        for name, container, _ in group:
+            with open(os.path.join(folder, name), "wb") as file:
+                file.write(container)
+        names = [name for name, _, _ in group]
+        lines = [line_of(name, answer) for name, _, answer in group]
+        whole = (int(any(line.startswith("failed") for line in lines)), "", len(lines))
+        for workers in (1, 4, 16):
+            words = [sealer, "verify", "--key", "key", "--workers", str(workers), *names]
+            ran = subprocess.run(words, cwd=folder, capture_output=True, text=True, check=False)
+            found = ran.stdout.splitlines()
+            bad += sum(differs(f"{workers} workers", line, want) for line, want in zip(found, lines))
+            bad += differs(f"{workers} workers: status, faults, lines", (ran.returncode, ran.stderr, len(found)), whole)
+    return bad
+
+
+def main():
+    shapes = [Shape(), *(Shape(exponent, bytes(range(label))) for exponent in (12, 16, 20) for label in (0, 1, 255))]
+    bad = count = 0
+    for shape in shapes:
+        for name, container, answer in altered(shape):
+            count += 1
+            bad += reader_differs(name, container, answer)
+    if bad:
+        sys.exit(1)
+    if sys.argv[1:] == ["--self-check"]:
+        print(f"altered_containers: {count} answers of open_container.py as they should be")
+        return
+    bad = sum(program_differs(group) for shape in shapes for group in groups(altered(shape)))
+    if bad:
+        sys.exit(1)
+    print(f"altered_containers: {3 * count} answers as they should be")
+
+
+if __name__ == "__main__":
+    main()

@@ -1,5 +1,5 @@
 #!/usr/bin/env python3
-"""Opens a sealed container, version 1, by docs/FORMATS.md alone.
+"""Opens a sealed container, version 1 or 2, by docs/FORMATS.md alone.
 
     open_container.py KEYFILE CONTAINER OUTPUT
 
@@ -15,49 +15,72 @@ try:
 except ImportError:
     sys.exit(3)
 
-CHUNK, TAG, HEADER = 1 << 16, 16, 24
+MAGIC, TAG = b"STRMSEAL", 16
+# Bytes of the greatest plaintext that is accepted.
+MOST = 1 << 40
 
 
 class Fault(Exception):
     """Why it doesn't open."""
 
 
-def header_fault(key, data):
-    """The first fault of the length or the header, or None."""
-    if len(data) > HEADER + (1 << 40) + TAG * (1 << 24):
-        return "too long"
-    if len(data) < HEADER:
-        return "header cut short"
-    if data[:8] != b"STRMSEAL":
-        return "not a sealed file"
+def container_length(header, exponent, plain):
+    """The bytes of a container with so many bytes of header and of plaintext."""
+    return header + plain + TAG * max(1, -(-plain // (1 << exponent)))
+
+
+def header_of_version_1(key, data):
+    """The header's length and the exponent."""
+    if len(data) > container_length(24, 16, MOST):
+        raise Fault("too long")
+    if len(data) < 24:
+        raise Fault("header cut short")
+    if data[:8] != MAGIC:
+        raise Fault("not a sealed file")
     if data[8] != 1:
-        return "unknown version"
+        raise Fault("unknown version")
     if data[9] != 16:
-        return "unknown chunk size"
+        raise Fault("unknown chunk size")
     if data[17:24] != hashlib.sha256(key).digest()[:7]:
-        return "sealed under another key"
-    return None
+        raise Fault("sealed under another key")
+    return 24, 16
 
 
-def sealed_chunks(body):
-    """The chunks with their tags, or None where the body can't be cut."""
-    parts = [body[i:i + CHUNK + TAG] for i in range(0, len(body), CHUNK + TAG)]
+def header_of_version_2(key, data):
+    """The header's length, with the label, and the exponent."""
+    if len(data) < 24:
+        raise Fault("header cut short")
+    exponent = data[9]
+    if not 12 <= exponent <= 20:
+        raise Fault("unknown chunk size")
+    if data[17:24] != hashlib.sha256(key).digest()[:7]:
+        raise Fault("sealed under another key")
+    if len(data) < 25 or len(data) < 25 + data[24]:
+        raise Fault("header cut short")
+    length = 25 + data[24]
+    if len(data) > container_length(length, exponent, MOST):
+        raise Fault("too long")
+    return length, exponent
+
+
+def sealed_chunks(body, exponent):
+    """The chunks with their tags."""
+    size = (1 << exponent) + TAG
+    parts = [body[i:i + size] for i in range(0, len(body), size)]
+    # Only the first chunk may be empty, and then it is the only one.
     if not parts or len(parts[-1]) < TAG + (len(parts) > 1):
-        return None
+        raise Fault("wrong length")
     return parts
 
 
 def opened(key, data):
     """The plaintext of a container."""
-    fault = header_fault(key, data)
-    if fault:
-        raise Fault(fault)
-    parts = sealed_chunks(data[HEADER:])
-    if parts is None:
-        raise Fault("wrong length")
-    header, plain = data[:HEADER], []
+    begins_as_2 = data[:9] == MAGIC + b"\x02"
+    length, exponent = header_of_version_2(key, data) if begins_as_2 else header_of_version_1(key, data)
+    header, prefix = data[:length], data[10:17]
+    parts, plain = sealed_chunks(data[length:], exponent), []
     for number, part in enumerate(parts):
-        nonce = data[10:17] + number.to_bytes(4, "big") + bytes([number + 1 == len(parts)])
+        nonce = prefix + number.to_bytes(4, "big") + bytes([number + 1 == len(parts)])
         try:
             plain.append(ChaCha20Poly1305(key).decrypt(nonce, part, header))
         except InvalidTag:

@@ -3,7 +3,7 @@ ghost use Rattle.std.specs.Prelude.{◌≡◌, ◌<◌, ◌≤◌, length, All, 
 
 use crate::jobs::jobs_of;
 use crate::run::Run;
-use container_core::{Key, MAX_PLAIN, open, seal};
+use container_core::{Key, MAX_PLAIN, Shape, open, seal};
 use crew_core::{Gate, MAX_JOBS, MAX_LANES, Outcome};
 use ledger_core::{Device, IssueFault, Range, Spent, Way, prefix};
 use std::alloc::Global;
@@ -32,9 +32,16 @@ pub fn opened(alloc: Global, lo: u32, size: u32, seats: u32) -> Option<Run>
     }
 }
 
-// Whether a text's container under this prefix is these bytes.
-fn seals_to(alloc: Global, key: &Key, prefix: [u8; 7], text: &[u8], bytes: &[u8]) -> bool {
-    match seal(alloc, key, prefix, text) {
+// Whether a text's container in a shape under this prefix is these bytes.
+fn seals_to(
+    alloc: Global,
+    key: &Key,
+    shape: &Shape,
+    prefix: [u8; 7],
+    text: &[u8],
+    bytes: &[u8],
+) -> bool {
+    match seal(alloc, key, shape, prefix, text) {
         Ok(whole) => whole.as_slice() == bytes,
         Err(_) => false,
     }
@@ -48,8 +55,8 @@ fn opens_to(alloc: Global, key: &Key, bytes: &[u8], text: &[u8]) -> bool {
     }
 }
 
-// Whether the outcome is this job's container under a number that is spent as sealed, and opens to the job.
-fn is_sealed(alloc: Global, key: &Key, job: &[u8], outcome: &Outcome) -> bool {
+// Whether the outcome is this job's container in a shape under a number that is spent as sealed, and opens to the job.
+fn is_sealed(alloc: Global, key: &Key, shape: &Shape, job: &[u8], outcome: &Outcome) -> bool {
     let Outcome::Sealed {
         seat: _,
         bytes,
@@ -61,14 +68,20 @@ fn is_sealed(alloc: Global, key: &Key, job: &[u8], outcome: &Outcome) -> bool {
     let bytes = bytes.as_slice();
     let prefix = prefix(spent.device(), spent.number());
     spent.way() == Way::Sealed
-        && seals_to(alloc, key, prefix, job, bytes)
+        && seals_to(alloc, key, shape, prefix, job, bytes)
         && opens_to(alloc, key, bytes, job)
 }
 
-// Whether each job has its container.
-pub fn all_sealed(alloc: Global, key: &Key, jobs: &[Vec<u8>], outcomes: &[Outcome]) -> bool {
+// Whether each job has its container in a shape.
+pub fn all_sealed(
+    alloc: Global,
+    key: &Key,
+    shape: &Shape,
+    jobs: &[Vec<u8>],
+    outcomes: &[Outcome],
+) -> bool {
     for (job, outcome) in jobs.iter().zip(outcomes) {
-        if !is_sealed(alloc, key, job.as_slice(), outcome) {
+        if !is_sealed(alloc, key, shape, job.as_slice(), outcome) {
             return false;
         }
     }
@@ -188,10 +201,11 @@ pub fn is_kept(outcome: &Outcome) -> bool {
     }
 }
 
-// The outcomes of a batch at a gate, over a new ledger with a number for each job, from `lo` on.
+// The outcomes of a batch in a shape at a gate, over a new ledger with a number for each job, from `lo` on.
 pub fn outcomes_of<R: Threads + Sync, G: Gate + Sync>(
     rt: &R,
     alloc: Global,
+    shape: &Shape,
     lo: u32,
     seats: u32,
     jobs: &[Vec<u8>],
@@ -203,10 +217,10 @@ pub fn outcomes_of<R: Threads + Sync, G: Gate + Sync>(
     requires short { All (λ job. length job.items ≤ MAX_PLAIN) jobs.now }
 {
     let mut run = opened(alloc, lo, jobs.len() as u32, seats)?;
-    run.seal(rt, alloc, &key(), jobs, lanes, gate).ok()
+    run.seal(rt, alloc, &key(), shape, jobs, lanes, gate).ok()
 }
 
-// The outcomes of so many jobs under the numbers from 0 on, where each job has its container.
+// The outcomes of so many jobs under the numbers from 0 on, where each job has its container of version 1.
 pub fn sealed<R: Threads + Sync, G: Gate + Sync>(
     rt: &R,
     alloc: Global,
@@ -219,8 +233,9 @@ pub fn sealed<R: Threads + Sync, G: Gate + Sync>(
 {
     let jobs = jobs_of(alloc, count).ok()?;
     let jobs = jobs.as_slice();
-    let outcomes = outcomes_of(rt, alloc, 0, seats, jobs, lanes, gate)?;
-    if all_sealed(alloc, &key(), jobs, outcomes.as_slice()) {
+    let shape = Shape::one();
+    let outcomes = outcomes_of(rt, alloc, &shape, 0, seats, jobs, lanes, gate)?;
+    if all_sealed(alloc, &key(), &shape, jobs, outcomes.as_slice()) {
         Some(outcomes)
     } else {
         None

@@ -3,7 +3,7 @@ ghost use Rattle.std.specs.Prelude.{◌≡◌, ◌<◌, ◌≤◌, length, All, 
 ghost use Rattle.ledger_core.specs.Closing.{AreAllSeats};
 ghost use Rattle.ledger_core.specs.Journal.{terms_of};
 
-use container_core::{Key, MAX_PLAIN};
+use container_core::{Key, MAX_PLAIN, Shape};
 use crew_core::{Gate, MAX_JOBS, MAX_LANES, Outcome, seal_batch};
 use ledger_core::{Journal, Ledger, OpenLedgerFault, Range, Seat, Spent, Tally};
 use std::alloc::{AllocError, Global};
@@ -43,6 +43,7 @@ impl Run {
         rt: &R,
         alloc: Global,
         key: &Key,
+        shape: &Shape,
         jobs: &[Vec<u8>],
         lanes: u32,
         gate: &G,
@@ -55,7 +56,7 @@ impl Run {
     {
         let ledger = &self.ledger;
         let seats = self.seats.as_mut_slice();
-        seal_in(rt, alloc, key, ledger, seats, jobs, lanes, gate)
+        seal_in(rt, alloc, key, shape, ledger, seats, jobs, lanes, gate)
     }
 
     /// Whether this could be settled at the seat of this number.
@@ -93,6 +94,7 @@ fn seal_in<R: Threads + Sync, G: Gate + Sync>(
     rt: &R,
     alloc: Global,
     key: &Key,
+    shape: &Shape,
     ledger: &Ledger,
     seats: &mut [Seat],
     jobs: &[Vec<u8>],
@@ -106,5 +108,5 @@ fn seal_in<R: Threads + Sync, G: Gate + Sync>(
     ensures all { AreAllSeats ledger.now seats.new }
     ensures count { IfOk result (λ outcomes. length outcomes.items ≡ length jobs.now) }
 {
-    seal_batch(rt, alloc, key, ledger, seats, jobs, lanes, gate)
+    seal_batch(rt, alloc, key, shape, ledger, seats, jobs, lanes, gate)
 }

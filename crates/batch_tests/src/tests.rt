@@ -8,6 +8,7 @@ use crate::outcomes::{
     numbers, opened, outcomes_of, sealed, seat_of, spent_of,
 };
 use crate::run::Run;
+use container_core::Shape;
 use crew_core::{Free, MAX_LANES, Outcome};
 use crew_tests::{Late, Meeting};
 use io_memory::{FromMemory, Schedule, ToMemory};
@@ -39,6 +40,14 @@ static NINE: [u8; 42] = [
     0xd3, 0xa1, 0xeb, 0x03, 0x38, 0xa9, 0x0b, 0xe3, 0x73, 0x22,
 ];
 
+// The container of `bc` of file 9 in version 2, in chunks of 4 KiB, with the label `db-dump`.
+static NINE_OF_TWO: [u8; 50] = [
+    0x53, 0x54, 0x52, 0x4d, 0x53, 0x45, 0x41, 0x4c, 0x02, 0x0c, 0x00, 0x00, 0x01, 0x00, 0x00, 0x00,
+    0x09, 0x63, 0x0d, 0xcd, 0x29, 0x66, 0xc4, 0x33, 0x07, 0x64, 0x62, 0x2d, 0x64, 0x75, 0x6d, 0x70,
+    0x60, 0xb6, 0xbf, 0xe9, 0x4e, 0xc5, 0xb9, 0x63, 0x72, 0xf2, 0xcb, 0x0c, 0x2c, 0x33, 0xd5, 0xa4,
+    0xe2, 0x0b,
+];
+
 const NOTHING: Tally = Tally {
     granted: 0,
     refused: 0,
@@ -67,11 +76,28 @@ fn containers_made_elsewhere(rt: HostRuntime) -> Result<(), Fail> {
         &[b"".as_slice(), b"a".as_slice(), b"bc".as_slice()],
     )?;
     let jobs = jobs.as_slice();
-    let outcomes = outcomes_of(&rt, rt.alloc(), 7, 1, jobs, 1, &Free).ok_or("no outcomes")?;
+    let outcomes = outcomes_of(&rt, rt.alloc(), &Shape::one(), 7, 1, jobs, 1, &Free).ok_or(
+        "no outcomes",
+    )?;
     assert!(rt; outcomes.len() == 3);
     assert!(rt; is_container(outcomes.first(), &SEVEN));
     assert!(rt; is_container(outcomes.get(1), &EIGHT));
     assert!(rt; is_container(outcomes.get(2), &NINE));
+    Ok(())
+}
+
+#[test]
+fn a_batch_of_version_two(rt: HostRuntime) -> Result<(), Fail> {
+    let shape = Shape::two(12, b"db-dump")?;
+    let jobs = texts(
+        rt.alloc(),
+        &[b"".as_slice(), b"a".as_slice(), b"bc".as_slice()],
+    )?;
+    let jobs = jobs.as_slice();
+    let outcomes = outcomes_of(&rt, rt.alloc(), &shape, 7, 1, jobs, 1, &Free).ok_or("no outcomes")?;
+    let outcomes = outcomes.as_slice();
+    assert!(rt; is_container(outcomes.get(2), &NINE_OF_TWO));
+    assert!(rt; all_sealed(rt.alloc(), &key(), &shape, jobs, outcomes));
     Ok(())
 }
 
@@ -163,7 +189,15 @@ fn told<R: Threads + Sync>(
     let jobs = jobs_of(alloc, count).ok()?;
     let mut run = opened(alloc, lo, 1, seats)?;
     let outcomes = run
-        .seal(rt, alloc, &key(), jobs.as_slice(), lanes, &Free)
+        .seal(
+            rt,
+            alloc,
+            &key(),
+            &Shape::one(),
+            jobs.as_slice(),
+            lanes,
+            &Free,
+        )
         .ok()?;
     Some((outcomes, run.tally(seat)))
 }
@@ -217,8 +251,10 @@ fn journal_of<R: Threads + Sync>(rt: &R, alloc: Global) -> Option<Journal> {
     let jobs = jobs_of(alloc, 40).ok()?;
     let jobs = jobs.as_slice();
     let mut run = opened(alloc, 3, 40, 16)?;
-    let outcomes = run.seal(rt, alloc, &key(), jobs, 16, &Free).ok()?;
-    let sealed = all_sealed(alloc, &key(), jobs, outcomes.as_slice());
+    let outcomes = run
+        .seal(rt, alloc, &key(), &Shape::one(), jobs, 16, &Free)
+        .ok()?;
+    let sealed = all_sealed(alloc, &key(), &Shape::one(), jobs, outcomes.as_slice());
     if are_settled(&mut run, outcomes) && sealed {
         run.close().ok()
     } else {
@@ -254,11 +290,12 @@ fn sealed_again<R: Threads + Sync>(rt: &R, alloc: Global, run: &mut Run) -> Opti
         Ok(jobs) => jobs,
         Err(_) => jobs_of(alloc, 3).ok()?,
     };
-    match run.seal(rt, alloc, &key(), jobs.as_slice(), 2, &Free) {
+    match run.seal(rt, alloc, &key(), &Shape::one(), jobs.as_slice(), 2, &Free) {
         Ok(outcomes) => Some(outcomes),
         Err(_) => {
             if run.tally(0) == NOTHING {
-                run.seal(rt, alloc, &key(), jobs.as_slice(), 2, &Free).ok()
+                run.seal(rt, alloc, &key(), &Shape::one(), jobs.as_slice(), 2, &Free)
+                    .ok()
             } else {
                 None
             }

@@ -1,14 +1,14 @@
 //! What opening answers over damaged containers, containers for other programs to read, and how long both ways take.
 //!
-//! Without an argument it opens each cut and each alteration of the container of 131,073 zero bytes under the key
-//! 00 01 .. 1f, device 1, file 0, and prints what each answers. `make FOLDER` writes containers with their plaintexts;
-//! `measure` times 64 MiB.
+//! Without an argument it opens each cut and each alteration of the container of version 1 of 131,073 zero bytes under
+//! the key 00 01 .. 1f, device 1, file 0, and prints what each answers. `make FOLDER` writes containers with their
+//! plaintexts; `measure` times 64 MiB.
 #![tactic(auto)]
 
 mod speed;
 
 use anyhow::{Result, bail};
-use container_core::{Key, OpenFault, open, seal};
+use container_core::{Key, OpenFault, Shape, open, seal};
 use container_tests::{COUNTING, LENGTH, Opener, prefix_of, print_table};
 use std::alloc::{AllocError, Global};
 use std::io::Print;
@@ -42,11 +42,12 @@ fn pattern(alloc: Global, count: usize) -> Result<Vec<u8>, AllocError> {
 // Writes a container and its plaintext, as FILE.stm and FILE, for each of a handful of lengths.
 fn make<R: Files + AllocGlobal>(rt: &R, folder: &str) -> Result<()> {
     let alloc = rt.alloc();
-    let key = Key::new(COUNTING);
+    let (key, shape) = (Key::new(COUNTING), Shape::one());
     let lengths = [0, 1, 65_535, 65_536, 65_537, 131_072, 200_000];
     for (file, length) in lengths.iter().enumerate() {
         let plain = pattern(alloc, *length)?;
-        let bytes = seal(alloc, &key, prefix_of((file % 256) as u8), plain.as_slice())?;
+        let prefix = prefix_of((file % 256) as u8);
+        let bytes = seal(alloc, &key, &shape, prefix, plain.as_slice())?;
         let path = format!(in alloc; "{folder}/{length}")?;
         fs::write(rt, path.as_str(), plain.as_slice())?;
         let path = format!(in alloc; "{folder}/{length}.stm")?;

@@ -3,7 +3,7 @@
 
 use aead_core::{open_in_place, seal_in_place};
 use anyhow::{Result, ensure};
-use container_core::{CHUNK, HEADER, Header, Key, SEALED, TAG, nonce, open, seal};
+use container_core::{CHUNK, HEADER, Header, Key, SEALED, Shape, TAG, nonce, open, seal};
 use container_tests::{COUNTING, prefix_of};
 use std::alloc::Global;
 use std::io::Print;
@@ -25,7 +25,7 @@ fn nonce_of(number: usize) -> Result<[u8; 12]> {
 }
 
 // The AEAD alone, in place over memory that was touched before: the chunks sealed, and their tags.
-fn seal_in_chunks(header: &[u8; 24], text: &mut [u8], tags: &mut [[u8; 16]]) -> Result<()> {
+fn seal_in_chunks(header: &[u8], text: &mut [u8], tags: &mut [[u8; 16]]) -> Result<()> {
     for (number, chunk) in text.chunks_mut(CHUNK).enumerate() {
         let nonce = nonce_of(number)?;
         ensure!(number < tags.len() && chunk.len() <= CHUNK, "a tag's place");
@@ -35,7 +35,7 @@ fn seal_in_chunks(header: &[u8; 24], text: &mut [u8], tags: &mut [[u8; 16]]) -> 
 }
 
 // The AEAD alone, in place: the chunks opened.
-fn open_in_chunks(header: &[u8; 24], text: &mut [u8], tags: &[[u8; 16]]) -> Result<()> {
+fn open_in_chunks(header: &[u8], text: &mut [u8], tags: &[[u8; 16]]) -> Result<()> {
     for (number, chunk) in text.chunks_mut(CHUNK).enumerate() {
         let nonce = nonce_of(number)?;
         ensure!(number < tags.len() && chunk.len() <= CHUNK, "a tag's place");
@@ -49,7 +49,7 @@ fn open_in_chunks(header: &[u8; 24], text: &mut [u8], tags: &[[u8; 16]]) -> Resu
 
 // The AEAD alone, as any call that gives a fresh vector has to use it: room reserved once, each chunk copied in and
 // sealed there, its tag behind it.
-fn seal_into_fresh(alloc: Global, header: &[u8; 24], text: &[u8]) -> Result<Vec<u8>> {
+fn seal_into_fresh(alloc: Global, header: &[u8], text: &[u8]) -> Result<Vec<u8>> {
     let mut out = Vec::with_capacity(alloc, TEXT + TAG * COUNT)?;
     for (number, chunk) in text.chunks(CHUNK).enumerate() {
         let nonce = nonce_of(number)?;
@@ -63,7 +63,7 @@ fn seal_into_fresh(alloc: Global, header: &[u8; 24], text: &[u8]) -> Result<Vec<
 }
 
 // The same of opening.
-fn open_into_fresh(alloc: Global, header: &[u8; 24], sealed: &[u8]) -> Result<Vec<u8>> {
+fn open_into_fresh(alloc: Global, header: &[u8], sealed: &[u8]) -> Result<Vec<u8>> {
     let mut out = Vec::with_capacity(alloc, TEXT)?;
     for (number, chunk) in sealed.chunks(SEALED).enumerate() {
         let nonce = nonce_of(number)?;
@@ -112,7 +112,8 @@ fn print_times<R: Print>(rt: &R, what: &str, name: &str, best: &Best) -> Result<
 /// Prints the best times of sealing and opening, and of the AEAD alone.
 pub fn measure<R: Print + Clock>(rt: &R, alloc: Global) -> Result<()> {
     let key = Key::new(COUNTING);
-    let header = Header::of(&key, prefix_of(0)).bytes();
+    let shape = Shape::one();
+    let header = Header::of(&key, &shape, prefix_of(0));
     let plain = vec![in alloc; 7u8; TEXT]?;
     let mut text = vec![in alloc; 7u8; TEXT]?;
     let mut tags = [[0; 16]; COUNT];
@@ -128,21 +129,21 @@ pub fn measure<R: Print + Clock>(rt: &R, alloc: Global) -> Result<()> {
     };
     for _sample in 0..SAMPLES {
         let start = Instant::now(rt)?;
-        seal_in_chunks(&header, text.as_mut_slice(), &mut tags)?;
+        seal_in_chunks(header.bytes(), text.as_mut_slice(), &mut tags)?;
         sealing.in_place = sealing.in_place.min(nanos_since(rt, &start)?);
         let start = Instant::now(rt)?;
-        open_in_chunks(&header, text.as_mut_slice(), &tags)?;
+        open_in_chunks(header.bytes(), text.as_mut_slice(), &tags)?;
         opening.in_place = opening.in_place.min(nanos_since(rt, &start)?);
         let start = Instant::now(rt)?;
-        let sealed = seal_into_fresh(alloc, &header, plain.as_slice())?;
+        let sealed = seal_into_fresh(alloc, header.bytes(), plain.as_slice())?;
         sealing.fresh = sealing.fresh.min(nanos_since(rt, &start)?);
         let start = Instant::now(rt)?;
-        let back = open_into_fresh(alloc, &header, sealed.as_slice())?;
+        let back = open_into_fresh(alloc, header.bytes(), sealed.as_slice())?;
         opening.fresh = opening.fresh.min(nanos_since(rt, &start)?);
         ensure!(back.as_slice() == plain.as_slice(), "the AEAD's plaintext");
         drop(back);
         let start = Instant::now(rt)?;
-        let bytes = seal(alloc, &key, prefix_of(0), plain.as_slice())?;
+        let bytes = seal(alloc, &key, &shape, prefix_of(0), plain.as_slice())?;
         sealing.whole = sealing.whole.min(nanos_since(rt, &start)?);
         ensure!(
             bytes.len() >= HEADER && &bytes[HEADER..] == sealed.as_slice(),

@@ -1,10 +1,10 @@
 //! The table of cut and altered containers: runs of lengths, or of places, that have one answer. The container is
-//! that of 131,073 zero bytes, three chunks, under the key 00 01 .. 1f, device 1, file 0.
-ghost use Rattle.std.specs.Prelude.{◌≡◌, ◌≤◌, length};
+//! that of version 1 of 131,073 zero bytes, three chunks, under the key 00 01 .. 1f, device 1, file 0.
+ghost use Rattle.std.specs.Prelude.{◌≤◌, ◌+◌, ◌*◌, length};
 
-use crate::samples::{counting_key, prefix_of};
+use crate::samples::{counting_key, zeros_sealed};
 use anyhow::{Result, ensure};
-use container_core::{HEADER, Key, OpenFault, SEALED, seal};
+use container_core::{HEADER, Key, OpenFault, SEALED, Shape};
 use std::alloc::{AllocError, Global};
 use std::io::{self, Print};
 
@@ -96,36 +96,50 @@ fn alter_header<R: Print, O: Opener>(
     print_run(rt, alloc, begin, HEADER - 1, last)
 }
 
-// Which chunks stand behind the header: 0 to 2 are the container's own, and 3 is chunk 0 of the other one.
-static MOVES: [(&str, &[u32]); 5] = [
-    ("chunks 0 and 1 exchanged", &[1, 0, 2]),
-    ("chunk 0 inserted again behind itself", &[0, 0, 1, 2]),
-    ("chunk 1 taken out", &[0, 2]),
-    ("the last chunk added again", &[0, 1, 2, 2]),
-    ("chunk 0 from the container of file 1", &[3, 1, 2]),
+/// Which chunks stand behind the header, and the first of them that doesn't check: 0 to 2 are those of a container of
+/// three chunks, and 3 is chunk 0 of another file's.
+pub static MOVES: [(&str, &[u32], u32); 5] = [
+    ("chunks 0 and 1 exchanged", &[1, 0, 2], 0),
+    ("chunk 0 inserted again behind itself", &[0, 0, 1, 2], 1),
+    ("chunk 1 taken out", &[0, 2], 1),
+    ("the last chunk added again", &[0, 1, 2, 2], 2),
+    ("chunk 0 from the container of file 1", &[3, 1, 2], 0),
 ];
 
-// The chunk of this number in the moves.
-fn chunk_of<'a>(bytes: &'a [u8], other: &'a [u8], number: u32) -> &'a [u8]
-    requires bytes { length bytes.now ≡ LENGTH }
-    requires other { length other.now ≡ LENGTH }
+// The chunk of this number in the moves, where a header and a sealed chunk have so many bytes.
+fn chunk_of<'a>(
+    bytes: &'a [u8],
+    other: &'a [u8],
+    header: usize,
+    sealed: usize,
+    number: u32,
+) -> &'a [u8]
+    requires bytes { header + 2 * sealed ≤ length bytes.now }
+    requires other { header + 2 * sealed ≤ length other.now }
 {
     match number {
-        0 => &bytes[HEADER..HEADER + SEALED],
-        1 => &bytes[HEADER + SEALED..HEADER + 2 * SEALED],
-        2 => &bytes[HEADER + 2 * SEALED..],
-        _ => &other[HEADER..HEADER + SEALED],
+        0 => &bytes[header..header + sealed],
+        1 => &bytes[header + sealed..header + 2 * sealed],
+        2 => &bytes[header + 2 * sealed..],
+        _ => &other[header..header + sealed],
     }
 }
 
-// The header and these chunks, one behind the other.
-fn moved(alloc: Global, bytes: &[u8], other: &[u8], order: &[u32]) -> Result<Vec<u8>, AllocError>
-    requires bytes { length bytes.now ≡ LENGTH }
-    requires other { length other.now ≡ LENGTH }
+/// The header and these chunks, one behind the other, where a header and a sealed chunk have so many bytes.
+pub fn moved(
+    alloc: Global,
+    bytes: &[u8],
+    other: &[u8],
+    header: usize,
+    sealed: usize,
+    order: &[u32],
+) -> Result<Vec<u8>, AllocError>
+    requires bytes { header + 2 * sealed ≤ length bytes.now }
+    requires other { header + 2 * sealed ≤ length other.now }
 {
-    let mut made = Vec::from_slice(alloc, &bytes[..HEADER])?;
+    let mut made = Vec::from_slice(alloc, &bytes[..header])?;
     for number in order {
-        made.extend_from_slice(chunk_of(bytes, other, *number))?;
+        made.extend_from_slice(chunk_of(bytes, other, header, sealed, *number))?;
     }
     Ok(made)
 }
@@ -143,17 +157,11 @@ fn alter_chunks<R: Print, O: Opener>(
         bytes.len() == LENGTH && other.len() == LENGTH,
         "three chunks"
     );
-    for (what, order) in &MOVES {
-        let made = moved(alloc, bytes, other, order)?;
+    for (what, order, _) in &MOVES {
+        let made = moved(alloc, bytes, other, HEADER, SEALED, order)?;
         print_answer(rt, what, opener.fault_of(key, made.as_slice()))?;
     }
     Ok(())
-}
-
-// The container of zero bytes, of this file.
-fn zeros_sealed(alloc: Global, key: &Key, file: u8) -> Result<Vec<u8>> {
-    let plain = vec![in alloc; 0; PLAIN]?;
-    Ok(seal(alloc, key, prefix_of(file), plain.as_slice())?)
 }
 
 fn print_cuts<R: Print, O: Opener>(
@@ -198,8 +206,8 @@ pub fn print_table<R: Print, O: Opener>(
     lengths: &[(usize, usize)],
 ) -> Result<()> {
     let key = counting_key();
-    let bytes = zeros_sealed(alloc, &key, 0)?;
-    let other = zeros_sealed(alloc, &key, 1)?;
+    let bytes = zeros_sealed(alloc, &key, &Shape::one(), 0, PLAIN)?;
+    let other = zeros_sealed(alloc, &key, &Shape::one(), 1, PLAIN)?;
     print_cuts(rt, alloc, opener, &key, bytes.as_slice(), lengths)?;
     print_answers(rt, alloc, opener, &key, bytes.as_slice(), other.as_slice())
 }

@@ -4,8 +4,12 @@
 
 pub mod alterations;
 #[cfg(test)]
+mod damages;
+#[cfg(test)]
 mod parts;
 pub mod samples;
+#[cfg(test)]
+mod version_two;
 #[cfg(test)]
 mod whole;
 

@@ -1,6 +1,6 @@
 //! The parts of a container: nonce, header, key, cut, and the texts and numbers of the faults.
-use crate::samples::{EMPTY, counting_key, prefix_of};
-use container_core::{Cut, Header, Key, OpenFault, SealFault, nonce, read_header};
+use crate::samples::{EMPTY, EMPTY_TWO, counting_key, prefix_of};
+use container_core::{Cut, Header, Key, OpenFault, SealFault, Shape, nonce, read_header};
 use std::alloc::{AllocError, Global};
 use std::fmt::Display;
 use std::test::Fail;
@@ -36,7 +36,30 @@ fn names_faults_in_order(key: &Key, bytes: &mut [u8; 40]) -> bool {
 }
 
 fn is_header_of_empty(header: &Header) -> bool {
-    header.bytes().as_slice() == &EMPTY[..24] && header.prefix() == prefix_of(0)
+    header.bytes() == &EMPTY[..24]
+        && header.prefix() == prefix_of(0)
+        && header.exponent() == 16
+        && header.label().is_empty()
+}
+
+// Of version 2 the label's length is tested last.
+fn names_faults_in_order_of_two(key: &Key, bytes: &mut [u8; 43]) -> bool {
+    bytes[24] = 19;
+    let label = is_refused(key, bytes, OpenFault::ShortHeader);
+    bytes[17] ^= 1;
+    let mismatch = is_refused(key, bytes, OpenFault::KeyMismatch);
+    bytes[9] = 21;
+    let exponent = is_refused(key, bytes, OpenFault::BadExponent);
+    let short = is_refused(key, &bytes[..23], OpenFault::ShortHeader);
+    label && mismatch && exponent && short
+}
+
+fn is_header_of_empty_two(header: &Header) -> bool {
+    header.bytes() == &EMPTY_TWO[..27]
+        && header.prefix() == prefix_of(0)
+        && header.exponent() == 12
+        && header.chunk() == 4096
+        && header.label() == b"ab".as_slice()
 }
 
 #[test]
@@ -45,6 +68,9 @@ fn header_faults_in_order(rt: HostRuntime) -> Result<(), Fail> {
     let mut bytes = EMPTY;
     assert!(rt; is_header_of_empty(&read_header(&key, &bytes)?));
     assert!(rt; names_faults_in_order(&key, &mut bytes));
+    let mut bytes = EMPTY_TWO;
+    assert!(rt; is_header_of_empty_two(&read_header(&key, &bytes)?));
+    assert!(rt; names_faults_in_order_of_two(&key, &mut bytes));
     Ok(())
 }
 
@@ -58,16 +84,28 @@ fn identity_of_a_key(rt: HostRuntime) {
     assert_eq!(rt; Key::new([0; 32]).id(), want);
 }
 
+// The cut of so many bytes behind a header: of version 1, or of version 2 with an exponent of its own.
+fn cut_of(exponent: Option<u32>, body: u64) -> Result<Cut, OpenFault> {
+    let shape = match exponent {
+        None => Shape::one(),
+        Some(exponent) => match Shape::two(exponent, b"ab") {
+            Ok(shape) => shape,
+            Err(_) => return Err(OpenFault::BadExponent),
+        },
+    };
+    Cut::of_body(&Header::of(&counting_key(), &shape, prefix_of(0)), body)
+}
+
 // Whether so many bytes behind a header have so many chunks.
-fn has_chunks(body: u64, count: u32) -> bool {
-    match Cut::of_body(body) {
+fn has_chunks(exponent: Option<u32>, body: u64, count: u32) -> bool {
+    match cut_of(exponent, body) {
         Ok(places) => places.count() == count,
         Err(_) => false,
     }
 }
 
-fn has_no_cut(body: u64, fault: OpenFault) -> bool {
-    match Cut::of_body(body) {
+fn has_no_cut(exponent: Option<u32>, body: u64, fault: OpenFault) -> bool {
+    match cut_of(exponent, body) {
         Ok(_) => false,
         Err(found) => found == fault,
     }
@@ -83,28 +121,56 @@ fn has_two_places(places: Cut) -> bool {
     first == 0 && whole == 65_536 && second == 65_552 && rest == 1
 }
 
-// Bytes behind a header, and how many chunks they are.
-static BODIES: [(u64, u32); 6] = [
-    (16, 1),
-    (17, 1),
-    (65_552, 1),
-    (65_569, 2),
-    (131_104, 2),
-    (1_099_780_063_232, 1 << 24),
+// Bytes behind a header, and how many chunks they are. The last of each size are of 2^40 bytes of plaintext.
+static BODIES: [(Option<u32>, u64, u32); 15] = [
+    (None, 16, 1),
+    (None, 17, 1),
+    (None, 65_552, 1),
+    (None, 65_569, 2),
+    (None, 131_104, 2),
+    (None, 1_099_780_063_232, 1 << 24),
+    (Some(12), 16, 1),
+    (Some(12), 4_112, 1),
+    (Some(12), 4_129, 2),
+    (Some(12), 8_224, 2),
+    (Some(12), 1_103_806_595_072, 1 << 28),
+    (Some(16), 65_569, 2),
+    (Some(20), 1_048_592, 1),
+    (Some(20), 1_048_609, 2),
+    (Some(20), 1_099_528_404_992, 1 << 20),
+];
+
+// The last of each size have more than 2^40 bytes of plaintext.
+static NO_BODIES: [(Option<u32>, u64, OpenFault); 15] = [
+    (None, 0, OpenFault::BadLength),
+    (None, 15, OpenFault::BadLength),
+    (None, 65_553, OpenFault::BadLength),
+    (None, 65_568, OpenFault::BadLength),
+    (None, 131_105, OpenFault::BadLength),
+    (None, 1_099_780_063_233, OpenFault::TooLong),
+    (Some(12), 15, OpenFault::BadLength),
+    (Some(12), 4_113, OpenFault::BadLength),
+    (Some(12), 4_128, OpenFault::BadLength),
+    (Some(12), 8_240, OpenFault::BadLength),
+    (Some(12), 1_103_806_595_073, OpenFault::TooLong),
+    (Some(16), 65_568, OpenFault::BadLength),
+    (Some(20), 1_048_593, OpenFault::BadLength),
+    (Some(20), 1_048_608, OpenFault::BadLength),
+    (Some(20), 1_099_528_404_993, OpenFault::TooLong),
 ];
 
 fn have_chunks() -> bool {
-    for (body, count) in &BODIES {
-        if !has_chunks(*body, *count) {
+    for (exponent, body, count) in &BODIES {
+        if !has_chunks(*exponent, *body, *count) {
             return false;
         }
     }
     true
 }
 
-fn have_bad_lengths() -> bool {
-    for body in [0, 15, 65_553, 65_568, 131_105] {
-        if !has_no_cut(body, OpenFault::BadLength) {
+fn have_no_cut() -> bool {
+    for (exponent, body, fault) in &NO_BODIES {
+        if !has_no_cut(*exponent, *body, *fault) {
             return false;
         }
     }
@@ -114,9 +180,8 @@ fn have_bad_lengths() -> bool {
 #[test]
 fn cuts_by_quotient_and_remainder(rt: HostRuntime) -> Result<(), Fail> {
     assert!(rt; have_chunks());
-    assert!(rt; have_bad_lengths());
-    assert!(rt; has_no_cut(1_099_780_063_233, OpenFault::TooLong));
-    assert!(rt; has_two_places(Cut::of_body(65_569)?));
+    assert!(rt; have_no_cut());
+    assert!(rt; has_two_places(cut_of(None, 65_569)?));
     Ok(())
 }
 

@@ -1,11 +1,12 @@
 //! Whole containers. The expected bytes and digests are those of Python's `cryptography` and `hashlib`.
 ghost use Rattle.std.specs.Prelude.{◌≡◌, ◌≤◌, length};
+ghost use Rattle.container_core.specs.Container.{size_in};
 
-use crate::samples::{COUNTING, EMPTY, counting_key, prefix_of};
+use crate::samples::{COUNTING, EMPTY, counting_key, prefix_of, zeros_sealed};
 use aead_core::seal_in_place;
 use container_core::{
-    Cut, HEADER, Header, Key, OpenFault, SEALED, begin, nonce, open, open_chunk, open_into, seal,
-    seal_chunk, seal_into,
+    Cut, HEADER, Header, Key, OpenFault, SEALED, Shape, begin, container_bytes, nonce, open,
+    open_chunk, open_into, seal, seal_chunk, seal_into,
 };
 use sha2::{Digest, Sha256};
 use std::alloc::{AllocError, Global};
@@ -45,14 +46,8 @@ static CONTAINERS: [(usize, usize, u32, [u8; 32]); 3] = [
     ),
 ];
 
-// The container of so many zero bytes.
-fn zeros_sealed(alloc: Global, key: &Key, count: usize) -> Result<Vec<u8>, Fail> {
-    let plain = vec![in alloc; 0; count]?;
-    Ok(seal(alloc, key, prefix_of(0), plain.as_slice())?)
-}
-
 // Whether opening answers this fault.
-fn has_fault(alloc: Global, key: &Key, bytes: &[u8], fault: OpenFault) -> bool {
+pub(crate) fn has_fault(alloc: Global, key: &Key, bytes: &[u8], fault: OpenFault) -> bool {
     match open(alloc, key, bytes) {
         Ok(_plain) => false,
         Err(found) => found == fault,
@@ -60,7 +55,7 @@ fn has_fault(alloc: Global, key: &Key, bytes: &[u8], fault: OpenFault) -> bool {
 }
 
 // Whether the container of so many zero bytes opens to them.
-fn opens_to_zeros(alloc: Global, key: &Key, bytes: &[u8], count: usize) -> bool {
+pub(crate) fn opens_to_zeros(alloc: Global, key: &Key, bytes: &[u8], count: usize) -> bool {
     match open(alloc, key, bytes) {
         Ok(plain) => plain.len() == count && plain.iter().all(|byte| *byte == 0),
         Err(_) => false,
@@ -68,12 +63,17 @@ fn opens_to_zeros(alloc: Global, key: &Key, bytes: &[u8], count: usize) -> bool 
 }
 
 // Whether these bytes have this length, so many chunks behind their header, and this digest.
-fn is_cut_and_digested(bytes: &[u8], length: usize, chunks: u32, digest: &[u8; 32]) -> bool {
-    if bytes.len() != length || bytes.len() < HEADER {
-        return false;
-    }
-    match Cut::of_body((bytes.len() - HEADER) as u64) {
-        Ok(places) => places.count() == chunks && Sha256::digest(bytes) == *digest,
+pub(crate) fn is_cut_and_digested(
+    key: &Key,
+    bytes: &[u8],
+    length: usize,
+    chunks: u32,
+    digest: &[u8; 32],
+) -> bool {
+    match begin(key, bytes) {
+        Ok((_header, cut)) => {
+            bytes.len() == length && cut.count() == chunks && Sha256::digest(bytes) == *digest
+        }
         Err(_) => false,
     }
 }
@@ -81,7 +81,7 @@ fn is_cut_and_digested(bytes: &[u8], length: usize, chunks: u32, digest: &[u8; 3
 #[test]
 fn empty_plaintext_is_one_chunk(rt: HostRuntime) -> Result<(), Fail> {
     let key = counting_key();
-    let bytes = seal(rt.alloc(), &key, prefix_of(0), b"")?;
+    let bytes = seal(rt.alloc(), &key, &Shape::one(), prefix_of(0), b"")?;
     assert!(rt; bytes.as_slice() == EMPTY.as_slice());
     assert!(rt; opens_to_zeros(rt.alloc(), &key, bytes.as_slice(), 0));
     Ok(())
@@ -91,8 +91,8 @@ fn empty_plaintext_is_one_chunk(rt: HostRuntime) -> Result<(), Fail> {
 fn containers_of_zeros(rt: HostRuntime) -> Result<(), Fail> {
     let key = counting_key();
     for (count, length, chunks, digest) in &CONTAINERS {
-        let bytes = zeros_sealed(rt.alloc(), &key, *count)?;
-        assert!(rt; is_cut_and_digested(bytes.as_slice(), *length, *chunks, digest));
+        let bytes = zeros_sealed(rt.alloc(), &key, &Shape::one(), 0, *count)?;
+        assert!(rt; is_cut_and_digested(&key, bytes.as_slice(), *length, *chunks, digest));
         assert!(rt; opens_to_zeros(rt.alloc(), &key, bytes.as_slice(), *count));
     }
     Ok(())
@@ -115,7 +115,9 @@ fn have_a_bad_length(alloc: Global, key: &Key, parts: &[&[u8]]) -> Result<bool, 
 }
 
 // Whether the sealed chunk doesn't open as the last one, and opens to zeros as the first.
-fn opens_as_first(key: &Key, header: &Header, chunk: &mut [u8; 65536], tag: &[u8; 16]) -> bool {
+fn opens_as_first(key: &Key, header: &Header, chunk: &mut [u8; 65536], tag: &[u8; 16]) -> bool
+    requires { 65536 ≤ size_in header.now }
+{
     !open_chunk(key, header, 0, true, chunk, tag)
         && open_chunk(key, header, 0, false, chunk, tag)
         && *chunk == [0; 65536]
@@ -128,24 +130,33 @@ fn are_refused(
     key: &Key,
     header: &Header,
     chunk: &mut [u8; 65536],
-) -> Result<bool, AllocError> {
+) -> Result<bool, AllocError>
+    requires { 65536 ≤ size_in header.now }
+{
     let first = seal_chunk(key, header, 0, false, chunk);
     let last = seal_chunk(key, header, 1, true, &mut []);
     let opened = open_chunk(key, header, 1, true, &mut [], &last);
-    let bad = have_a_bad_length(alloc, key, &[&header.bytes(), chunk, &first, &last])?;
+    let bad = have_a_bad_length(alloc, key, &[header.bytes(), chunk, &first, &last])?;
     Ok(opened && bad && opens_as_first(key, header, chunk, &first))
 }
 
 #[test]
 fn empty_chunk_behind_a_full_one_is_a_bad_length(rt: HostRuntime) -> Result<(), AllocError> {
     let key = counting_key();
-    let header = Header::of(&key, prefix_of(0));
+    let header = Header::of(&key, &Shape::one(), prefix_of(0));
+    assert!(rt; header.chunk() == 65536);
     assert!(rt; are_refused(rt.alloc(), &key, &header, &mut [0; 65536])?);
     Ok(())
 }
 
 // Whether the container cut to this length has this fault.
-fn is_refused_at(alloc: Global, key: &Key, bytes: &[u8], length: usize, fault: OpenFault) -> bool {
+pub(crate) fn is_refused_at(
+    alloc: Global,
+    key: &Key,
+    bytes: &[u8],
+    length: usize,
+    fault: OpenFault,
+) -> bool {
     length <= bytes.len() && has_fault(alloc, key, &bytes[..length], fault)
 }
 
@@ -160,7 +171,7 @@ fn names_faults_of_cuts(alloc: Global, key: &Key, bytes: &[u8]) -> bool {
 #[test]
 fn truncated_container_names_the_fault(rt: HostRuntime) -> Result<(), Fail> {
     let key = counting_key();
-    let bytes = zeros_sealed(rt.alloc(), &key, 65_537)?;
+    let bytes = zeros_sealed(rt.alloc(), &key, &Shape::one(), 0, 65_537)?;
     assert!(rt; names_faults_of_cuts(rt.alloc(), &key, bytes.as_slice()));
     Ok(())
 }
@@ -193,7 +204,7 @@ fn names_first_fault(alloc: Global, bytes: &mut [u8]) -> bool
 #[test]
 fn altered_container_names_the_first_fault(rt: HostRuntime) -> Result<(), Fail> {
     let key = counting_key();
-    let mut bytes = zeros_sealed(rt.alloc(), &key, 196_608)?;
+    let mut bytes = zeros_sealed(rt.alloc(), &key, &Shape::one(), 0, 196_608)?;
     assert!(rt; bytes.len() == 196_680);
     assert!(rt; is_forged_when_exchanged(rt.alloc(), &key, bytes.as_slice())?);
     assert!(rt; names_first_fault(rt.alloc(), bytes.as_mut_slice()));
@@ -202,7 +213,8 @@ fn altered_container_names_the_first_fault(rt: HostRuntime) -> Result<(), Fail> 
 
 // Three chunks of zeros under a header of version 9, each with the tag of this very header.
 fn under_version_9(alloc: Global) -> Result<Vec<u8>, AllocError> {
-    let mut header = Header::of(&counting_key(), prefix_of(0)).bytes();
+    let mut header = [0; HEADER];
+    header.copy_from_slice(&EMPTY[..HEADER]);
     header[8] = 9;
     let mut bytes = Vec::from_slice(alloc, &header)?;
     for number in 0..3u32 {
@@ -236,7 +248,12 @@ fn seals_behind(bytes: &mut Vec<u8>) -> bool {
     if bytes.len() != 3 || bytes.capacity() < 43 {
         return false;
     }
-    seal_into(bytes, &counting_key(), prefix_of(0), b"");
+    let shape = Shape::one();
+    // For the contract of `seal_into`.
+    if container_bytes(&shape, 0) != 40 {
+        return false;
+    }
+    seal_into(bytes, &counting_key(), &shape, prefix_of(0), b"");
     let (front, rest) = bytes.as_slice().split_at(3);
     front == b"abc".as_slice() && rest == EMPTY.as_slice()
 }
@@ -249,10 +266,11 @@ fn opens_behind(
     fault: Option<OpenFault>,
 ) -> bool {
     // For the contract of `open_into`.
-    if out.len() > out.capacity() {
+    let body_bytes = header.container_bytes(0) - header.bytes().len() as u64;
+    if out.len() > out.capacity() || body_bytes != 16 {
         return false;
     }
-    let opened = open_into(out, &counting_key(), header, Cut::of(0), body);
+    let opened = open_into(out, &counting_key(), header, Cut::of(header, 0), body);
     opened.err() == fault && out.as_slice() == b"before".as_slice()
 }
 
@@ -266,7 +284,10 @@ fn opens_in_room(out: &mut Vec<u8>) -> bool {
     let opens = opens_behind(out, &header, &body, None);
     body[15] ^= 1;
     let forged = Some(OpenFault::Forged { chunk: 0 });
-    cut == Cut::of(0) && cut.plain() == 0 && opens && opens_behind(out, &header, &body, forged)
+    cut == Cut::of(&header, 0)
+        && cut.plain() == 0
+        && opens
+        && opens_behind(out, &header, &body, forged)
 }
 
 // A container sealed and opened in room that stood before, behind other bytes; and a chunk that doesn't check leaves

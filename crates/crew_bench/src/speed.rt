@@ -4,7 +4,7 @@ ghost use Rattle.std.specs.Prelude.{◌<◌, ◌≤◌, length};
 
 use crate::{COUNTING, prefix_of};
 use anyhow::{Result, bail};
-use container_core::{Key, MAX_PLAIN, open, seal};
+use container_core::{Key, MAX_PLAIN, Shape, open, seal};
 use crew_core::{Free, MAX_WORKERS, open_whole, seal_whole};
 use ledger_core::{Device, Grant, Ledger, Range};
 use std::alloc::Global;
@@ -49,7 +49,7 @@ fn time_of_sealing<R: Clock + Threads + Sync>(
         bail!("no grant")
     };
     let start = Instant::now(rt)?;
-    let (bytes, _spent) = seal_whole(rt, alloc, key, grant, plain, workers, &Free);
+    let (bytes, _spent) = seal_whole(rt, alloc, key, &Shape::one(), grant, plain, workers, &Free);
     let nanos = nanos_since(rt, &start)?;
     bytes?;
     Ok(nanos)
@@ -83,14 +83,15 @@ fn print_time<R: Print>(rt: &R, name: &str, nanos: u64, whole: u64) -> Result<()
 /// Prints the best times of sealing and opening, one after the other in each of several rounds.
 pub fn measure<R: Print + Clock + Threads + Sync>(rt: &R, alloc: Global) -> Result<()> {
     let key = Key::new(COUNTING);
+    let shape = Shape::one();
     let plain = vec![in alloc; 7u8; TEXT]?;
-    let sealed = seal(alloc, &key, prefix_of(0), plain.as_slice())?;
+    let sealed = seal(alloc, &key, &shape, prefix_of(0), plain.as_slice())?;
     let (mut sealing, mut opening) = (u64::MAX, u64::MAX);
     let mut crew_sealing = [u64::MAX; 3];
     let mut crew_opening = [u64::MAX; 3];
     for _sample in 0..SAMPLES {
         let start = Instant::now(rt)?;
-        let bytes = seal(alloc, &key, prefix_of(0), plain.as_slice())?;
+        let bytes = seal(alloc, &key, &shape, prefix_of(0), plain.as_slice())?;
         sealing = sealing.min(nanos_since(rt, &start)?);
         drop(bytes);
         for (i, workers) in WORKERS.iter().enumerate() {

@@ -3,7 +3,7 @@ ghost use Rattle.std.specs.Prelude.{◌≡◌, ◌≤◌, ◌<◌, length};
 
 use crate::{COUNTING, prefix_of};
 use anyhow::{Result, ensure};
-use container_core::{HEADER, Key, OpenFault, SEALED, seal};
+use container_core::{HEADER, Key, OpenFault, SEALED, Shape, seal};
 use crew_core::{Free, MAX_WORKERS, open_whole};
 use std::alloc::{AllocError, Global};
 use std::io::{self, Print};
@@ -170,8 +170,8 @@ pub fn print<R: Print + Threads + Sync>(rt: &R, alloc: Global, workers: u32) -> 
 {
     let key = Key::new(COUNTING);
     let plain = vec![in alloc; 0; 131_073]?;
-    let bytes = seal(alloc, &key, prefix_of(0), plain.as_slice())?;
-    let other = seal(alloc, &key, prefix_of(1), plain.as_slice())?;
+    let bytes = seal(alloc, &key, &Shape::one(), prefix_of(0), plain.as_slice())?;
+    let other = seal(alloc, &key, &Shape::one(), prefix_of(1), plain.as_slice())?;
     let (bytes, other) = (bytes.as_slice(), other.as_slice());
     ensure!(bytes.len() == 131_145, "131,145 bytes");
     ensure!(other.len() == 131_145, "131,145 bytes");

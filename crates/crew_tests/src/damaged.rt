@@ -36,7 +36,7 @@ fn damaged<R: Threads + Sync>(
 }
 
 // Whether so many workers refuse a container for this chunk.
-fn is_refused_for<R: Threads + Sync>(
+pub fn is_refused_for<R: Threads + Sync>(
     rt: &R,
     alloc: Global,
     bytes: &[u8],

@@ -3,7 +3,7 @@ ghost use Rattle.std.specs.Prelude.{◌<◌, ◌≤◌, length};
 
 use crate::sealed::{EIGHT, ZEROS, is_digest, opens_to, sealed};
 use crate::{COUNTING, Late, Meeting, Recorder, pattern, zeros};
-use container_core::{Key, MAX_PLAIN};
+use container_core::{Key, MAX_PLAIN, Shape};
 use crew_core::{Gate, MAX_WORKERS, Shelf, Work};
 use std::alloc::Global;
 use std::test::Fail;
@@ -120,7 +120,7 @@ fn one_worker_meets_nobody(rt: HostRuntime) -> Result<(), Fail> {
 fn one_thread_meets_nobody(rt: HostRuntime) -> Result<(), Fail> {
     let key = Key::new(COUNTING);
     let plain = zeros(rt.alloc(), 65_537)?;
-    let work = Work::sealing(&key, [0, 0, 1, 0, 0, 0, 0], plain.as_slice());
+    let work = Work::sealing(&key, &Shape::one(), [0, 0, 1, 0, 0, 0, 0], plain.as_slice());
     let bytes = meeting_nobody(rt.alloc(), &work).ok_or("not made")?;
     assert!(rt; is_digest(bytes.as_slice(), 65_593, &ZEROS));
     let work = Work::opening(&key, bytes.as_slice())?;

@@ -16,6 +16,8 @@ mod rounds;
 #[cfg(test)]
 mod sealed;
 #[cfg(test)]
+mod shapes;
+#[cfg(test)]
 mod shelves;
 
 pub use crate::grants::grant_of;

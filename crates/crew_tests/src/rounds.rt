@@ -1,9 +1,11 @@
 //! Rounds sealed by any number of workers. The expected bytes are those of Python's `cryptography`.
 ghost use Rattle.std.specs.Prelude.{◌≡◌, ◌+◌, ◌*◌, ◌<◌, ◌≤◌, length};
+ghost use Rattle.container_core.specs.Container.{size_in};
 
 use crate::sealed::{EIGHTEEN, is_digest};
 use crate::{COUNTING, Meeting, Recorder, pattern};
-use container_core::{CHUNK, Header, Key};
+use container_core::laws::headers_name_their_shape;
+use container_core::{CHUNK, Header, Key, Shape};
 use crew_core::{Free, Gate, MAX_WORKERS, seal_round};
 use std::alloc::{AllocError, Global};
 use std::test::Fail;
@@ -14,6 +16,14 @@ static LAST: [u8; 22] = [
     0x5f, 0x7e, 0xc2, 0x61, 0xcd, 0x7f, 0xf1, 0x90, 0x4b, 0x9a, 0x48, 0xa8, 0xca, 0x6e, 0xdd, 0xbb,
     0x26, 0xd9, 0xa4, 0x58, 0x36, 0x11,
 ];
+
+// A header of version 1.
+fn header_one(key: &Key, prefix: [u8; 7]) -> Header
+    ensures size { size_in result ≡ CHUNK }
+{
+    headers_name_their_shape();
+    Header::of(key, &Shape::one(), prefix)
+}
 
 // Whether a round was sealed, and appended.
 fn append(whole: &mut Vec<u8>, round: Result<Vec<u8>, AllocError>) -> bool {
@@ -35,10 +45,10 @@ fn in_three_rounds<R: Threads + Sync, G: Gate + Sync>(
     requires workers { (0 < workers) × (workers ≤ MAX_WORKERS) }
 {
     let key = Key::new(COUNTING);
-    let header = Header::of(&key, [0, 0, 1, 0, 0, 1, 2]);
+    let header = header_one(&key, [0, 0, 1, 0, 0, 1, 2]);
     let (front, rest) = plain.split_at(7 * CHUNK);
     let (middle, end) = rest.split_at(CHUNK);
-    let mut whole = Vec::from_slice(alloc, &header.bytes()).ok()?;
+    let mut whole = Vec::from_slice(alloc, header.bytes()).ok()?;
     let round = seal_round(rt, alloc, &key, &header, 0, false, front, workers, gate);
     let begun = append(&mut whole, round);
     let round = seal_round(rt, alloc, &key, &header, 7, false, middle, workers, gate);
@@ -83,7 +93,7 @@ fn gave_up<R: Threads + Sync>(
     requires workers { (0 < workers) × (workers ≤ MAX_WORKERS) }
 {
     let key = Key::new(COUNTING);
-    let header = Header::of(&key, [0, 0, 1, 0, 0, 0, 0]);
+    let header = header_one(&key, [0, 0, 1, 0, 0, 0, 0]);
     let gate = Meeting::new(2, turns);
     match seal_round(rt, alloc, &key, &header, 3, true, plain, workers, &gate) {
         Ok(sealed) if sealed.len() == CHUNK + 33 => Some(gate.gave_up()),
@@ -104,7 +114,7 @@ fn two_workers_meet_in_a_round(rt: HostRuntime) -> Result<(), Fail> {
 #[test]
 fn a_round_has_the_last_number(rt: HostRuntime) -> Result<(), Fail> {
     let key = Key::new(COUNTING);
-    let header = Header::of(&key, [0, 0, 1, 0, 0, 0, 0]);
+    let header = header_one(&key, [0, 0, 1, 0, 0, 0, 0]);
     let text = b"a text";
     let sealed = seal_round(
         &rt,

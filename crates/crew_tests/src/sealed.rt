@@ -3,7 +3,7 @@
 ghost use Rattle.std.specs.Prelude.{◌<◌, ◌≤◌, length};
 
 use crate::{COUNTING, grant_of, pattern};
-use container_core::{Key, MAX_PLAIN, OpenFault};
+use container_core::{Key, MAX_PLAIN, OpenFault, Shape};
 use crew_core::{Free, Gate, MAX_WORKERS, open_whole, seal_whole};
 use ledger_core::{Spent, Way};
 use sha2::{Digest, Sha256};
@@ -43,10 +43,11 @@ fn is_spent(spent: &Spent, number: u32, way: Way) -> bool {
     spent.number() == number && spent.device().number() == 1 && spent.way() == way
 }
 
-// One try at a container under a grant of this number, whose way has to say whether it was sealed.
+// One try at a container in a shape under a grant of this number, whose way has to say whether it was sealed.
 fn tried<R: Threads + Sync, G: Gate + Sync>(
     rt: &R,
     alloc: Global,
+    shape: &Shape,
     number: u32,
     plain: &[u8],
     workers: u32,
@@ -56,7 +57,8 @@ fn tried<R: Threads + Sync, G: Gate + Sync>(
     requires workers { (0 < workers) × (workers ≤ MAX_WORKERS) }
 {
     let grant = grant_of(alloc, number)?;
-    let (result, spent) = seal_whole(rt, alloc, &Key::new(COUNTING), grant, plain, workers, gate);
+    let key = Key::new(COUNTING);
+    let (result, spent) = seal_whole(rt, alloc, &key, shape, grant, plain, workers, gate);
     let way = if result.is_ok() {
         Way::Sealed
     } else {
@@ -69,8 +71,27 @@ fn tried<R: Threads + Sync, G: Gate + Sync>(
     }
 }
 
-// The container of a plaintext under a grant of this number; a refusal that was asked for leaves a void number, and is
-// tried again.
+// The container of a plaintext in a shape under a grant of this number; a refusal that was asked for leaves a void
+// number, and is tried again.
+pub fn sealed_in<R: Threads + Sync, G: Gate + Sync>(
+    rt: &R,
+    alloc: Global,
+    shape: &Shape,
+    number: u32,
+    plain: &[u8],
+    workers: u32,
+    gate: &G,
+) -> Option<Vec<u8>>
+    requires plain { length plain.now ≤ MAX_PLAIN }
+    requires workers { (0 < workers) × (workers ≤ MAX_WORKERS) }
+{
+    match tried(rt, alloc, shape, number, plain, workers, gate)? {
+        Ok(bytes) => Some(bytes),
+        Err(AllocError) => tried(rt, alloc, shape, number, plain, workers, gate)?.ok(),
+    }
+}
+
+// The container of version 1.
 pub fn sealed<R: Threads + Sync, G: Gate + Sync>(
     rt: &R,
     alloc: Global,
@@ -82,10 +103,7 @@ pub fn sealed<R: Threads + Sync, G: Gate + Sync>(
     requires plain { length plain.now ≤ MAX_PLAIN }
     requires workers { (0 < workers) × (workers ≤ MAX_WORKERS) }
 {
-    match tried(rt, alloc, number, plain, workers, gate)? {
-        Ok(bytes) => Some(bytes),
-        Err(AllocError) => tried(rt, alloc, number, plain, workers, gate)?.ok(),
-    }
+    sealed_in(rt, alloc, &Shape::one(), number, plain, workers, gate)
 }
 
 // Whether so many workers open a container to this plaintext; a refusal that was asked for is tried again.

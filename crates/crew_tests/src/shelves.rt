@@ -1,6 +1,6 @@
 //! What a shelf takes and refuses.
 use crate::{COUNTING, flip, pattern};
-use container_core::{Key, seal};
+use container_core::{Key, Shape, seal};
 use crew_core::{Kind, PutFault, Shelf, ShelfFault, Work};
 use std::alloc::Global;
 use std::test::Fail;
@@ -49,7 +49,7 @@ fn is_taken_once(alloc: Global, work: &Work) -> Option<bool> {
 fn a_place_is_taken_once(rt: HostRuntime) -> Result<(), Fail> {
     let key = Key::new(COUNTING);
     let plain = pattern(rt.alloc(), 65_537)?;
-    let work = Work::sealing(&key, PREFIX, plain.as_slice());
+    let work = Work::sealing(&key, &Shape::one(), PREFIX, plain.as_slice());
     assert!(rt; work.count() == 2);
     assert!(rt; is_taken_once(rt.alloc(), &work) == Some(true));
     Ok(())
@@ -92,13 +92,38 @@ fn refuses_past(alloc: Global, small: &Work, work: &Work) -> bool {
 fn strangers_are_refused(rt: HostRuntime) -> Result<(), Fail> {
     let key = Key::new(COUNTING);
     let plain = pattern(rt.alloc(), 65_537)?;
-    let bytes = seal(rt.alloc(), &key, PREFIX, plain.as_slice())?;
-    let work = Work::sealing(&key, PREFIX, plain.as_slice());
-    let other = Work::sealing(&key, OTHER, plain.as_slice());
-    let empty = Work::sealing(&key, PREFIX, b"");
+    let bytes = seal(rt.alloc(), &key, &Shape::one(), PREFIX, plain.as_slice())?;
+    let work = Work::sealing(&key, &Shape::one(), PREFIX, plain.as_slice());
+    let other = Work::sealing(&key, &Shape::one(), OTHER, plain.as_slice());
+    let empty = Work::sealing(&key, &Shape::one(), PREFIX, b"");
     let opening = Work::opening(&key, bytes.as_slice())?;
     assert!(rt; refuses_both(rt.alloc(), &work, &other, &opening));
     assert!(rt; refuses_past(rt.alloc(), &empty, &work));
+    Ok(())
+}
+
+// Whether a shelf for a work refuses piece 0 of another under the same prefix.
+fn refuses_other(alloc: Global, work: &Work, other: &Work) -> bool {
+    match Shelf::new(alloc, work) {
+        Ok(mut shelf) => is_stranger(alloc, &mut shelf, other, 0, Kind::Sealing, PREFIX),
+        Err(_) => false,
+    }
+}
+
+// In version 2 the label and the size of the chunks are of the header, so they tell pieces apart, as the version does.
+#[test]
+fn pieces_of_another_shape_are_strangers(rt: HostRuntime) -> Result<(), Fail> {
+    let key = Key::new(COUNTING);
+    let plain = pattern(rt.alloc(), 65_537)?;
+    let plain = plain.as_slice();
+    let work = Work::sealing(&key, &Shape::two(12, b"db-dump")?, PREFIX, plain);
+    let label = Work::sealing(&key, &Shape::two(12, b"db-dumb")?, PREFIX, plain);
+    let size = Work::sealing(&key, &Shape::two(13, b"db-dump")?, PREFIX, plain);
+    let one = Work::sealing(&key, &Shape::one(), PREFIX, plain);
+    assert!(rt; work.count() == 17);
+    assert!(rt; refuses_other(rt.alloc(), &work, &label));
+    assert!(rt; refuses_other(rt.alloc(), &work, &size));
+    assert!(rt; refuses_other(rt.alloc(), &work, &one));
     Ok(())
 }
 
@@ -125,8 +150,8 @@ fn is_whole(alloc: Global, work: &Work, bytes: &[u8]) -> bool {
 fn pieces_in_any_order(rt: HostRuntime) -> Result<(), Fail> {
     let key = Key::new(COUNTING);
     let plain = pattern(rt.alloc(), 200_000)?;
-    let one = seal(rt.alloc(), &key, PREFIX, plain.as_slice())?;
-    let work = Work::sealing(&key, PREFIX, plain.as_slice());
+    let one = seal(rt.alloc(), &key, &Shape::one(), PREFIX, plain.as_slice())?;
+    let work = Work::sealing(&key, &Shape::one(), PREFIX, plain.as_slice());
     assert!(rt; is_whole(rt.alloc(), &work, one.as_slice()));
     let opening = Work::opening(&key, one.as_slice())?;
     assert!(rt; is_whole(rt.alloc(), &opening, plain.as_slice()));
@@ -148,8 +173,8 @@ fn length_of(alloc: Global, work: &Work, first: &Work, second: &Work) -> Option<
 fn a_piece_of_another_length_is_joined_too(rt: HostRuntime) -> Result<(), Fail> {
     let key = Key::new(COUNTING);
     let plain = pattern(rt.alloc(), 65_540)?;
-    let work = Work::sealing(&key, PREFIX, plain.as_slice());
-    let other = Work::sealing(&key, PREFIX, b"twenty bytes of text");
+    let work = Work::sealing(&key, &Shape::one(), PREFIX, plain.as_slice());
+    let other = Work::sealing(&key, &Shape::one(), PREFIX, b"twenty bytes of text");
     assert!(rt; length_of(rt.alloc(), &work, &other, &work) == Some(24 + 20 + 16 + 4 + 16));
     Ok(())
 }
@@ -157,7 +182,7 @@ fn a_piece_of_another_length_is_joined_too(rt: HostRuntime) -> Result<(), Fail> 
 // A container of four chunks, of which 3 and 1 don't check.
 fn damaged(alloc: Global, key: &Key) -> Option<Vec<u8>> {
     let plain = pattern(alloc, 200_000).ok()?;
-    let mut bytes = seal(alloc, key, PREFIX, plain.as_slice()).ok()?;
+    let mut bytes = seal(alloc, key, &Shape::one(), PREFIX, plain.as_slice()).ok()?;
     if bytes.len() != 200_088 {
         return None;
     }

@@ -13,15 +13,15 @@ ghost use Rattle.engine_core.specs.Engine.{OpensTo};
 
 use crate::sealing::seal_rounds;
 use crate::windows::open_rounds;
-use container_core::{Key, MAX_PLAIN, OpenFault, SealFault};
+use container_core::{Key, MAX_PLAIN, OpenFault, SealFault, Shape};
 use crew_core::{DEFAULT_WINDOW, Gate, MAX_WINDOW, MAX_WORKERS};
 use ledger_core::{Failed, Grant, Sink, Source, Spent, write_all};
 use round_core::Task;
 use std::alloc::Global;
 use std::thread::Threads;
 
-/// Reads all of an input of at most `max_bytes` bytes (2^40 at most) and writes its container under a key and a grant's
-/// prefix, sealed by 1 to 16 workers in rounds of `window` chunks (1 to 256): while one is sealed, the one before is
+/// Reads all of an input of at most `max_bytes` bytes (2^40 at most) and writes its container in a shape, under a key and a
+/// grant's prefix, sealed by 1 to 16 workers in rounds of `window` chunks (1 to 256): while one is sealed, the one before is
 /// written and the one behind is read. Answers the input's length. `TooLong` where a byte more was read, and nothing
 /// past it is; the round in hand is dropped then, and those before it were written. At every fault what was written
 /// begins the container of some plaintext that begins with what was read, and at `OutOfMemory` it is nothing. Memory is
@@ -31,6 +31,7 @@ pub fn run_seal_by<T: Threads + Sync, R: Source, W: Sink, G: Gate + Sync>(
     rt: &T,
     alloc: Global,
     key: &Key,
+    shape: &Shape,
     grant: Grant,
     reader: &mut R,
     writer: &mut W,
@@ -44,7 +45,7 @@ pub fn run_seal_by<T: Threads + Sync, R: Source, W: Sink, G: Gate + Sync>(
     requires window { (0 < window) × (window ≤ MAX_WINDOW) }
     ensures reads { HasReadPlain max_bytes (R.left reader.old) (R.left reader.new)
         (R.failures reader.old) (R.failures reader.new) result.0 }
-    ensures writes { HasWrittenRounds key.now (prefix_of grant.device grant.number) max_bytes window
+    ensures writes { HasWrittenRounds key.now shape.now (prefix_of grant.device grant.number) max_bytes window
         (R.left reader.old) (R.left reader.new) (W.taken writer.old) (W.taken writer.new)
         (W.failures writer.old) (W.failures writer.new) result.0 }
 
@@ -54,7 +55,7 @@ pub fn run_seal_by<T: Threads + Sync, R: Source, W: Sink, G: Gate + Sync>(
 {
     let prefix = grant.prefix();
     match seal_rounds(
-        rt, alloc, key, prefix, reader, writer, max_bytes, workers, window, gate,
+        rt, alloc, key, shape, prefix, reader, writer, max_bytes, workers, window, gate,
     ) {
         Ok(bytes) => (Ok(bytes), grant.used()),
         Err(fault) => (Err(fault), grant.waste()),
@@ -66,6 +67,7 @@ pub fn run_seal<T: Threads + Sync, R: Source, W: Sink, G: Gate + Sync>(
     rt: &T,
     alloc: Global,
     key: &Key,
+    shape: &Shape,
     grant: Grant,
     reader: &mut R,
     writer: &mut W,
@@ -77,7 +79,7 @@ pub fn run_seal<T: Threads + Sync, R: Source, W: Sink, G: Gate + Sync>(
     requires workers { (0 < workers) × (workers ≤ MAX_WORKERS) }
     ensures reads { HasReadPlain max_bytes (R.left reader.old) (R.left reader.new)
         (R.failures reader.old) (R.failures reader.new) result.0 }
-    ensures writes { HasWrittenRounds key.now (prefix_of grant.device grant.number) max_bytes DEFAULT_WINDOW
+    ensures writes { HasWrittenRounds key.now shape.now (prefix_of grant.device grant.number) max_bytes DEFAULT_WINDOW
         (R.left reader.old) (R.left reader.new) (W.taken writer.old) (W.taken writer.new)
         (W.failures writer.old) (W.failures writer.new) result.0 }
     ensures sealed { OnOk result.0 (result.1 ≡ spent_as grant Sealed) }
@@ -87,6 +89,7 @@ pub fn run_seal<T: Threads + Sync, R: Source, W: Sink, G: Gate + Sync>(
         rt,
         alloc,
         key,
+        shape,
         grant,
         reader,
         writer,

@@ -1,7 +1,9 @@
 //! The pieces of a round, made by a crew, and the bytes that they are.
-ghost use Rattle.std.specs.Prelude.{◌≡◌, ◌<◌, ◌≤◌, IfSome};
+ghost use Rattle.std.specs.Prelude.{◌≡◌, ◌^◌, ◌<◌, ◌≤◌, IfSome};
+ghost use Rattle.container_core.specs.Chunks.{chunk_count};
+ghost use Rattle.container_core.specs.Container.{size_in};
 
-use container_core::{Cut, Header, Key};
+use container_core::{Cut, Header, Key, Shape};
 use crew_tests::COUNTING;
 use round_core::{Places, Round, Task};
 use std::alloc::{AllocError, Global};
@@ -22,7 +24,7 @@ pub fn pieces_of<R: Threads + Sync, G: Gate + Sync>(
     requires workers { (0 < workers) × (workers ≤ MAX_WORKERS) }
 {
     let count = round.count();
-    let room = round.task().room();
+    let room = round.task().room(round.size());
     let mut crew = Crew::new(alloc, workers, count, room).ok()?;
     let mut places = Places::new(alloc, count, room).ok()?;
     let mut done = 0u8;
@@ -58,20 +60,26 @@ pub fn are_pieces(alloc: Global, places: &Places, bytes: &[u8]) -> bool {
     }
 }
 
-// The cut of so many plaintext bytes, of 2^24 at most.
-fn cut_of(bytes: usize) -> Option<Cut>
-    ensures { IfSome result (λ cut. cut ≡ bytes) }
+// The cut of so many plaintext bytes, of 2^24 at most, into the chunks of a header.
+fn cut_of(header: &Header, bytes: usize) -> Option<Cut>
+    ensures size { IfSome result (λ cut. cut.size ≡ size_in header.now) }
+    ensures plain { IfSome result (λ cut. cut.plain ≡ bytes) }
+    ensures few { IfSome result (λ cut. chunk_count cut.size cut.plain ≤ 2 ^ 28) }
 {
     if bytes > 1 << 24 {
         return None;
     }
-    Some(Cut::of(bytes as u64))
+    let cut = Cut::of(header, bytes as u64);
+    // A cut has at most 2^28 chunks.
+    cut.count();
+    Some(cut)
 }
 
-// Whether so many workers seal a round to these bytes at a gate.
+// Whether so many workers seal a round in a shape to these bytes at a gate.
 pub fn seals_to<R: Threads + Sync, G: Gate + Sync>(
     rt: &R,
     alloc: Global,
+    shape: &Shape,
     first: u32,
     last: bool,
     plain: &[u8],
@@ -83,8 +91,8 @@ pub fn seals_to<R: Threads + Sync, G: Gate + Sync>(
     requires workers { (0 < workers) × (workers ≤ MAX_WORKERS) }
 {
     let key = Key::new(COUNTING);
-    let header = Header::of(&key, PREFIX);
-    let cut = cut_of(plain.len())?;
+    let header = Header::of(&key, shape, PREFIX);
+    let cut = cut_of(&header, plain.len())?;
     let round = Round::new(Task::Sealing, &key, &header, first, last, cut, plain);
     let places = pieces_of(rt, alloc, &round, workers, gate)?;
     Some(are_pieces(alloc, &places, bytes))

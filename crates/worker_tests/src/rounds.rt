@@ -2,7 +2,7 @@
 ghost use Rattle.std.specs.Prelude.{◌<◌, ◌≤◌};
 
 use crate::pieces::{PREFIX, are_pieces, pieces_of, seals_to};
-use container_core::{CHUNK, Cut, HEADER, Header, Key, SEALED, seal};
+use container_core::{CHUNK, Cut, HEADER, Header, Key, SEALED, Shape, seal};
 use crew_tests::{COUNTING, Late, Meeting, Recorder, flip, pattern};
 use round_core::{Places, Round, Task};
 use std::alloc::Global;
@@ -29,7 +29,17 @@ fn is_part<R: Threads + Sync>(
     let (from, to) = (first as usize, end as usize);
     let plain = plain.get(from * CHUNK..to * CHUNK)?;
     let part = whole.get(HEADER + from * SEALED..HEADER + to * SEALED)?;
-    seals_to(rt, alloc, first, false, plain, workers, &Free, part)
+    seals_to(
+        rt,
+        alloc,
+        &Shape::one(),
+        first,
+        false,
+        plain,
+        workers,
+        &Free,
+        part,
+    )
 }
 
 // Whether these chunks are such a part by 1, 2, 5 and 16 workers.
@@ -55,7 +65,13 @@ fn is_part_by_all<R: Threads + Sync>(
 fn rounds_are_parts_of_the_container(rt: HostRuntime) -> Result<(), Fail> {
     let plain = pattern(rt.alloc(), 39 * CHUNK + 1)?;
     let plain = plain.as_slice();
-    let whole = seal(rt.alloc(), &Key::new(COUNTING), PREFIX, plain)?;
+    let whole = seal(
+        rt.alloc(),
+        &Key::new(COUNTING),
+        &Shape::one(),
+        PREFIX,
+        plain,
+    )?;
     let whole = whole.as_slice();
     assert!(rt; whole.len() == HEADER + 39 * SEALED + 17);
     assert!(rt; is_part_by_all(&rt, rt.alloc(), plain, whole, 0, 1));
@@ -65,8 +81,26 @@ fn rounds_are_parts_of_the_container(rt: HostRuntime) -> Result<(), Fail> {
     Ok(())
 }
 
-// Whether so many bytes, sealed as a round that is the last by so many workers at a gate, are the container behind its
-// header.
+// Whether so many bytes, sealed in a shape as a round that is the last by so many workers at a gate, are the container
+// behind its header.
+fn is_container_in<R: Threads + Sync, G: Gate + Sync>(
+    rt: &R,
+    alloc: Global,
+    shape: &Shape,
+    length: usize,
+    workers: u32,
+    gate: &G,
+) -> Option<bool>
+    requires workers { (0 < workers) × (workers ≤ MAX_WORKERS) }
+{
+    let plain = pattern(alloc, length).ok()?;
+    let plain = plain.as_slice();
+    let whole = seal(alloc, &Key::new(COUNTING), shape, PREFIX, plain).ok()?;
+    let body = whole.as_slice().get(shape.header_bytes()..)?;
+    seals_to(rt, alloc, shape, 0, true, plain, workers, gate, body)
+}
+
+// Whether they are so in version 1.
 fn is_container<R: Threads + Sync, G: Gate + Sync>(
     rt: &R,
     alloc: Global,
@@ -76,11 +110,7 @@ fn is_container<R: Threads + Sync, G: Gate + Sync>(
 ) -> Option<bool>
     requires workers { (0 < workers) × (workers ≤ MAX_WORKERS) }
 {
-    let plain = pattern(alloc, length).ok()?;
-    let plain = plain.as_slice();
-    let whole = seal(alloc, &Key::new(COUNTING), PREFIX, plain).ok()?;
-    let body = whole.as_slice().get(HEADER..)?;
-    seals_to(rt, alloc, 0, true, plain, workers, gate, body)
+    is_container_in(rt, alloc, &Shape::one(), length, workers, gate)
 }
 
 // Whether so many bytes are sealed so by one worker and by three.
@@ -99,6 +129,26 @@ fn last_rounds_end_the_container(rt: HostRuntime) {
     assert!(rt; is_container_by_both(&rt, rt.alloc(), 7 * CHUNK + 1));
 }
 
+// Whether so many bytes are sealed so in a shape by one worker and by four.
+fn is_shaped_by_both<R: Threads + Sync>(
+    rt: &R,
+    alloc: Global,
+    shape: &Shape,
+    length: usize,
+) -> bool {
+    is_container_in(rt, alloc, shape, length, 1, &Free) == Some(true)
+        && is_container_in(rt, alloc, shape, length, 4, &Free) == Some(true)
+}
+
+#[test]
+fn last_rounds_of_version_two(rt: HostRuntime) -> Result<(), Fail> {
+    let shape = Shape::two(12, b"db-dump")?;
+    assert!(rt; is_shaped_by_both(&rt, rt.alloc(), &shape, 0));
+    assert!(rt; is_shaped_by_both(&rt, rt.alloc(), &shape, 7 * 4_096));
+    assert!(rt; is_shaped_by_both(&rt, rt.alloc(), &shape, 40 * 4_096 + 1));
+    Ok(())
+}
+
 // The pieces of a round of the sealed chunks of a container, opened or checked.
 fn opened<R: Threads + Sync>(
     rt: &R,
@@ -110,9 +160,11 @@ fn opened<R: Threads + Sync>(
     requires workers { (0 < workers) × (workers ≤ MAX_WORKERS) }
 {
     let key = Key::new(COUNTING);
-    let header = Header::of(&key, PREFIX);
+    let header = Header::of(&key, &Shape::one(), PREFIX);
     let body = whole.get(HEADER..)?;
-    let cut = Cut::of_body(body.len() as u64).ok()?;
+    let cut = Cut::of_body(&header, body.len() as u64).ok()?;
+    // A cut has at most 2^28 chunks.
+    cut.count();
     let task = match task {
         Task::Opening => Task::Opening,
         _ => Task::Checking,
@@ -182,7 +234,13 @@ fn all_refuse_two<R: Threads + Sync>(rt: &R, alloc: Global, whole: &[u8]) -> boo
 fn rounds_open_and_name_the_least_bad_chunk(rt: HostRuntime) -> Result<(), Fail> {
     let plain = pattern(rt.alloc(), 7 * CHUNK + 1)?;
     let plain = plain.as_slice();
-    let mut whole = seal(rt.alloc(), &Key::new(COUNTING), PREFIX, plain)?;
+    let mut whole = seal(
+        rt.alloc(),
+        &Key::new(COUNTING),
+        &Shape::one(),
+        PREFIX,
+        plain,
+    )?;
     assert!(rt; all_open(&rt, rt.alloc(), whole.as_slice(), plain));
     flip(whole.as_mut_slice(), HEADER + 5 * SEALED + 9, 2);
     flip(whole.as_mut_slice(), HEADER + 2 * SEALED + 9, 2);

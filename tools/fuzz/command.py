@@ -1,0 +1,162 @@
+"""Command lines made by chance: those that are refused, and lawful ones at the bounds, with what they do."""
+from fuzz.container import MOST, USUAL, Parts
+from fuzz.run import Ask
+
+KEY, PLAIN = bytes(range(32)), bytes(range(200)) * 100
+# The least and the greatest value of the options that take a number: of each command, of `seal`, and for version 2.
+BOUNDS = {"--workers": (1, 16), "--max-bytes": (0, MOST)}
+SEAL_BOUNDS = {"--device": (0, 2**24 - 1), "--lanes": (1, 16), "--window": (1, 256)}
+SECOND_BOUNDS = {"--exponent": (12, 20)}
+LABELS = ("", "a", "two words", "\u00e4" * 127 + "b", "x" * 255, "\n")
+NO_NUMBERS = ("", " ", "x", "1x", "1.0", "0x1", "1e1", "1,0", "--", "99999999999999999999", "\uff11", "one", "1 1")
+UNKNOWN = ("--worker", "--Workers", "--keys", "--key-file=key", "-k", "-w1", "--dry-run", "--max_bytes=1", "-1")
+# What no command stands in, or more than `audit` takes.
+NO_COMMANDS = ([], ["--key", "key"], ["audit", "a"], ["audit", "--key", "key"], ["audit", "audit"], ["audit", "-1"])
+
+
+def bounds_of(command, first_only):
+    """The options of a command that take a number, with their bounds."""
+    if command != "seal":
+        return BOUNDS
+    return {**BOUNDS, **SEAL_BOUNDS, **({} if first_only else SECOND_BOUNDS)}
+
+
+def lawful_options(rng, command, first_only):
+    """Options that a command takes, each with a lawful value, or None where it takes none."""
+    given = {"--key": "key"}
+    for option, (least, most) in bounds_of(command, first_only).items():
+        if option == "--device" or rng.random() < 0.3:
+            given[option] = rng.choice((least, most, rng.randint(least, most), least + 1))
+    if rng.random() < 0.3:
+        given["--max-bytes"] = len(PLAIN) + rng.choice((-1, 0, 1))
+    if command == "seal":
+        given["--ledger"] = "ledger"
+        if rng.random() < 0.1:
+            given["--no-new-ledger"] = None
+        if not first_only and rng.random() < 0.4:
+            given["--label"] = rng.choice(LABELS)
+    return given
+
+
+def words_of(rng, options):
+    """Options as words, in any order, each with its value in the same word or the next one."""
+    words = []
+    for option, value in rng.sample(options, len(options)):
+        if value is None:
+            words.append(option)
+        elif rng.random() < 0.5 or str(value).startswith("-"):
+            words.append(f"{option}={value}")
+        else:
+            words += [option, str(value)]
+    return words
+
+
+def sealed(given):
+    """The container of PLAIN as these options of `seal` ask for it, under the first number of a new ledger."""
+    prefix = given["--device"].to_bytes(3, "big") + bytes(4)
+    is_second = "--exponent" in given or "--label" in given
+    label = given.get("--label", "").encode() if is_second else None
+    return Parts(KEY, prefix, PLAIN, given.get("--exponent", 16), label).data()
+
+
+# --- What is wrong with a command line. Each gives its words, before the file's name and from there on. ---
+
+
+def number_past_a_bound(rng, command, given, name, first_only):
+    option, (least, most) = rng.choice(list(bounds_of(command, first_only).items()))
+    given[option] = rng.choice((least - 1, most + 1, most + 1, -most - 1, most + 2**32, 2**64 + least))
+    return [command, *words_of(rng, list(given.items()))], [name]
+
+
+def no_number(rng, command, given, name, first_only):
+    given[rng.choice(list(bounds_of(command, first_only)))] = rng.choice(NO_NUMBERS)
+    return [command, *words_of(rng, list(given.items()))], [name]
+
+
+def option_twice(rng, command, given, name, _):
+    options = list(given.items())
+    return [command, *words_of(rng, options + [rng.choice(options)])], [name]
+
+
+def unknown_option(rng, command, given, name, _):
+    words = words_of(rng, list(given.items()))
+    words.insert(rng.randrange(len(words) + 1), rng.choice(UNKNOWN))
+    return [command, *words], [name]
+
+
+def something_left_out(rng, command, given, name, _):
+    required = rng.choice(["name", "--key"] + ["--ledger", "--device"] * (command == "seal"))
+    given.pop(required, None)
+    return [command, *words_of(rng, list(given.items()))], [] if required == "name" else [name]
+
+
+def value_left_out(rng, command, given, name, first_only):
+    option = rng.choice(["--key", *bounds_of(command, first_only)])
+    given.pop(option, None)
+    return [command, *words_of(rng, list(given.items())), name], [option]
+
+
+def another_command(rng, command, given, name, _):
+    other = rng.choice((command.upper(), command + "s", command[:-1], "", "-", "--", "-v", "unseal"))
+    return [other, *words_of(rng, list(given.items()))], [name]
+
+
+def value_of_a_flag(rng, command, given, name, _):
+    given["--no-new-ledger"] = "yes"
+    words = words_of(rng, [row for row in given.items() if row[0] != "--no-new-ledger"])
+    return [command, *words, "--no-new-ledger=yes"], [name]
+
+
+def label_too_long(rng, command, given, name, _):
+    given["--label"] = rng.choice(("x" * 256, "\u00e4" * 128))
+    return [command, *words_of(rng, list(given.items()))], [name]
+
+
+def no_text(rng, command, given, name, _):
+    return [command, *words_of(rng, list(given.items()))], [name, "\udcff"]
+
+
+WRONGS = [
+    number_past_a_bound, number_past_a_bound, no_number, option_twice, option_twice, unknown_option, something_left_out,
+    value_left_out, another_command, no_text,
+]
+SEAL_WRONGS = [value_of_a_flag, label_too_long]
+
+
+# --- The cases ---
+
+
+def wanted_of(ask, command, given):
+    """Puts into a lawful command line what is wanted of it."""
+    if given.get("--lanes", 1) > 1 and given.get("--workers", 1) > 1:
+        ask.status, ask.faults = 2, "usage: lanes and workers cannot both be above 1\n"
+    elif "--no-new-ledger" in given:
+        ask.status, ask.faults = 2, "ledger: not there\n"
+    elif len(PLAIN) > given.get("--max-bytes", USUAL):
+        ask.status, ask.out = 1, [f"failed {ask.names[-1]}: too long"]
+    elif command == "verify":
+        ask.out = [f"good a.stm bytes {len(PLAIN)}"]
+    elif command == "open":
+        ask.out, ask.left = [f"opened a.stm bytes {len(PLAIN)}"], {"a": PLAIN}
+    else:
+        ask.out, ask.left = [f"sealed a file 0 bytes {len(PLAIN)}"], {"a.stm": sealed(given)}
+    if command == "seal" and ask.status != 2:
+        ask.may_leave = ("ledger", "ledger-wal", "ledger-shm")
+
+
+def ask(rng, case, first_only):
+    """One command line."""
+    if rng.random() < 0.05:
+        return Ask(case, rng.choice(NO_COMMANDS), [], {}, 2, [], None)
+    command = rng.choice(("verify", "open", "seal", "seal"))
+    given = lawful_options(rng, command, first_only)
+    name = "a" if command == "seal" else "a.stm"
+    data = PLAIN if command == "seal" else Parts(KEY, bytes(7), PLAIN).data()
+    files = {"key": KEY.hex().encode(), name: data}
+    if rng.random() < 0.75:
+        wrong = rng.choice(WRONGS + SEAL_WRONGS * (command == "seal"))
+        words, names = wrong(rng, command, given, name, first_only)
+        return Ask(case, words, names, files, 2, [], None)
+    asked = Ask(case, [command, *words_of(rng, list(given.items()))], ["--"] * rng.randrange(2) + [name], files, 0, [])
+    wanted_of(asked, command, given)
+    return asked
