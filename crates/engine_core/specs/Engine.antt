@@ -102,8 +102,8 @@ abbrev pub rounds_so_far : ℕ → List ℕ → List ℕ → List ℕ → List �
 rounds_so_far size key header [] = []
 rounds_so_far size key header (byte ∷ bytes) = header ++ stream_by key header 0 false (chunks size (byte ∷ bytes))
 
--- what was read is some full rounds, which were written whole, and the round in hand, which was dropped; the byte behind
--- each of those rounds is within the limit
+-- what was read is some full rounds, which were written whole, and the round in hand, which was dropped; the byte
+-- behind each of those rounds is within the limit
 abbrev pub DropsRound : List ℕ → ShapeView → List ℕ → ℕ → ℕ → Option (List ℕ) → Option (List ℕ) → Option (List ℕ)
     → Option (List ℕ) → Type 0
 DropsRound key shape prefix most window left left' taken taken' = (past : List ℕ) × (held : List ℕ) × (rounds : ℕ)

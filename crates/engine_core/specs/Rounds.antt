@@ -1,5 +1,6 @@
 -- Inside: what the functions tell each other that seal in rounds.
-use Rattle.std.specs.Prelude.{◌≡◌, ◌⊎◌, ℕ, ◌+◌, ◌-◌, ◌<◌, ◌≤◌, List, [], ◌∷◌, length, Option, Some, None, Result, OnOk, OnErr, IfErr}
+use Rattle.std.specs.Prelude.{◌≡◌, ◌⊎◌, ℕ, ◌+◌, ◌-◌, ◌<◌, ◌≤◌, List, [], ◌∷◌, length, Option, Some}
+use Rattle.std.specs.Prelude.{None, Result, OnOk, OnErr, IfErr}
 use Rattle.container_core.specs.declared.fault.SealFault.{SealFault}
 use Rattle.container_core.specs.declared.fault.SealFault.TheVariants as sealing_fault
 use Rattle.io_core.specs.Reads.{ConsumesUpTo}

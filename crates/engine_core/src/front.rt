@@ -1,8 +1,8 @@
 //! The front of a container, which is its header: read in place, and what is answered where it has a fault.
 //!
 //! Of version 2 a header's fault comes before the container's length, so it is answered at once. Else that a container
-//! is too long comes before a header's fault, and that its length is wrong before a chunk that doesn't check: so the rest
-//! is read and dropped, to its end or to one byte past the longest container.
+//! is too long comes before a header's fault, and that its length is wrong before a chunk that doesn't check: so the
+//! rest is read and dropped, to its end or to one byte past the longest container.
 ghost use Rattle.std.specs.Bool.{OnTrue, OnFalse};
 ghost use Rattle.std.specs.Prelude.{◌≡◌, ◌≢◌, ◌⊎◌, ℕ, ◌+◌, ◌-◌, ◌<◌, ◌≤◌, ◌++◌, true, false, List, length, take, Err};
 ghost use Rattle.std.specs.Prelude.{IfOk, IfErr, OnOk, OnErr, IfSome, is_err};

@@ -18,8 +18,8 @@ pub(crate) struct Rooms {
 }
 
 impl Rooms {
-    // The room for rounds of so many pieces of chunks of a size behind the first window: of a second window as much as is at hand, since
-    // where that is less than a round there is no second, and no more workers than pieces.
+    // The room for rounds of so many pieces of chunks of a size behind the first window: of a second window as much as
+    // is at hand, since where that is less than a round there is no second, and no more workers than pieces.
     pub(crate) fn new(
         alloc: Global,
         task: Task,

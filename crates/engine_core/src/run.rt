@@ -1,8 +1,9 @@
 //! The engines of `engine` with any number of workers, a window of the file at a time: the answers are those of one
 //! thread.
 //!
-//! A container is written as its plaintext is read, and the grant comes back spent: sealed with `Ok`, else void. Nothing
-//! of a container's plaintext is written before all was checked.
+//! A container is written as its plaintext is read, and the grant comes back spent: sealed with `Ok`, else void.
+//! Nothing of a container's plaintext is written before all was checked. A window is so many chunks of the size that
+//! the shape or the container's header names, 2^12 to 2^20 bytes.
 ghost use Rattle.std.specs.Prelude.{◌≡◌, ◌≢◌, ◌<◌, ◌≤◌, Ok, Err, IfOk, OnOk, OnErr, IfSome};
 ghost use Rattle.container_core.specs.Opening.{opening};
 ghost use Rattle.crew_core.specs.Spending.{spent_as};
@@ -20,13 +21,13 @@ use round_core::Task;
 use std::alloc::Global;
 use std::thread::Threads;
 
-/// Reads all of an input of at most `max_bytes` bytes (2^40 at most) and writes its container in a shape, under a key and a
-/// grant's prefix, sealed by 1 to 16 workers in rounds of `window` chunks (1 to 256): while one is sealed, the one before is
-/// written and the one behind is read. Answers the input's length. `TooLong` where a byte more was read, and nothing
-/// past it is; the round in hand is dropped then, and those before it were written. At every fault what was written
-/// begins the container of some plaintext that begins with what was read, and at `OutOfMemory` it is nothing. Memory is
-/// taken before the first chunk is sealed: two windows of plaintext, a window of sealed chunks, and as many for each
-/// worker; and one word for each round, without which the caller's thread seals it alone.
+/// Reads all of an input of at most `max_bytes` bytes (2^40 at most) and writes its container in a shape, under a key
+/// and a grant's prefix, sealed by 1 to 16 workers in rounds of `window` chunks (1 to 256): while one is sealed, the
+/// one before is written and the one behind is read. Answers the input's length. `TooLong` where a byte more was read,
+/// and nothing past it is; the round in hand is dropped then, and those before it were written. At every fault what was
+/// written begins the container of some plaintext that begins with what was read, and at `OutOfMemory` it is nothing.
+/// Memory is taken before the first chunk is sealed: two windows of plaintext, a window of sealed chunks, and as many
+/// for each worker; and one word for each round, without which the caller's thread seals it alone.
 pub fn run_seal_by<T: Threads + Sync, R: Source, W: Sink, G: Gate + Sync>(
     rt: &T,
     alloc: Global,
@@ -100,11 +101,12 @@ pub fn run_seal<T: Threads + Sync, R: Source, W: Sink, G: Gate + Sync>(
     )
 }
 
-/// Reads a container and checks it by 1 to 16 workers, in rounds of `window` chunks (1 to 256): while one is opened, the
-/// plaintext of the one before is taken and the one behind is read. Answers its plaintext, which has at most `max_bytes`
-/// bytes (2^40 at most), or the first fault of the container. Of an input that is too long one byte past the longest
-/// container is read. It takes the memory of the plaintext, whose room doubles as it grows, of two windows of sealed
-/// chunks, and of a window of plaintext and as much for each worker.
+/// Reads a container and checks it by 1 to 16 workers, in rounds of `window` chunks (1 to 256): while one is opened,
+/// the plaintext of the one before is taken and the one behind is read. Answers its plaintext, which has at most
+/// `max_bytes` bytes (2^40 at most), or the first fault of the container. A header's fault of version 2 is answered
+/// without reading on; of an input that is too long one byte past the longest container is read. It takes the memory of
+/// the plaintext, whose room doubles as it grows, of two windows of sealed chunks, and of a window of plaintext and as
+/// much for each worker.
 pub fn run_plain_by<T: Threads + Sync, R: Source, G: Gate + Sync>(
     rt: &T,
     alloc: Global,
@@ -164,9 +166,9 @@ pub fn run_plain<T: Threads + Sync, R: Source, G: Gate + Sync>(
     run_plain_by(rt, alloc, key, reader, max_bytes, workers, window, gate)
 }
 
-/// Reads a container and writes its plaintext, once every chunk was checked: `run_plain_by`, and the writing. Answers the
-/// plaintext's length, or the first fault of the container. At every fault but `Write` nothing was written; at `Write`
-/// the whole input was read, and a beginning of its plaintext was written, and not the whole.
+/// Reads a container and writes its plaintext, once every chunk was checked: `run_plain_by`, and the writing. Answers
+/// the plaintext's length, or the first fault of the container. At every fault but `Write` nothing was written; at
+/// `Write` the whole input was read, and a beginning of its plaintext was written, and not the whole.
 pub fn run_open_by<T: Threads + Sync, R: Source, W: Sink, G: Gate + Sync>(
     rt: &T,
     alloc: Global,
@@ -217,8 +219,8 @@ pub fn run_open<T: Threads + Sync, R: Source, W: Sink, G: Gate + Sync>(
     )
 }
 
-/// Reads a container and checks it, as `run_open_by` does, without writing anything. It takes the memory of two windows,
-/// whatever the container's length.
+/// Reads a container and checks it, as `run_open_by` does, without writing anything. It takes the memory of two
+/// windows, whatever the container's length.
 pub fn run_verify_by<T: Threads + Sync, R: Source, G: Gate + Sync>(
     rt: &T,
     alloc: Global,

@@ -3,8 +3,9 @@
 //!
 //! A full window is sealed once one more byte, or the end, was seen: so it is known whether its last chunk is the last
 //! of all. All room is made before the first chunk is sealed, but for the word from which a round's numbers are drawn.
-ghost use Rattle.std.specs.Prelude.{◌≡◌, ◌≢◌, ◌⊎◌, ℕ, ◌+◌, ◌-◌, ◌*◌, ◌^◌, ◌<◌, ◌≤◌, ◌++◌, List, [], ◌∷◌, length, take, min};
-ghost use Rattle.std.specs.Prelude.{false, true, slice_index, slice_index_or, None, Err, IfOk, IfErr, OnOk, OnErr, is_err};
+ghost use Rattle.std.specs.Prelude.{◌≡◌, ◌≢◌, ◌⊎◌, ℕ, ◌+◌, ◌-◌, ◌*◌, ◌^◌, ◌<◌, ◌≤◌, ◌++◌, List, [], ◌∷◌, length};
+ghost use Rattle.std.specs.Prelude.{take, min, false, true, slice_index, slice_index_or, None, Err};
+ghost use Rattle.std.specs.Prelude.{IfOk, IfErr, OnOk, OnErr, is_err};
 ghost use Rattle.container_core.specs.Chunks.{chunk_count, chunks};
 ghost use Rattle.container_core.specs.Container.{size_in};
 ghost use Rattle.container_core.specs.Stream.{stream_by};
@@ -181,8 +182,8 @@ fn seal_full<T: Threads + Sync, R: Source, W: Sink, G: Gate + Sync>(
     requires full { chunks * size_in header.now < length rooms.old.current.held }
     requires upto { (0 < upto) × (upto ≤ rooms.old.next.room) }
     requires ready { CanSeal (size_in header.now) chunks rooms.old.crew rooms.old.places }
-    ensures values { OnOk result (rooms.new.places.values
-        ≡ values_of Sealing key.now header.now first false (take (chunks * size_in header.now) rooms.old.current.held)) }
+    ensures values { OnOk result (rooms.new.places.values ≡ values_of Sealing key.now header.now first false
+        (take (chunks * size_in header.now) rooms.old.current.held)) }
     ensures turned { HasSealedOn (R.left reader.old) (R.left reader.new) (R.failures reader.old) (R.failures reader.new)
         (W.taken writer.old) (W.taken writer.new) (W.failures writer.old) (W.failures writer.new)
         (front.now ++ joined rooms.old.places.values) rooms.old.next rooms.new.current

@@ -354,8 +354,8 @@ fn open_body<T: Threads + Sync, R: Source, G: Gate + Sync>(
 }
 
 /// Opens all that the reader has left in rounds of `window` chunks, by 1 to 16 workers, appends its plaintext where the
-/// task is `Opening`, and answers how many bytes that has; or the first fault of the container. A failure leaves some of
-/// the plaintext. Of an input that is too long one byte past the longest container is read.
+/// task is `Opening`, and answers how many bytes that has; or the first fault of the container. A failure leaves some
+/// of the plaintext. Of an input that is too long one byte past the longest container is read.
 pub(crate) fn open_rounds<T: Threads + Sync, R: Source, G: Gate + Sync>(
     rt: &T,
     alloc: Global,
