@@ -14,4 +14,6 @@ mod runs;
 #[cfg(test)]
 mod sealing;
 #[cfg(test)]
+mod shapes;
+#[cfg(test)]
 mod stops;

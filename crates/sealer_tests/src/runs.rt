@@ -122,8 +122,8 @@ fn opens_to(alloc: Global, sealed: &[u8], number: u8, plain: &[u8]) -> bool {
     }
 }
 
-// The status of `seal_all` under the key of the constant above and device 1, where it may be asked for that.
-// `seal_in` in the shape of version 1.
+// The status of `seal_all` under the key of the constant above and device 1, where it may be asked for that, with containers
+// of version 1.
 pub(crate) fn seal_over<R: AllocGlobal + Threads + Sync, S: Fold>(
     rt: &R,
     file: &mut LedgerFile<S>,
@@ -133,6 +133,24 @@ pub(crate) fn seal_over<R: AllocGlobal + Threads + Sync, S: Fold>(
     max_bytes: u64,
     workers: u32,
     lanes: u32,
+) -> Option<u8> {
+    let shape = Shape::one();
+    seal_shaped(
+        rt, file, folder, files, out, max_bytes, workers, lanes, &shape,
+    )
+}
+
+// `seal_over`, with containers of this shape.
+pub(crate) fn seal_shaped<R: AllocGlobal + Threads + Sync, S: Fold>(
+    rt: &R,
+    file: &mut LedgerFile<S>,
+    folder: &mut MemoryFolder,
+    files: &[&str],
+    out: &mut MemoryOuts,
+    max_bytes: u64,
+    workers: u32,
+    lanes: u32,
+    shape: &Shape,
 ) -> Option<u8> {
     let device = Device::new(1)?;
     if files.is_empty() || max_bytes > 1 << 40 {
