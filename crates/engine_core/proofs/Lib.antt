@@ -1,4 +1,5 @@
-pub mod EngineLemmas
+pub mod AnswerLemmas
+pub mod FrontLemmas
 pub mod OpeningRounds
 pub mod PieceLemmas
 pub mod ReadingLemmas

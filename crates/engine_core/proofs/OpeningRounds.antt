@@ -1,47 +1,53 @@
 -- Opening in rounds: what opened so far, and what is in hand.
-use Rattle.std.proofs.Common.{◌≡◌, ℕ, zero, suc, ◌+◌, ◌*◌, ◌<◌, ◌≤◌, ◌⊎◌, inl, inr, true, false, List, [], ◌∷◌, ◌++◌}
-use Rattle.std.proofs.Common.{length, take, drop, get_or, Option, Some, None, Result, Err, IfSome, refl, ap, sym, subst, ◌∙◌}
+use Rattle.std.proofs.Common.{◌≡◌, ℕ, zero, suc, ◌+◌, ◌-◌, ◌*◌, ◌<◌, ◌≤◌, ◌⊎◌, inl, inr, true, List, [], ◌∷◌, ◌++◌}
+use Rattle.std.proofs.Common.{length, take, get_or, Option, Some, None, Result, Ok, Err, IfSome, IfOk, OnOk, refl, ap, sym, subst, ◌∙◌}
 use lib.Seq.{take-suc}
-use Rattle.std.proofs.Common.{◌-◌, arith, append_assoc, append-nil, length-append, length-take-le, replicate}
-use Rattle.std.proofs.lemmas.List.{take_at, take_all, drop_at, length-replicate}
-use Rattle.std.proofs.Math.Nat.{eq-or-lt_of_le}
+use Rattle.std.proofs.Common.{arith, zero-mul, append_assoc, length-append, length-take-le}
+use Rattle.std.proofs.lemmas.Bool.{cases_lt}
+use Rattle.std.proofs.lemmas.List.{take_at, take_all}
+use Rattle.std.proofs.lemmas.Result.{IfOk-weaker}
+use Rattle.std.proofs.Math.Nat.{mul-le-mul_left, mul-le-mul_right}
 use Rattle.std.proofs.KnownBytes.{Consumes-trans}
 use Rattle.io_core.specs.Streams.{Consumes}
 use Rattle.container_core.specs.declared.fault.OpenFault.{OpenFault}
-use Rattle.container_core.specs.declared.fault.OpenFault.TheVariants.{Read, Write}
+use Rattle.container_core.specs.declared.fault.OpenFault.TheVariants.{TooLong, BadLength}
 use Rattle.container_core.specs.Chunks.{sealed_chunks, body_length, chunk_count, container_length}
-use Rattle.container_core.specs.Faults.{IsOfBytes}
-use Rattle.container_core.specs.Opening.{unsealed, unsealed_by, behind, unless, first_fault, early_fault, opening}
+use Rattle.container_core.specs.Container.{header_length, size_in}
+use Rattle.container_core.specs.Cutting.{RefusesCut}
+use Rattle.container_core.specs.Views.{CutView}
+use Rattle.container_core.specs.Opening.{unsealed, unsealed_by, behind, unless, first_fault, early_fault, longest, opening}
 use Rattle.container_core.proofs.OpeningLemmas.{behind-behind, behind-nil}
-use Rattle.container_core.proofs.FaultLemmas.{opening-too_long}
-use Rattle.container_core.proofs.LawLemmas.{opening-of_bytes}
+use Rattle.container_core.proofs.PartsLemmas.{body-count, container_length-grows, container_length-more, count-enough, count-few}
+use Rattle.container_core.proofs.PartsLemmas.{count-more, count-one, count-some, count-tight, count-whole}
 use Rattle.round_core.specs.declared.round.Task.{Task}
 use Rattle.round_core.specs.declared.round.Task.TheVariants.{Sealing, Opening, Checking}
 use Rattle.round_core.specs.Parts.{body_bytes}
 use Rattle.round_core.specs.Values.{parts_of}
-use Rattle.engine_core.specs.Engine.{open_read_failed}
-use Rattle.engine_core.specs.Windows.{ReadsOn, IsNamed, Answers}
+use Rattle.engine_core.specs.Engine.{OpensTo}
+use Rattle.engine_core.specs.Fronts.{SaysLength, ReadsOn, IsNamed, Answers}
+use Rattle.engine_core.proofs.FrontLemmas.{input-answers}
+use Rattle.engine_core.proofs.AnswerLemmas.{answers-body, opening-body}
 
 -- however a body goes on behind the rounds that opened, it opens to their plaintext, and then as what goes on does
 unfoldable pub OpensBehind : List ℕ → List ℕ → ℕ → List ℕ → List ℕ → Type 0
 OpensBehind key header first past plain = (rest : List ℕ) → 0 < length rest
-    → unsealed_by key header 0 true (sealed_chunks (past ++ rest))
-    ≡ behind plain (unsealed_by key header first true (sealed_chunks rest))
+    → unsealed_by key header 0 true (sealed_chunks (size_in header) (past ++ rest))
+    ≡ behind plain (unsealed_by key header first true (sealed_chunks (size_in header) rest))
 
 -- the law of rounds at a round that opens
 abbrev pub Splits : List ℕ → List ℕ → ℕ → ℕ → List ℕ → List ℕ → Type 0
 Splits key header first window bytes plain = (rest : List ℕ) → 0 < length rest
-    → unsealed_by key header first true (sealed_chunks (bytes ++ rest))
-    ≡ behind plain (unsealed_by key header (first + window) true (sealed_chunks rest))
+    → unsealed_by key header first true (sealed_chunks (size_in header) (bytes ++ rest))
+    ≡ behind plain (unsealed_by key header (first + window) true (sealed_chunks (size_in header) rest))
 
 -- and at one that doesn't
 abbrev pub Refuses : List ℕ → List ℕ → ℕ → List ℕ → OpenFault → Type 0
 Refuses key header first bytes fault = (rest : List ℕ) → 0 < length rest
-    → unsealed_by key header first true (sealed_chunks (bytes ++ rest)) ≡ Err fault
+    → unsealed_by key header first true (sealed_chunks (size_in header) (bytes ++ rest)) ≡ Err fault
 
 pub opens-begin : (key header : List ℕ) → OpensBehind key header 0 [] []
 unfolding OpensBehind
-opens-begin key header rest some = sym (behind-nil (unsealed_by key header 0 true (sealed_chunks rest)))
+opens-begin key header rest some = sym (behind-nil (unsealed_by key header 0 true (sealed_chunks (size_in header) rest)))
 
 -- one more round opened
 pub opens-round : (key header : List ℕ) (first window : ℕ) (past plain bytes opened : List ℕ)
@@ -50,10 +56,10 @@ pub opens-round : (key header : List ℕ) (first window : ℕ) (past plain bytes
 unfolding OpensBehind
 opens-round key header first window past plain bytes opened splits before rest some =
     let long = length-append bytes rest in
-    ap (λ (b : List ℕ). unsealed_by key header 0 true (sealed_chunks b)) (append_assoc past bytes rest)
+    ap (λ (b : List ℕ). unsealed_by key header 0 true (sealed_chunks (size_in header) b)) (append_assoc past bytes rest)
     ∙ before (bytes ++ rest) (omega arith)
     ∙ ap (λ (r : Result (List ℕ) OpenFault). behind plain r) (splits rest some)
-    ∙ behind-behind plain opened (unsealed_by key header (first + window) true (sealed_chunks rest))
+    ∙ behind-behind plain opened (unsealed_by key header (first + window) true (sealed_chunks (size_in header) rest))
 
 -- one more round was refused: so is the whole, however it goes on
 pub opens-refused : (key header : List ℕ) (first : ℕ) (past plain bytes : List ℕ) (fault : OpenFault)
@@ -62,29 +68,17 @@ pub opens-refused : (key header : List ℕ) (first : ℕ) (past plain bytes : Li
 unfolding OpensBehind
 opens-refused key header first past plain bytes fault refuses before rest some =
     let long = length-append bytes rest in
-    ap (λ (b : List ℕ). unsealed_by key header 0 true (sealed_chunks b)) (append_assoc past bytes rest)
+    ap (λ (b : List ℕ). unsealed_by key header 0 true (sealed_chunks (size_in header) b)) (append_assoc past bytes rest)
     ∙ before (bytes ++ rest) (omega arith)
     ∙ ap (λ (r : Result (List ℕ) OpenFault). behind plain r) (refuses rest some)
 
 -- the last round
 pub opens-last : (key header : List ℕ) (first : ℕ) (past plain held : List ℕ) (answer : Result (List ℕ) OpenFault)
-    → 0 < length held → unsealed_by key header first true (sealed_chunks held) ≡ answer
+    → 0 < length held → unsealed_by key header first true (sealed_chunks (size_in header) held) ≡ answer
     → OpensBehind key header first past plain
-    → unsealed_by key header 0 true (sealed_chunks (past ++ held)) ≡ behind plain answer
+    → unsealed_by key header 0 true (sealed_chunks (size_in header) (past ++ held)) ≡ behind plain answer
 unfolding OpensBehind
 opens-last key header first past plain held answer some is before = before held some ∙ ap (λ (r : Result (List ℕ) OpenFault). behind plain r) is
-
--- a header and a body
-pub opening-body : (key header body : List ℕ) (most : ℕ) → length header ≡ 24
-    → ((pieces : List (List ℕ)) → unsealed_by key header 0 true pieces ≡ unsealed key header 0 pieces)
-    → opening key most (header ++ body)
-    ≡ unless (early_fault key most (header ++ body)) (unsealed_by key header 0 true (sealed_chunks body))
-unfolding opening
-opening-body key header body most long whole =
-    let early = early_fault key most (header ++ body) in
-    ap (λ (h : List ℕ). unless early (unsealed key h 0 (sealed_chunks (drop 24 (header ++ body))))) (take_at header body 24 long)
-    ∙ ap (λ (b : List ℕ). unless early (unsealed key header 0 (sealed_chunks b))) (drop_at header body 24 long)
-    ∙ ap (λ (r : Result (List ℕ) OpenFault). unless early r) (sym (whole (sealed_chunks body)))
 
 unless-named : (early : Option OpenFault) (later fault : OpenFault) (answer : Result (List ℕ) OpenFault)
     → first_fault early (Some later) ≡ Some fault → answer ≡ Err later → unless early answer ≡ Err fault
@@ -92,94 +86,99 @@ unless-named None later fault answer named is = cc
 unless-named (Some early) later fault answer named is = cc
 
 -- a container whose chunks have a fault
-pub opening-named : (key header body : List ℕ) (most bytes : ℕ) (later fault : OpenFault) → length header ≡ 24
+pub opening-named : (key header body : List ℕ) (most bytes : ℕ) (later fault : OpenFault) → header_length header ≡ length header
     → ((pieces : List (List ℕ)) → unsealed_by key header 0 true pieces ≡ unsealed key header 0 pieces)
-    → bytes ≡ 24 + length body → IsNamed key most header bytes later fault
-    → unsealed_by key header 0 true (sealed_chunks body) ≡ Err later
+    → bytes ≡ length header + length body → IsNamed key most header bytes later fault
+    → unsealed_by key header 0 true (sealed_chunks (size_in header) body) ≡ Err later
     → opening key most (header ++ body) ≡ Err fault
 opening-named key header body most bytes later fault long whole count named is =
-    let all : length (header ++ body) ≡ bytes = length-append header body ∙ omega arith in
-    opening-body key header body most long whole
-    ∙ unless-named (early_fault key most (header ++ body)) later fault (unsealed_by key header 0 true (sealed_chunks body))
-    (named (header ++ body) all (take_at header body 24 long)) is
-
--- a container without a fault that shows early
-pub opening-faultless : (key header body : List ℕ) (most bytes : ℕ) (answer : Result (List ℕ) OpenFault) → length header ≡ 24
-    → ((pieces : List (List ℕ)) → unsealed_by key header 0 true pieces ≡ unsealed key header 0 pieces)
-    → bytes ≡ 24 + length body
-    → ((whole : List ℕ) → length whole ≡ bytes → take 24 whole ≡ header → early_fault key most whole ≡ None)
-    → unsealed_by key header 0 true (sealed_chunks body) ≡ answer
-    → opening key most (header ++ body) ≡ answer
-opening-faultless key header body most bytes answer long whole count none is =
-    let all : length (header ++ body) ≡ bytes = length-append header body ∙ omega arith in
-    opening-body key header body most long whole
-    ∙ ap (λ (e : Option OpenFault). unless e (unsealed_by key header 0 true (sealed_chunks body)))
-    (none (header ++ body) all (take_at header body 24 long))
-    ∙ is
-
--- a container with a fault that shows early
-pub opening-early : (key whole : List ℕ) (most : ℕ) (fault : OpenFault) → early_fault key most whole ≡ Some fault
-    → opening key most whole ≡ Err fault
-unfolding opening
-opening-early key whole most fault early =
-    ap (λ (e : Option OpenFault). unless e (unsealed key (take 24 whole) 0 (sealed_chunks (drop 24 whole)))) early
-
--- what was read to the end, or one byte past the longest container, opens as the whole does
-opens-alike : (key read rest : List ℕ) (most : ℕ) → (length read ≡ container_length most + 1) ⊎ (rest ≡ [])
-    → opening key most (read ++ rest) ≡ opening key most read
-opens-alike key read rest most (inl long) =
-    let both = length-append read rest in
-    opening-too_long key most (read ++ rest) (omega arith) ∙ sym (opening-too_long key most read (omega arith))
-opens-alike key read rest most (inr none) = ap (λ (l : List ℕ). opening key most (read ++ l)) none ∙ ap (opening key most) (append-nil read)
-
-at_end : (n limit : ℕ) (P : Type 0) → n ≤ limit → (n < limit → P) → (n ≡ limit) ⊎ P
-at_end n limit P within end = elim (eq-or-lt_of_le within) [ inl full ↦ inl full | inr below ↦ inr (end below) ]
-
--- what is answered of what was read is answered of the input
-pub input-answers : (key header : List ℕ) (most : ℕ) (left left' left'' : Option (List ℕ)) (answer : Result (List ℕ) OpenFault)
-    → length header ≡ 24 → Consumes left left' header → Answers key header most left' left'' answer
-    → IfSome left (λ input. opening key most input ≡ answer)
-input-answers key header most None left' left'' answer long first a = tt
-input-answers key header most (Some input) None left'' answer long first a = absurd first
-input-answers key header most (Some input) (Some rest) None answer long first a = absurd a.reads.consumed
-input-answers key header most (Some input) (Some rest) (Some more) answer long first a =
-    let both = length-append header a.read in
-    let whole : input ≡ (header ++ a.read) ++ more =
-    first ∙ ap (λ (l : List ℕ). header ++ l) a.reads.consumed ∙ sym (append_assoc header a.read more) in
-    let ended : (length (header ++ a.read) ≡ container_length most + 1) ⊎ (more ≡ []) =
-    at_end (length (header ++ a.read)) (container_length most + 1) (more ≡ []) (omega (arith, a.reads.within))
-    (λ below. a.reads.end (omega arith)) in
-    ap (opening key most) whole ∙ opens-alike key (header ++ a.read) more most ended ∙ a.opens
-
--- a fault of all containers of so many bytes that begin so is one of the bytes
-pub early-of_bytes : (key front : List ℕ) (most bytes : ℕ) (fault : OpenFault) → length front ≡ 24 → 24 ≤ bytes
-    → ((whole : List ℕ) → length whole ≡ bytes → take 24 whole ≡ front → early_fault key most whole ≡ Some fault)
-    → IsOfBytes fault
-early-of_bytes key front most bytes fault long enough early =
-    let rest = replicate (bytes - 24) 0 in
-    let all : length (front ++ rest) ≡ bytes = length-append front rest ∙ omega (arith, length-replicate {A = ℕ} (bytes - 24) 0) in
-    opening-of_bytes key most (front ++ rest) fault
-    (opening-early key (front ++ rest) most fault (early (front ++ rest) all (take_at front rest 24 long)))
-
--- a fault of the bytes is no failed read
-pub not_read : (fault : OpenFault) → IsOfBytes fault → open_read_failed {A = ℕ} (Err fault) ≡ false
-not_read Read own = absurd own
-not_read _ own = refl
+    let all : length (header ++ body) ≡ bytes = length-append header body ∙ sym count in
+    opening-body key header body most long
+    ∙ unless-named (early_fault key most (header ++ body)) later fault (unsealed key header 0 (sealed_chunks (size_in header) body))
+    (named (header ++ body) all (take_at header body (length header) refl))
+    (sym (whole (sealed_chunks (size_in header) body)) ∙ is)
 
 -- a full round of a body
-pub body-round : (task : Task) (chunks : ℕ) (held : List ℕ) → (task ≡ Sealing → ⊥) → 0 < chunks → chunks * 65552 ≤ length held
-    → length (take (chunks * 65552) held) ≡ body_bytes task (chunks * 65536)
-body-round Sealing chunks held not some full = absurd (not refl)
-body-round Opening chunks held not some full = length-take-le (chunks * 65552) held full ∙ omega arith
-body-round Checking chunks held not some full = length-take-le (chunks * 65552) held full ∙ omega arith
+body-full_round : (size chunks : ℕ) → 0 < size → 0 < chunks → chunks * (size + 16) ≡ body_length size (chunks * size)
+body-full_round size chunks some many =
+    let count = count-whole size chunks some many in
+    let long = body-count size (chunks * size) in
+    omega (arith, count, long)
+
+pub body-round : (task : Task) (size chunks : ℕ) (held : List ℕ) → (task ≡ Sealing → ⊥) → 0 < size → 0 < chunks
+    → chunks * (size + 16) ≤ length held
+    → length (take (chunks * (size + 16)) held) ≡ body_bytes task size (chunks * size)
+body-round Sealing size chunks held not some many full = absurd (not refl)
+body-round Opening size chunks held not some many full = length-take-le (chunks * (size + 16)) held full ∙ body-full_round size chunks some many
+body-round Checking size chunks held not some many full = length-take-le (chunks * (size + 16)) held full ∙ body-full_round size chunks some many
 
 -- its pieces, by their number
-pub count-round : (task : Task) (chunks : ℕ) (body : List ℕ) → (task ≡ Sealing → ⊥) → 0 < chunks → length body ≡ chunks * 65552
-    → ((n : ℕ) → length body ≡ body_length n → length (sealed_chunks body) ≡ chunk_count n)
-    → length (parts_of task body) ≡ chunks
-count-round Sealing chunks body not some full count = absurd (not refl)
-count-round Opening chunks body not some full count = count (chunks * 65536) (full ∙ omega arith) ∙ omega arith
-count-round Checking chunks body not some full count = count (chunks * 65536) (full ∙ omega arith) ∙ omega arith
+pub count-round : (task : Task) (size chunks : ℕ) (body : List ℕ) → (task ≡ Sealing → ⊥) → length body ≡ chunks * (size + 16) → 0 < chunks
+    → (length body ≡ chunks * (size + 16) → 0 < chunks → length (sealed_chunks size body) ≡ chunks)
+    → length (parts_of task size body) ≡ chunks
+count-round Sealing size chunks body not full some count = absurd (not refl)
+count-round Opening size chunks body not full some count = count full some
+count-round Checking size chunks body not full some count = count full some
+
+-- ---- the cut of the last round
+
+body-same : (size m n : ℕ) → 0 < size → body_length size m ≡ body_length size n → m ≡ n
+body-same size m n some same =
+    let less = container_length-grows 0 size n m some (omega (arith, same)) in
+    let more = container_length-grows 0 size m n some (omega (arith, same)) in
+    omega (arith, less, more)
+
+pub cut-same : (cut : CutView) (size plain body : ℕ) → 0 < size → cut.size ≡ size → body ≡ body_length size plain
+    → body ≡ body_length cut.size cut.plain → chunk_count cut.size cut.plain ≡ chunk_count size plain
+cut-same cut size plain body some sized is cut_is =
+    let other : body_length size cut.plain ≡ body_length size plain =
+    ap (λ (s : ℕ). body_length s cut.plain) (sym sized) ∙ sym cut_is ∙ is in
+    ap (λ (s : ℕ). chunk_count s cut.plain) sized ∙ ap (chunk_count size) (body-same size cut.plain plain some other)
+
+-- what has a plaintext's length is cut
+pub no-refusal : (size body plain : ℕ) (fault : OpenFault) → 0 < size → body ≡ body_length size plain → plain ≤ 1099511627776
+    → RefusesCut size body fault → ⊥
+no-refusal size body plain TooLong some is few refused =
+    let more = container_length-more 0 size plain 1099511627776 some few in
+    absurd (omega (arith, more, is, refused))
+no-refusal size body plain BadLength some is few refused = refused.1 plain is
+no-refusal size body plain _ some is few refused = absurd refused
+
+-- so many pieces as it has chunks
+pub count-last : (task : Task) (size : ℕ) (body : List ℕ) (n : ℕ) → (task ≡ Sealing → ⊥)
+    → length (sealed_chunks size body) ≡ chunk_count size n → length (parts_of task size body) ≡ chunk_count size n
+count-last Sealing size body n not count = absurd (not refl)
+count-last Opening size body n not count = count
+count-last Checking size body n not count = count
+
+-- for which there is room where there is for its bytes
+pub count-room : (size n room : ℕ) → 0 < size → body_length size n ≤ room * (size + 16) → chunk_count size n ≤ room
+count-room size n room some enough =
+    let count = chunk_count size n in
+    let long = body-count size n in
+    elim (cases_lt room count) [
+      | inl over ↦
+          let most : room * (size + 16) ≤ (count - 1) * (size + 16) = mul-le-mul_right (size + 16) (omega (arith, over)) in
+          elim (cases_lt 0 n) [
+            | inl any ↦
+                let tight = count-tight size n any in
+                absurd (omega (arith, long, most, tight, enough, over))
+            | inr none ↦
+                let one = count-one size n some (omega (arith, none)) in
+                let zeros : (count - 1) * (size + 16) ≡ 0 = ap (λ k. k * (size + 16)) (omega (arith, one)) ∙ zero-mul (size + 16) in
+                absurd (omega (arith, long, most, one, zeros, enough))
+          ]
+      | inr within ↦ within
+    ]
+
+-- how many rounds' chunks there are at most within the longest container
+pub first-few : (size header most first held : ℕ) → 4096 ≤ size → most ≤ 1099511627776
+    → header + (first * (size + 16) + held) ≤ container_length header size most + 1 → first ≤ 268435456
+first-few size header most first held least few within =
+    let long = body-count size most in
+    let count = count-few size most least few in
+    let smaller : first * 4112 ≤ first * (size + 16) = mul-le-mul_left first (omega (arith, least)) in
+    omega (arith, long, count, smaller, within, few)
 
 -- ---- one round more
 
@@ -203,11 +202,11 @@ consumed-next a b c past held bytes read next ahead split is before more =
 
 -- a round was refused, and the rest was read and dropped
 pub answers-refused : (key header : List ℕ) (most first total : ℕ) (a b c : Option (List ℕ)) (past plain bytes held read : List ℕ)
-    (later fault : OpenFault) → length header ≡ 24
+    (later fault : OpenFault) → header_length header ≡ length header
     → ((pieces : List (List ℕ)) → unsealed_by key header 0 true pieces ≡ unsealed key header 0 pieces)
     → Refuses key header first bytes later → OpensBehind key header first past plain
-    → Consumes a b ((past ++ bytes) ++ held) → 0 < length held → total ≡ 24 + length ((past ++ bytes) ++ held)
-    → ReadsOn (container_length most + 1) total b c read → IsNamed key most header (total + length read) later fault
+    → Consumes a b ((past ++ bytes) ++ held) → 0 < length held → total ≡ length header + length ((past ++ bytes) ++ held)
+    → ReadsOn (longest most header + 1) total b c read → IsNamed key most header (total + length read) later fault
     → Answers key header most a c (Err fault)
 answers-refused key header most first total a b c past plain bytes held read later fault long whole refuses before consumed some count reads named =
     let done = (past ++ bytes) ++ held in
@@ -217,57 +216,117 @@ answers-refused key header most first total a b c past plain bytes held read lat
       read = done ++ read;
       reads = record {
         consumed = Consumes-trans a b c done read consumed reads.consumed;
-        within = omega (arith, reads.within);
-        end = λ below. reads.end (omega arith);
+        within = omega (arith, all, count, reads.within);
+        end = λ below. reads.end (omega (arith, all, count, below));
       };
-      opens = opening-named key header (done ++ read) most (total + length read) later fault long whole (omega arith) named
-          (ap (λ (l : List ℕ). unsealed_by key header 0 true (sealed_chunks l)) (append_assoc (past ++ bytes) held read)
-          ∙ opens-refused key header first past plain bytes later refuses before (held ++ read) (omega arith));
+      opens = opening-named key header (done ++ read) most (total + length read) later fault long whole (omega (arith, all, count)) named
+          (ap (λ (l : List ℕ). unsealed_by key header 0 true (sealed_chunks (size_in header) l)) (append_assoc (past ++ bytes) held read)
+          ∙ opens-refused key header first past plain bytes later refuses before (held ++ read) (omega (arith, more, some)));
     }
 
 -- ---- the last round
 
 -- it has what the rounds before it leave of the container's body
-pub body-rest : (cut first held : ℕ) → body_length cut ≡ first * 65552 + held → 0 < held
-    → (held ≡ body_length (cut - first * 65536)) × (first + chunk_count (cut - first * 65536) ≡ chunk_count cut)
-body-rest cut first held is some = (omega arith, omega arith)
+rounds-before : (size cut first held : ℕ) → 0 < size → body_length size cut ≡ first * (size + 16) + held → 0 < held
+    → (cut ≡ 0 × first ≡ 0) ⊎ (first * size < cut)
+rounds-before size cut first held some is more =
+    let count = chunk_count size cut in
+    let long = body-count size cut in
+    let enough = count-enough size cut some in
+    elim (cases_lt first count) [
+      | inl fewer ↦
+          elim (cases_lt 0 cut) [
+            | inl any ↦
+                let tight = count-tight size cut any in
+                let below : first * size ≤ (count - 1) * size = mul-le-mul_right size (omega (arith, fewer)) in
+                inr (omega (arith, tight, below))
+            | inr none ↦
+                let one = count-one size cut some (omega (arith, none)) in
+                inl (omega (arith, none), omega (arith, one, fewer))
+          ]
+      | inr over ↦
+          let most : count * (size + 16) ≤ first * (size + 16) = mul-le-mul_right (size + 16) over in
+          absurd (omega (arith, long, enough, most, is, more))
+    ]
+
+pub body-rest : (size cut first held : ℕ) → 0 < size → body_length size cut ≡ first * (size + 16) + held → 0 < held
+    → (held ≡ body_length size (cut - first * size)) × (first + chunk_count size (cut - first * size) ≡ chunk_count size cut)
+body-rest size cut first held some is more =
+    let long = body-count size cut in
+    let rest = body-count size (cut - first * size) in
+    elim (rounds-before size cut first held some is more) [
+      | inl none ↦
+          let nothing : first * size ≡ 0 = ap (λ n. n * size) none.1 ∙ zero-mul size in
+          let same : cut - first * size ≡ cut = omega (arith, nothing) in
+          let counts = ap (chunk_count size) same in
+          let gone : first * (size + 16) ≡ 0 = ap (λ n. n * (size + 16)) none.1 ∙ zero-mul (size + 16) in
+          (omega (arith, long, rest, counts, same, gone, is), omega (arith, counts, none.1))
+      | inr below ↦
+          let parted : first * size + (cut - first * size) ≡ cut = omega (arith, below) in
+          let counts : chunk_count size cut ≡ first + chunk_count size (cut - first * size) =
+          ap (chunk_count size) (sym parted) ∙ count-more size first (cut - first * size) some (omega (arith, below)) in
+          (omega (arith, long, rest, counts, is, below), sym counts)
+    ]
+
+-- the cut of a container under its header
+pub cut-under : (key header image : List ℕ) (total : ℕ) (cut : CutView) → SaysLength key header → image ≡ header
+    → total ≡ container_length (header_length image) cut.size cut.plain → cut.size ≡ size_in image
+    → total ≡ container_length (length header) (size_in header) cut.plain
+cut-under key header image total cut says same is sized =
+    is
+    ∙ ap (λ (l : List ℕ). container_length (header_length l) cut.size cut.plain) same
+    ∙ ap (λ (h : ℕ). container_length h cut.size cut.plain) says.whole
+    ∙ ap (λ (s : ℕ). container_length (length header) s cut.plain) (sized ∙ ap size_in same)
 
 -- the length of its container has no fault, so the answer is that of the chunks
 pub answers-last : (key header : List ℕ) (most first total : ℕ) (a b : Option (List ℕ)) (past plain held : List ℕ)
-    (answer : Result (List ℕ) OpenFault) → length header ≡ 24
+    (answer : Result (List ℕ) OpenFault) → SaysLength key header
     → ((pieces : List (List ℕ)) → unsealed_by key header 0 true pieces ≡ unsealed key header 0 pieces)
-    → OpensBehind key header first past plain → ReadsOn (container_length most + 1) 24 a b (past ++ held)
-    → 0 < length held → total ≡ 24 + length (past ++ held)
-    → ((all : List ℕ) → length all ≡ total → take 24 all ≡ header → early_fault key most all ≡ None)
-    → unsealed_by key header first true (sealed_chunks held) ≡ answer
+    → OpensBehind key header first past plain → ReadsOn (longest most header + 1) (length header) a b (past ++ held)
+    → 0 < length held → total ≡ length header + length (past ++ held)
+    → ((all : List ℕ) → length all ≡ total → take (length header) all ≡ header → early_fault key most all ≡ None)
+    → unsealed_by key header first true (sealed_chunks (size_in header) held) ≡ answer
     → Answers key header most a b (behind plain answer)
-answers-last key header most first total a b past plain held answer long whole before reads some count none is = record {
-  read = past ++ held;
-  reads = reads;
-  opens = opening-faultless key header (past ++ held) most total (behind plain answer) long whole count none
-      (opens-last key header first past plain held answer some is before);
-}
-
--- or it has, and no more chunk is opened
-pub answers-early : (key header : List ℕ) (most total : ℕ) (a b : Option (List ℕ)) (read : List ℕ) (fault : OpenFault)
-    → length header ≡ 24 → ReadsOn (container_length most + 1) 24 a b read → total ≡ 24 + length read
-    → ((all : List ℕ) → length all ≡ total → take 24 all ≡ header → early_fault key most all ≡ Some fault)
-    → Answers key header most a b (Err fault)
-answers-early key header most total a b read fault long reads count early =
-    let all : length (header ++ read) ≡ total = length-append header read ∙ omega arith in
-    record {
-      read = read;
-      reads = reads;
-      opens = opening-early key (header ++ read) most fault (early (header ++ read) all (take_at header read 24 long));
-    }
-
-pub not_write : (fault : OpenFault) → IsOfBytes fault → {A : Type 0} → ◌≡◌ {A = Result A OpenFault} (Err fault) (Err Write) → ⊥
-not_write fault own e =
-    let same : fault ≡ Write = cc in
-    subst IsOfBytes same own
+answers-last key header most first total a b past plain held answer says whole before reads some count none is =
+    answers-body key header most total a b (past ++ held) (behind plain answer) says reads count none
+    (sym (whole (sealed_chunks (size_in header) (past ++ held))) ∙ opens-last key header first past plain held answer some is before)
 
 -- a container's body has some bytes, and so has what is left of it once a byte was seen behind each round
-pub some-left : (total cut first held : ℕ) → total ≡ 24 + (first * 65552 + held) → total ≡ container_length cut
-    → (0 < first → 0 < held) → 0 < held
-some-left total cut zero held is long some = omega arith
-some-left total cut (suc n) held is long some = some (omega arith)
+pub some-left : (size total header cut first held : ℕ) → total ≡ header + (first * (size + 16) + held)
+    → total ≡ container_length header size cut → (0 < first → 0 < held) → 0 < held
+some-left size total header cut zero held is long some =
+    let all = body-count size cut in
+    let one = count-some size cut in
+    let none = zero-mul (size + 16) in
+    omega (arith, all, one, none, is, long)
+some-left size total header cut (suc n) held is long some = some (omega arith)
+
+-- ---- what opening in rounds answers
+
+-- what opening what stands behind a header answers
+abbrev pub Opened : Task → List ℕ → List ℕ → ℕ → Option (List ℕ) → Option (List ℕ) → List ℕ → ℕ → Type 0
+Opened task key header most left left' items n = (plain : List ℕ) × (n ≡ length plain) × Answers key header most left left' (Ok plain)
+    × (task ≡ Opening → items ≡ plain)
+
+if_some : (o : Option (List ℕ)) (P Q : List ℕ → Type 0) → ((x : List ℕ) → P x → Q x) → IfSome o P → IfSome o Q
+if_some None P Q weaker p = tt
+if_some (Some x) P Q weaker p = weaker x p
+
+pub rounds-length : (task : Task) (key header items : List ℕ) (most : ℕ) (left left' left'' : Option (List ℕ))
+    (result : Result ℕ OpenFault) → SaysLength key header → Consumes left left' header
+    → IfOk result (Opened task key header most left' left'' items)
+    → IfOk result (λ n. IfSome left (λ input. OpensTo key most input n))
+rounds-length task key header items most left left' left'' result says first opened =
+    IfOk-weaker result _ _ (λ n o. opens_to o.0 n o.1 (input-answers key header most left left' left'' (Ok o.0) says first o.2)) opened
+  where
+    opens_to : (plain : List ℕ) (n : ℕ) → n ≡ length plain → IfSome left (λ input. opening key most input ≡ Ok plain)
+        → IfSome left (λ input. OpensTo key most input n)
+    opens_to plain n is opens = if_some left _ _ (λ input e. (plain, e, is)) opens
+
+pub rounds-plain : (task : Task) (key header items : List ℕ) (most : ℕ) (left left' left'' : Option (List ℕ))
+    (result : Result ℕ OpenFault) → SaysLength key header → Consumes left left' header
+    → IfOk result (Opened task key header most left' left'' items)
+    → OnOk result (task ≡ Opening → IfSome left (λ input. opening key most input ≡ Ok items))
+rounds-plain task key header items most left left' left'' result says first opened =
+    IfOk-weaker result _ _ (λ n o opening. input-answers key header most left left' left'' (Ok items) says first
+    (subst (λ (p : List ℕ). Answers key header most left' left'' (Ok p)) (sym (o.3 opening)) o.2)) opened

@@ -2,14 +2,15 @@
 use Rattle.std.specs.Prelude.{◌≡◌, ◌≢◌, ℕ, ◌+◌, ◌*◌, ◌<◌, ◌≤◌, ◌++◌, Bool, true, false, List, [], ◌∷◌, length, Option}
 use Rattle.std.specs.Prelude.{Result, Ok, Err}
 use Rattle.std.specs.Prelude.{IfOk, IfErr, OnOk, OnErr, IfSome}
-use Rattle.container_core.specs.Chunks.{chunk_size, chunks, container_length}
-use Rattle.container_core.specs.Container.{container, header_of}
+use Rattle.container_core.specs.Chunks.{chunks, container_length}
+use Rattle.container_core.specs.Container.{container, header_of, is_two}
+use Rattle.container_core.specs.Shape.{ShapeView, size_of}
 use Rattle.container_core.specs.declared.fault.OpenFault.{OpenFault}
 use Rattle.container_core.specs.declared.fault.OpenFault.TheVariants as opening_fault
 use Rattle.container_core.specs.declared.fault.SealFault.{SealFault}
 use Rattle.container_core.specs.declared.fault.SealFault.TheVariants as sealing_fault
 use Rattle.container_core.specs.Faults.{IsOfBytes}
-use Rattle.container_core.specs.Opening.{opening}
+use Rattle.container_core.specs.Opening.{longest, opening}
 use Rattle.container_core.specs.Stream.{stream_by}
 use Rattle.io_core.specs.Reads.{ConsumesExactly, ConsumesUpTo}
 use Rattle.io_core.specs.Streams.{Appends, AppendsFront, Consumes, IsAtEnd, Keeps, LacksSome, counted}
@@ -73,52 +74,54 @@ pub record HasReadPlain {A : Type 0} (most : ℕ) (left left' : Option (List ℕ
   pub read : failures' ≡ counted (seal_read_failed result) failures
 
 -- What it did with its writer, which had taken `taken`, and has `taken'` now.
-pub record HasWrittenContainer (key prefix : List ℕ) (most : ℕ) (left taken taken' : Option (List ℕ))
-    (failures failures' : Option ℕ) (result : Result ℕ SealFault) : Type 0 where
+pub record HasWrittenContainer (key : List ℕ) (shape : ShapeView) (prefix : List ℕ) (most : ℕ)
+    (left taken taken' : Option (List ℕ)) (failures failures' : Option ℕ) (result : Result ℕ SealFault) : Type 0 where
   -- what was written is the container of the whole input
-  pub written : OnOk result (IfSome left (λ input. Appends taken taken' (container key prefix input)))
+  pub written : OnOk result (IfSome left (λ input. Appends taken taken' (container key shape prefix input)))
   pub within : OnOk result (IfSome left (λ input. length input ≤ most))
   -- where a write failed a beginning of that was written, and not all, at another fault nothing
   pub unwritten : result ≢ Err sealing_fault.Write → OnErr result (Keeps taken taken')
   pub begun : result ≡ Err sealing_fault.Write
-      → IfSome left (λ input. AppendsFront taken taken' (container key prefix input))
+      → IfSome left (λ input. AppendsFront taken taken' (container key shape prefix input))
   pub short : result ≡ Err sealing_fault.Write
-      → IfSome left (λ input. LacksSome taken taken' (container key prefix input))
+      → IfSome left (λ input. LacksSome taken taken' (container key shape prefix input))
   -- a failed write is Write, and no other fault is
   pub write : failures' ≡ counted (seal_write_failed result) failures
   -- the answer is the input's length
   pub length : IfOk result (λ n. IfSome left (λ input. n ≡ length input))
 
 -- the container of some plaintext that begins with what was read begins with what was written
-abbrev pub BeginsContainer : List ℕ → List ℕ → Option (List ℕ) → Option (List ℕ) → Option (List ℕ) → Option (List ℕ)
-    → Type 0
-BeginsContainer key prefix left left' taken taken' = (read : List ℕ) × (more : List ℕ)
-    × Consumes left left' read × AppendsFront taken taken' (container key prefix (read ++ more))
+abbrev pub BeginsContainer : List ℕ → ShapeView → List ℕ → Option (List ℕ) → Option (List ℕ) → Option (List ℕ)
+    → Option (List ℕ) → Type 0
+BeginsContainer key shape prefix left left' taken taken' = (read : List ℕ) × (more : List ℕ)
+    × Consumes left left' read × AppendsFront taken taken' (container key shape prefix (read ++ more))
 
--- what is written once these bytes are sealed in full rounds, none of which is the last: nothing before the first
-abbrev pub rounds_so_far : List ℕ → List ℕ → List ℕ → List ℕ
-rounds_so_far key header [] = []
-rounds_so_far key header (byte ∷ bytes) = header ++ stream_by key header 0 false (chunks (byte ∷ bytes))
+-- what is written once these bytes are sealed in full rounds of chunks of a size, none of which is the last: nothing
+-- before the first
+abbrev pub rounds_so_far : ℕ → List ℕ → List ℕ → List ℕ → List ℕ
+rounds_so_far size key header [] = []
+rounds_so_far size key header (byte ∷ bytes) = header ++ stream_by key header 0 false (chunks size (byte ∷ bytes))
 
--- what was read is some full rounds, which were written whole, and the round in hand, which was dropped; the byte behind
--- each of those rounds is within the limit
-abbrev pub DropsRound : List ℕ → List ℕ → ℕ → ℕ → Option (List ℕ) → Option (List ℕ) → Option (List ℕ) → Option (List ℕ)
-    → Type 0
-DropsRound key prefix most window left left' taken taken' = (past : List ℕ) × (held : List ℕ) × (rounds : ℕ)
-    × Consumes left left' (past ++ held) × (length past ≡ rounds * (window * chunk_size))
-    × (0 < length past → length past < most) × (0 < length held) × (length held ≤ window * chunk_size + 1)
-    × Appends taken taken' (rounds_so_far key (header_of key prefix) past)
+-- what was read is some full rounds, which were written whole, and the round in hand, which was dropped; the byte
+-- behind each of those rounds is within the limit
+abbrev pub DropsRound : List ℕ → ShapeView → List ℕ → ℕ → ℕ → Option (List ℕ) → Option (List ℕ) → Option (List ℕ)
+    → Option (List ℕ) → Type 0
+DropsRound key shape prefix most window left left' taken taken' = (past : List ℕ) × (held : List ℕ) × (rounds : ℕ)
+    × Consumes left left' (past ++ held) × (length past ≡ rounds * (window * size_of shape))
+    × (0 < length past → length past < most) × (0 < length held) × (length held ≤ window * size_of shape + 1)
+    × Appends taken taken' (rounds_so_far (size_of shape) key (header_of key shape prefix) past)
 
 -- What an engine that seals in rounds of so many chunks did with its writer.
-pub record HasWrittenRounds (key prefix : List ℕ) (most window : ℕ) (left left' taken taken' : Option (List ℕ))
-    (failures failures' : Option ℕ) (result : Result ℕ SealFault) : Type 0 where
+pub record HasWrittenRounds (key : List ℕ) (shape : ShapeView) (prefix : List ℕ) (most window : ℕ)
+    (left left' taken taken' : Option (List ℕ)) (failures failures' : Option ℕ) (result : Result ℕ SealFault)
+    : Type 0 where
   -- what was written is the container of the whole input
-  pub written : OnOk result (IfSome left (λ input. Appends taken taken' (container key prefix input)))
+  pub written : OnOk result (IfSome left (λ input. Appends taken taken' (container key shape prefix input)))
   pub within : OnOk result (IfSome left (λ input. length input ≤ most))
   -- at a fault it begins the container of some plaintext that begins with what was read
-  pub begun : OnErr result (BeginsContainer key prefix left left' taken taken')
+  pub begun : OnErr result (BeginsContainer key shape prefix left left' taken taken')
   -- of an input that is too long the rounds before the one in hand were written
-  pub dropped : result ≡ Err sealing_fault.TooLong → DropsRound key prefix most window left left' taken taken'
+  pub dropped : result ≡ Err sealing_fault.TooLong → DropsRound key shape prefix most window left left' taken taken'
   -- memory is refused before anything was written
   pub unwritten : result ≡ Err sealing_fault.OutOfMemory → Keeps taken taken'
   -- a failed write is Write, and no other fault is
@@ -134,8 +137,11 @@ pub record HasReadContainer {A : Type 0} (key : List ℕ) (most : ℕ) (left lef
   pub all_read : result ≡ Err opening_fault.Write → IsAtEnd left'
   -- a fault of the bytes is the whole input's
   pub fault : IfErr result (λ fault. IsOfBytes fault → IfSome left (λ input. opening key most input ≡ Err fault))
-  -- of an input that is too long one byte past the longest container is read
-  pub bound : ConsumesUpTo left left' (container_length most + 1)
+  -- of an input that is too long one byte past the longest container is read: past the longest of all, and past the
+  -- longest that begins so, which is version 1's where the input doesn't begin as version 2
+  pub bound : ConsumesUpTo left left' (container_length 280 4096 most + 1)
+  pub front : IfSome left (λ input. ConsumesUpTo left left' (longest most input + 1))
+  pub one : IfSome left (λ input. is_two input ≡ false → ConsumesUpTo left left' (container_length 24 65536 most + 1))
   -- a failed read is Read, and no other fault is
   pub read : failures' ≡ counted (open_read_failed result) failures
 

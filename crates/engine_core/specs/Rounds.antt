@@ -1,6 +1,6 @@
 -- Inside: what the functions tell each other that seal in rounds.
-use Rattle.std.specs.Prelude.{◌≡◌, ◌⊎◌, ℕ, ◌-◌, ◌<◌, ◌≤◌, List, [], ◌∷◌, length, Option, Some, None, Result, OnOk, OnErr, IfErr}
-use Rattle.container_core.specs.declared.TheConstants.{SEALED}
+use Rattle.std.specs.Prelude.{◌≡◌, ◌⊎◌, ℕ, ◌+◌, ◌-◌, ◌<◌, ◌≤◌, List, [], ◌∷◌, length, Option, Some}
+use Rattle.std.specs.Prelude.{None, Result, OnOk, OnErr, IfErr}
 use Rattle.container_core.specs.declared.fault.SealFault.{SealFault}
 use Rattle.container_core.specs.declared.fault.SealFault.TheVariants as sealing_fault
 use Rattle.io_core.specs.Reads.{ConsumesUpTo}
@@ -33,9 +33,9 @@ pub record HasSealedOn (left left' : Option (List ℕ)) (failures failures' : Op
   pub writes : refusals' ≡ counted (seal_write_failed result) refusals
   pub room : next.room ≤ next'.room
 
--- so many chunks can be sealed by the crew, and their pieces put on the places
-pub record CanSeal (chunks : ℕ) (crew : CrewView) (places : PlacesView) : Type 0 where
+-- so many chunks of a size can be sealed by the crew, and their pieces put on the places
+pub record CanSeal (size chunks : ℕ) (crew : CrewView) (places : PlacesView) : Type 0 where
   pub idle : crew.made ≡ []
-  pub sizes : (crew.size ≡ SEALED) × (places.size ≡ SEALED)
+  pub sizes : (crew.size ≡ size + 16) × (places.size ≡ size + 16)
   pub rooms : crew.room ≡ places.room
   pub enough : chunks ≤ places.room

@@ -1,13 +1,13 @@
 //! The engines: sealing, opening and verifying from any reader to any writer, and the audit of a journal.
 //!
-//! `engine` has those of one thread, `run` those with workers, whose answers are the same. `reading` has
-//! what is read whole before anything is written, `sealing` what seals a window at a time, `windows` what opens or checks,
-//! and `rooms` the room of both.
-//! `auditor` has the audit.
+//! `engine` has those of one thread, `run` those with workers, whose answers are the same. `front` reads a header, and
+//! `reading` what is read whole before anything is written; `sealing` has what seals a window at a time, `windows` what
+//! opens or checks, and `rooms` the room of both. `auditor` has the audit.
 #![tactic(auto)]
 
 pub mod auditor;
 pub mod engine;
+mod front;
 pub mod reading;
 mod rooms;
 pub mod run;

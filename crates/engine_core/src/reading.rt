@@ -1,10 +1,11 @@
-//! Reading the whole of an input, a plaintext or a container: a reader's fault becomes the engine's.
-ghost use Rattle.std.specs.Prelude.{◌≢◌, ℕ, ◌≤◌, List, vec_len, Err, IfOk};
-ghost use Rattle.container_core.specs.Chunks.{container_length};
-ghost use Rattle.io_core.specs.Streams.{Consumes};
-ghost use Rattle.engine_core.specs.Engine.{HasReadPlain, HasReadContainer};
+//! Reading to the end, of a plaintext or of what stands behind a header: a reader's fault becomes the engine's.
+ghost use Rattle.std.specs.Prelude.{◌≡◌, ◌≢◌, ◌+◌, ◌<◌, ◌≤◌, ◌^◌, vec_len, Err, IfOk, IfErr, OnOk};
+ghost use Rattle.container_core.specs.Faults.{IsOfBytes};
+ghost use Rattle.io_core.specs.Reads.{ConsumesExactly, ConsumesUpTo};
+ghost use Rattle.io_core.specs.Streams.{Consumes, IsAtEnd, counted};
+ghost use Rattle.engine_core.specs.Engine.{HasReadPlain, open_read_failed};
 
-use container_core::{MAX_PLAIN, OpenFault, SealFault, container_bytes};
+use container_core::{MAX_PLAIN, OpenFault, SealFault};
 use ledger_core::{ReadFault, Source, read_to_limit};
 use std::alloc::Global;
 
@@ -29,21 +30,26 @@ pub fn read_plain<R: Source>(
     }
 }
 
-/// Reads a container of at most `max_bytes` plaintext bytes to its end. Of a longer one one byte more is read.
-pub(crate) fn read_container<R: Source>(
+/// Reads what stands behind a container's header, at most `most` bytes, to its end. Of a longer rest one byte more is
+/// read.
+pub(crate) fn read_body<R: Source>(
     alloc: Global,
     reader: &mut R,
-    max_bytes: u64,
+    most: u64,
 ) -> Result<Vec<u8>, OpenFault>
-    requires { max_bytes ≤ MAX_PLAIN }
-    ensures container { IfOk result (λ bytes. Consumes (R.left reader.old) (R.left reader.new) bytes.items) }
-    ensures within { IfOk result (λ bytes. vec_len bytes ≤ container_length max_bytes) }
+    requires { most < 2 ^ 63 }
+    ensures body { IfOk result (λ body. Consumes (R.left reader.old) (R.left reader.new) body.items) }
+    ensures end { OnOk result (IsAtEnd (R.left reader.new)) }
+    ensures within { IfOk result (λ body. vec_len body ≤ most) }
+    ensures long { result ≡ Err OpenFault.TooLong
+        → ConsumesExactly (R.left reader.old) (R.left reader.new) (most + 1) }
+    ensures kind { IfErr result (λ fault. IsOfBytes fault → fault ≡ OpenFault.TooLong) }
+    ensures bound { ConsumesUpTo (R.left reader.old) (R.left reader.new) (most + 1) }
     ensures no_write { result ≢ Err OpenFault.Write }
-    ensures reads { (key : List ℕ) → HasReadContainer key max_bytes (R.left reader.old) (R.left reader.new)
-        (R.failures reader.old) (R.failures reader.new) result }
+    ensures count { R.failures reader.new ≡ counted (open_read_failed result) (R.failures reader.old) }
 {
-    match read_to_limit(alloc, reader, container_bytes(max_bytes)) {
-        Ok(bytes) => Ok(bytes),
+    match read_to_limit(alloc, reader, most) {
+        Ok(body) => Ok(body),
         Err(ReadFault::TooLong) => Err(OpenFault::TooLong),
         Err(ReadFault::OutOfMemory) => Err(OpenFault::OutOfMemory),
         Err(ReadFault::Read) => Err(OpenFault::Read),

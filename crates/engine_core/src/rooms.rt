@@ -18,26 +18,29 @@ pub(crate) struct Rooms {
 }
 
 impl Rooms {
-    // The room for rounds of so many pieces behind the first window: of a second window as much as is at hand, since
-    // where that is less than a round there is no second, and no more workers than pieces.
+    // The room for rounds of so many pieces of chunks of a size behind the first window: of a second window as much as
+    // is at hand, since where that is less than a round there is no second, and no more workers than pieces.
     pub(crate) fn new(
         alloc: Global,
         task: Task,
+        size: usize,
         current: Window,
         pieces: u32,
         workers: u32,
     ) -> Result<Rooms, AllocError>
+        requires size { (4096 ≤ size) × (size ≤ 1048576) }
         requires pieces { 0 < pieces }
         requires workers { (0 < workers) × (workers ≤ MAX_WORKERS) }
         ensures current { IfOk result (λ rooms. rooms.current ≡ current) }
         ensures next { IfOk result (λ rooms. length current.held ≤ rooms.next.room) }
-        ensures crew { IfOk result (λ rooms. rooms.crew ≡ idle (min workers pieces) pieces (room_of task)) }
-        ensures places { IfOk result (λ rooms. (rooms.places.size ≡ room_of task) × (rooms.places.room ≡ pieces)
+        ensures crew { IfOk result (λ rooms. rooms.crew ≡ idle (min workers pieces) pieces (room_of task size)) }
+        ensures places { IfOk result (λ rooms. (rooms.places.size ≡ room_of task size) × (rooms.places.room ≡ pieces)
             × (rooms.places.values ≡ [])) }
     {
         let next = Window::new(alloc, current.held().len())?;
-        let crew = Crew::new(alloc, workers.min(pieces), pieces, task.room())?;
-        let places = Places::new(alloc, pieces, task.room())?;
+        let room = task.room(size);
+        let crew = Crew::new(alloc, workers.min(pieces), pieces, room)?;
+        let places = Places::new(alloc, pieces, room)?;
         Ok(Rooms {
             current,
             next,

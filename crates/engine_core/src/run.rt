@@ -1,8 +1,9 @@
 //! The engines of `engine` with any number of workers, a window of the file at a time: the answers are those of one
 //! thread.
 //!
-//! A container is written as its plaintext is read, and the grant comes back spent: sealed with `Ok`, else void. Nothing
-//! of a container's plaintext is written before all was checked.
+//! A container is written as its plaintext is read, and the grant comes back spent: sealed with `Ok`, else void.
+//! Nothing of a container's plaintext is written before all was checked. A window is so many chunks of the size that
+//! the shape or the container's header names, 2^12 to 2^20 bytes.
 ghost use Rattle.std.specs.Prelude.{◌≡◌, ◌≢◌, ◌<◌, ◌≤◌, Ok, Err, IfOk, OnOk, OnErr, IfSome};
 ghost use Rattle.container_core.specs.Opening.{opening};
 ghost use Rattle.crew_core.specs.Spending.{spent_as};
@@ -13,24 +14,25 @@ ghost use Rattle.engine_core.specs.Engine.{OpensTo};
 
 use crate::sealing::seal_rounds;
 use crate::windows::open_rounds;
-use container_core::{Key, MAX_PLAIN, OpenFault, SealFault};
+use container_core::{Key, MAX_PLAIN, OpenFault, SealFault, Shape};
 use crew_core::{DEFAULT_WINDOW, Gate, MAX_WINDOW, MAX_WORKERS};
 use ledger_core::{Failed, Grant, Sink, Source, Spent, write_all};
 use round_core::Task;
 use std::alloc::Global;
 use std::thread::Threads;
 
-/// Reads all of an input of at most `max_bytes` bytes (2^40 at most) and writes its container under a key and a grant's
-/// prefix, sealed by 1 to 16 workers in rounds of `window` chunks (1 to 256): while one is sealed, the one before is
-/// written and the one behind is read. Answers the input's length. `TooLong` where a byte more was read, and nothing
-/// past it is; the round in hand is dropped then, and those before it were written. At every fault what was written
-/// begins the container of some plaintext that begins with what was read, and at `OutOfMemory` it is nothing. Memory is
-/// taken before the first chunk is sealed: two windows of plaintext, a window of sealed chunks, and as many for each
-/// worker; and one word for each round, without which the caller's thread seals it alone.
+/// Reads all of an input of at most `max_bytes` bytes (2^40 at most) and writes its container in a shape, under a key
+/// and a grant's prefix, sealed by 1 to 16 workers in rounds of `window` chunks (1 to 256): while one is sealed, the
+/// one before is written and the one behind is read. Answers the input's length. `TooLong` where a byte more was read,
+/// and nothing past it is; the round in hand is dropped then, and those before it were written. At every fault what was
+/// written begins the container of some plaintext that begins with what was read, and at `OutOfMemory` it is nothing.
+/// Memory is taken before the first chunk is sealed: two windows of plaintext, a window of sealed chunks, and as many
+/// for each worker; and one word for each round, without which the caller's thread seals it alone.
 pub fn run_seal_by<T: Threads + Sync, R: Source, W: Sink, G: Gate + Sync>(
     rt: &T,
     alloc: Global,
     key: &Key,
+    shape: &Shape,
     grant: Grant,
     reader: &mut R,
     writer: &mut W,
@@ -44,7 +46,7 @@ pub fn run_seal_by<T: Threads + Sync, R: Source, W: Sink, G: Gate + Sync>(
     requires window { (0 < window) × (window ≤ MAX_WINDOW) }
     ensures reads { HasReadPlain max_bytes (R.left reader.old) (R.left reader.new)
         (R.failures reader.old) (R.failures reader.new) result.0 }
-    ensures writes { HasWrittenRounds key.now (prefix_of grant.device grant.number) max_bytes window
+    ensures writes { HasWrittenRounds key.now shape.now (prefix_of grant.device grant.number) max_bytes window
         (R.left reader.old) (R.left reader.new) (W.taken writer.old) (W.taken writer.new)
         (W.failures writer.old) (W.failures writer.new) result.0 }
 
@@ -54,7 +56,7 @@ pub fn run_seal_by<T: Threads + Sync, R: Source, W: Sink, G: Gate + Sync>(
 {
     let prefix = grant.prefix();
     match seal_rounds(
-        rt, alloc, key, prefix, reader, writer, max_bytes, workers, window, gate,
+        rt, alloc, key, shape, prefix, reader, writer, max_bytes, workers, window, gate,
     ) {
         Ok(bytes) => (Ok(bytes), grant.used()),
         Err(fault) => (Err(fault), grant.waste()),
@@ -66,6 +68,7 @@ pub fn run_seal<T: Threads + Sync, R: Source, W: Sink, G: Gate + Sync>(
     rt: &T,
     alloc: Global,
     key: &Key,
+    shape: &Shape,
     grant: Grant,
     reader: &mut R,
     writer: &mut W,
@@ -77,7 +80,7 @@ pub fn run_seal<T: Threads + Sync, R: Source, W: Sink, G: Gate + Sync>(
     requires workers { (0 < workers) × (workers ≤ MAX_WORKERS) }
     ensures reads { HasReadPlain max_bytes (R.left reader.old) (R.left reader.new)
         (R.failures reader.old) (R.failures reader.new) result.0 }
-    ensures writes { HasWrittenRounds key.now (prefix_of grant.device grant.number) max_bytes DEFAULT_WINDOW
+    ensures writes { HasWrittenRounds key.now shape.now (prefix_of grant.device grant.number) max_bytes DEFAULT_WINDOW
         (R.left reader.old) (R.left reader.new) (W.taken writer.old) (W.taken writer.new)
         (W.failures writer.old) (W.failures writer.new) result.0 }
     ensures sealed { OnOk result.0 (result.1 ≡ spent_as grant Sealed) }
@@ -87,6 +90,7 @@ pub fn run_seal<T: Threads + Sync, R: Source, W: Sink, G: Gate + Sync>(
         rt,
         alloc,
         key,
+        shape,
         grant,
         reader,
         writer,
@@ -97,11 +101,12 @@ pub fn run_seal<T: Threads + Sync, R: Source, W: Sink, G: Gate + Sync>(
     )
 }
 
-/// Reads a container and checks it by 1 to 16 workers, in rounds of `window` chunks (1 to 256): while one is opened, the
-/// plaintext of the one before is taken and the one behind is read. Answers its plaintext, which has at most `max_bytes`
-/// bytes (2^40 at most), or the first fault of the container. Of an input that is too long one byte past the longest
-/// container is read. It takes the memory of the plaintext, whose room doubles as it grows, of two windows of sealed
-/// chunks, and of a window of plaintext and as much for each worker.
+/// Reads a container and checks it by 1 to 16 workers, in rounds of `window` chunks (1 to 256): while one is opened,
+/// the plaintext of the one before is taken and the one behind is read. Answers its plaintext, which has at most
+/// `max_bytes` bytes (2^40 at most), or the first fault of the container. A header's fault of version 2 is answered
+/// without reading on; of an input that is too long one byte past the longest container is read. It takes the memory of
+/// the plaintext, whose room doubles as it grows, of two windows of sealed chunks, and of a window of plaintext and as
+/// much for each worker.
 pub fn run_plain_by<T: Threads + Sync, R: Source, G: Gate + Sync>(
     rt: &T,
     alloc: Global,
@@ -161,9 +166,9 @@ pub fn run_plain<T: Threads + Sync, R: Source, G: Gate + Sync>(
     run_plain_by(rt, alloc, key, reader, max_bytes, workers, window, gate)
 }
 
-/// Reads a container and writes its plaintext, once every chunk was checked: `run_plain_by`, and the writing. Answers the
-/// plaintext's length, or the first fault of the container. At every fault but `Write` nothing was written; at `Write`
-/// the whole input was read, and a beginning of its plaintext was written, and not the whole.
+/// Reads a container and writes its plaintext, once every chunk was checked: `run_plain_by`, and the writing. Answers
+/// the plaintext's length, or the first fault of the container. At every fault but `Write` nothing was written; at
+/// `Write` the whole input was read, and a beginning of its plaintext was written, and not the whole.
 pub fn run_open_by<T: Threads + Sync, R: Source, W: Sink, G: Gate + Sync>(
     rt: &T,
     alloc: Global,
@@ -214,8 +219,8 @@ pub fn run_open<T: Threads + Sync, R: Source, W: Sink, G: Gate + Sync>(
     )
 }
 
-/// Reads a container and checks it, as `run_open_by` does, without writing anything. It takes the memory of two windows,
-/// whatever the container's length.
+/// Reads a container and checks it, as `run_open_by` does, without writing anything. It takes the memory of two
+/// windows, whatever the container's length.
 pub fn run_verify_by<T: Threads + Sync, R: Source, G: Gate + Sync>(
     rt: &T,
     alloc: Global,

@@ -3,9 +3,11 @@
 //!
 //! A full window is sealed once one more byte, or the end, was seen: so it is known whether its last chunk is the last
 //! of all. All room is made before the first chunk is sealed, but for the word from which a round's numbers are drawn.
-ghost use Rattle.std.specs.Prelude.{◌≡◌, ◌≢◌, ◌⊎◌, ℕ, ◌+◌, ◌-◌, ◌*◌, ◌^◌, ◌<◌, ◌≤◌, ◌++◌, List, [], ◌∷◌, length, take, min};
-ghost use Rattle.std.specs.Prelude.{false, true, slice_index, slice_index_or, None, Err, IfOk, IfErr, OnOk, OnErr, is_err};
+ghost use Rattle.std.specs.Prelude.{◌≡◌, ◌≢◌, ◌⊎◌, ℕ, ◌+◌, ◌-◌, ◌*◌, ◌^◌, ◌<◌, ◌≤◌, ◌++◌, List, [], ◌∷◌, length};
+ghost use Rattle.std.specs.Prelude.{take, min, false, true, slice_index, slice_index_or, None, Err};
+ghost use Rattle.std.specs.Prelude.{IfOk, IfErr, OnOk, OnErr, is_err};
 ghost use Rattle.container_core.specs.Chunks.{chunk_count, chunks};
+ghost use Rattle.container_core.specs.Container.{size_in};
 ghost use Rattle.container_core.specs.Stream.{stream_by};
 ghost use Rattle.io_core.specs.Reads.{ConsumesUpTo};
 ghost use Rattle.io_core.specs.Streams.{Appends, AppendsFront, Consumes, IsAtEnd, counted};
@@ -16,8 +18,10 @@ ghost use Rattle.engine_core.specs.Engine.{HasReadPlain, HasWrittenRounds, seal_
 ghost use Rattle.engine_core.specs.Rounds.{CanSeal, HasSealedOn, bytes_of};
 
 use crate::rooms::{Rooms, byte_behind};
-use container_core::laws::{chunks_by_number, rounds_of_a_stream};
-use container_core::{CHUNK, Cut, Header, Key, MAX_PLAIN, SealFault};
+use container_core::laws::{
+    chunks_by_number, chunks_counted, headers_name_their_shape, rounds_of_a_stream,
+};
+use container_core::{Cut, Header, Key, MAX_PLAIN, SealFault, Shape};
 use io_core::{Failed, Sink, Source, write_all};
 use round_core::laws::{pieces_by_number, rounds_are_sealed};
 use round_core::{Places, Round, Task};
@@ -88,6 +92,7 @@ fn turn<R: Source, W: Sink>(
 // rounds of `window` chunks: but for the first window no more than an input of one round needs.
 fn begin<R: Source>(
     alloc: Global,
+    header: &Header,
     reader: &mut R,
     most: usize,
     window: u32,
@@ -96,19 +101,22 @@ fn begin<R: Source>(
     requires workers { (0 < workers) × (workers ≤ MAX_WORKERS) }
     requires window { (0 < window) × (window ≤ MAX_WINDOW) }
     ensures held { IfOk result (λ rooms. Consumes (R.left reader.old) (R.left reader.new) rooms.current.held) }
-    ensures within { IfOk result (λ rooms. length rooms.current.held ≤ min most (window * CHUNK + 1)) }
-    ensures end { IfOk result (λ rooms. length rooms.current.held < min most (window * CHUNK + 1)
+    ensures within { IfOk result (λ rooms. length rooms.current.held
+        ≤ min most (window * size_in header.now + 1)) }
+    ensures end { IfOk result (λ rooms. length rooms.current.held
+        < min most (window * size_in header.now + 1)
         → IsAtEnd (R.left reader.new)) }
     ensures lost { OnErr result (ConsumesUpTo (R.left reader.old) (R.left reader.new) most) }
     ensures fault { IfErr result (λ fault. (fault ≡ SealFault.OutOfMemory) ⊎ (fault ≡ SealFault.Read)) }
     ensures count { R.failures reader.new ≡ counted (seal_read_failed result) (R.failures reader.old) }
-    ensures window { IfOk result (λ rooms. window * CHUNK + 1 ≤ rooms.current.room) }
+    ensures window { IfOk result (λ rooms. window * size_in header.now + 1 ≤ rooms.current.room) }
     ensures next { IfOk result (λ rooms. length rooms.current.held ≤ rooms.next.room) }
-    ensures ready { IfOk result (λ rooms. CanSeal (chunk_count (min (window * CHUNK) (length rooms.current.held)))
+    ensures ready { IfOk result (λ rooms. CanSeal (size_in header.now)
+        (chunk_count (size_in header.now) (min (window * size_in header.now) (length rooms.current.held)))
         rooms.crew rooms.places) }
     ensures places { IfOk result (λ rooms. rooms.places.values ≡ []) }
 {
-    let size = window as usize * CHUNK;
+    let size = window as usize * header.chunk();
     let Ok(mut current) = Window::new(alloc, size + 1) else {
         return Err(SealFault::OutOfMemory);
     };
@@ -116,8 +124,15 @@ fn begin<R: Source>(
         return Err(SealFault::Read);
     }
     let bytes = current.held().len();
-    let pieces = Cut::of(bytes.min(size) as u64).count();
-    match Rooms::new(alloc, Task::Sealing, current, pieces, workers) {
+    let pieces = Cut::of(header, bytes.min(size) as u64).count();
+    match Rooms::new(
+        alloc,
+        Task::Sealing,
+        header.chunk(),
+        current,
+        pieces,
+        workers,
+    ) {
         Ok(rooms) => Ok(rooms),
         Err(AllocError) => Err(SealFault::OutOfMemory),
     }
@@ -133,23 +148,18 @@ fn full_round<'a>(
 ) -> Round<'a>
     requires chunks { (0 < chunks) × (chunks ≤ MAX_WINDOW) }
     requires numbers { first + chunks ≤ 2 ^ 32 }
-    requires full { chunks * CHUNK < length window.now.held }
-    ensures round { result ≡ round_of Sealing key.now header.now first false (take (chunks * CHUNK) window.now.held) }
+    requires full { chunks * size_in header.now < length window.now.held }
+    ensures round { result ≡ round_of Sealing key.now header.now first false
+        (take (chunks * size_in header.now) window.now.held) }
     ensures count { length result.values ≡ chunks }
 {
     pieces_by_number();
     chunks_by_number();
-    let size = chunks as usize * CHUNK;
+    chunks_counted();
+    let size = chunks as usize * header.chunk();
     let (bytes, _) = window.held().split_at(size);
-    Round::new(
-        Task::Sealing,
-        key,
-        header,
-        first,
-        false,
-        Cut::of(size as u64),
-        bytes,
-    )
+    let cut = Cut::of(header, size as u64);
+    Round::new(Task::Sealing, key, header, first, false, cut, bytes)
 }
 
 // Seals a full round, while the one before is written and the next one is read, whose first byte was seen.
@@ -169,16 +179,16 @@ fn seal_full<T: Threads + Sync, R: Source, W: Sink, G: Gate + Sync>(
 ) -> Result<(), SealFault>
     requires chunks { (0 < chunks) × (chunks ≤ MAX_WINDOW) }
     requires numbers { first + chunks ≤ 2 ^ 32 }
-    requires full { chunks * CHUNK < length rooms.old.current.held }
+    requires full { chunks * size_in header.now < length rooms.old.current.held }
     requires upto { (0 < upto) × (upto ≤ rooms.old.next.room) }
-    requires ready { CanSeal chunks rooms.old.crew rooms.old.places }
-    ensures values { OnOk result (rooms.new.places.values
-        ≡ values_of Sealing key.now header.now first false (take (chunks * CHUNK) rooms.old.current.held)) }
+    requires ready { CanSeal (size_in header.now) chunks rooms.old.crew rooms.old.places }
+    ensures values { OnOk result (rooms.new.places.values ≡ values_of Sealing key.now header.now first false
+        (take (chunks * size_in header.now) rooms.old.current.held)) }
     ensures turned { HasSealedOn (R.left reader.old) (R.left reader.new) (R.failures reader.old) (R.failures reader.new)
         (W.taken writer.old) (W.taken writer.new) (W.failures writer.old) (W.failures writer.new)
         (front.now ++ joined rooms.old.places.values) rooms.old.next rooms.new.current
-        (slice_index rooms.old.current.held (chunks * CHUNK)) upto result }
-    ensures ready { CanSeal chunks rooms.new.crew rooms.new.places }
+        (slice_index rooms.old.current.held (chunks * size_in header.now)) upto result }
+    ensures ready { CanSeal (size_in header.now) chunks rooms.new.crew rooms.new.places }
     ensures room { rooms.new.next ≡ rooms.old.current }
 {
     let Rooms {
@@ -187,7 +197,7 @@ fn seal_full<T: Threads + Sync, R: Source, W: Sink, G: Gate + Sync>(
         crew,
         places,
     } = rooms;
-    let ahead = byte_behind(current, chunks as usize * CHUNK);
+    let ahead = byte_behind(current, chunks as usize * header.chunk());
     let round = full_round(key, header, first, chunks, current);
     let waiting = &*places;
     let behind = &mut *next;
@@ -218,14 +228,17 @@ fn seal_last<T: Threads + Sync, W: Sink, G: Gate + Sync>(
     gate: &G,
 ) -> Result<(), Failed>
     requires few { length rooms.old.current.held ≤ MAX_PLAIN }
-    requires numbers { first + chunk_count (length rooms.old.current.held) ≤ 2 ^ 32 }
-    requires ready { CanSeal (chunk_count (length rooms.old.current.held)) rooms.old.crew rooms.old.places }
+    requires numbers { first + chunk_count (size_in header.now) (length rooms.old.current.held) ≤ 2 ^ 32 }
+    requires ready { CanSeal (size_in header.now) (chunk_count (size_in header.now) (length rooms.old.current.held))
+        rooms.old.crew rooms.old.places }
     ensures ok { OnOk result (Appends (W.taken writer.old) (W.taken writer.new)
         ((front.now ++ joined rooms.old.places.values)
-        ++ (lead.now ++ stream_by key.now header.now first true (chunks rooms.old.current.held)))) }
+        ++ (lead.now ++ stream_by key.now header.now first true
+        (chunks (size_in header.now) rooms.old.current.held)))) }
     ensures err { OnErr result (AppendsFront (W.taken writer.old) (W.taken writer.new)
         ((front.now ++ joined rooms.old.places.values)
-        ++ (lead.now ++ stream_by key.now header.now first true (chunks rooms.old.current.held)))) }
+        ++ (lead.now ++ stream_by key.now header.now first true
+        (chunks (size_in header.now) rooms.old.current.held)))) }
     ensures count { W.failures writer.new ≡ counted (is_err result) (W.failures writer.old) }
 {
     pieces_by_number();
@@ -238,7 +251,7 @@ fn seal_last<T: Threads + Sync, W: Sink, G: Gate + Sync>(
         places,
     } = rooms;
     let bytes = current.held();
-    let cut = Cut::of(bytes.len() as u64);
+    let cut = Cut::of(header, bytes.len() as u64);
     let round = Round::new(Task::Sealing, key, header, first, true, cut, bytes);
     let waiting = &*places;
     let mut chore = || -> Result<(), Failed>
@@ -262,6 +275,7 @@ pub(crate) fn seal_rounds<T: Threads + Sync, R: Source, W: Sink, G: Gate + Sync>
     rt: &T,
     alloc: Global,
     key: &Key,
+    shape: &Shape,
     prefix: [u8; 7],
     reader: &mut R,
     writer: &mut W,
@@ -275,17 +289,20 @@ pub(crate) fn seal_rounds<T: Threads + Sync, R: Source, W: Sink, G: Gate + Sync>
     requires window { (0 < window) × (window ≤ MAX_WINDOW) }
     ensures reads { HasReadPlain max_bytes (R.left reader.old) (R.left reader.new)
         (R.failures reader.old) (R.failures reader.new) result }
-    ensures writes { HasWrittenRounds key.now prefix max_bytes window (R.left reader.old) (R.left reader.new)
+    ensures writes { HasWrittenRounds key.now shape.now prefix max_bytes window (R.left reader.old) (R.left reader.new)
         (W.taken writer.old) (W.taken writer.new) (W.failures writer.old) (W.failures writer.new) result }
 {
     // Rounds one behind the other are STREAM, and the pieces of a round its part of it.
     rounds_of_a_stream();
     rounds_are_sealed();
-    let header = Header::of(key, prefix);
-    let image = header.bytes();
-    let size = window as usize * CHUNK;
+    // The header names the shape's size of chunks.
+    headers_name_their_shape();
+    let header = Header::of(key, shape, prefix);
+    let written = header.copy();
+    let image = written.bytes();
+    let size = window as usize * header.chunk();
     let limit = max_bytes as usize + 1;
-    let mut rooms = match begin(alloc, reader, limit, window, workers) {
+    let mut rooms = match begin(alloc, &header, reader, limit, window, workers) {
         Ok(rooms) => rooms,
         Err(fault) => return Err(fault),
     };
@@ -293,7 +310,7 @@ pub(crate) fn seal_rounds<T: Threads + Sync, R: Source, W: Sink, G: Gate + Sync>
     let mut first = 0;
     // What stands before the pieces that wait to be written, and before those of the round in hand.
     let mut front: &[u8] = &[];
-    let mut lead: &[u8] = &image;
+    let mut lead: &[u8] = image;
     'rounds: while total < limit && rooms.current.held().len() > size {
         let upto = (limit - total).min(size) + 1;
         match seal_full(

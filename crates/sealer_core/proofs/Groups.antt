@@ -19,6 +19,7 @@ use Rattle.ledger_core.specs.declared.fault.IssueFault.TheVariants.{SeatClosed, 
 use Rattle.ledger_core.specs.Shared.{SeatView, SpentView, Extends}
 use Rattle.crew_core.specs.declared.outcome.Outcome.{Outcome}
 use Rattle.crew_core.specs.declared.outcome.Outcome.TheVariants as job
+use Rattle.container_core.specs.Shape.{ShapeView}
 use Rattle.crew_core.specs.Batch.{seat_of, of_seat, issues, AreOutcomes, AreAmong, AreIssued, IsOutcome}
 use Rattle.command_core.specs.declared.line.FileFault.{FileFault}
 use Rattle.command_core.specs.declared.line.FileOutcome.{FileOutcome}
@@ -257,19 +258,19 @@ nothing_held lines operations a = record { told = a.told; granted = λ n. let h 
 pub let_go : (lines : List FileLine) (os : List Outcome) (operations : List Entry) → AreHeld lines os operations → Accounts lines operations
 let_go lines os operations a = record { told = a.told; granted = λ n. let h = a.granted n in omega arith }
 
-has_ended : (key j : List ℕ) (o : Outcome) → IsOutcome key j o → HasEnded o
-has_ended key j (job.Sealed seat bytes spent) is = is.1
-has_ended key j (job.Spoiled seat spent) is = is
-has_ended key j (job.Unissued seat fault) is = tt
+has_ended : (key : List ℕ) (shape : ShapeView) (j : List ℕ) (o : Outcome) → IsOutcome key shape j o → HasEnded o
+has_ended key shape j (job.Sealed seat bytes spent) is = is.1
+has_ended key shape j (job.Spoiled seat spent) is = is
+has_ended key shape j (job.Unissued seat fault) is = tt
 
-pub outcomes_held : (key : List ℕ) (jobs : List (List ℕ)) (lanes seats : ℕ) (new : List SeatView) (os : List Outcome) → lanes ≤ seats → AreOutcomes key jobs os
+pub outcomes_held : (key : List ℕ) (shape : ShapeView) (jobs : List (List ℕ)) (lanes seats : ℕ) (new : List SeatView) (os : List Outcome) → lanes ≤ seats → AreOutcomes key shape jobs os
     → AreAmong lanes new os → All (IsHeld seats) os
-outcomes_held key jobs lanes seats new os few outcomes among = λ k d below.
+outcomes_held key shape jobs lanes seats new os few outcomes among = λ k d below.
     let at = slice_get-get_or os k d below in
     let less = (among k (get_or os k d) at).0 in
     let count = outcomes.count in
     let inside : k < length jobs = omega arith in
-    (omega arith, has_ended key (get_or jobs k []) (get_or os k d) (outcomes.each k (get_or jobs k []) (get_or os k d) (slice_get-get_or jobs k [] inside) at))
+    (omega arith, has_ended key shape (get_or jobs k []) (get_or os k d) (outcomes.each k (get_or jobs k []) (get_or os k d) (slice_get-get_or jobs k [] inside) at))
 
 -- ---- files of a group that have their lines
 

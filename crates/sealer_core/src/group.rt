@@ -19,7 +19,7 @@ use crate::lane::{fault_of, settle_of_file};
 use crate::prepare::{Prepared, prepare_group};
 use crate::sealing::SealOptions;
 use command_core::{FileFault, FileOutcome, Folder, MAX_BYTES, tell};
-use container_core::{Key, SealFault};
+use container_core::{Key, SealFault, Shape};
 use crew_core::{Free, MAX_LANES, Outcome, seal_batch};
 use ledger_core::{Failed, Ledger, Seat, Sink, Spent, write_all};
 use std::alloc::Global;
@@ -239,6 +239,7 @@ fn seal_jobs<T: Threads + Sync>(
     ledger: &Ledger,
     seats: &mut [Seat],
     jobs: &[Vec<u8>],
+    shape: &Shape,
 ) -> VecDeque<Outcome>
     requires all { AreAllSeats ledger.now seats.old }
     requires few { length jobs.now ≤ length seats.old }
@@ -247,7 +248,7 @@ fn seal_jobs<T: Threads + Sync>(
     ensures all { AreAllSeats ledger.now seats.new }
     ensures count { length seats.new ≡ length seats.old }
     ensures held { All (IsHeld (length seats.old)) result.items }
-    ensures outcomes { (result.items ≡ []) ⊎ AreOutcomes key.now (map (λ job. job.items) jobs.now) result.items }
+    ensures outcomes { (result.items ≡ []) ⊎ AreOutcomes key.now shape.now (map (λ job. job.items) jobs.now) result.items }
     ensures accounts { (lines : List FileLine) → Accounts lines (operations_of seats.old)
         → AreHeld lines result.items (operations_of seats.new) }
 {
@@ -255,7 +256,7 @@ fn seal_jobs<T: Threads + Sync>(
     if lanes == 0 {
         return VecDeque::new(alloc);
     }
-    match seal_batch(rt, alloc, key, ledger, seats, jobs, lanes, &Free) {
+    match seal_batch(rt, alloc, key, shape, ledger, seats, jobs, lanes, &Free) {
         Ok(outcomes) => VecDeque::from(outcomes),
         Err(_) => VecDeque::new(alloc),
     }
@@ -291,6 +292,7 @@ fn seal_group<T: Threads + Sync, F: Folder, L: Sink>(
     folder: &mut F,
     names: &[&str],
     max_bytes: u64,
+    shape: &Shape,
     lines: &mut L,
     status: u8,
 ) -> u8
@@ -308,7 +310,7 @@ fn seal_group<T: Threads + Sync, F: Folder, L: Sink>(
     let Ok((files, jobs)) = prepare_group(alloc, folder, names, max_bytes) else {
         return refuse_group(alloc, names, lines, status);
     };
-    let outcomes = seal_jobs(rt, alloc, key, ledger, seats, jobs.as_slice());
+    let outcomes = seal_jobs(rt, alloc, key, ledger, seats, jobs.as_slice(), shape);
     end_group(alloc, ledger, seats, folder, lines, status, files, outcomes)
 }
 
@@ -347,6 +349,7 @@ pub(crate) fn seal_groups<T: Threads + Sync, F: Folder, L: Sink>(
             folder,
             group,
             options.max_bytes,
+            options.shape,
             lines,
             status,
         );

@@ -14,7 +14,7 @@ ghost use Rattle.sealer_core.specs.Sealing.{line_of, creations_of, removals_of};
 
 use crate::sealing::SealOptions;
 use command_core::{FileFault, FileOutcome, Folder, FolderFault, MAX_BYTES, tell};
-use container_core::{Key, SealFault};
+use container_core::{Key, SealFault, Shape};
 use crew_core::{Free, MAX_WINDOW, MAX_WORKERS};
 use engine_core::run_seal_by;
 use ledger_core::{Grant, IssueFault, Ledger, Seat, Sink, Source, Spent};
@@ -68,6 +68,7 @@ fn seal_next<T: Threads + Sync, R: Source, W: Sink>(
     max_bytes: u64,
     workers: u32,
     window: u32,
+    shape: &Shape,
 ) -> FileOutcome
     requires ours { seat.old.ledger ≡ ledger.now.ledger }
     requires max_bytes { max_bytes ≤ MAX_BYTES }
@@ -76,7 +77,7 @@ fn seal_next<T: Threads + Sync, R: Source, W: Sink>(
     ensures outcome { IsOfNumber result }
     ensures sealed { IfSealed result (λ number bytes. IfSome (R.left reader.old) (λ input. (bytes ≡ length input)
         × Appends (W.taken writer.old) (W.taken writer.new)
-        (container key.now (prefix_of seat.old.terms.range.device number) input))) }
+        (container key.now shape.now (prefix_of seat.old.terms.range.device number) input))) }
     ensures same { IsSameSeat seat.old seat.new }
     ensures accounts { (name : List ℕ) (lines : List FileLine) → Accounts lines seat.old.mine
         → Accounts (lines ++ line_of name result ∷ []) seat.new.mine }
@@ -87,7 +88,7 @@ fn seal_next<T: Threads + Sync, R: Source, W: Sink>(
     };
     let number = grant.number();
     let (sealed, spent) = run_seal_by(
-        rt, alloc, key, grant, reader, writer, max_bytes, workers, window, &Free,
+        rt, alloc, key, shape, grant, reader, writer, max_bytes, workers, window, &Free,
     );
     settle_of_file(ledger, seat, spent);
     match sealed {
@@ -109,6 +110,7 @@ fn seal_file<T: Threads + Sync, F: Folder>(
     max_bytes: u64,
     workers: u32,
     window: u32,
+    shape: &Shape,
 ) -> FileOutcome
     requires ours { seat.old.ledger ≡ ledger.now.ledger }
     requires max_bytes { max_bytes ≤ MAX_BYTES }
@@ -143,6 +145,7 @@ fn seal_file<T: Threads + Sync, F: Folder>(
         max_bytes,
         workers,
         window,
+        shape,
     );
     if let FileOutcome::Failed(_) = outcome {
         let _ = folder.remove(output.as_str());
@@ -184,6 +187,7 @@ pub(crate) fn seal_one_lane<T: Threads + Sync, F: Folder, W: Sink>(
             options.max_bytes,
             options.workers,
             options.window,
+            options.shape,
         );
         status = tell(alloc, lines, status, name, outcome);
     }

@@ -21,7 +21,7 @@ use crate::group::seal_groups;
 use crate::lane::seal_one_lane;
 use crate::trouble::{RunFault, complain};
 use command_core::{Folder, MAX_BYTES, Outs};
-use container_core::Key;
+use container_core::{Key, Shape};
 use crew_core::{MAX_LANES, MAX_WINDOW, MAX_WORKERS};
 use ledger_core::{Device, Ledger, Range, Seat, Sink};
 use reserve_core::{Fold, Keeper, LedgerFile, ReserveFault};
@@ -33,7 +33,7 @@ use std::thread::Threads;
 const TROUBLE: u8 = 2;
 
 /// What `seal_all` works on.
-#[derive(Clone, Copy, Debug)]
+#[derive(Clone, Copy)]
 pub struct SealOptions<'a> {
     /// The device under whose numbers the files are sealed. No two machines that share a key share one.
     pub device: Device,
@@ -48,6 +48,8 @@ pub struct SealOptions<'a> {
     pub window: u32,
     /// The greatest number of plaintext bytes of a file: at most 2^40.
     pub max_bytes: u64,
+    /// The version of all containers, the size of their chunks, and their label.
+    pub shape: &'a Shape,
 }
 
 // Reserves as many numbers as there are files.

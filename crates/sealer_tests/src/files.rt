@@ -4,7 +4,7 @@ ghost use Rattle.std.specs.Prelude.{◌<◌};
 
 use crate::cases::{Case, Left, Trouble, Work, ends, ends_in};
 use crate::runs::{COUNTING, EMPTY, SECRET, folder_of};
-use container_core::{Key, seal};
+use container_core::{Key, Shape, seal};
 use folder_memory::{MemoryFolder, Pace};
 use io_memory::Schedule;
 use std::alloc::Global;
@@ -336,7 +336,14 @@ static TWICE_SEALED: Case = Case {
 
 // The folder of a container whose plaintext is a container.
 fn folder_of_two(alloc: Global) -> Option<MemoryFolder> {
-    let outer = seal(alloc, &Key::new(COUNTING), [0, 0, 1, 0, 0, 0, 1], &SECRET).ok()?;
+    let outer = seal(
+        alloc,
+        &Key::new(COUNTING),
+        &Shape::one(),
+        [0, 0, 1, 0, 0, 0, 1],
+        &SECRET,
+    )
+    .ok()?;
     folder_of(alloc, &[("a.stm.stm", outer.as_slice())])
 }
 

@@ -1,6 +1,6 @@
 //! What the tests of the commands share: containers that Python's `cryptography` made, folders, ledger files and outputs
 //! in memory, and a run of `seal_all` over them.
-use container_core::{Key, open};
+use container_core::{Key, Shape, open};
 use folder_memory::MemoryFolder;
 use io_memory::{FromMemory, Schedule, ToMemory};
 use ledger_core::Device;
@@ -123,6 +123,7 @@ fn opens_to(alloc: Global, sealed: &[u8], number: u8, plain: &[u8]) -> bool {
 }
 
 // The status of `seal_all` under the key of the constant above and device 1, where it may be asked for that.
+// `seal_in` in the shape of version 1.
 pub(crate) fn seal_over<R: AllocGlobal + Threads + Sync, S: Fold>(
     rt: &R,
     file: &mut LedgerFile<S>,
@@ -147,6 +148,7 @@ pub(crate) fn seal_over<R: AllocGlobal + Threads + Sync, S: Fold>(
         lanes,
         window: 16,
         max_bytes,
+        shape,
     };
     let key = Key::new(COUNTING);
     Some(seal_all(rt, rt.alloc(), &key, file, folder, &options, out))

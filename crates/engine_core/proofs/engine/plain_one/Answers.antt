@@ -1,24 +1,15 @@
-use Rattle.std.proofs.Common.{◌≤◌, length, arith}
-use Rattle.container_core.specs.Chunks.{container_length}
-use Rattle.engine_core.proofs.EngineLemmas.{is_no_write, plain_opened, plain_read}
+use Rattle.std.proofs.Common.{rules}
+use Rattle.std.proofs.lemmas.Result.{IfOk-weaker}
+use Rattle.engine_core.proofs.ReadingLemmas.{plain-opened, read-opened}
 use Rattle.engine_core.proofs.engine.plain_one.Goals as goal
 
-pub returns-clause-plaintext : goal.returns-clause-plaintext
-returns-clause-plaintext g c =
-    let short : length c.as_slice.result.now ≤ container_length c.args.max_bytes =
-    omega (arith, c.in-Ok.ensures.within) in
-    plain_opened (λ out. out.items) _ _ _ _ _ _ _ c.requires c.in-Ok.ensures.container c.as_slice.ensures.value
-    short (c.in-Ok.ensures.reads c.args.key.now).end c.open.ensures.plaintext
+pub returns-in-Ok-clause-plaintext : goal.returns-in-Ok-clause-plaintext
+returns-in-Ok-clause-plaintext g c =
+    plain-opened (λ out. out.items) _ c.in-Ok.header _ _ _ _ c.plain_body.result c.in-Ok.ensures.front c.in-Ok.ensures.header
+    c.plain_body.ensures.opened
 
-pub returns-clause-no_write : goal.returns-clause-no_write
-returns-clause-no_write g c = is_no_write _ _ _ c.open.ensures.fault
-
-pub returns-clause-reads : goal.returns-clause-reads
-returns-clause-reads g c =
-    let short : length c.as_slice.result.now ≤ container_length c.args.max_bytes =
-    omega (arith, c.in-Ok.ensures.within) in
-    plain_read _ _ _ _ _ _ _ _ _ _ c.requires c.in-Ok.ensures.container c.as_slice.ensures.value
-    short (c.in-Ok.ensures.reads c.args.key.now) c.open.ensures.fault
-
-pub returns-in-Err-clause-reads : goal.returns-in-Err-clause-reads
-returns-in-Err-clause-reads g c = c.in-Err.ensures.reads c.args.key.now
+pub returns-in-Ok-clause-reads : goal.returns-in-Ok-clause-reads
+returns-in-Ok-clause-reads g c =
+    read-opened _ c.in-Ok.header _ _ _ _ _ _ c.plain_body.result c.in-Ok.ensures.front c.in-Ok.ensures.header
+    (IfOk-weaker c.plain_body.result _ _ (λ out a. (out.items, a)) c.plain_body.ensures.opened) c.plain_body.ensures.refused
+    c.plain_body.ensures.bound c.plain_body.ensures.no_write (search rules)

@@ -1,5 +1,6 @@
 -- What was read, what of it opened, what of that waits to be taken, and what is in hand.
 use Rattle.std.proofs.Common.{◌≡◌, ℕ, ◌+◌, ◌-◌, ◌*◌, ◌<◌, ◌≤◌, ◌++◌, List, length, min}
+use Rattle.container_core.specs.Container.{size_in}
 use Rattle.io_core.specs.Streams.{Consumes, IsAtEnd}
 use Rattle.round_core.specs.Answer.{joined}
 use Rattle.round_core.specs.declared.round.Task.TheVariants.{Opening}
@@ -14,13 +15,13 @@ invariant-rounds g l = record {
   consumed : Consumes (g.R.Source.left l.fn.reader) (g.R.Source.left l.reader) (past ++ l.rooms.current.held);
   opens : OpensBehind l.key l.header l.first past plain;
   kept : l.task ≡ Opening → plain ≡ l.out.items ++ joined l.rooms.places.values;
-  long : length past ≡ l.first * 65552;
-  total : (l.total ≡ 24 + (l.first * 65552 + length l.rooms.current.held)) × (l.total ≤ l.limit);
-  held : length l.rooms.current.held ≤ l.fn.window * 65552 + 1;
-  end : l.total < l.limit → length l.rooms.current.held ≤ l.fn.window * 65552 → IsAtEnd (g.R.Source.left l.reader);
+  long : length past ≡ l.first * (size_in l.header + 16);
+  total : (l.total ≡ length l.header + (l.first * (size_in l.header + 16) + length l.rooms.current.held)) × (l.total ≤ l.limit);
+  held : length l.rooms.current.held ≤ l.fn.window * (size_in l.header + 16) + 1;
+  end : l.total < l.limit → length l.rooms.current.held ≤ l.fn.window * (size_in l.header + 16) → IsAtEnd (g.R.Source.left l.reader);
   some : 0 < l.first → 0 < length l.rooms.current.held;
-  room : (l.fn.window * 65552 + 1 ≤ l.rooms.current.room) × (l.fn.window * 65552 < length l.rooms.current.held → l.fn.window * 65552 + 1 ≤ l.rooms.next.room);
-  ready : IsReady l.task (min (l.fn.window * 65552) (length l.rooms.current.held)) l.rooms.crew l.rooms.places;
+  room : (l.fn.window * (size_in l.header + 16) + 1 ≤ l.rooms.current.room) × (l.fn.window * (size_in l.header + 16) < length l.rooms.current.held → l.fn.window * (size_in l.header + 16) + 1 ≤ l.rooms.next.room);
+  ready : IsReady l.task (size_in l.header) (min (l.fn.window * (size_in l.header + 16)) (length l.rooms.current.held)) l.rooms.crew l.rooms.places;
   count : g.R.Source.failures l.reader ≡ g.R.Source.failures l.fn.reader;
 }
 

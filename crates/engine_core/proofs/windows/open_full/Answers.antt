@@ -1,4 +1,5 @@
-use Rattle.std.proofs.Common.{rules, ◌≡◌}
+use Rattle.std.proofs.Common.{rules, ◌≡◌, ◌+◌, ◌*◌, get_or, ap, ◌∙◌}
+use Rattle.container_core.specs.Container.{size_in}
 use Rattle.engine_core.proofs.windows.open_full.Goals as goal
 
 pub returns-clause-turned : goal.returns-clause-turned
@@ -7,5 +8,7 @@ returns-clause-turned g c =
     let reader : c.make-turned.new.chore.0.now ≡ c.reader-1.given.0 = search rules in
     let out : c.make-turned.new.chore.1.now ≡ c.out-1.given.0 = search rules in
     let next : c.make-turned.new.chore.3.now ≡ c.swap.new.x = search rules in
-    let ahead = c.byte_behind-ahead.ensures in
+    let held = c.args.rooms.now.current.held in
+    let ahead : c.byte_behind-ahead.result ≡ get_or held (c.args.chunks * (size_in c.args.header.now + 16)) 0 =
+    c.byte_behind-ahead.ensures ∙ ap (λ n. get_or held n 0) c.sealed_bytes.ensures.value in
     rw (← reader, ← out, ← next, ← ahead) turned

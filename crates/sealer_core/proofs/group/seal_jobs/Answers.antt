@@ -15,7 +15,7 @@ returns-in-Ok-clause-all g c = all_after_batch c.args.ledger.now c.args.seats.no
 
 pub returns-in-Ok-clause-held : goal.returns-in-Ok-clause-held
 returns-in-Ok-clause-held g c = subst (λ (l : List Outcome). All (IsHeld (length c.args.seats.now)) l) (sym c.from.ensures.0)
-    (outcomes_held _ _ _ (length c.args.seats.now) _ c.in-Ok.outcomes.items (omega (arith, c.lanes_for-lanes.ensures.within, c.requires.few)) c.in-Ok.ensures.outcomes c.in-Ok.ensures.at_seats)
+    (outcomes_held _ _ _ _ (length c.args.seats.now) _ c.in-Ok.outcomes.items (omega (arith, c.lanes_for-lanes.ensures.within, c.requires.few)) c.in-Ok.ensures.outcomes c.in-Ok.ensures.at_seats)
 
 pub returns-in-Ok-clause-accounts : goal.returns-in-Ok-clause-accounts
 returns-in-Ok-clause-accounts g c = λ lines a. held_as lines c.in-Ok.outcomes.items c.from.result.items _ (sym c.from.ensures.0)

@@ -1,6 +1,6 @@
 use Rattle.std.proofs.Common.{rules, ◌++◌, take, length-append, length-take-le, arith}
 use Rattle.std.proofs.KnownBytes.{Consumes-trans}
-use Rattle.engine_core.proofs.windows.skip_rest.Goals as goal
+use Rattle.engine_core.proofs.front.skip_rest.Goals as goal
 
 pub skipping-preserved : goal.skipping-preserved
 skipping-preserved g c =

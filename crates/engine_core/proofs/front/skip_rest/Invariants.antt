@@ -1,7 +1,7 @@
 -- What was read since the call, and was dropped.
 use Rattle.std.proofs.Common.{◌-◌, ◌≡◌, ℕ, ◌+◌, ◌≤◌, List, length}
 use Rattle.io_core.specs.Streams.{Consumes}
-use Rattle.engine_core.proofs.windows.skip_rest.Given as goal
+use Rattle.engine_core.proofs.front.skip_rest.Given as goal
 
 abbrev pub invariant-skipping : goal.invariant-skipping
 invariant-skipping g l = record {
