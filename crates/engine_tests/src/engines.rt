@@ -2,7 +2,7 @@
 ghost use Rattle.std.specs.Prelude.{◌<◌, ◌≤◌};
 
 use crate::containers::{EMPTY, FOUR, PLAIN};
-use container_core::{CHUNK, HEADER, Key, OpenFault, SEALED, SealFault, seal};
+use container_core::{CHUNK, HEADER, Key, OpenFault, SEALED, SealFault, Shape, seal};
 use crew_core::{Free, MAX_WORKERS};
 use crew_tests::{COUNTING, flip, grant_of, pattern};
 use engine_core::{run_open, run_plain, run_seal, run_verify};
@@ -37,6 +37,7 @@ fn seal_from<R: Threads + Sync>(
         rt,
         alloc,
         &key,
+        &Shape::one(),
         grant,
         &mut reader,
         writer,
@@ -154,8 +155,8 @@ fn have_answer<R: Threads + Sync>(
 
 #[test]
 fn no_plaintext_byte_allowed(rt: HostRuntime) -> Result<(), Fail> {
-    let empty = seal(rt.alloc(), &Key::new(COUNTING), PREFIX, b"")?;
-    let one = seal(rt.alloc(), &Key::new(COUNTING), PREFIX, b"1")?;
+    let empty = seal(rt.alloc(), &Key::new(COUNTING), &Shape::one(), PREFIX, b"")?;
+    let one = seal(rt.alloc(), &Key::new(COUNTING), &Shape::one(), PREFIX, b"1")?;
     let too_long = Err(OpenFault::TooLong);
     assert!(rt; empty.len() == 40 && one.len() == 41);
     assert!(rt; have_answer(&rt, rt.alloc(), one.as_slice(), 1, too_long) == Some(true));
@@ -220,7 +221,13 @@ fn are_failed_calls_seen<R: Threads + Sync>(rt: &R, alloc: Global, bytes: &[u8])
 
 #[test]
 fn a_failed_read_is_no_end(rt: HostRuntime) -> Result<(), Fail> {
-    let bytes = seal(rt.alloc(), &Key::new(COUNTING), PREFIX, b"plain")?;
+    let bytes = seal(
+        rt.alloc(),
+        &Key::new(COUNTING),
+        &Shape::one(),
+        PREFIX,
+        b"plain",
+    )?;
     assert!(rt; are_failed_calls_seen(&rt, rt.alloc(), bytes.as_slice()) == Some(true));
     Ok(())
 }
@@ -235,7 +242,13 @@ fn leaves_three<R: Threads + Sync>(rt: &R, alloc: Global, bytes: &[u8]) -> Optio
 
 #[test]
 fn a_failed_write_leaves_a_beginning(rt: HostRuntime) -> Result<(), Fail> {
-    let bytes = seal(rt.alloc(), &Key::new(COUNTING), PREFIX, b"plain")?;
+    let bytes = seal(
+        rt.alloc(),
+        &Key::new(COUNTING),
+        &Shape::one(),
+        PREFIX,
+        b"plain",
+    )?;
     assert!(rt; leaves_three(&rt, rt.alloc(), bytes.as_slice()) == Some(true));
     Ok(())
 }
@@ -264,7 +277,14 @@ fn room_for_all_and_no_more(rt: HostRuntime) {
 // A container of eight chunks with one bit changed in the ciphertext of chunk 5, and one in that of chunk 2.
 fn damaged(alloc: Global) -> Option<Vec<u8>> {
     let plain = pattern(alloc, 524_288).ok()?;
-    let mut bytes = seal(alloc, &Key::new(COUNTING), PREFIX, plain.as_slice()).ok()?;
+    let mut bytes = seal(
+        alloc,
+        &Key::new(COUNTING),
+        &Shape::one(),
+        PREFIX,
+        plain.as_slice(),
+    )
+    .ok()?;
     if bytes.len() != 524_440 {
         return None;
     }
@@ -333,7 +353,14 @@ fn is_97_named<R: Threads + Sync>(rt: &R, alloc: Global, bytes: &[u8], workers: 
 
 fn late_damage(alloc: Global) -> Option<Vec<u8>> {
     let plain = pattern(alloc, 100 * CHUNK).ok()?;
-    let mut bytes = seal(alloc, &Key::new(COUNTING), PREFIX, plain.as_slice()).ok()?;
+    let mut bytes = seal(
+        alloc,
+        &Key::new(COUNTING),
+        &Shape::one(),
+        PREFIX,
+        plain.as_slice(),
+    )
+    .ok()?;
     if bytes.len() != HEADER + 100 * SEALED {
         return None;
     }

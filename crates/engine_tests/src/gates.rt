@@ -2,7 +2,7 @@
 //! given.
 ghost use Rattle.std.specs.Prelude.{◌<◌, ◌≤◌};
 
-use container_core::{Key, seal};
+use container_core::{Key, Shape, seal};
 use crew_core::{Gate, MAX_WORKERS};
 use crew_tests::{COUNTING, Late, Meeting, Recorder, grant_of, pattern, zeros};
 use engine_core::{run_open, run_plain, run_seal, run_verify};
@@ -45,7 +45,7 @@ fn runs<R: Threads + Sync, G: Gate + Sync>(
 {
     match engine {
         Engine::Seal => seals(rt, alloc, plain, workers, gate) == Some(true),
-        _ => match seal(alloc, &Key::new(COUNTING), PREFIX, plain) {
+        _ => match seal(alloc, &Key::new(COUNTING), &Shape::one(), PREFIX, plain) {
             Ok(container) => reads(rt, alloc, engine, container.as_slice(), workers, gate),
             Err(_) => false,
         },
@@ -69,6 +69,7 @@ fn seals<R: Threads + Sync, G: Gate + Sync>(
         rt,
         alloc,
         &key,
+        &Shape::one(),
         grant,
         &mut reader,
         &mut writer,

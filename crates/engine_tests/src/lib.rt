@@ -18,4 +18,6 @@ mod rounds;
 #[cfg(test)]
 mod tables;
 #[cfg(test)]
+mod version_two;
+#[cfg(test)]
 mod windows;

@@ -3,7 +3,7 @@
 ghost use Rattle.std.specs.Prelude.{◌≤◌};
 
 use crate::containers::{EMPTY, FIVES, FOUR, FRONTS, ONE, OVER_STD, PLAIN, THREE_CHUNKS};
-use container_core::{Key, OpenFault, SealFault, seal};
+use container_core::{Key, OpenFault, SealFault, Shape, seal};
 use engine_core::{open_one, seal_one, verify_one};
 use io_memory::{FromMemory, Schedule, ToMemory};
 use ledger_core::{Failed, FromRead, Source, ToWrite};
@@ -25,7 +25,14 @@ const MOST: usize = usize::MAX;
 // The container of so many bytes of one value, where its SHA-256 is this one.
 fn known_container(alloc: Global, value: u8, count: usize, digest: &[u8; 32]) -> Option<Vec<u8>> {
     let plain = vec![in alloc; value; count].ok()?;
-    let bytes = seal(alloc, &Key::new(COUNTING), PREFIX, plain.as_slice()).ok()?;
+    let bytes = seal(
+        alloc,
+        &Key::new(COUNTING),
+        &Shape::one(),
+        PREFIX,
+        plain.as_slice(),
+    )
+    .ok()?;
     if Sha256::digest(bytes.as_slice()) == *digest {
         Some(bytes)
     } else {

@@ -1,7 +1,7 @@
 //! A file is read while it is worked: a reader that goes on only once a second worker has begun isn't kept waiting.
 ghost use Rattle.std.specs.Prelude.{◌<◌, ◌≤◌};
 
-use container_core::{CHUNK, HEADER, Key, OpenFault, SEALED, SealFault, seal};
+use container_core::{CHUNK, HEADER, Key, OpenFault, SEALED, SealFault, Shape, seal};
 use crew_core::{Gate, MAX_WORKERS};
 use crew_tests::{COUNTING, grant_of, pattern};
 use engine_core::{run_plain_by, run_seal_by, run_verify_by};
@@ -104,6 +104,7 @@ fn seal_held<T: Threads + Sync>(
         rt,
         alloc,
         &key,
+        &Shape::one(),
         grant,
         &mut reader,
         &mut writer,
@@ -127,7 +128,7 @@ fn verify_held<T: Threads + Sync>(
 {
     let key = Key::new(COUNTING);
     let plain = pattern(alloc, 5 * CHUNK)?;
-    let bytes = seal(alloc, &key, PREFIX, plain.as_slice())?;
+    let bytes = seal(alloc, &key, &Shape::one(), PREFIX, plain.as_slice())?;
     let others = Others {
         passes: AtomicU64::new(0),
     };

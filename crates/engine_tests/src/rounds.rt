@@ -2,7 +2,7 @@
 //! before what is read.
 ghost use Rattle.std.specs.Prelude.{◌≡◌, ◌<◌, ◌≤◌, length};
 
-use container_core::{CHUNK, HEADER, Key, SEALED, SealFault, seal};
+use container_core::{CHUNK, HEADER, Key, SEALED, SealFault, Shape, seal};
 use crew_core::{Free, MAX_WINDOW, MAX_WORKERS};
 use crew_tests::{COUNTING, grant_of, pattern, zeros};
 use engine_core::run_seal_by;
@@ -38,7 +38,17 @@ fn seal_by<T: Threads + Sync, R: Source, W: Sink>(
     let key = Key::new(COUNTING);
     let grant = grant_of(alloc, 0).ok_or("no grant")?;
     let (result, spent) = run_seal_by(
-        rt, alloc, &key, grant, reader, writer, max_bytes, workers, window, &Free,
+        rt,
+        alloc,
+        &key,
+        &Shape::one(),
+        grant,
+        reader,
+        writer,
+        max_bytes,
+        workers,
+        window,
+        &Free,
     );
     Ok((result, spent.way()))
 }
@@ -102,7 +112,7 @@ fn ends_as<T: Threads + Sync>(
 
 // The container of these bytes under device 1 and file 0.
 fn container_of(alloc: Global, plain: &[u8]) -> Result<Vec<u8>, Fail> {
-    Ok(seal(alloc, &Key::new(COUNTING), PREFIX, plain)?)
+    Ok(seal(alloc, &Key::new(COUNTING), &Shape::one(), PREFIX, plain)?)
 }
 
 // Whether all windows give the container of so many bytes.

@@ -1,7 +1,7 @@
 //! The container of 131,073 zero bytes, cut to lengths, with a byte of its header changed, and with chunks moved, in
 //! windows of 1 and of 16 chunks. Which fault each has follows from the format.
 use crate::windows::fault_of;
-use container_core::{HEADER, Key, OpenFault, SEALED, seal};
+use container_core::{HEADER, Key, OpenFault, SEALED, Shape, seal};
 use crew_tests::{COUNTING, flip, zeros};
 use std::alloc::Global;
 use std::test::Fail;
@@ -14,7 +14,13 @@ const LIMIT: u64 = 1 << 24;
 fn three_chunks(alloc: Global, file: u8) -> Result<Vec<u8>, Fail> {
     let plain = zeros(alloc, 131_073)?;
     let key = Key::new(COUNTING);
-    let bytes = seal(alloc, &key, [0, 0, 1, 0, 0, 0, file], plain.as_slice())?;
+    let bytes = seal(
+        alloc,
+        &key,
+        &Shape::one(),
+        [0, 0, 1, 0, 0, 0, file],
+        plain.as_slice(),
+    )?;
     if bytes.len() != 131_145 {
         return Err("another length".into());
     }

@@ -1,7 +1,7 @@
 //! Containers of several windows, which are read one at a time: damaged, cut, and longer than allowed.
 ghost use Rattle.std.specs.Prelude.{◌<◌, ◌≤◌};
 
-use container_core::{CHUNK, HEADER, Key, OpenFault, SEALED, seal};
+use container_core::{CHUNK, HEADER, Key, OpenFault, SEALED, Shape, seal};
 use crew_core::{Free, MAX_WINDOW, MAX_WORKERS};
 use crew_tests::{COUNTING, flip, pattern};
 use engine_core::{run_open_by, run_plain, run_plain_by, run_verify, run_verify_by};
@@ -16,12 +16,18 @@ const PREFIX: [u8; 7] = [0, 0, 1, 0, 0, 0, 0];
 const MOST: usize = usize::MAX;
 
 // The greatest number of plaintext bytes that the engines are asked for.
-const LIMIT: u64 = 1 << 24;
+pub(crate) const LIMIT: u64 = 1 << 24;
 
 // The container of 39 full chunks and one of a byte: of two full windows and eight chunks.
 fn forty_chunks(alloc: Global) -> Result<Vec<u8>, Fail> {
     let plain = pattern(alloc, 39 * CHUNK + 1)?;
-    let bytes = seal(alloc, &Key::new(COUNTING), PREFIX, plain.as_slice())?;
+    let bytes = seal(
+        alloc,
+        &Key::new(COUNTING),
+        &Shape::one(),
+        PREFIX,
+        plain.as_slice(),
+    )?;
     if bytes.len() != HEADER + 39 * SEALED + 17 {
         return Err("another length".into());
     }
@@ -181,7 +187,7 @@ fn a_container_that_is_too_long_comes_before_its_header(rt: HostRuntime) -> Resu
 }
 
 // Whether a container opens to this plaintext and verifies, by so many workers in windows of so many chunks.
-fn opens_in<R: Threads + Sync>(
+pub(crate) fn opens_in<R: Threads + Sync>(
     rt: &R,
     alloc: Global,
     bytes: &[u8],
@@ -205,7 +211,7 @@ fn whole_windows_open(rt: HostRuntime) -> Result<(), Fail> {
     let key = Key::new(COUNTING);
     for length in [16 * CHUNK - 1, 16 * CHUNK, 16 * CHUNK + 1, 32 * CHUNK] {
         let plain = pattern(rt.alloc(), length)?;
-        let bytes = seal(rt.alloc(), &key, PREFIX, plain.as_slice())?;
+        let bytes = seal(rt.alloc(), &key, &Shape::one(), PREFIX, plain.as_slice())?;
         for (workers, window) in [(1, 16), (3, 16), (2, 1), (4, 5), (3, 256)] {
             let opens = opens_in(
                 &rt,
