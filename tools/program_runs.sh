@@ -121,7 +121,7 @@ failed /proc/self/mem: read failed' ''
 changed() { cp files/numbers.stm "files/$1.stm"; printf "$3" | dd of="files/$1.stm" bs=1 seek="$2" conv=notrunc 2>/dev/null; }
 fresh
 changed magic 0 T
-changed version 8 '\002'
+changed version 8 '\003'
 changed size 9 '\017'
 changed key 17 '\000'
 changed tag 1531 '\000'
@@ -570,6 +570,17 @@ wants seal-key-bad 2 '' 'key: not a key file'
 is the-key-comes-first no test -e life/new
 seals --workers 2 --lanes 2 life/waits
 wants lanes-and-workers 2 '' 'usage: lanes and workers cannot both be above 1'
+seals --workers 2 --lanes 2 --label "$(printf 'x%.0s' $(seq 256))" life/waits
+wants lanes-and-workers-come-before-the-label 2 '' 'usage: lanes and workers cannot both be above 1'
+run seal --key none --ledger life/new --device 1 --label "$(printf 'x%.0s' $(seq 256))" life/waits
+wants label-of-256-bytes 2 '' 'usage: label too long'
+seals --exponent 12 --label "$(printf '\303\244%.0s' $(seq 128))" life/waits
+wants label-of-256-bytes-in-128-letters 2 '' 'usage: label too long'
+for value in 11 21 -1 x ''; do
+    seals "--exponent=$value" life/waits
+    wants "exponent $value" 2 '' "begins error: invalid value '$value' for '--exponent <N>'"
+done
+is no-ledger-of-a-fault-of-usage no test -e life/new
 seals --workers 1 --lanes 17 life/waits
 wants more-lanes-than-16 2 '' "begins error: invalid value '17' for '--lanes <N>'"
 run seal --help
@@ -599,6 +610,74 @@ wants seal-no-file 2 '' 'begins error: the following required arguments were not
   <FILE>...'
 run seal --key "$key" --ledger life/ledger --device 16777215 -- life/waits
 wants greatest-device 0 'sealed life/waits file 0 bytes 1492' ''
+
+# Version 2: chunk sizes and labels. The bytes are those of tools/seal_container.py, which knows docs/FORMATS.md alone.
+mkdir life/shapes
+: > life/shapes/empty
+head -c 8193 life/more > life/shapes/chunks
+cp life/more life/shapes/more
+shapes=0
+shaped() { # LENGTH FILE OPTIONS.. [-- OPTIONS..]: seals it, opens it again; the options before -- say the shape
+    local length=$1 name=life/shapes/$2 size shape=()
+    shift 2
+    while [ $# -gt 0 ] && [ "$1" != -- ]; do shape+=("$1"); shift; done
+    [ $# = 0 ] || shift
+    size=$(wc -c < "$name")
+    run seal --key "$key" --ledger life/shapes/ledger --device 1 "${shape[@]}" "$@" "$name"
+    wants "${shape[*]} $*" 0 "sealed $name file $shapes bytes $size" ''
+    is "length-of ${shape[*]}" test "$(wc -c < "$name.stm")" = "$length"
+    if has cryptography; then
+        python3 "$here/tools/seal_container.py" "${shape[@]}" "$key" 1 "$shapes" "$name" theirs.stm
+        is "bytes-of ${shape[*]} $*" cmp -s "$name.stm" theirs.stm
+    fi
+    mv "$name" life/shapes/kept
+    for workers in 1 3; do
+        run verify --key "$key" --workers $workers "$name.stm"
+        wants "verify ${shape[*]}" 0 "good $name.stm bytes $size" ''
+        run open --key "$key" --workers $workers "$name.stm"
+        wants "open ${shape[*]}" 0 "opened $name.stm bytes $size" ''
+        is "plaintext-of ${shape[*]}" cmp -s "$name" life/shapes/kept
+        rm -f "$name"
+    done
+    mv life/shapes/kept "$name"
+    rm -f "$name.stm"
+    shapes=$((shapes + 1))
+}
+# Lengths by hand: 24 or 25 and the label, the plaintext, and 16 for each chunk.
+shaped 43 empty --exponent 12 --label ab
+shaped 41 empty --label ''
+shaped 296 empty --exponent 20 --label "$(printf 'x%.0s' $(seq 255))"
+shaped 295 empty --label "$(printf '\303\244%.0s' $(seq 127))"
+shaped 40 empty
+shaped 8266 chunks --exponent 12
+shaped 350304 more --exponent 12 --label 'two words' -- --workers 4
+shaped 349030 more --label 'db-dump 2026-11' -- --window 2
+shaped 349030 more --exponent 16 --label 'db-dump 2026-11' -- --lanes 2
+shaped 348935 more --exponent 20 -- --workers 2 --window 256
+shaped 350330 more --exponent 12 --label 'of one group, sealed by 2 lanes, ..' -- --lanes 2
+# A label that was changed, its length, and another chunk size: see docs/FORMATS.md.
+run seal --key "$key" --ledger life/shapes/ledger --device 2 --exponent 12 --label ab life/shapes/empty
+wants shape-to-change 0 'sealed life/shapes/empty file 0 bytes 0' ''
+reshaped() { cp life/shapes/empty.stm "life/shapes/$1"; printf "$3" | dd of="life/shapes/$1" bs=1 seek="$2" conv=notrunc 2>/dev/null; }
+reshaped label 25 b
+reshaped shorter 24 '\001'
+reshaped longer 24 '\003'
+reshaped longest 24 '\377'
+reshaped exponent 9 '\013'
+reshaped first 8 '\001'
+reshaped third 8 '\003'
+(cd life/shapes && exec "$sealer" verify --key "$key" empty.stm label shorter longer longest exponent first third) > out 2> err
+status=$?
+wants reshaped 1 'good empty.stm bytes 0
+failed label: chunk 0 does not check
+failed shorter: chunk 0 does not check
+failed longer: wrong length
+failed longest: header cut short
+failed exponent: unknown chunk size
+failed first: unknown chunk size
+failed third: unknown version' ''
+run verify --key "$key" --max-bytes 0 life/shapes/empty.stm
+wants the-limit-of-version-2 0 'good life/shapes/empty.stm bytes 0' ''
 
 # Several lanes: a line for each file in order, whichever lane gets which number; a file that fails spends none.
 mkdir life/lanes

@@ -5,19 +5,20 @@ ghost use Rattle.container_core.specs.Faults.{open_text, seal_text};
 use std::error::Error;
 use std::fmt;
 
-/// Why a container wasn't opened. The first eight are tested in this order; no function of this crate answers `Read` or
-/// `Write`.
+/// Why a container wasn't opened. The first eight are tested in this order, but of what begins as version 2: there
+/// `ShortHeader` of fewer than 24 bytes comes first, then `BadExponent`, `KeyMismatch`, `ShortHeader` of a header that ends
+/// too early, `TooLong`, `BadLength` and `Forged`. No function of this crate answers `Read` or `Write`.
 #[derive(Clone, Copy, PartialEq, Eq, Debug)]
 pub enum OpenFault {
     /// More bytes than the container of the greatest plaintext allowed.
     TooLong,
-    /// Fewer bytes than a header has.
+    /// Fewer bytes than a header has: than 24, or in version 2 than 25 and those of the label.
     ShortHeader,
     /// Bytes 0 to 7 aren't `STRMSEAL`.
     BadMagic,
-    /// Byte 8 isn't 1.
+    /// Byte 8 is neither 1 nor 2.
     BadVersion,
-    /// Byte 9 isn't 16.
+    /// Byte 9 isn't 16, or in version 2 not 12 to 20.
     BadExponent,
     /// Bytes 17 to 23 aren't the key's hint.
     KeyMismatch,

@@ -36,9 +36,9 @@ pub const HEADER: usize = 24;
 pub const MAX_HEADER: usize = 280;
 /// Bytes of the longest label.
 pub const MAX_LABEL: usize = 255;
-/// The least and the greatest exponent of version 2.
+/// The least exponent of version 2: chunks of 4 KiB.
 pub const MIN_EXPONENT: u32 = 12;
-
+/// The greatest exponent of version 2: chunks of 1 MiB.
 pub const MAX_EXPONENT: u32 = 20;
 /// Bytes of the greatest plaintext: 2^40.
 pub const MAX_PLAIN: u64 = 1 << 40;

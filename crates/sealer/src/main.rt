@@ -138,7 +138,7 @@ fn seal<R: Files + AllocGlobal + Eprint + Threads + Sync, O: Write + Drop, E: Wr
         lanes: request.lanes,
         window: request.window,
         max_bytes: request.max_bytes,
-        shape: request.shape,
+        shape: &request.shape,
     };
     let mut out = Outs {
         lines: ToWrite(output),
@@ -235,8 +235,6 @@ fn over_files<R: Files + AllocGlobal + Eprint + Threads + Sync, O: Write + Drop,
         files: request.files,
         workers: request.workers,
         max_bytes: request.max_bytes,
-        label: request.label,
-        show: request.show,
     };
     let mut folder = SystemFiles(rt);
     let mut out = Outs {
