@@ -1,2 +1,3 @@
 pub mod KeyFiles
+pub mod Labels
 pub mod Telling

@@ -1,4 +1,6 @@
+pub mod Facts
 pub mod Folder
 pub mod KeyFile
+pub mod Labels
 pub mod Lines
 pub mod Work

@@ -1,14 +1,15 @@
 -- The lines of a command: what it says of each file, and its exit status.
-use Rattle.std.specs.Prelude.{ℕ, Bool, true, false, if◌then◌else◌, List, ◌++◌, map, codes}
+use Rattle.std.specs.Prelude.{ℕ, Bool, true, false, if◌then◌else◌, List, ◌∷◌, ◌++◌, map, codes}
 use Rattle.std.specs.Fmt.{decimal}
 use Rattle.std.specs.List.{list_any}
 use Rattle.container_core.specs.Faults.{open_text, seal_text}
 use Rattle.journal_core.specs.Text.{ended_lines}
 use Rattle.command_core.specs.declared.line.FileFault.{FileFault}
 use Rattle.command_core.specs.declared.line.FileFault.TheVariants.{CannotOpen, NoSuffix, OutputExists, CannotCreate}
-use Rattle.command_core.specs.declared.line.FileFault.TheVariants.{OutOfMemory, NoNumber, Unopened, Unsealed}
+use Rattle.command_core.specs.declared.line.FileFault.TheVariants.{OutOfMemory, NoNumber, AnotherLabel, Unopened, Unsealed}
 use Rattle.command_core.specs.declared.line.FileOutcome.{FileOutcome}
-use Rattle.command_core.specs.declared.line.FileOutcome.TheVariants.{Sealed, Opened, Good, Failed}
+use Rattle.command_core.specs.declared.line.FileOutcome.TheVariants.{Sealed, Opened, Good, Shown, Failed}
+use Rattle.command_core.specs.Facts.{facts_text}
 
 -- a file's name, and what became of the file
 pub record FileLine : Type 0 where
@@ -22,6 +23,7 @@ fault_text OutputExists = codes "output exists"
 fault_text CannotCreate = codes "cannot create"
 fault_text OutOfMemory = codes "out of memory"
 fault_text NoNumber = codes "no file number"
+fault_text AnotherLabel = codes "another label"
 fault_text (Unopened fault) = open_text fault
 fault_text (Unsealed fault) = seal_text fault
 
@@ -32,6 +34,8 @@ line_text name (Sealed number bytes) =
     codes "sealed " ++ name ++ codes " file " ++ decimal number ++ codes " bytes " ++ decimal bytes
 line_text name (Opened bytes) = codes "opened " ++ name ++ codes " bytes " ++ decimal bytes
 line_text name (Good bytes) = codes "good " ++ name ++ codes " bytes " ++ decimal bytes
+line_text name (Shown bytes facts) =
+    codes "good " ++ name ++ codes " bytes " ++ decimal bytes ++ 10 ∷ facts_text facts
 line_text name (Failed fault) = codes "failed " ++ name ++ codes ": " ++ fault_text fault
 
 -- the lines, each ended by a line feed
@@ -42,6 +46,7 @@ abbrev pub is_failed : FileOutcome → Bool
 is_failed (Sealed number bytes) = false
 is_failed (Opened bytes) = false
 is_failed (Good bytes) = false
+is_failed (Shown bytes facts) = false
 is_failed (Failed fault) = true
 
 -- the exit status where every line was written: 1 where some file failed, else 0

@@ -1,14 +1,14 @@
 -- What `open_all` and `verify_all` do with a list of files.
-use Rattle.std.specs.Prelude.{◌≡◌, ◌≢◌, ◌⊎◌, ℕ, ◌-◌, ◌≤◌, true, List, [], ◌∷◌, length, take, map, All, ⊤, Option}
+use Rattle.std.specs.Prelude.{◌≡◌, ◌≢◌, ◌⊎◌, ℕ, ◌-◌, ◌≤◌, Bool, true, false, List, [], ◌∷◌, length, take, map, All, ⊤, Option}
 use Rattle.std.specs.Prelude.{flat_map}
 use Rattle.container_core.specs.declared.fault.OpenFault.TheVariants.{Write}
 use Rattle.io_core.specs.Streams.{Appends, AppendsFront, counted}
 use Rattle.command_core.specs.declared.commands.Task.{Task}
 use Rattle.command_core.specs.declared.commands.Task.TheVariants.{Open, Verify}
 use Rattle.command_core.specs.declared.line.FileFault.TheVariants.{CannotOpen, OutOfMemory, NoNumber, Unopened}
-use Rattle.command_core.specs.declared.line.FileFault.TheVariants.{Unsealed}
+use Rattle.command_core.specs.declared.line.FileFault.TheVariants.{AnotherLabel, Unsealed}
 use Rattle.command_core.specs.declared.line.FileOutcome.{FileOutcome}
-use Rattle.command_core.specs.declared.line.FileOutcome.TheVariants.{Opened, Good, Failed}
+use Rattle.command_core.specs.declared.line.FileOutcome.TheVariants.{Opened, Good, Shown, Failed}
 use Rattle.command_core.specs.Folder.{Step, Created, Removing, stepped}
 use Rattle.command_core.specs.Lines.{FileLine, lines_text, status_of_lines}
 
@@ -25,13 +25,16 @@ IsOfOpening (Failed (Unsealed fault)) = ⊥
 IsOfOpening (Failed fault) = ⊤
 IsOfOpening _ = ⊥
 
--- an outcome that `verify_all` can have: the file is good, or can't be opened, or its container has a fault
-abbrev pub IsOfVerifying : FileOutcome → Type 0
-IsOfVerifying (Good bytes) = ⊤
-IsOfVerifying (Failed CannotOpen) = ⊤
-IsOfVerifying (Failed (Unopened Write)) = ⊥
-IsOfVerifying (Failed (Unopened fault)) = ⊤
-IsOfVerifying _ = ⊥
+-- an outcome that `verify_all` can have: the file is good, and shown where that is asked for, or it can't be opened, or
+-- its container has a fault, or another label
+abbrev pub IsOfVerifying : Bool → FileOutcome → Type 0
+IsOfVerifying false (Good bytes) = ⊤
+IsOfVerifying true (Shown bytes facts) = ⊤
+IsOfVerifying show (Failed CannotOpen) = ⊤
+IsOfVerifying show (Failed AnotherLabel) = ⊤
+IsOfVerifying show (Failed (Unopened Write)) = ⊥
+IsOfVerifying show (Failed (Unopened fault)) = ⊤
+IsOfVerifying show _ = ⊥
 
 -- the steps on outputs that opening a file makes: its output is created where the whole container was checked, and
 -- where the writing then fails its removal is tried
@@ -48,11 +51,11 @@ no_steps line = []
 
 abbrev pub IsOutcomeOf : Task → FileOutcome → Type 0
 IsOutcomeOf Open outcome = IsOfOpening outcome
-IsOutcomeOf Verify outcome = IsOfVerifying outcome
+IsOutcomeOf (Verify show) outcome = IsOfVerifying show outcome
 
 abbrev pub steps_of : Task → FileLine → List Step
 steps_of Open line = opening_steps line
-steps_of Verify line = no_steps line
+steps_of (Verify show) line = no_steps line
 
 -- What a writer of lines got: a beginning of them; with a status other than 2 all of them, and the status is theirs. At
 -- most one write failed, and then the status is 2: behind a failed write no other is tried.

@@ -2,19 +2,26 @@
 //!
 //! A file that fails keeps no other from being worked. Where a line can't be written no further line is tried, the
 //! files are still worked, and the exit status is 2.
-ghost use Rattle.std.specs.Prelude.{◌≡◌, ℕ, ◌<◌, ◌≤◌, List, [], ◌∷◌, ◌++◌, length, map, Option, Ok, Err, IfSome, codes};
-ghost use Rattle.std.specs.Prelude.{if◌then◌else◌};
+ghost use Rattle.std.specs.Prelude.{◌≡◌, ℕ, ◌<◌, ◌≤◌, List, [], ◌∷◌, ◌++◌, length, map, take, Option, Ok, Err, IfSome};
+ghost use Rattle.std.specs.Prelude.{Bool, if◌then◌else◌, option_map, codes, IfOk, IfErr};
+ghost use Rattle.container_core.specs.Container.{header_length};
+ghost use Rattle.container_core.specs.Opening.{opening};
+ghost use Rattle.engine_core.specs.Engine.{OpensTo};
+ghost use Rattle.command_core.specs.Facts.{IsOfHeader};
 ghost use Rattle.command_core.specs.Folder.{stepped};
+ghost use Rattle.command_core.specs.Labels.{IsLabelled};
 ghost use Rattle.command_core.specs.Lines.{FileLine, is_failed};
 ghost use Rattle.command_core.specs.Work.{output_of, IsOfOpening, IsOfVerifying, opening_steps, no_steps, IsOutcomeOf};
-ghost use Rattle.command_core.specs.Work.{steps_of, AreTold, AreWorked};
+ghost use Rattle.command_core.specs.Work.{output_steps, steps_of, AreTold, AreWorked};
 
+use crate::facts::Facts;
 use crate::folder::{Folder, FolderFault};
+use crate::label::is_labelled;
 use crate::line::{FileFault, FileOutcome, Line};
 use container_core::{Key, MAX_PLAIN, OpenFault};
 use crew_core::{Free, MAX_WORKERS};
-use engine_core::{run_plain, run_verify};
-use ledger_core::{Failed, Sink, write_all};
+use engine_core::{run_check, run_read};
+use ledger_core::{Failed, Sink, Source, write_all};
 use std::alloc::Global;
 use std::thread::Threads;
 
@@ -39,6 +46,10 @@ pub struct OpenOptions<'a> {
     pub workers: u32,
     /// The greatest number of plaintext bytes of a file: at most 2^40.
     pub max_bytes: u64,
+    /// The label that each container must have, where one is asked for. Version 1 has none, which is not the empty one.
+    pub label: Option<&'a [u8]>,
+    /// Whether a file that is good is told with what its header says. `open_all` doesn't look at it.
+    pub show: bool,
 }
 
 /// Where a command writes to.
@@ -56,7 +67,7 @@ pub struct Outs<L: Sink + Drop, E: Sink + Drop, J: Sink + Drop> {
 #[derive(Clone, Copy)]
 enum Task {
     Open,
-    Verify,
+    Verify { show: bool },
 }
 
 // The name of the output of a sealed file: at least one byte, before `.stm`.
@@ -72,6 +83,67 @@ fn output_name(name: &str) -> Option<&str>
     }
 }
 
+// The plaintext of a container that has the label which is asked for. The label is looked at once all was checked.
+fn read_labelled<T: Threads + Sync, R: Source>(
+    rt: &T,
+    alloc: Global,
+    key: &Key,
+    reader: &mut R,
+    max_bytes: u64,
+    workers: u32,
+    label: Option<&[u8]>,
+) -> Result<Vec<u8>, FileFault>
+    requires max_bytes { max_bytes ≤ MAX_BYTES }
+    requires workers { (0 < workers) × (workers ≤ MAX_WORKERS) }
+    ensures plaintext { IfOk result (λ plain. IfSome (R.left reader.old) (λ input.
+        (opening key.now max_bytes input ≡ Ok plain.items) × IsLabelled (option_map (λ b. b.now) label.entry) input)) }
+    ensures another { result ≡ Err FileFault.AnotherLabel → IfSome (R.left reader.old) (λ input. (plain : List ℕ)
+        × (opening key.now max_bytes input ≡ Ok plain) × ¬ IsLabelled (option_map (λ b. b.now) label.entry) input) }
+    ensures fault { IfErr result (λ fault. IsOfOpening (FileOutcome.Failed fault)) }
+    ensures unmade { IfErr result (λ fault. (output : List ℕ) → output_steps output (FileOutcome.Failed fault) ≡ []) }
+{
+    let (header, plain) = match run_read(rt, alloc, key, reader, max_bytes, workers, &Free) {
+        Ok(read) => read,
+        Err(fault) => return Err(FileFault::Unopened(fault)),
+    };
+    if is_labelled(&header, label) {
+        Ok(plain)
+    } else {
+        Err(FileFault::AnotherLabel)
+    }
+}
+
+// What the header of a good container says that has the label which is asked for, and how many plaintext bytes it has.
+fn check_labelled<T: Threads + Sync, R: Source>(
+    rt: &T,
+    alloc: Global,
+    key: &Key,
+    reader: &mut R,
+    max_bytes: u64,
+    workers: u32,
+    label: Option<&[u8]>,
+) -> Result<(Facts, u64), FileFault>
+    requires max_bytes { max_bytes ≤ MAX_BYTES }
+    requires workers { (0 < workers) × (workers ≤ MAX_WORKERS) }
+    ensures good { IfOk result (λ checked. IfSome (R.left reader.old) (λ input.
+        OpensTo key.now max_bytes input checked.1 × IsLabelled (option_map (λ b. b.now) label.entry) input)) }
+    ensures facts { IfOk result (λ checked. IfSome (R.left reader.old) (λ input.
+        IsOfHeader checked.0 (take (header_length input) input))) }
+    ensures another { result ≡ Err FileFault.AnotherLabel → IfSome (R.left reader.old) (λ input. (plain : List ℕ)
+        × (opening key.now max_bytes input ≡ Ok plain) × ¬ IsLabelled (option_map (λ b. b.now) label.entry) input) }
+    ensures fault { IfErr result (λ fault. (show : Bool) → IsOfVerifying show (FileOutcome.Failed fault)) }
+{
+    let (header, bytes) = match run_check(rt, alloc, key, reader, max_bytes, workers, &Free) {
+        Ok(checked) => checked,
+        Err(fault) => return Err(FileFault::Unopened(fault)),
+    };
+    if is_labelled(&header, label) {
+        Ok((Facts::of(&header), bytes))
+    } else {
+        Err(FileFault::AnotherLabel)
+    }
+}
+
 // Checks the whole container of one file, then creates its output and writes the plaintext.
 fn open_file<T: Threads + Sync, F: Folder>(
     rt: &T,
@@ -79,11 +151,10 @@ fn open_file<T: Threads + Sync, F: Folder>(
     key: &Key,
     folder: &mut F,
     name: &str,
-    max_bytes: u64,
-    workers: u32,
+    options: &OpenOptions,
 ) -> FileOutcome
-    requires max_bytes { max_bytes ≤ MAX_BYTES }
-    requires workers { (0 < workers) × (workers ≤ MAX_WORKERS) }
+    requires max_bytes { options.now.max_bytes ≤ MAX_BYTES }
+    requires workers { (0 < options.now.workers) × (options.now.workers ≤ MAX_WORKERS) }
     ensures outcome { IsOfOpening result }
     ensures steps { F.steps folder.new ≡ stepped (F.steps folder.old)
         (opening_steps (record { name = name.now; outcome = result })) }
@@ -94,9 +165,18 @@ fn open_file<T: Threads + Sync, F: Folder>(
     let Ok(mut reader) = folder.open(name) else {
         return FileOutcome::Failed(FileFault::CannotOpen);
     };
-    let plain = match run_plain(rt, alloc, key, &mut reader, max_bytes, workers, &Free) {
+    let (max_bytes, workers) = (options.max_bytes, options.workers);
+    let plain = match read_labelled(
+        rt,
+        alloc,
+        key,
+        &mut reader,
+        max_bytes,
+        workers,
+        options.label,
+    ) {
         Ok(plain) => plain,
-        Err(fault) => return FileOutcome::Failed(FileFault::Unopened(fault)),
+        Err(fault) => return FileOutcome::Failed(fault),
     };
     let mut writer = match folder.create(output) {
         Ok(writer) => writer,
@@ -119,20 +199,30 @@ fn verify_file<T: Threads + Sync, F: Folder>(
     key: &Key,
     folder: &mut F,
     name: &str,
-    max_bytes: u64,
-    workers: u32,
+    options: &OpenOptions,
+    show: bool,
 ) -> FileOutcome
-    requires max_bytes { max_bytes ≤ MAX_BYTES }
-    requires workers { (0 < workers) × (workers ≤ MAX_WORKERS) }
-    ensures outcome { IsOfVerifying result }
+    requires max_bytes { options.now.max_bytes ≤ MAX_BYTES }
+    requires workers { (0 < options.now.workers) × (options.now.workers ≤ MAX_WORKERS) }
+    ensures outcome { IsOfVerifying show result }
     ensures steps { F.steps folder.new ≡ F.steps folder.old }
 {
     let Ok(mut reader) = folder.open(name) else {
         return FileOutcome::Failed(FileFault::CannotOpen);
     };
-    match run_verify(rt, alloc, key, &mut reader, max_bytes, workers, &Free) {
-        Ok(bytes) => FileOutcome::Good(bytes),
-        Err(fault) => FileOutcome::Failed(FileFault::Unopened(fault)),
+    let (max_bytes, workers) = (options.max_bytes, options.workers);
+    match check_labelled(
+        rt,
+        alloc,
+        key,
+        &mut reader,
+        max_bytes,
+        workers,
+        options.label,
+    ) {
+        Ok((facts, bytes)) if show => FileOutcome::Shown { bytes, facts },
+        Ok((_, bytes)) => FileOutcome::Good(bytes),
+        Err(fault) => FileOutcome::Failed(fault),
     }
 }
 
@@ -147,7 +237,8 @@ fn worse(status: u8, outcome: FileOutcome) -> u8
             bytes: _,
         }
         | FileOutcome::Opened(_)
-        | FileOutcome::Good(_) => status,
+        | FileOutcome::Good(_)
+        | FileOutcome::Shown { bytes: _, facts: _ } => status,
     }
 }
 
@@ -184,19 +275,18 @@ fn work_file<T: Threads + Sync, F: Folder>(
     key: &Key,
     folder: &mut F,
     name: &str,
-    max_bytes: u64,
-    workers: u32,
+    options: &OpenOptions,
     task: Task,
 ) -> FileOutcome
-    requires max_bytes { max_bytes ≤ MAX_BYTES }
-    requires workers { (0 < workers) × (workers ≤ MAX_WORKERS) }
+    requires max_bytes { options.now.max_bytes ≤ MAX_BYTES }
+    requires workers { (0 < options.now.workers) × (options.now.workers ≤ MAX_WORKERS) }
     ensures outcome { IsOutcomeOf task result }
     ensures steps { F.steps folder.new ≡ stepped (F.steps folder.old)
         (steps_of task (record { name = name.now; outcome = result })) }
 {
     match task {
-        Task::Open => open_file(rt, alloc, key, folder, name, max_bytes, workers),
-        Task::Verify => verify_file(rt, alloc, key, folder, name, max_bytes, workers),
+        Task::Open => open_file(rt, alloc, key, folder, name, options),
+        Task::Verify { show } => verify_file(rt, alloc, key, folder, name, options, show),
     }
 }
 
@@ -217,23 +307,15 @@ fn work_all<T: Threads + Sync, F: Folder, W: Sink>(
 {
     let mut status = 0;
     for name in options.files {
-        let outcome = work_file(
-            rt,
-            alloc,
-            key,
-            folder,
-            name,
-            options.max_bytes,
-            options.workers,
-            task,
-        );
+        let outcome = work_file(rt, alloc, key, folder, name, options, task);
         status = tell(alloc, lines, status, name, outcome);
     }
     status
 }
 
 /// Opens each file: reads its container, checks all of it, and then writes the plaintext to the name without `.stm`,
-/// which must not be there yet. The answer is the exit status: 0 where every file was opened, 1 where one failed, 2
+/// which must not be there yet. Where a label is asked for, a container that has another one fails once it was checked,
+/// and its output isn't created. The answer is the exit status: 0 where every file was opened, 1 where one failed, 2
 /// where a line couldn't be written. An output that couldn't be written whole is removed.
 pub fn open_all<T: Threads + Sync, F: Folder, L: Sink + Drop, E: Sink + Drop, J: Sink + Drop>(
     rt: &T,
@@ -255,8 +337,9 @@ pub fn open_all<T: Threads + Sync, F: Folder, L: Sink + Drop, E: Sink + Drop, J:
     work_all(rt, alloc, key, folder, options, &mut out.lines, Task::Open)
 }
 
-/// Checks each file's container, as `open_all` does, and makes no file. The answer is the exit status: 0 where every
-/// file is good, 1 where one failed, 2 where a line couldn't be written.
+/// Checks each file's container, and its label, as `open_all` does, and makes no file. Where `show` is asked for, each
+/// good file is told with what its header says, on a second line. The answer is the exit status: 0 where every file is
+/// good, 1 where one failed, 2 where a line couldn't be written.
 pub fn verify_all<T: Threads + Sync, F: Folder, L: Sink + Drop, E: Sink + Drop, J: Sink + Drop>(
     rt: &T,
     alloc: Global,
@@ -269,7 +352,7 @@ pub fn verify_all<T: Threads + Sync, F: Folder, L: Sink + Drop, E: Sink + Drop, 
     requires workers { (0 < options.now.workers) × (options.now.workers ≤ MAX_WORKERS) }
     requires max_bytes { options.now.max_bytes ≤ MAX_BYTES }
     ensures status { result ≤ 2 }
-    ensures files { AreWorked IsOfVerifying no_steps (map (λ name. name.now) options.now.files.now) result
+    ensures files { AreWorked (IsOfVerifying options.now.show) no_steps (map (λ name. name.now) options.now.files.now) result
         (L.taken out.old.lines) (L.taken out.new.lines) (L.failures out.old.lines) (L.failures out.new.lines)
         (F.steps folder.old) (F.steps folder.new) }
     ensures nothing_made { F.steps folder.new ≡ F.steps folder.old }
@@ -282,6 +365,6 @@ pub fn verify_all<T: Threads + Sync, F: Folder, L: Sink + Drop, E: Sink + Drop, 
         folder,
         options,
         &mut out.lines,
-        Task::Verify,
+        Task::Verify { show: options.show },
     )
 }

@@ -5,11 +5,14 @@
 #![tactic(auto)]
 
 pub mod commands;
+pub mod facts;
 pub mod folder;
 pub mod key_file;
+pub(crate) mod label;
 pub mod line;
 
 pub use crate::commands::{MAX_BYTES, OpenOptions, Outs, open_all, tell, verify_all};
+pub use crate::facts::Facts;
 pub use crate::folder::{Folder, FolderFault};
 pub use crate::key_file::{KeyFault, read_key};
 pub use crate::line::{FileFault, FileOutcome, Line};

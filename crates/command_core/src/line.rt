@@ -2,6 +2,7 @@
 ghost use Rattle.std.specs.Prelude.{Some};
 ghost use Rattle.command_core.specs.Lines.{fault_text, line_text};
 
+use crate::facts::Facts;
 use container_core::{OpenFault, SealFault};
 use std::fmt;
 
@@ -20,6 +21,8 @@ pub enum FileFault {
     OutOfMemory,
     /// No file number was granted.
     NoNumber,
+    /// The container checks, and hasn't the label that was asked for.
+    AnotherLabel,
     /// The container wasn't opened, or its plaintext wasn't written.
     Unopened(OpenFault),
     /// The file wasn't sealed, or its container wasn't written.
@@ -38,6 +41,7 @@ impl fmt::Display for FileFault {
             FileFault::CannotCreate => write!(f, "cannot create"),
             FileFault::OutOfMemory => write!(f, "out of memory"),
             FileFault::NoNumber => write!(f, "no file number"),
+            FileFault::AnotherLabel => write!(f, "another label"),
             FileFault::Unopened(fault) => write!(f, "{fault}"),
             FileFault::Unsealed(fault) => write!(f, "{fault}"),
         }
@@ -53,6 +57,8 @@ pub enum FileOutcome {
     Opened(u64),
     /// Its container checks, and has so many plaintext bytes.
     Good(u64),
+    /// As `Good`, and what its header says is to be printed.
+    Shown { bytes: u64, facts: Facts },
     /// It failed. An output that was created for it was removed again, or its removal was tried.
     Failed(FileFault),
 }
@@ -77,6 +83,7 @@ impl fmt::Display for Line<'_> {
             }
             FileOutcome::Opened(bytes) => write!(f, "opened {name} bytes {bytes}"),
             FileOutcome::Good(bytes) => write!(f, "good {name} bytes {bytes}"),
+            FileOutcome::Shown { bytes, facts } => write!(f, "good {name} bytes {bytes}\n{facts}"),
             FileOutcome::Failed(fault) => write!(f, "failed {name}: {fault}"),
         }
     }

@@ -1,5 +1,5 @@
 //! The commands, with the texts of their help.
-use crate::options::{FILE_ROWS, SEAL_ROWS, with_rows};
+use crate::options::{FILE_ROWS, LABEL_ROWS, SEAL_ROWS, SHOW_ROWS, with_rows};
 use clap::{Command, Error};
 use std::alloc::Global;
 
@@ -37,6 +37,7 @@ pub fn command<'a>(alloc: Global) -> Result<Command<'a>, Error> {
         "Checks each FILE whole, then writes its plaintext to the name without .stm",
     )?;
     let verify = open_command(alloc, "verify", "Checks each FILE whole and writes no file")?;
+    let verify = with_rows(alloc, verify, &SHOW_ROWS)?;
     let audit = Command::new(alloc, "audit")
         .about("Audits the journal on standard input and prints the verdict")
         .after_help(AUDIT_HELP);
@@ -58,7 +59,8 @@ fn file_command<'a>(alloc: Global, name: &'a str, about: &'a str) -> Result<Comm
 
 // A command over sealed files.
 fn open_command<'a>(alloc: Global, name: &'a str, about: &'a str) -> Result<Command<'a>, Error> {
-    Ok(file_command(alloc, name, about)?.after_help(FILES_HELP))
+    let command = file_command(alloc, name, about)?;
+    with_rows(alloc, command.after_help(FILES_HELP), &LABEL_ROWS)
 }
 
 fn seal_command<'a>(alloc: Global) -> Result<Command<'a>, Error> {

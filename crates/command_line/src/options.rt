@@ -77,6 +77,20 @@ pub(crate) static FILE_ROWS: [Row; 4] = [
     },
 ];
 
+/// What `open` and `verify` take besides.
+pub(crate) static LABEL_ROWS: [Row; 1] = [Row {
+    name: "label",
+    takes: Takes::Text,
+    help: "Only FILEs with this label pass, 0 to 255 bytes of UTF-8; without it any label passes, and none",
+}];
+
+/// What `verify` takes besides these.
+pub(crate) static SHOW_ROWS: [Row; 1] = [Row {
+    name: "show",
+    takes: Takes::Nothing,
+    help: "Behind the line of a good FILE print its version, bytes of a chunk, device, number and label",
+}];
+
 /// What `seal` takes besides.
 pub(crate) static SEAL_ROWS: [Row; 8] = [
     Row {

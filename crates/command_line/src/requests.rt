@@ -111,13 +111,25 @@ pub struct OpenRequest<'m, 'a> {
     pub workers: u32,
     /// Plaintext bytes of a file at most.
     pub max_bytes: u64,
+    /// The bytes of the label that each container must have, where one was given.
+    pub label: Option<&'a [u8]>,
+    /// Whether the facts of each container that is good are printed. `open` has no such option.
+    pub show: bool,
 }
 
-/// What `open` or `verify` is asked for.
+/// What `open` or `verify` is asked for. `LabelTooLong` where the label has more than 255 bytes: no container has it.
 pub fn open_request<'m, 'a>(matches: &'m ArgMatches<'a>) -> Result<OpenRequest<'m, 'a>, UsageFault>
     ensures files { IfOk result (λ request. 0 < length request.files.now) }
     ensures workers { IfOk result (λ request. (0 < request.workers) × (request.workers ≤ MAX_WORKERS)) }
     ensures max_bytes { IfOk result (λ request. request.max_bytes ≤ MAX_PLAIN) }
+    ensures label { IfOk result (λ request. option_map (λ label. label.now) request.label
+        ≡ first_value (found_of matches.now) (codes "label")) }
+    ensures short { IfOk result (λ request. IfSome request.label (λ label. length label.now ≤ MAX_LABEL)) }
+    ensures show { IfOk result (λ request. one_text (found_of matches.now) (codes "show") ≡ None → request.show ≡ false) }
+    ensures shown { IfOk result (λ request. one_text (found_of matches.now) (codes "show") ≡ Some (codes "true")
+        → request.show ≡ true) }
+    ensures too_long { result ≡ Err UsageFault.LabelTooLong
+        → IfSome (first_value (found_of matches.now) (codes "label")) (λ label. MAX_LABEL < length label) }
 {
     let (Some(key), Some(files)) = (matches.get_str("key"), matches.get_strs("FILE")) else {
         return Err(UsageFault::Missing);
@@ -125,11 +137,17 @@ pub fn open_request<'m, 'a>(matches: &'m ArgMatches<'a>) -> Result<OpenRequest<'
     if files.is_empty() {
         return Err(UsageFault::Missing);
     }
+    let label = match label_of(matches.get_str("label")) {
+        Ok(label) => label,
+        Err(fault) => return Err(fault),
+    };
     Ok(OpenRequest {
         key,
         files,
         workers: workers(matches),
         max_bytes: max_bytes(matches),
+        label,
+        show: matches.get_flag("show"),
     })
 }
 
@@ -148,6 +166,20 @@ fn shape_of(exponent: Option<u32>, label: Option<&str>) -> Result<Shape, UsageFa
     match Shape::two(exponent.unwrap_or(DEFAULT_EXPONENT), label.as_bytes()) {
         Ok(shape) => Ok(shape),
         Err(_) => Err(UsageFault::LabelTooLong),
+    }
+}
+
+// The bytes of a label that was given, of at most 255 bytes.
+fn label_of(text: Option<&str>) -> Result<Option<&[u8]>, UsageFault>
+    ensures label { IfOk result (λ label. option_map (λ b. b.now) label ≡ option_map (λ t. t.now) text.entry) }
+    ensures short { IfOk result (λ label. IfSome label (λ b. length b.now ≤ MAX_LABEL)) }
+    ensures too_long { IfErr result (λ fault. fault ≡ UsageFault.LabelTooLong) }
+    ensures long { OnErr result (IfSome text.entry (λ t. MAX_LABEL < length t.now)) }
+{
+    match text {
+        None => Ok(None),
+        Some(text) if text.len() > MAX_LABEL => Err(UsageFault::LabelTooLong),
+        Some(text) => Ok(Some(text.as_bytes())),
     }
 }
 

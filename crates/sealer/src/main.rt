@@ -235,6 +235,8 @@ fn over_files<R: Files + AllocGlobal + Eprint + Threads + Sync, O: Write + Drop,
         files: request.files,
         workers: request.workers,
         max_bytes: request.max_bytes,
+        label: request.label,
+        show: request.show,
     };
     let mut folder = SystemFiles(rt);
     let mut out = Outs {
