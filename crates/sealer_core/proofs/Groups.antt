@@ -23,7 +23,7 @@ use Rattle.container_core.specs.Shape.{ShapeView}
 use Rattle.crew_core.specs.Batch.{seat_of, of_seat, issues, AreOutcomes, AreAmong, AreIssued, IsOutcome}
 use Rattle.command_core.specs.declared.line.FileFault.{FileFault}
 use Rattle.command_core.specs.declared.line.FileOutcome.{FileOutcome}
-use Rattle.command_core.specs.declared.line.FileOutcome.TheVariants.{Sealed, Opened, Good, Failed}
+use Rattle.command_core.specs.declared.line.FileOutcome.TheVariants.{Sealed, Opened, Good, Shown, Failed}
 use Rattle.command_core.specs.Lines.{FileLine}
 use Rattle.command_core.specs.Folder.{Step, stepped}
 use Rattle.command_core.specs.Work.{AreTold}
@@ -141,6 +141,7 @@ module _ (lines : List FileLine) (o : Outcome) (os : List Outcome) (k : ℕ) (ol
   held_ended (Sealed m bytes) (is, how) = subst (λ (x : ℕ). AreHeld (lines ++ line_of name (Sealed x bytes) ∷ []) os new) (sym is) (held_sealed bytes how)
   held_ended (Opened bytes) how = held_void (Opened bytes) (λ n. refl) how
   held_ended (Good bytes) how = held_void (Good bytes) (λ n. refl) how
+  held_ended (Shown bytes facts) how = held_void (Shown bytes facts) (λ n. refl) how
   held_ended (Failed fault) how = held_void (Failed fault) (λ n. refl) how
 
 -- the same, of an outcome without a container

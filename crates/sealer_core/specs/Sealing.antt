@@ -30,7 +30,7 @@ use Rattle.command_core.specs.declared.line.FileFault.{FileFault}
 use Rattle.command_core.specs.declared.line.FileFault.TheVariants.{CannotOpen, OutputExists, CannotCreate, OutOfMemory}
 use Rattle.command_core.specs.declared.line.FileFault.TheVariants.{NoNumber, Unsealed}
 use Rattle.command_core.specs.declared.line.FileOutcome.{FileOutcome}
-use Rattle.command_core.specs.declared.line.FileOutcome.TheVariants.{Sealed, Opened, Good, Failed}
+use Rattle.command_core.specs.declared.line.FileOutcome.TheVariants.{Sealed, Opened, Good, Shown, Failed}
 use Rattle.command_core.specs.Folder.{Step, Created, Removing, stepped}
 use Rattle.command_core.specs.Lines.{FileLine}
 use Rattle.command_core.specs.Work.{AreTold}
@@ -94,6 +94,7 @@ abbrev pub IfSealed : FileOutcome → (ℕ → ℕ → Type 0) → Type 0
 IfSealed (Sealed number bytes) P = P number bytes
 IfSealed (Opened bytes) P = ⊤
 IfSealed (Good bytes) P = ⊤
+IfSealed (Shown bytes facts) P = ⊤
 IfSealed (Failed fault) P = ⊤
 
 -- ---- numbers
@@ -106,6 +107,7 @@ abbrev pub tells_of : ℕ → FileOutcome → Bool
 tells_of number (Sealed n bytes) = nat_eq number n
 tells_of number (Opened bytes) = false
 tells_of number (Good bytes) = false
+tells_of number (Shown bytes facts) = false
 tells_of number (Failed fault) = false
 
 -- how often the lines say so

@@ -14,8 +14,8 @@ mod trouble;
 
 pub use crate::sealing::{SealOptions, seal_all};
 pub use command_core::{
-    FileFault, FileOutcome, Folder, FolderFault, KeyFault, Line, MAX_BYTES, OpenOptions, Outs,
-    open_all, read_key, verify_all,
+    Facts, FileFault, FileOutcome, Folder, FolderFault, KeyFault, Line, MAX_BYTES, OpenOptions,
+    Outs, open_all, read_key, verify_all,
 };
 pub use crew_core::{MAX_LANES, MAX_WINDOW, MAX_WORKERS};
 pub use engine_core::{
