@@ -655,6 +655,23 @@ shaped 349030 more --label 'db-dump 2026-11' -- --window 2
 shaped 349030 more --exponent 16 --label 'db-dump 2026-11' -- --lanes 2
 shaped 348935 more --exponent 20 -- --workers 2 --window 256
 shaped 350330 more --exponent 12 --label 'of one group, sealed by 2 lanes, ..' -- --lanes 2
+# A label that is asked for, and what a header says.
+run seal --key "$key" --ledger life/shapes/ledger --device 3 --exponent 12 --label 'a"b' life/shapes/empty
+wants label-to-ask 0 'sealed life/shapes/empty file 0 bytes 0' ''
+mv life/shapes/empty life/shapes/plain
+run open --key "$key" --label 'a' life/shapes/empty.stm
+wants another-label 1 'failed life/shapes/empty.stm: another label' ''
+is no-output-at-another-label test ! -e life/shapes/empty
+run verify --key "$key" --label '' files/numbers.stm
+wants label-of-version-1 1 'failed files/numbers.stm: another label' ''
+run verify --key "$key" --show --label 'a"b' life/shapes/empty.stm
+wants show-label 0 'good life/shapes/empty.stm bytes 0
+  version 2 chunk 4096 device 3 file 0 label "a\x22b"' ''
+run open --key "$key" --label 'a"b' life/shapes/empty.stm
+wants right-label 0 'opened life/shapes/empty.stm bytes 0' ''
+run verify --key "$key" --label "$(printf 'x%.0s' $(seq 256))" life/shapes/empty.stm
+wants label-too-long 2 '' 'usage: label too long'
+rm -f life/shapes/empty.stm life/shapes/plain
 # A label that was changed, its length, and another chunk size: see docs/FORMATS.md.
 run seal --key "$key" --ledger life/shapes/ledger --device 2 --exponent 12 --label ab life/shapes/empty
 wants shape-to-change 0 'sealed life/shapes/empty file 0 bytes 0' ''

@@ -29,10 +29,15 @@ pub(crate) enum Trouble {
 }
 
 #[derive(Clone, Copy)]
-pub(crate) enum Work {
+pub(crate) enum Work<'a> {
     Seal { workers: u32, lanes: u32 },
     Open,
     Verify,
+    // The same where this label is asked for.
+    OpenLabelled(&'a [u8]),
+    VerifyLabelled(&'a [u8]),
+    // Verifying, and what the headers say is told.
+    Show,
 }
 
 // What there is of a file.
@@ -53,7 +58,7 @@ pub(crate) enum Left<'a> {
 pub(crate) struct Case<'a> {
     pub(crate) folder: &'a [(&'a str, &'a [u8])],
     pub(crate) trouble: Trouble,
-    pub(crate) work: Work,
+    pub(crate) work: Work<'a>,
     pub(crate) files: &'a [&'a str],
     pub(crate) max_bytes: u64,
     pub(crate) status: u8,
@@ -129,6 +134,8 @@ fn open_in<R: AllocGlobal + Threads + Sync>(
     case: &Case,
     out: &mut MemoryOuts,
     verifies: bool,
+    label: Option<&[u8]>,
+    show: bool,
 ) -> Option<u8> {
     let files = case.files;
     let max_bytes = case.max_bytes;
@@ -139,6 +146,8 @@ fn open_in<R: AllocGlobal + Threads + Sync>(
         files,
         workers: 1,
         max_bytes,
+        label,
+        show,
     };
     let key = Key::new(COUNTING);
     if verifies {
@@ -167,8 +176,11 @@ fn status_over<R: AllocGlobal + Threads + Sync, S: Fold>(
             workers,
             lanes,
         ),
-        Work::Open => open_in(rt, folder, case, out, false),
-        Work::Verify => open_in(rt, folder, case, out, true),
+        Work::Open => open_in(rt, folder, case, out, false, None, false),
+        Work::Verify => open_in(rt, folder, case, out, true, None, false),
+        Work::OpenLabelled(label) => open_in(rt, folder, case, out, false, Some(label), false),
+        Work::VerifyLabelled(label) => open_in(rt, folder, case, out, true, Some(label), false),
+        Work::Show => open_in(rt, folder, case, out, true, None, true),
     }
 }
 
