@@ -3,7 +3,7 @@
 ghost use Rattle.std.specs.Prelude.{◌<◌};
 
 use crate::cases::{Case, Left, Trouble, Work, ends, ends_in};
-use crate::runs::{BARE, COUNTING, EMPTY, LABELLED, ODD, SECRET, folder_of};
+use crate::runs::{BARE, COUNTING, CUT, EMPTY, LABELLED, ODD, SECRET, folder_of};
 use container_core::{Key, Shape, seal};
 use folder_memory::{MemoryFolder, Pace};
 use io_memory::Schedule;
@@ -360,7 +360,12 @@ fn an_output_is_a_file_like_any_other(rt: HostRuntime) {
 }
 
 static RIGHT_LABEL: Case = Case {
-    folder: &[("one.stm", &SECRET), ("two.stm", &LABELLED), ("bare.stm", &BARE), ("cut.stm", &LABELLED[..55])],
+    folder: &[
+        ("one.stm", &SECRET),
+        ("two.stm", &LABELLED),
+        ("bare.stm", &BARE),
+        ("cut.stm", &CUT),
+    ],
     trouble: Trouble::Nothing,
     work: Work::OpenLabelled(b"db dump"),
     files: &["one.stm", "two.stm", "bare.stm", "cut.stm"],
@@ -372,7 +377,12 @@ static RIGHT_LABEL: Case = Case {
       failed cut.stm: chunk 0 does not check\n",
     faults: b"",
     journal: b"",
-    left: &[("one", Left::Absent), ("two", Left::Is(b"a secret")), ("bare", Left::Absent), ("cut", Left::Absent)],
+    left: &[
+        ("one", Left::Absent),
+        ("two", Left::Is(b"a secret")),
+        ("bare", Left::Absent),
+        ("cut", Left::Absent),
+    ],
 };
 
 #[test]
@@ -381,7 +391,12 @@ fn a_file_with_the_label_is_opened_and_no_other(rt: HostRuntime) {
 }
 
 static PREFIX_OF_A_LABEL: Case = Case {
-    folder: &[("one.stm", &SECRET), ("two.stm", &LABELLED), ("bare.stm", &BARE), ("cut.stm", &LABELLED[..55])],
+    folder: &[
+        ("one.stm", &SECRET),
+        ("two.stm", &LABELLED),
+        ("bare.stm", &BARE),
+        ("cut.stm", &CUT),
+    ],
     trouble: Trouble::Nothing,
     work: Work::OpenLabelled(b"db"),
     files: &["one.stm", "two.stm", "bare.stm", "cut.stm"],
@@ -393,7 +408,12 @@ static PREFIX_OF_A_LABEL: Case = Case {
       failed cut.stm: chunk 0 does not check\n",
     faults: b"",
     journal: b"",
-    left: &[("one", Left::Absent), ("two", Left::Absent), ("bare", Left::Absent), ("cut", Left::Absent)],
+    left: &[
+        ("one", Left::Absent),
+        ("two", Left::Absent),
+        ("bare", Left::Absent),
+        ("cut", Left::Absent),
+    ],
 };
 
 #[test]
@@ -402,7 +422,12 @@ fn a_label_that_begins_so_is_another_and_damage_comes_first(rt: HostRuntime) {
 }
 
 static EMPTY_LABEL: Case = Case {
-    folder: &[("one.stm", &SECRET), ("two.stm", &LABELLED), ("bare.stm", &BARE), ("cut.stm", &LABELLED[..55])],
+    folder: &[
+        ("one.stm", &SECRET),
+        ("two.stm", &LABELLED),
+        ("bare.stm", &BARE),
+        ("cut.stm", &CUT),
+    ],
     trouble: Trouble::Nothing,
     work: Work::VerifyLabelled(b""),
     files: &["one.stm", "two.stm", "bare.stm"],
@@ -413,7 +438,12 @@ static EMPTY_LABEL: Case = Case {
       good bare.stm bytes 0\n",
     faults: b"",
     journal: b"",
-    left: &[("one", Left::Absent), ("two", Left::Absent), ("bare", Left::Absent), ("cut", Left::Absent)],
+    left: &[
+        ("one", Left::Absent),
+        ("two", Left::Absent),
+        ("bare", Left::Absent),
+        ("cut", Left::Absent),
+    ],
 };
 
 #[test]
@@ -422,7 +452,12 @@ fn version_1_has_no_label_which_is_not_the_empty_one(rt: HostRuntime) {
 }
 
 static SHOWN: Case = Case {
-    folder: &[("one.stm", &SECRET), ("two.stm", &LABELLED), ("odd", &ODD), ("cut.stm", &LABELLED[..55])],
+    folder: &[
+        ("one.stm", &SECRET),
+        ("two.stm", &LABELLED),
+        ("odd", &ODD),
+        ("cut.stm", &CUT),
+    ],
     trouble: Trouble::Nothing,
     work: Work::Show,
     files: &["one.stm", "two.stm", "odd", "cut.stm"],
