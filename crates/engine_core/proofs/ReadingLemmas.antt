@@ -1,5 +1,5 @@
 -- What opening did with its reader.
-use Rattle.std.proofs.Common.{◌≡◌, ℕ, ◌+◌, ◌-◌, ◌<◌, ◌≤◌, ◌⊎◌, inl, inr, Bool, true, false, List, [], ◌++◌, length, Option}
+use Rattle.std.proofs.Common.{◌≡◌, ℕ, ◌+◌, ◌-◌, ◌<◌, ◌≤◌, ◌⊎◌, inl, inr, Bool, true, false, List, [], ◌++◌, length, take, Option}
 use Rattle.std.proofs.Common.{Some, None, Result, Ok, Err, IfSome, IfOk, IfErr, OnOk, refl, ap, sym, subst, ◌∙◌, arith, length-append}
 use Rattle.std.proofs.lemmas.Bool.{cases_lt}
 use Rattle.std.proofs.lemmas.List.{take_at}
@@ -14,9 +14,9 @@ use Rattle.container_core.specs.Container.{header_length, is_two}
 use Rattle.container_core.specs.Faults.{IsOfBytes}
 use Rattle.container_core.specs.Opening.{header_fault, first_fault, early_fault, longest, opening}
 use Rattle.container_core.proofs.HeaderLemmas.{least-length}
-use Rattle.container_core.proofs.FaultLemmas.{early-header_fault, early-too_long_one, fault-front, two-front, opening-early}
+use Rattle.container_core.proofs.FaultLemmas.{early-header_fault, early-too_long_one, fault-front, length-front, two-front, opening-early}
 use Rattle.container_core.proofs.LawLemmas.{header_fault-of_bytes}
-use Rattle.engine_core.specs.Engine.{HasReadContainer, open_read_failed}
+use Rattle.engine_core.specs.Engine.{HasHeader, HasReadContainer, open_read_failed}
 use Rattle.engine_core.specs.Fronts.{SaysLength, ReadsOn, IsNamed, Answers}
 use Rattle.engine_core.proofs.FrontLemmas.{ended, header-within, header_length-grows, input-answers, longest-most}
 use Rattle.engine_core.proofs.FrontLemmas.{lost-behind, lost-header, lost-longest, lost-one}
@@ -188,3 +188,16 @@ pub plain-opened : {V : Type 0} (plain : V → List ℕ) (key front : List ℕ) 
     → IfOk result (λ v. IfSome left (λ input. opening key most input ≡ Ok (plain v)))
 plain-opened plain key front most left left' left'' result says first opened =
     IfOk-weaker result _ _ (λ v a. input-answers key front most left left' left'' (Ok (plain v)) says first a) opened
+
+-- the input begins with the header that was read
+pub header-opened : (key front : List ℕ) (left left' : Option (List ℕ)) → SaysLength key front → Consumes left left' front
+    → IfSome left (HasHeader front)
+header-opened key front None left' says first = tt
+header-opened key front (Some input) None says first = absurd first
+header-opened key front (Some input) (Some rest) says first =
+    let same : header_length input ≡ length front =
+    ap header_length first ∙ length-front front rest (omega (arith, says.whole)) ∙ says.whole in
+    let all = length-append front rest in (
+      sym (ap (λ n. take n input) same ∙ ap (take (length front)) first ∙ take_at front rest (length front) refl),
+      omega (arith, same, all, ap length first),
+    )

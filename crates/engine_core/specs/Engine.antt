@@ -1,9 +1,9 @@
 -- What the contracts of the engines cite: what an engine did with its reader, and what with its writer.
-use Rattle.std.specs.Prelude.{◌≡◌, ◌≢◌, ℕ, ◌+◌, ◌*◌, ◌<◌, ◌≤◌, ◌++◌, Bool, true, false, List, [], ◌∷◌, length, Option}
+use Rattle.std.specs.Prelude.{◌≡◌, ◌≢◌, ℕ, ◌+◌, ◌*◌, ◌<◌, ◌≤◌, ◌++◌, Bool, true, false, List, [], ◌∷◌, length, take, Option}
 use Rattle.std.specs.Prelude.{Result, Ok, Err}
 use Rattle.std.specs.Prelude.{IfOk, IfErr, OnOk, OnErr, IfSome}
 use Rattle.container_core.specs.Chunks.{chunks, container_length}
-use Rattle.container_core.specs.Container.{container, header_of, is_two}
+use Rattle.container_core.specs.Container.{container, header_length, header_of, is_two}
 use Rattle.container_core.specs.Shape.{ShapeView, size_of}
 use Rattle.container_core.specs.declared.fault.OpenFault.{OpenFault}
 use Rattle.container_core.specs.declared.fault.OpenFault.TheVariants as opening_fault
@@ -42,6 +42,10 @@ abbrev pub open_write_failed : {A : Type 0} → Result A OpenFault → Bool
 open_write_failed (Ok value) = false
 open_write_failed (Err opening_fault.Write) = true
 open_write_failed (Err _) = false
+
+-- this is the header with which the input begins
+abbrev pub HasHeader : List ℕ → List ℕ → Type 0
+HasHeader header input = (header ≡ take (header_length input) input) × (header_length input ≤ length input)
 
 -- the input opens, and this is its plaintext's length
 abbrev pub OpensTo : List ℕ → ℕ → List ℕ → ℕ → Type 0

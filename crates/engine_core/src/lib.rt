@@ -18,6 +18,6 @@ pub use crate::auditor::run_audit;
 pub use crate::engine::{open_one, seal_one, verify_one};
 pub use crate::reading::read_plain;
 pub use crate::run::{
-    run_open, run_open_by, run_plain, run_plain_by, run_seal, run_seal_by, run_verify,
-    run_verify_by,
+    run_check, run_open, run_open_by, run_plain, run_plain_by, run_read, run_seal, run_seal_by,
+    run_verify, run_verify_by,
 };

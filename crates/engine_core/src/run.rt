@@ -10,11 +10,11 @@ ghost use Rattle.crew_core.specs.Spending.{spent_as};
 ghost use Rattle.journal_core.specs.declared.entry.Way.TheVariants.{Sealed, Void};
 ghost use Rattle.ledger_core.specs.Range.{prefix_of};
 ghost use Rattle.engine_core.specs.Engine.{HasReadPlain, HasWrittenRounds, HasReadContainer, HasWrittenPlain};
-ghost use Rattle.engine_core.specs.Engine.{OpensTo};
+ghost use Rattle.engine_core.specs.Engine.{HasHeader, OpensTo};
 
 use crate::sealing::seal_rounds;
 use crate::windows::open_rounds;
-use container_core::{Key, MAX_PLAIN, OpenFault, SealFault, Shape};
+use container_core::{Header, Key, MAX_PLAIN, OpenFault, SealFault, Shape};
 use crew_core::{DEFAULT_WINDOW, Gate, MAX_WINDOW, MAX_WORKERS};
 use ledger_core::{Failed, Grant, Sink, Source, Spent, write_all};
 use round_core::Task;
@@ -166,6 +166,43 @@ pub fn run_plain<T: Threads + Sync, R: Source, G: Gate + Sync>(
     run_plain_by(rt, alloc, key, reader, max_bytes, workers, window, gate)
 }
 
+/// `run_plain`, which answers with the plaintext the container's header.
+pub fn run_read<T: Threads + Sync, R: Source, G: Gate + Sync>(
+    rt: &T,
+    alloc: Global,
+    key: &Key,
+    reader: &mut R,
+    max_bytes: u64,
+    workers: u32,
+    gate: &G,
+) -> Result<(Header, Vec<u8>), OpenFault>
+    requires max_bytes { max_bytes ≤ MAX_PLAIN }
+    requires workers { (0 < workers) × (workers ≤ MAX_WORKERS) }
+    ensures header { IfOk result (λ read. IfSome (R.left reader.old) (HasHeader read.0)) }
+    ensures plaintext { IfOk result (λ read.
+        IfSome (R.left reader.old) (λ input. opening key.now max_bytes input ≡ Ok read.1.items)) }
+    ensures no_write { result ≢ Err OpenFault.Write }
+    ensures reads { HasReadContainer key.now max_bytes (R.left reader.old) (R.left reader.new)
+        (R.failures reader.old) (R.failures reader.new) result }
+{
+    let mut out = Vec::new(alloc);
+    match open_rounds(
+        rt,
+        alloc,
+        Task::Opening,
+        key,
+        reader,
+        max_bytes,
+        workers,
+        DEFAULT_WINDOW,
+        &mut out,
+        gate,
+    ) {
+        Ok((header, _)) => Ok((header, out)),
+        Err(fault) => Err(fault),
+    }
+}
+
 /// Reads a container and writes its plaintext, once every chunk was checked: `run_plain_by`, and the writing. Answers
 /// the plaintext's length, or the first fault of the container. At every fault but `Write` nothing was written; at
 /// `Write` the whole input was read, and a beginning of its plaintext was written, and not the whole.
@@ -241,7 +278,7 @@ pub fn run_verify_by<T: Threads + Sync, R: Source, G: Gate + Sync>(
 {
     // What is only checked has no bytes.
     let mut none = Vec::new(alloc);
-    open_rounds(
+    match open_rounds(
         rt,
         alloc,
         Task::Checking,
@@ -252,7 +289,10 @@ pub fn run_verify_by<T: Threads + Sync, R: Source, G: Gate + Sync>(
         window,
         &mut none,
         gate,
-    )
+    ) {
+        Ok((_, bytes)) => Ok(bytes),
+        Err(fault) => Err(fault),
+    }
 }
 
 /// `run_verify_by` in rounds of `DEFAULT_WINDOW` chunks, 16.
@@ -274,4 +314,39 @@ pub fn run_verify<T: Threads + Sync, R: Source, G: Gate + Sync>(
 {
     let window = DEFAULT_WINDOW;
     run_verify_by(rt, alloc, key, reader, max_bytes, workers, window, gate)
+}
+
+/// `run_verify`, which answers with the plaintext's length the container's header.
+pub fn run_check<T: Threads + Sync, R: Source, G: Gate + Sync>(
+    rt: &T,
+    alloc: Global,
+    key: &Key,
+    reader: &mut R,
+    max_bytes: u64,
+    workers: u32,
+    gate: &G,
+) -> Result<(Header, u64), OpenFault>
+    requires max_bytes { max_bytes ≤ MAX_PLAIN }
+    requires workers { (0 < workers) × (workers ≤ MAX_WORKERS) }
+    ensures header { IfOk result (λ checked. IfSome (R.left reader.old) (HasHeader checked.0)) }
+    ensures length { IfOk result (λ checked. IfSome (R.left reader.old) (λ input.
+        OpensTo key.now max_bytes input checked.1)) }
+    ensures no_write { result ≢ Err OpenFault.Write }
+    ensures reads { HasReadContainer key.now max_bytes (R.left reader.old) (R.left reader.new)
+        (R.failures reader.old) (R.failures reader.new) result }
+{
+    // What is only checked has no bytes.
+    let mut none = Vec::new(alloc);
+    open_rounds(
+        rt,
+        alloc,
+        Task::Checking,
+        key,
+        reader,
+        max_bytes,
+        workers,
+        DEFAULT_WINDOW,
+        &mut none,
+        gate,
+    )
 }

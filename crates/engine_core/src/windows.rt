@@ -14,7 +14,7 @@ ghost use Rattle.io_core.specs.Reads.{ConsumesUpTo};
 ghost use Rattle.io_core.specs.Streams.{Consumes, IsAtEnd, counted};
 ghost use Rattle.round_core.specs.Values.{round_of, values_of};
 ghost use Rattle.round_core.specs.Answer.{joined};
-ghost use Rattle.engine_core.specs.Engine.{HasReadContainer, OpensTo, open_read_failed};
+ghost use Rattle.engine_core.specs.Engine.{HasHeader, HasReadContainer, OpensTo, open_read_failed};
 ghost use Rattle.engine_core.specs.Fronts.{Answers, SaysLength};
 ghost use Rattle.engine_core.specs.Windows.{HasTurned, OpensRound, IsReady};
 
@@ -354,8 +354,8 @@ fn open_body<T: Threads + Sync, R: Source, G: Gate + Sync>(
 }
 
 /// Opens all that the reader has left in rounds of `window` chunks, by 1 to 16 workers, appends its plaintext where the
-/// task is `Opening`, and answers how many bytes that has; or the first fault of the container. A failure leaves some
-/// of the plaintext. Of an input that is too long one byte past the longest container is read.
+/// task is `Opening`, and answers its header and how many bytes the plaintext has; or the first fault of the container. A
+/// failure leaves some of the plaintext. Of an input that is too long one byte past the longest container is read.
 pub(crate) fn open_rounds<T: Threads + Sync, R: Source, G: Gate + Sync>(
     rt: &T,
     alloc: Global,
@@ -367,13 +367,15 @@ pub(crate) fn open_rounds<T: Threads + Sync, R: Source, G: Gate + Sync>(
     window: u32,
     out: &mut Vec<u8>,
     gate: &G,
-) -> Result<u64, OpenFault>
+) -> Result<(Header, u64), OpenFault>
     requires task { task ≢ Task.Sealing }
     requires max_bytes { max_bytes ≤ MAX_PLAIN }
     requires workers { (0 < workers) × (workers ≤ MAX_WORKERS) }
     requires window { (0 < window) × (window ≤ MAX_WINDOW) }
     requires empty { out.old.items ≡ [] }
-    ensures length { IfOk result (λ n. IfSome (R.left reader.old) (λ input. OpensTo key.now max_bytes input n)) }
+    ensures header { IfOk result (λ opened. IfSome (R.left reader.old) (HasHeader opened.0)) }
+    ensures length { IfOk result (λ opened. IfSome (R.left reader.old) (λ input.
+        OpensTo key.now max_bytes input opened.1)) }
     ensures plaintext { OnOk result (task ≡ Task.Opening
         → IfSome (R.left reader.old) (λ input. opening key.now max_bytes input ≡ Ok out.new.items)) }
     ensures no_write { result ≢ Err OpenFault.Write }
@@ -381,9 +383,12 @@ pub(crate) fn open_rounds<T: Threads + Sync, R: Source, G: Gate + Sync>(
         (R.failures reader.old) (R.failures reader.new) result }
 {
     match open_front(key, reader, max_bytes) {
-        Ok(header) => open_body(
+        Ok(header) => match open_body(
             rt, alloc, task, key, &header, reader, max_bytes, workers, window, out, gate,
-        ),
+        ) {
+            Ok(bytes) => Ok((header, bytes)),
+            Err(fault) => Err(fault),
+        },
         Err(fault) => Err(fault),
     }
 }
