@@ -649,7 +649,7 @@ fn nothing_is_read_behind_a_bad_header(rt: HostRuntime) -> Result<(), Fail> {
     let exponent = b"STRMSEAL\x02\x0b";
     assert!(rt; read_so_many(&rt, rt.alloc(), exponent, 4096, 25, OpenFault::BadExponent));
     let mut begun = container_of(rt.alloc(), 12, 255, b"").ok_or("not sealed")?;
-    begun[17] ^= 1;
+    flip(begun.as_mut_slice(), 17, 1);
     let fault = OpenFault::KeyMismatch;
     assert!(rt; read_so_many(&rt, rt.alloc(), begun.as_slice(), 4096, 280, fault));
     Ok(())
