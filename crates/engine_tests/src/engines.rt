@@ -166,6 +166,21 @@ fn no_plaintext_byte_allowed(rt: HostRuntime) -> Result<(), Fail> {
     Ok(())
 }
 
+// The same of version 2, whose header has two bytes of label.
+#[test]
+fn no_plaintext_byte_allowed_in_version_two(rt: HostRuntime) -> Result<(), Fail> {
+    let shape = Shape::two(12, b"ab").map_err(|_| "no shape")?;
+    let empty = seal(rt.alloc(), &Key::new(COUNTING), &shape, PREFIX, b"")?;
+    let one = seal(rt.alloc(), &Key::new(COUNTING), &shape, PREFIX, b"1")?;
+    let too_long = Err(OpenFault::TooLong);
+    assert!(rt; empty.len() == 43 && one.len() == 44);
+    assert!(rt; have_answer(&rt, rt.alloc(), one.as_slice(), 1, too_long) == Some(true));
+    assert!(rt; have_answer(&rt, rt.alloc(), empty.as_slice(), 1, Ok(0)) == Some(true));
+    assert!(rt; have_answer(&rt, rt.alloc(), one.as_slice(), 4, too_long) == Some(true));
+    assert!(rt; have_answer(&rt, rt.alloc(), empty.as_slice(), 4, Ok(0)) == Some(true));
+    Ok(())
+}
+
 // Whether what is sealed of this plaintext opens to it.
 fn opens_again<R: Threads + Sync>(rt: &R, alloc: Global, plain: &[u8]) -> Option<bool> {
     let reader = FromMemory::new(plain, 70_000, Schedule::Never);

@@ -514,13 +514,14 @@ impl Read for Endless<'_> {
     }
 }
 
-// Bytes that opening reads of an endless input, which is too long, and writes nothing.
+// Bytes that opening reads of an endless input, which has this fault, and writes nothing.
 fn opening_reads<R: Threads + Sync>(
     rt: &R,
     alloc: Global,
     front: &[u8],
     max_bytes: u64,
     workers: u32,
+    fault: OpenFault,
 ) -> Option<u64>
     requires max_bytes { max_bytes ≤ 1099511627776 }
     requires workers { (0 < workers) × (workers ≤ MAX_WORKERS) }
@@ -538,7 +539,7 @@ fn opening_reads<R: Threads + Sync>(
         workers,
         &Free,
     );
-    if opened == Err(OpenFault::TooLong) && writer.bytes().is_empty() {
+    if opened == Err(fault) && writer.bytes().is_empty() {
         Some(reader.0.given)
     } else {
         None
@@ -552,6 +553,7 @@ fn verifying_reads<R: Threads + Sync>(
     front: &[u8],
     max_bytes: u64,
     workers: u32,
+    fault: OpenFault,
 ) -> Option<u64>
     requires max_bytes { max_bytes ≤ 1099511627776 }
     requires workers { (0 < workers) × (workers ≤ MAX_WORKERS) }
@@ -559,74 +561,104 @@ fn verifying_reads<R: Threads + Sync>(
     let key = Key::new(COUNTING);
     let mut reader = FromRead(Endless { front, given: 0 });
     let verified = run_verify(rt, alloc, &key, &mut reader, max_bytes, workers, &Free);
-    if verified == Err(OpenFault::TooLong) {
+    if verified == Err(fault) {
         Some(reader.0.given)
     } else {
         None
     }
 }
 
-// Whether 1 and 4 workers read so many bytes of an endless input.
+// Whether 1 and 4 workers read so many bytes of an endless input, and name this fault.
 fn read_so_many<R: Threads + Sync>(
     rt: &R,
     alloc: Global,
     front: &[u8],
     max_bytes: u64,
     bytes: u64,
+    fault: OpenFault,
 ) -> bool
     requires { max_bytes ≤ 1099511627776 }
 {
     let wanted = Some(bytes);
-    opening_reads(rt, alloc, front, max_bytes, 1) == wanted
-        && opening_reads(rt, alloc, front, max_bytes, 4) == wanted
-        && verifying_reads(rt, alloc, front, max_bytes, 1) == wanted
-        && verifying_reads(rt, alloc, front, max_bytes, 4) == wanted
+    opening_reads(rt, alloc, front, max_bytes, 1, fault) == wanted
+        && opening_reads(rt, alloc, front, max_bytes, 4, fault) == wanted
+        && verifying_reads(rt, alloc, front, max_bytes, 1, fault) == wanted
+        && verifying_reads(rt, alloc, front, max_bytes, 4, fault) == wanted
 }
 
-// How many plaintext bytes are allowed, how many tags their chunks of 4 KiB have, and how many those of 64 KiB.
-static READS: [(u64, u64, u64); 7] = [
-    (0, 1, 1),
-    (1, 1, 1),
-    (4096, 1, 1),
-    (4097, 2, 1),
-    (65_536, 16, 1),
-    (65_537, 17, 2),
-    (1_000_000, 245, 16),
+// How many plaintext bytes are allowed, and how many tags their chunks of 4 KiB, of 64 KiB and of 1 MiB have.
+static READS: [(u64, [u64; 3]); 8] = [
+    (0, [1, 1, 1]),
+    (1, [1, 1, 1]),
+    (4096, [1, 1, 1]),
+    (4097, [2, 1, 1]),
+    (65_536, [16, 1, 1]),
+    (65_537, [17, 2, 1]),
+    (1_000_000, [245, 16, 1]),
+    (1_048_577, [257, 17, 2]),
 ];
 
-// Whether of an input that begins as a container in chunks of 4 KiB one byte past the longest is read.
-fn are_small_reads_bound<R: Threads + Sync>(rt: &R, alloc: Global, label: usize) -> Option<bool> {
-    let begun = container_of(alloc, 12, label, b"")?;
-    for (max_bytes, tags, _) in &READS {
-        let bytes = (FRONT + label.min(255)) as u64 + *max_bytes + 16 * *tags + 1;
-        if !read_so_many(rt, alloc, begun.as_slice(), *max_bytes, bytes) {
-            return None;
-        }
-    }
-    Some(true)
-}
-
-// The same of an input that isn't of version 2.
-fn are_other_reads_bound<R: Threads + Sync>(rt: &R, alloc: Global, front: &[u8]) -> bool {
-    for (max_bytes, _, tags) in &READS {
-        if !read_so_many(rt, alloc, front, *max_bytes, 25 + *max_bytes + 16 * *tags) {
+// Whether of an endless input whose header has so many bytes one byte past the longest container is read. Its chunks
+// are those of 4 KiB, 64 KiB or 1 MiB.
+fn are_reads_bound<R: Threads + Sync>(
+    rt: &R,
+    alloc: Global,
+    begun: &[u8],
+    header: u64,
+    chunks: usize,
+) -> bool
+    requires { (header ≤ 280) × (chunks < 3) }
+{
+    for (max_bytes, tags) in &READS {
+        let bytes = header + *max_bytes + 16 * tags[chunks] + 1;
+        if !read_so_many(rt, alloc, begun, *max_bytes, bytes, OpenFault::TooLong) {
             return false;
         }
     }
     true
 }
 
+// Whether that is so of what begins as a container of version 2.
+fn are_second_reads_bound<R: Threads + Sync>(
+    rt: &R,
+    alloc: Global,
+    exponent: u32,
+    chunks: usize,
+    label: usize,
+) -> Option<bool>
+    requires { chunks < 3 }
+{
+    let begun = container_of(alloc, exponent, label, b"")?;
+    let header = (FRONT + label.min(255)) as u64;
+    Some(are_reads_bound(rt, alloc, begun.as_slice(), header, chunks))
+}
+
 #[test]
-fn an_endless_input_of_small_chunks_is_read_to_the_bound(rt: HostRuntime) {
-    assert!(rt; are_small_reads_bound(&rt, rt.alloc(), 0) == Some(true));
-    assert!(rt; are_small_reads_bound(&rt, rt.alloc(), 1) == Some(true));
-    assert!(rt; are_small_reads_bound(&rt, rt.alloc(), 255) == Some(true));
+fn an_endless_input_is_read_to_the_bound(rt: HostRuntime) {
+    assert!(rt; are_second_reads_bound(&rt, rt.alloc(), 12, 0, 0) == Some(true));
+    assert!(rt; are_second_reads_bound(&rt, rt.alloc(), 12, 0, 1) == Some(true));
+    assert!(rt; are_second_reads_bound(&rt, rt.alloc(), 12, 0, 255) == Some(true));
+    assert!(rt; are_second_reads_bound(&rt, rt.alloc(), 16, 1, 255) == Some(true));
+    assert!(rt; are_second_reads_bound(&rt, rt.alloc(), 20, 2, 1) == Some(true));
+}
+
+// Of an endless input of version 2 whose header has a fault the header is read, and no more: the exponent is 11, behind
+// which stand zeros; or the hint is another key's, and the label has 255 bytes.
+#[test]
+fn nothing_is_read_behind_a_bad_header(rt: HostRuntime) -> Result<(), Fail> {
+    let exponent = b"STRMSEAL\x02\x0b";
+    assert!(rt; read_so_many(&rt, rt.alloc(), exponent, 4096, 25, OpenFault::BadExponent));
+    let mut begun = container_of(rt.alloc(), 12, 255, b"").ok_or("not sealed")?;
+    flip(begun.as_mut_slice(), 17, 1);
+    let fault = OpenFault::KeyMismatch;
+    assert!(rt; read_so_many(&rt, rt.alloc(), begun.as_slice(), 4096, 280, fault));
+    Ok(())
 }
 
 #[test]
 fn an_endless_input_of_another_version_is_read_to_its_bound(rt: HostRuntime) -> Result<(), Fail> {
-    assert!(rt; are_other_reads_bound(&rt, rt.alloc(), b""));
-    assert!(rt; are_other_reads_bound(&rt, rt.alloc(), b"STRMSEAL\x03\x0c"));
-    assert!(rt; are_other_reads_bound(&rt, rt.alloc(), &EMPTY));
+    assert!(rt; are_reads_bound(&rt, rt.alloc(), b"", 24, 1));
+    assert!(rt; are_reads_bound(&rt, rt.alloc(), b"STRMSEAL\x03\x0c", 24, 1));
+    assert!(rt; are_reads_bound(&rt, rt.alloc(), &EMPTY, 24, 1));
     Ok(())
 }

@@ -194,8 +194,8 @@ fn work_ledger<T: Threads + Sync, F: Folder, W: Sink, J: Sink>(
     (told, end_ledger(alloc, ledger, seats, journal))
 }
 
-/// Seals each file to its name and `.stm`, which must not be there yet, under a number of its own. The answer is the
-/// exit status: 0 where every file was sealed, 1 where one failed, 2 where no range was reserved, the ledger file not
+/// Seals each file to its name and `.stm`, which must not be there yet, in the options' shape and under a number of its
+/// own. The answer is the exit status: 0 where every file was sealed, 1 where one failed, 2 where no range was reserved, the ledger file not
 /// folded or no ledger opened (then no file was touched), where a line couldn't be written (no further line is tried,
 /// and the files and the journal are still worked), or where the journal couldn't be written whole. Each of these but a
 /// line has a text on standard error. An output whose file failed is removed.
