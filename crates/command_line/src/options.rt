@@ -126,9 +126,9 @@ pub(crate) static SEAL_ROWS: [Row; 8] = [
         takes: Takes::Number {
             least: 1,
             most: MAX_WINDOW,
-            absent: Absent::Default("16"),
+            absent: Absent::Nothing,
         },
-        help: "Chunks that are sealed at a time, 1 to 256, of 64 KiB without --exponent; of no effect with more than one lane",
+        help: "Chunks that are sealed at a time, 1 to 256; without it 1 MiB of them, no fewer than workers; of no effect with more than one lane",
     },
     Row {
         name: "exponent",

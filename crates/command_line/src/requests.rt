@@ -1,5 +1,5 @@
 //! What the commands are asked for, of words that their parser took.
-ghost use Rattle.std.specs.Prelude.{◌<◌, ◌≤◌, ◌≡◌, ℕ, IfErr, IfOk, IfSome, None, Option, OnErr};
+ghost use Rattle.std.specs.Prelude.{◌<◌, ◌≤◌, ◌≡◌, ◌⊎◌, ℕ, IfErr, IfOk, IfSome, None, Option, OnErr};
 ghost use Rattle.std.specs.Prelude.{Some, codes, false, length, option_map, true};
 ghost use Rattle.clap.specs.Matches.{first_value, found_of, one_text};
 ghost use Rattle.container_core.specs.Shape.{IsShape, IsShort};
@@ -7,7 +7,7 @@ ghost use Rattle.command_line.specs.Asked.{shape_asked};
 
 use clap::ArgMatches;
 use container_core::{MAX_EXPONENT, MAX_LABEL, MAX_PLAIN, MIN_EXPONENT, Shape};
-use crew_core::{DEFAULT_WINDOW, MAX_LANES, MAX_WINDOW, MAX_WORKERS};
+use crew_core::{MAX_LANES, MAX_WINDOW, MAX_WORKERS};
 use ledger_core::Device;
 use thiserror::Error as ThisError;
 
@@ -22,8 +22,10 @@ pub enum UsageFault {
     /// Never: the parser takes no words without these arguments.
     #[error("an argument is missing")]
     Missing,
+    /// More than one lane, and more than one worker.
     #[error("lanes and workers cannot both be above 1")]
     LanesAndWorkers,
+    /// A label of more than 255 bytes.
     #[error("label too long")]
     LabelTooLong,
 }
@@ -44,7 +46,7 @@ pub struct SealRequest<'m, 'a> {
     /// Plaintext bytes of a file at most.
     pub max_bytes: u64,
     pub journal: Option<&'a str>,
-    /// That of the containers.
+    /// The shape of the containers: version, size of chunks, label.
     pub shape: Shape,
 }
 
@@ -54,6 +56,7 @@ pub fn seal_request<'m, 'a>(matches: &'m ArgMatches<'a>) -> Result<SealRequest<'
     ensures files { IfOk result (λ request. 0 < length request.files.now) }
     ensures workers { IfOk result (λ request. (0 < request.workers) × (request.workers ≤ MAX_WORKERS)) }
     ensures lanes { IfOk result (λ request. (0 < request.lanes) × (request.lanes ≤ MAX_LANES)) }
+    ensures apart { IfOk result (λ request. (request.workers ≤ 1) ⊎ (request.lanes ≤ 1)) }
     ensures window { IfOk result (λ request. (0 < request.window) × (request.window ≤ MAX_WINDOW)) }
     ensures max_bytes { IfOk result (λ request. request.max_bytes ≤ MAX_PLAIN) }
 
@@ -96,7 +99,7 @@ pub fn seal_request<'m, 'a>(matches: &'m ArgMatches<'a>) -> Result<SealRequest<'
         files,
         workers,
         lanes,
-        window: window(matches),
+        window: window(matches, &shape, workers),
         max_bytes: max_bytes(matches),
         journal: matches.get_str("journal"),
         shape,
@@ -204,13 +207,15 @@ fn max_bytes(matches: &ArgMatches<'_>) -> u64
         .min(MAX_PLAIN)
 }
 
-// The number of chunks of a round, which the command line has tested.
-fn window(matches: &ArgMatches<'_>) -> u32
+// The number of chunks of a round, which the command line has tested; where none is given, as many as 1 MiB has, and no
+// fewer than workers.
+fn window(matches: &ArgMatches<'_>, shape: &Shape, workers: u32) -> u32
     ensures { (0 < result) × (result ≤ MAX_WINDOW) }
 {
+    let chunks = (1 << 20) / shape.chunk();
     matches
         .get_one::<u32>("window")
-        .unwrap_or(DEFAULT_WINDOW)
+        .unwrap_or((chunks as u32).max(workers))
         .max(1)
         .min(MAX_WINDOW)
 }

@@ -135,7 +135,7 @@ pub fn run_plain_by<T: Threads + Sync, R: Source, G: Gate + Sync>(
         reader,
         max_bytes,
         workers,
-        window,
+        Some(window),
         &mut out,
         gate,
     ) {
@@ -166,7 +166,8 @@ pub fn run_plain<T: Threads + Sync, R: Source, G: Gate + Sync>(
     run_plain_by(rt, alloc, key, reader, max_bytes, workers, window, gate)
 }
 
-/// `run_plain`, which answers with the plaintext the container's header.
+/// `run_plain`, which answers with the plaintext the container's header. Its rounds have as many chunks as 1 MiB has, and
+/// no fewer than workers.
 pub fn run_read<T: Threads + Sync, R: Source, G: Gate + Sync>(
     rt: &T,
     alloc: Global,
@@ -194,7 +195,7 @@ pub fn run_read<T: Threads + Sync, R: Source, G: Gate + Sync>(
         reader,
         max_bytes,
         workers,
-        DEFAULT_WINDOW,
+        None,
         &mut out,
         gate,
     ) {
@@ -286,7 +287,7 @@ pub fn run_verify_by<T: Threads + Sync, R: Source, G: Gate + Sync>(
         reader,
         max_bytes,
         workers,
-        window,
+        Some(window),
         &mut none,
         gate,
     ) {
@@ -316,7 +317,7 @@ pub fn run_verify<T: Threads + Sync, R: Source, G: Gate + Sync>(
     run_verify_by(rt, alloc, key, reader, max_bytes, workers, window, gate)
 }
 
-/// `run_verify`, which answers with the plaintext's length the container's header.
+/// `run_verify`, which answers with the plaintext's length the container's header, in rounds as those of `run_read`.
 pub fn run_check<T: Threads + Sync, R: Source, G: Gate + Sync>(
     rt: &T,
     alloc: Global,
@@ -345,7 +346,7 @@ pub fn run_check<T: Threads + Sync, R: Source, G: Gate + Sync>(
         reader,
         max_bytes,
         workers,
-        DEFAULT_WINDOW,
+        None,
         &mut none,
         gate,
     )

@@ -353,7 +353,17 @@ fn open_body<T: Threads + Sync, R: Source, G: Gate + Sync>(
     }
 }
 
-/// Opens all that the reader has left in rounds of `window` chunks, by 1 to 16 workers, appends its plaintext where the
+// The chunks of a window where no number of them is asked for: as many as 1 MiB has, and no fewer than workers.
+fn usual_window(header: &Header, workers: u32) -> u32
+    requires { (0 < workers) × (workers ≤ MAX_WORKERS) }
+    ensures { (0 < result) × (result ≤ MAX_WINDOW) }
+{
+    let chunks = (1 << 20) / header.chunk();
+    (chunks as u32).min(MAX_WINDOW).max(workers)
+}
+
+/// Opens all that the reader has left in rounds of `window` chunks (of 1 MiB, and a chunk a worker at least, where no
+/// number is given), by 1 to 16 workers, appends its plaintext where the
 /// task is `Opening`, and answers its header and how many bytes the plaintext has; or the first fault of the container. A
 /// failure leaves some of the plaintext. Of an input that is too long one byte past the longest container is read.
 pub(crate) fn open_rounds<T: Threads + Sync, R: Source, G: Gate + Sync>(
@@ -364,14 +374,14 @@ pub(crate) fn open_rounds<T: Threads + Sync, R: Source, G: Gate + Sync>(
     reader: &mut R,
     max_bytes: u64,
     workers: u32,
-    window: u32,
+    window: Option<u32>,
     out: &mut Vec<u8>,
     gate: &G,
 ) -> Result<(Header, u64), OpenFault>
     requires task { task ≢ Task.Sealing }
     requires max_bytes { max_bytes ≤ MAX_PLAIN }
     requires workers { (0 < workers) × (workers ≤ MAX_WORKERS) }
-    requires window { (0 < window) × (window ≤ MAX_WINDOW) }
+    requires window { IfSome window (λ chunks. (0 < chunks) × (chunks ≤ MAX_WINDOW)) }
     requires empty { out.old.items ≡ [] }
     ensures header { IfOk result (λ opened. IfSome (R.left reader.old) (HasHeader opened.0)) }
     ensures length { IfOk result (λ opened. IfSome (R.left reader.old) (λ input.
@@ -383,12 +393,15 @@ pub(crate) fn open_rounds<T: Threads + Sync, R: Source, G: Gate + Sync>(
         (R.failures reader.old) (R.failures reader.new) result }
 {
     match open_front(key, reader, max_bytes) {
-        Ok(header) => match open_body(
-            rt, alloc, task, key, &header, reader, max_bytes, workers, window, out, gate,
-        ) {
-            Ok(bytes) => Ok((header, bytes)),
-            Err(fault) => Err(fault),
-        },
+        Ok(header) => {
+            let window = window.unwrap_or(usual_window(&header, workers));
+            match open_body(
+                rt, alloc, task, key, &header, reader, max_bytes, workers, window, out, gate,
+            ) {
+                Ok(bytes) => Ok((header, bytes)),
+                Err(fault) => Err(fault),
+            }
+        }
         Err(fault) => Err(fault),
     }
 }
