@@ -54,7 +54,7 @@ early_fault_two key most bytes =
     (first_fault (too_long (header_length bytes) (size_in bytes) most (length bytes))
     (bad_length (header_length bytes) (size_in bytes) most (length bytes)))
 
--- of all other bytes
+-- the same of all bytes that don't begin as version 2: the length is tested before the header
 unfoldable pub early_fault_one : List ℕ → ℕ → List ℕ → Option OpenFault
 early_fault_one key most bytes =
     first_fault (too_long 24 65536 most (length bytes))

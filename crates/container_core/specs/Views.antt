@@ -12,7 +12,7 @@ pub record IsCut (cut : CutView) : Type 0 where
   pub most : cut.size ≤ 1048576
   pub few : cut.plain ≤ max_plain
 
--- inside: what a header's bytes always are
+-- what a header's bytes always are
 pub record IsHeader (bytes : List ℕ) : Type 0 where
   pub least : 12 ≤ slice_index bytes 9
   pub most : slice_index bytes 9 ≤ 20

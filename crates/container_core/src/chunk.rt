@@ -24,7 +24,7 @@ pub fn nonce(prefix: [u8; 7], chunk: u32, last: bool) -> [u8; 12]
     [a, b, c, d, e, f, g, h, i, j, k, if last { 1 } else { 0 }]
 }
 
-/// Seals a chunk of at most as many bytes as the header names in place, and answers its tag.
+/// Seals a chunk of at most 2^e bytes in place, where e is the header's exponent, and answers its tag.
 #[tactic(auto, unfolding(crate::specs::Stream::sealed_chunk))]
 pub fn seal_chunk(key: &Key, header: &Header, number: u32, last: bool, text: &mut [u8]) -> [u8; 16]
     requires { length text.old ≤ size_in header.now }
@@ -34,8 +34,8 @@ pub fn seal_chunk(key: &Key, header: &Header, number: u32, last: bool, text: &mu
     seal_in_place(key.bytes(), &nonce, header.bytes(), text)
 }
 
-/// Opens a chunk of at most as many bytes as the header names in place, where `tag` is its tag, and answers whether it is. Where it isn't,
-/// the chunk stays as it was.
+/// Opens a chunk of at most 2^e bytes in place, where e is the header's exponent and `tag` the chunk's tag, and answers
+/// whether it is. Where it isn't, the chunk stays as it was.
 pub fn open_chunk(
     key: &Key,
     header: &Header,
@@ -67,7 +67,8 @@ pub(crate) fn append(out: &mut Vec<u8>, bytes: &[u8])
     }
 }
 
-/// Appends a chunk of at most as many bytes as the header names sealed, its tag behind it, where there is room for both.
+/// Appends a chunk of at most 2^e bytes sealed, its tag behind it, where there is room for both; e is the header's
+/// exponent.
 pub fn append_sealed(
     out: &mut Vec<u8>,
     key: &Key,
@@ -87,8 +88,8 @@ pub fn append_sealed(
     append(out, &tag);
 }
 
-/// Appends a sealed chunk opened, where there is room for its plaintext, and answers whether its tag, the last 16
-/// bytes, is the right one. Where it isn't, nothing is appended.
+/// Appends a sealed chunk, of at most 2^e bytes and its tag, opened, where there is room for its plaintext, and answers
+/// whether the tag is the right one; e is the header's exponent. Where it isn't, nothing is appended.
 pub fn append_opened(
     out: &mut Vec<u8>,
     key: &Key,

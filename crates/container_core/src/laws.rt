@@ -3,7 +3,7 @@ ghost use Rattle.std.specs.Prelude.{◌≡◌, ℕ, ◌+◌, ◌-◌, ◌*◌, �
 ghost use Rattle.std.specs.Prelude.{length, take, drop, slice_index_or, None, Ok, Err};
 ghost use Rattle.container_core.specs.Chunks.{chunks, chunk_count, sealed_chunks};
 ghost use Rattle.container_core.specs.Chunks.{body_length, container_length, has_plaintext};
-ghost use Rattle.container_core.specs.Shape.{ShapeView, IsShape, size_of};
+ghost use Rattle.container_core.specs.Shape.{ShapeView, IsShape, size_of, two};
 ghost use Rattle.container_core.specs.Stream.{nonce_of, prefix_in, stream, stream_by};
 ghost use Rattle.container_core.specs.Container.{container, header_of, header_length, is_two, label_bytes, shape_in, size_in};
 ghost use Rattle.container_core.specs.declared.fault.OpenFault.{OpenFault};
@@ -41,7 +41,7 @@ pub fn faultless_headers()
     ensures enough { (key bytes : List ℕ) → header_fault key bytes ≡ None → header_length bytes ≤ length bytes }
 {}
 
-/// What a header of a shape names: its size, its length, its prefix, and the shape.
+/// What a header of a shape names: its size, its length, its prefix, the shape, and the label.
 pub fn headers_name_their_shape()
     ensures size { (key prefix : List ℕ) (shape : ShapeView) → size_in (header_of key shape prefix) ≡ size_of shape }
     ensures length { (key prefix : List ℕ) (shape : ShapeView) → length prefix ≡ 7
@@ -52,6 +52,9 @@ pub fn headers_name_their_shape()
         → prefix_in (header_of key shape prefix ++ rest) ≡ prefix }
     ensures shape { (key prefix rest : List ℕ) (shape : ShapeView) → length prefix ≡ 7
         → shape_in (header_of key shape prefix ++ rest) ≡ shape }
+    // What `Header::label` gives is the label.
+    ensures label { (key prefix label : List ℕ) (exponent : ℕ) → length prefix ≡ 7
+        → drop 25 (header_of key (two exponent label) prefix) ≡ label }
 {}
 
 /// Opening names faults of the bytes alone, never one of memory, a reader or a writer.
@@ -79,7 +82,9 @@ pub fn longest_containers()
 /// plaintexts with one container are the same.
 pub fn containers_differ()
     ensures shape { (key prefix plain other another more : List ℕ) (shape form : ShapeView)
-        → length prefix ≡ 7 → length other ≡ 7 → container key shape prefix plain ≡ container another form other more → (shape ≡ form) × (prefix ≡ other) }
+        → length prefix ≡ 7 → length other ≡ 7
+        → container key shape prefix plain ≡ container another form other more
+        → (shape ≡ form) × (prefix ≡ other) }
     ensures plaintext { (key prefix other plain another : List ℕ) (shape form : ShapeView) → IsShape shape → IsShape form
         → length prefix ≡ 7 → length other ≡ 7
         → container key shape prefix plain ≡ container key form other another

@@ -95,7 +95,8 @@ pub fn seal_into(out: &mut Vec<u8>, key: &Key, shape: &Shape, prefix: [u8; 7], p
     requires plain { length plain.now ≤ MAX_PLAIN }
     requires room { vec_len out.old + container_length (24 + length (label_bytes shape.now.label)) (size_of shape.now)
         (length plain.now) ≤ vec_capacity out.old }
-    ensures { out.new.items ≡ out.old.items ++ container key.now shape.now prefix plain.now }
+    ensures container { out.new.items ≡ out.old.items ++ container key.now shape.now prefix plain.now }
+    ensures capacity { vec_capacity out.old ≤ vec_capacity out.new }
 {
     let header = Header::of(key, shape, prefix);
     let cut = Cut::of(&header, plain.len() as u64);
@@ -149,6 +150,7 @@ pub fn open_into(
     ensures forged { IfErr result (λ fault.
         unsealed key.now header.now 0 (sealed_chunks cut.size body.now) ≡ Err fault) }
     ensures unchanged { OnErr result (out.new.items ≡ out.old.items) }
+    ensures capacity { vec_capacity out.old ≤ vec_capacity out.new }
 {
     let before = out.len();
     let count = cut.count();

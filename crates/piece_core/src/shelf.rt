@@ -271,9 +271,8 @@ impl Shelf {
     }
 
     /// The pieces joined: of a sealing's pieces the container, of an opening's the plaintext. `Missing` where a place
-    /// is empty; else `Forged` of the least piece that doesn't check; else `OutOfMemory` where memory was refused,
-    /// which is asked for only where the shelf's work didn't make all the pieces. A fault hands the shelf back as it
-    /// was.
+    /// is empty; else `Forged` of the least piece that doesn't check; else `OutOfMemory` where memory was refused. A
+    /// fault hands the shelf back as it was.
     pub fn finish(self, alloc: Global) -> Result<Vec<u8>, (ShelfFault, Shelf)>
         ensures whole { IfOk result (λ v. IsFull self × (shelf_whole self ≡ Ok v.items)) }
         ensures back { IfErr result (λ e. e.1 ≡ self) }
