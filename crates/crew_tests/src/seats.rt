@@ -1,8 +1,8 @@
 //! A seat over a sealing: the number that a refused growth makes void is gone, and the seat goes on with the next.
 ghost use Rattle.std.specs.Prelude.{◌≡◌};
 
-use crate::sealed::{ZERO_BYTES, ZEROS, is_digest, is_spent};
 use crate::COUNTING;
+use crate::sealed::{ZERO_BYTES, ZEROS, is_digest, is_spent};
 use container_core::{Key, Shape};
 use crew_core::{Free, seal_whole};
 use ledger_core::{Device, IssueFault, Ledger, Range, Seat, Way};

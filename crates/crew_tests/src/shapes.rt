@@ -7,7 +7,7 @@ use crate::damaged::is_refused_for;
 use crate::sealed::{is_digest, opens_to, sealed_in};
 use crate::{COUNTING, flip, pattern};
 use container_core::{Key, MAX_PLAIN, Shape, TAG, seal};
-use container_tests::{EMPTY_TWO};
+use container_tests::EMPTY_TWO;
 use crew_core::{Free, MAX_WORKERS};
 use std::alloc::Global;
 use std::test::Fail;
