@@ -3,8 +3,7 @@
 #![tactic(auto)]
 
 pub mod alterations;
-#[cfg(test)]
-mod damages;
+pub mod damages;
 #[cfg(test)]
 mod parts;
 pub mod samples;
@@ -14,4 +13,7 @@ mod version_two;
 mod whole;
 
 pub use crate::alterations::{LENGTH, Opener, print_table};
-pub use crate::samples::{COUNTING, EMPTY, prefix_of};
+pub use crate::damages::{
+    CHUNK_COUNT, Case, LONG_SHAPES, SHAPES, chunk_cases, header_cases, header_count,
+};
+pub use crate::samples::{COUNTING, EMPTY, EMPTY_TWO, prefix_of};

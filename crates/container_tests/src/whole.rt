@@ -150,13 +150,7 @@ fn empty_chunk_behind_a_full_one_is_a_bad_length(rt: HostRuntime) -> Result<(), 
 }
 
 // Whether the container cut to this length has this fault.
-pub(crate) fn is_refused_at(
-    alloc: Global,
-    key: &Key,
-    bytes: &[u8],
-    length: usize,
-    fault: OpenFault,
-) -> bool {
+fn is_refused_at(alloc: Global, key: &Key, bytes: &[u8], length: usize, fault: OpenFault) -> bool {
     length <= bytes.len() && has_fault(alloc, key, &bytes[..length], fault)
 }
 

@@ -1,8 +1,8 @@
 //! What opening by workers answers over damaged containers, and how long sealing and opening take by their number.
 //!
-//! Without an argument it opens the container of 131,073 zero bytes under the key 00 01 .. 1f, device 1, file 0, cut to
-//! lengths around the ends of its header and of its chunks, and with bytes of the header or whole chunks changed, by one
-//! worker and by four, and prints what each answers. `measure` times 64 MiB.
+//! Without an argument it opens the container of version 1 of 131,073 zero bytes under the key 00 01 .. 1f, device 1,
+//! file 0, cut to lengths around the ends of its header and of its chunks, and with bytes of the header or whole chunks
+//! changed, by one worker and by four, and prints what each answers. `measure` times 64 MiB.
 #![tactic(auto)]
 
 mod speed;

@@ -162,6 +162,7 @@ fn sealed_job(
             bytes,
             spent: grant.used(),
         },
+        // A job has at most 2^40 bytes, so only memory was refused.
         Err(_) => Outcome::Spoiled {
             seat: lane,
             spent: grant.waste(),

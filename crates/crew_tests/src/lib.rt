@@ -5,6 +5,8 @@
 #[cfg(test)]
 mod damaged;
 #[cfg(test)]
+mod damages;
+#[cfg(test)]
 mod gates;
 pub mod grants;
 pub mod late;
@@ -15,6 +17,8 @@ pub mod recorder;
 mod rounds;
 #[cfg(test)]
 mod sealed;
+#[cfg(test)]
+mod seats;
 #[cfg(test)]
 mod shapes;
 #[cfg(test)]

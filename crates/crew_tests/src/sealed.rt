@@ -36,10 +36,10 @@ pub static EIGHTEEN: [u8; 32] = [
 ];
 
 // 65,537 zero bytes that no allocation is asked for.
-static ZERO_BYTES: [u8; 65_537] = [0; 65_537];
+pub static ZERO_BYTES: [u8; 65_537] = [0; 65_537];
 
 // Whether a number of device 1 was spent in this way.
-fn is_spent(spent: &Spent, number: u32, way: Way) -> bool {
+pub fn is_spent(spent: &Spent, number: u32, way: Way) -> bool {
     spent.number() == number && spent.device().number() == 1 && spent.way() == way
 }
 

@@ -1,11 +1,13 @@
 //! Containers of version 2, in chunks of 4 KiB and of 1 MiB, by several workers. What they must be is what one thread
-//! seals; a round has 1,024 of the small chunks, or 4 of the great ones.
+//! seals, and their digests are those of Python's `cryptography` and `hashlib`; a round has 1,024 of the small chunks, or 4
+//! of the great ones. Cut and altered ones answer as the tables of `container_tests` say.
 ghost use Rattle.std.specs.Prelude.{◌<◌, ◌≤◌, length};
 
 use crate::damaged::is_refused_for;
 use crate::sealed::{is_digest, opens_to, sealed_in};
 use crate::{COUNTING, flip, pattern};
 use container_core::{Key, MAX_PLAIN, Shape, TAG, seal};
+use container_tests::EMPTY_TWO;
 use crew_core::{Free, MAX_WORKERS};
 use std::alloc::Global;
 use std::test::Fail;
@@ -97,6 +99,16 @@ fn five_small_chunks(rt: HostRuntime) -> Result<(), Fail> {
     damage(bytes.as_mut_slice(), 1 << 12, 4);
     damage(bytes.as_mut_slice(), 1 << 12, 2);
     assert!(rt; is_refused_by_both(&rt, rt.alloc(), bytes.as_slice(), 2));
+    Ok(())
+}
+
+// The empty plaintext with the label `ab`, whose 43 bytes `cryptography` made.
+#[test]
+fn no_byte_under_another_label(rt: HostRuntime) -> Result<(), Fail> {
+    let shape = Shape::two(12, b"ab")?;
+    for workers in [1, 4, 16] {
+        assert!(rt; is_made_by(&rt, rt.alloc(), &shape, b"", workers, &EMPTY_TWO));
+    }
     Ok(())
 }
 

@@ -15,5 +15,6 @@ pub use crate::rounds::Crew;
 pub const MAX_WORKERS: u32 = 16;
 /// The most chunks of a round of a file.
 pub const MAX_WINDOW: u32 = 256;
-/// The chunks of a round of a file where no other number is asked for: 1 MiB.
+/// The chunks of a round of a file where no other number is asked for: 1 MiB of chunks of 64 KiB, 64 KiB to 16 MiB in
+/// version 2.
 pub const DEFAULT_WINDOW: u32 = 16;

@@ -1,0 +1,49 @@
+//! Containers of version 2 that are cut or altered: 1 and 4 workers answer what the tables of `container_tests` say, which
+//! are of the format.
+ghost use Rattle.std.specs.Prelude.{◌<◌, ◌≤◌};
+
+use crate::COUNTING;
+use container_core::Key;
+use container_tests::{
+    CHUNK_COUNT, Case, LONG_SHAPES, SHAPES, chunk_cases, header_cases, header_count,
+};
+use crew_core::{Free, MAX_WORKERS, open_whole};
+use std::alloc::Global;
+use std::test::Fail;
+use std::thread::Threads;
+
+// Whether so many workers have the answer of a case.
+fn is_answered_by<R: Threads + Sync>(rt: &R, alloc: Global, case: &Case, workers: u32) -> bool
+    requires { (0 < workers) × (workers ≤ MAX_WORKERS) }
+{
+    let key = Key::new(COUNTING);
+    case.is_answered(&open_whole(rt, alloc, &key, case.bytes(), workers, &Free))
+}
+
+// Whether there are so many cases, and 1 and 4 workers have the answer of each.
+fn are_answered<R: Threads + Sync>(rt: &R, alloc: Global, cases: &[Case], count: usize) -> bool {
+    for case in cases {
+        if !is_answered_by(rt, alloc, case, 1) || !is_answered_by(rt, alloc, case, 4) {
+            return false;
+        }
+    }
+    cases.len() == count
+}
+
+#[test]
+fn damaged_headers_are_refused(rt: HostRuntime) -> Result<(), Fail> {
+    for (exponent, label) in &SHAPES {
+        let cases = header_cases(rt.alloc(), *exponent, *label)?;
+        assert!(rt; are_answered(&rt, rt.alloc(), cases.as_slice(), header_count(*label)));
+    }
+    Ok(())
+}
+
+#[test]
+fn damaged_chunks_are_refused(rt: HostRuntime) -> Result<(), Fail> {
+    for (exponent, label) in &LONG_SHAPES {
+        let cases = chunk_cases(rt.alloc(), *exponent, *label)?;
+        assert!(rt; are_answered(&rt, rt.alloc(), cases.as_slice(), CHUNK_COUNT));
+    }
+    Ok(())
+}

@@ -1,0 +1,57 @@
+//! A seat over a sealing: the number that a refused growth makes void is gone, and the seat goes on with the next.
+ghost use Rattle.std.specs.Prelude.{◌≡◌};
+
+use crate::COUNTING;
+use crate::sealed::{ZERO_BYTES, ZEROS, is_digest, is_spent};
+use container_core::{Key, Shape};
+use crew_core::{Free, seal_whole};
+use ledger_core::{Device, IssueFault, Ledger, Range, Seat, Way};
+use std::alloc::{AllocError, Global};
+use std::thread::Threads;
+
+// Whether the number 0, issued at a seat, is sealed with the container of 65,537 zeros by two workers, or void without it.
+fn is_spent_by_its_result<R: Threads + Sync>(
+    rt: &R,
+    alloc: Global,
+    ledger: &Ledger,
+    seat: &mut Seat,
+) -> Option<bool>
+    requires { seat.old.ledger ≡ ledger.now.ledger }
+    ensures { seat.new.ledger ≡ seat.old.ledger }
+{
+    let grant = ledger.issue(seat).ok()?;
+    let key = Key::new(COUNTING);
+    let (result, spent) = seal_whole(rt, alloc, &key, &Shape::one(), grant, &ZERO_BYTES, 2, &Free);
+    match result {
+        Ok(bytes) => {
+            Some(is_digest(bytes.as_slice(), 65_593, &ZEROS) && is_spent(&spent, 0, Way::Sealed))
+        }
+        Err(AllocError) => Some(is_spent(&spent, 0, Way::Void)),
+    }
+}
+
+// The number that a seat is granted next; an issue whose memory was refused is tried again.
+fn next_number(ledger: &Ledger, seat: &mut Seat) -> Option<u32>
+    requires { seat.old.ledger ≡ ledger.now.ledger }
+{
+    let grant = match ledger.issue(seat) {
+        Err(IssueFault::OutOfMemory) => ledger.issue(seat).ok()?,
+        issued => issued.ok()?,
+    };
+    Some(grant.number())
+}
+
+// Whether the seat of a ledger of two numbers spends number 0 on a sealing, whether or not that was refused memory, and is
+// granted number 1 next.
+fn goes_on<R: Threads + Sync>(rt: &R, alloc: Global) -> Option<bool> {
+    let range = Range::new(Device::new(1)?, 0, 2).ok()?;
+    let (ledger, mut seats) = Ledger::open(alloc, range, 1).ok()?;
+    let seat = &mut seats[0];
+    let spent = is_spent_by_its_result(rt, alloc, &ledger, seat)?;
+    Some(spent && next_number(&ledger, seat) == Some(1))
+}
+
+#[test]
+fn a_refused_growth_leaves_the_next_number(rt: HostRuntime) {
+    assert!(rt; goes_on(&rt, rt.alloc()) == Some(true));
+}
