@@ -1,1 +1,2 @@
 pub mod AeadLemmas
+pub mod StripLemmas

@@ -5,8 +5,9 @@
 //! tag of a plaintext, `opened` the plaintext of such a pair.
 #![tactic(auto)]
 
-ghost use Rattle.std.specs.Prelude.{◌≡◌, ℕ, ◌-◌, ◌*◌, ◌^◌, ◌≤◌, ◌↔◌, List, ◌++◌, length, take};
+ghost use Rattle.std.specs.Prelude.{◌≡◌, ℕ, ◌+◌, ◌-◌, ◌*◌, ◌/◌, ◌%◌, ◌^◌, ◌<◌, ◌≤◌, ◌↔◌, List, ◌++◌, length, take, drop};
 ghost use Rattle.std.specs.Prelude.{IsTrue, Some, None, false, if◌then◌else◌};
+ghost use Rattle.chacha_core.specs.ChaCha20.{chacha20};
 ghost use Rattle.poly_core.specs.Absorbed.{Absorbed};
 ghost use Rattle.poly_core.specs.Poly1305.{poly1305, pad16};
 ghost use Rattle.aead_core.specs.Aead.{one_time_key, mac_data, enciphered, tag_of, aead, opened};
@@ -18,6 +19,12 @@ pub mod laws;
 
 // The counter of the text's first block; block 0 gives the one-time key.
 const FIRST: u32 = 1;
+
+// The bytes of a block.
+const BLOCK: usize = 64;
+
+// How many bytes are enciphered before they are absorbed: whole blocks that a first-level cache holds.
+const STRIP: usize = 16384;
 
 // The first 32 bytes of a block, which has 64.
 fn first_half(block: &[u8; 64]) -> [u8; 32]
@@ -75,6 +82,26 @@ fn encipher(key: &[u8; 32], nonce: &[u8; 12], text: &mut [u8])
     apply(key, nonce, FIRST, text);
 }
 
+// Enciphers the strip of a text from `at` to `end`, from whole blocks on, and absorbs it.
+fn seal_strip(
+    mac: &mut Mac,
+    key: &[u8; 32],
+    nonce: &[u8; 12],
+    text: &mut [u8],
+    at: usize,
+    end: usize,
+)
+    requires { (at / 64 < 2 ^ 32 - 1) × (at ≤ end) × (end ≤ length text.old) × (length text.old ≤ (2 ^ 32 - 1) * 64) }
+    ensures text { text.new ≡ take at text.old
+        ++ (chacha20 key.now nonce.now (1 + at / 64) (take (end - at) (drop at text.old)) ++ drop end text.old) }
+    ensures mac { (key message : List ℕ) → Absorbed mac.old key message
+        → Absorbed mac.new key (message ++ take (end - at) (drop at text.new)) }
+{
+    let strip = &mut text[at..end];
+    apply(key, nonce, FIRST + (at / BLOCK) as u32, strip);
+    mac.absorb(strip);
+}
+
 /// Seals `text` in place under a key of 32 bytes, a nonce of 12 and associated data: the text
 /// becomes its ciphertext, and the tag of 16 bytes is answered (RFC 8439, 2.8). A text has at most
 /// 2^32 - 1 blocks of 64 bytes.
@@ -83,8 +110,14 @@ pub fn seal_in_place(key: &[u8; 32], nonce: &[u8; 12], aad: &[u8], text: &mut [u
     ensures ciphertext { text.new ≡ (aead key.now nonce.now aad.now text.old).0 }
     ensures tag { result ≡ (aead key.now nonce.now aad.now text.old).1 }
 {
-    encipher(key, nonce, text);
-    tag_of(key, nonce, aad, text)
+    let mut mac = begin(key, nonce, aad);
+    let strips = text.len() / STRIP;
+    'strips: for i in 0..strips {
+        seal_strip(&mut mac, key, nonce, text, STRIP * i, STRIP * i + STRIP);
+    }
+    let end = text.len();
+    seal_strip(&mut mac, key, nonce, text, STRIP * strips, end);
+    finish(mac, aad, text)
 }
 
 /// Whether `tag` is the tag of the associated data and of a ciphertext, under a key of 32 bytes and

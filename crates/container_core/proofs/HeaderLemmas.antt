@@ -375,6 +375,14 @@ labelled key prefix rest label exponent seven_bytes =
     let same : get_or bytes 24 0 ∷ drop 25 bytes ≡ length label ∷ (label ++ rest) = sym more ∙ behind in
     (ap (λ (l : List ℕ). get_or l 0 0) same, ap (λ (l : List ℕ). drop 1 l) same)
 
+-- what stands behind the length of a label is the label
+pub label-of : (key prefix label : List ℕ) (exponent : ℕ) → length prefix ≡ 7
+    → drop 25 (header_of key (two exponent label) prefix) ≡ label
+label-of key prefix label exponent seven_bytes =
+    let bytes = labelled key prefix [] label exponent seven_bytes in
+    ap (λ (l : List ℕ). drop 25 l) (sym (append-nil (header_of key (two exponent label) prefix)))
+    ∙ bytes.1 ∙ append-nil label
+
 pub header_length-of : (key prefix rest : List ℕ) (exponent : ℕ) (label : Option (List ℕ)) → length prefix ≡ 7
     → header_length (header_of key (record { exponent = exponent; label = label }) prefix ++ rest) ≡ 24 + length (label_bytes label)
 header_length-of key prefix rest exponent None seven_bytes = length-one _ (two-of key prefix rest exponent None)

@@ -1,4 +1,4 @@
-use Rattle.container_core.proofs.HeaderLemmas.{size-header_of, length-header_of, header_length-of, prefix_in-header_of, shape_in-of}
+use Rattle.container_core.proofs.HeaderLemmas.{size-header_of, length-header_of, header_length-of, prefix_in-header_of, shape_in-of, label-of}
 use Rattle.container_core.proofs.laws.headers_name_their_shape.Goals as goal
 
 pub returns-clause-size : goal.returns-clause-size
@@ -15,3 +15,6 @@ returns-clause-prefix c = prefix_in-header_of
 
 pub returns-clause-shape : goal.returns-clause-shape
 returns-clause-shape c = shape_in-of
+
+pub returns-clause-label : goal.returns-clause-label
+returns-clause-label c = label-of
