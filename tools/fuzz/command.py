@@ -1,5 +1,5 @@
 """Command lines made by chance: those that are refused, and lawful ones at the bounds, with what they do."""
-from fuzz.container import MOST, USUAL, Parts
+from fuzz.container import MOST, USUAL, Parts, shown
 from fuzz.run import Ask
 
 KEY, PLAIN = bytes(range(32)), bytes(range(200)) * 100
@@ -33,8 +33,10 @@ def lawful_options(rng, command, first_only):
         given["--ledger"] = "ledger"
         if rng.random() < 0.1:
             given["--no-new-ledger"] = None
-        if not first_only and rng.random() < 0.4:
-            given["--label"] = rng.choice(LABELS)
+    if not first_only and rng.random() < (0.4 if command == "seal" else 0.1):
+        given["--label"] = rng.choice(LABELS)
+    if not first_only and command == "verify" and rng.random() < 0.2:
+        given["--show"] = None
     return given
 
 
@@ -102,9 +104,9 @@ def another_command(rng, command, given, name, _):
 
 
 def value_of_a_flag(rng, command, given, name, _):
-    given["--no-new-ledger"] = "yes"
-    words = words_of(rng, [row for row in given.items() if row[0] != "--no-new-ledger"])
-    return [command, *words, "--no-new-ledger=yes"], [name]
+    flag = "--no-new-ledger" if command == "seal" else "--show"
+    given.pop(flag, None)
+    return [command, *words_of(rng, list(given.items())), f"{flag}=yes"], [name]
 
 
 def label_too_long(rng, command, given, name, _):
@@ -118,9 +120,10 @@ def no_text(rng, command, given, name, _):
 
 WRONGS = [
     number_past_a_bound, number_past_a_bound, no_number, option_twice, option_twice, unknown_option, something_left_out,
-    value_left_out, another_command, no_text,
+    value_left_out, another_command, no_text, value_of_a_flag,
 ]
-SEAL_WRONGS = [value_of_a_flag, label_too_long]
+# Not wrong where there are no labels.
+LABEL_WRONGS = [label_too_long]
 
 
 # --- The cases ---
@@ -134,8 +137,11 @@ def wanted_of(ask, command, given):
         ask.status, ask.faults = 2, "ledger: not there\n"
     elif len(PLAIN) > given.get("--max-bytes", USUAL):
         ask.status, ask.out = 1, [f"failed {ask.names[-1]}: too long"]
+    elif command != "seal" and "--label" in given:
+        ask.status, ask.out = 1, [f"failed {ask.names[-1]}: another label"]
     elif command == "verify":
         ask.out = [f"good a.stm bytes {len(PLAIN)}"]
+        ask.out += [shown(ask.files["a.stm"])] if "--show" in given else []
     elif command == "open":
         ask.out, ask.left = [f"opened a.stm bytes {len(PLAIN)}"], {"a": PLAIN}
     else:
@@ -154,7 +160,7 @@ def ask(rng, case, first_only):
     data = PLAIN if command == "seal" else Parts(KEY, bytes(7), PLAIN).data()
     files = {"key": KEY.hex().encode(), name: data}
     if rng.random() < 0.75:
-        wrong = rng.choice(WRONGS + SEAL_WRONGS * (command == "seal"))
+        wrong = rng.choice(WRONGS + LABEL_WRONGS * (not first_only))
         words, names = wrong(rng, command, given, name, first_only)
         return Ask(case, words, names, files, 2, [], None)
     asked = Ask(case, [command, *words_of(rng, list(given.items()))], ["--"] * rng.randrange(2) + [name], files, 0, [])

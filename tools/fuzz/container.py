@@ -67,6 +67,21 @@ def plaintext(key, data, most):
     return b"".join(pieces)
 
 
+def label_in(data):
+    """The label of a container that checks; version 1 has none."""
+    return data[25:25 + data[24]] if data[8] == 2 else None
+
+
+def shown(data):
+    """What `verify --show` says of a container that checks."""
+    size, device, number = 1 << data[9], int.from_bytes(data[10:13], "big"), int.from_bytes(data[13:17], "big")
+    line = f"  version {data[8]} chunk {size} device {device} file {number}"
+    if data[8] == 1:
+        return line
+    printed = (chr(it) if 32 <= it < 127 and it not in b'"\\' else f"\\x{it:02x}" for it in label_in(data))
+    return f'{line} label "{"".join(printed)}"'
+
+
 # --- A container in its parts ---
 
 
@@ -125,7 +140,8 @@ def drawn(rng, key, most, first_only):
     exponent, label = 16, None
     if not first_only and rng.random() < 0.75:
         exponent = rng.choice(EXPONENTS)
-        label = rng.randbytes(rng.choice((0, 0, 1, 2, 16, 254, 255, rng.randrange(256))))
+        length = rng.choice((0, 0, 1, 2, 16, 254, 255, rng.randrange(256)))
+        label = rng.choice((rng.randbytes(length), bytes(rng.choices(b'ab "\\\n\x1b', k=length))))
     length = length_near(rng, 1 << exponent, most)
     plain = (rng.randbytes(61) * (length // 61 + 1))[:length]
     return Parts(key, prefix, plain, exponent, label)
@@ -297,6 +313,21 @@ def altered(rng, parts):
     return data
 
 
+def asked_label(rng, data):
+    """A label that may be asked for: mostly that of these bytes, where a command line can have it, or one beside it."""
+    there = label_in(data) if len(data) > 24 and data[:9] == MAGIC + b"\x02" else b"a label"
+    return rng.choice((there, there, there, there[:-1], there + b"x", b""))
+
+
+def as_words(label):
+    """A label as a word of a command line, or None where it can't be one."""
+    try:
+        text = label.decode()
+    except UnicodeDecodeError:
+        return None
+    return text if "\0" not in text and len(label) < 256 else None
+
+
 def asks(rng, first, count, first_only):
     """So many containers, numbered from the first one, for one run."""
     key = rng.randbytes(32)
@@ -306,15 +337,28 @@ def asks(rng, first, count, first_only):
     most = rng.choice((USUAL, USUAL, MOST, rng.choice(limits)))
     if most != USUAL:
         words += ["--max-bytes", str(most)]
+    shows = command == "verify" and not first_only and rng.random() < 0.4
+    if shows:
+        words.append("--show")
+    made = {}
     for case in range(first, first + count):
-        name = f"{case}.stm"
         data = altered(rng, drawn(rng, rng.randbytes(32) if rng.random() < 0.05 else key, most, first_only))
         if first_only and data[:9] == MAGIC + b"\x02":
             data = MAGIC + b"\x03" + data[9:]
+        made[case] = data
+    label = None
+    if not first_only and rng.random() < 0.3:
+        label = as_words(asked_label(rng, rng.choice(list(made.values()))))
+    if label is not None:
+        words.append(f"--label={label}")
+    for case, data in made.items():
+        name = f"{case}.stm"
         ask = Ask(case, words, [name], {"key": key.hex().encode(), name: data}, 0, [])
         try:
             plain = plaintext(key, data, most)
+            refuse(label is not None and label_in(data) != label.encode(), "another label")
             ask.out = [f"{'good' if command == 'verify' else 'opened'} {name} bytes {len(plain)}"]
+            ask.out += [shown(data)] if shows else []
             ask.left = {str(case): plain} if command == "open" else {}
         except Fault as fault:
             ask.status, ask.out = 1, [f"failed {name}: {fault}"]

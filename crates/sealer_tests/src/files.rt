@@ -426,29 +426,53 @@ static EMPTY_LABEL: Case = Case {
         ("one.stm", &SECRET),
         ("two.stm", &LABELLED),
         ("bare.stm", &BARE),
-        ("cut.stm", &CUT),
     ],
     trouble: Trouble::Nothing,
-    work: Work::VerifyLabelled(b""),
+    work: Work::OpenLabelled(b""),
     files: &["one.stm", "two.stm", "bare.stm"],
     max_bytes: 8,
     status: 1,
     lines: b"failed one.stm: another label\n\
       failed two.stm: another label\n\
-      good bare.stm bytes 0\n",
+      opened bare.stm bytes 0\n",
     faults: b"",
     journal: b"",
     left: &[
         ("one", Left::Absent),
         ("two", Left::Absent),
-        ("bare", Left::Absent),
-        ("cut", Left::Absent),
+        ("bare", Left::Is(b"")),
     ],
 };
 
 #[test]
 fn version_1_has_no_label_which_is_not_the_empty_one(rt: HostRuntime) {
     assert!(rt; ends(&rt, &EMPTY_LABEL));
+}
+
+static VERIFIED_LABEL: Case = Case {
+    folder: &[
+        ("one.stm", &SECRET),
+        ("two.stm", &LABELLED),
+        ("bare.stm", &BARE),
+        ("cut.stm", &CUT),
+    ],
+    trouble: Trouble::Nothing,
+    work: Work::VerifyLabelled(b"db dump"),
+    files: &["one.stm", "two.stm", "bare.stm", "cut.stm"],
+    max_bytes: 8,
+    status: 1,
+    lines: b"failed one.stm: another label\n\
+      good two.stm bytes 8\n\
+      failed bare.stm: another label\n\
+      failed cut.stm: chunk 0 does not check\n",
+    faults: b"",
+    journal: b"",
+    left: &[("two", Left::Absent)],
+};
+
+#[test]
+fn a_file_with_the_label_is_good_and_no_other(rt: HostRuntime) {
+    assert!(rt; ends(&rt, &VERIFIED_LABEL));
 }
 
 static SHOWN: Case = Case {

@@ -23,6 +23,7 @@ loop-number-init c =
       left = container-header key c.args.prefix plain c.of-header.result c.append.new.out.items front shape (size_of shape) refl
           c.of-header.ensures.header (c.append.ensures.items ∙ ap (λ (b : List ℕ). front ++ b) c.bytes.ensures.bytes);
       room = omega (arith, c.args.out.now.ok.0, c.requires.room, c.append.ensures.room, long, both);
+      capacity = c.append.ensures.room;
     }
 
 pub append_sealed-requires-clause-room : goal.append_sealed-requires-clause-room
@@ -63,10 +64,14 @@ loop-number-preserved c =
           (c.chunk_of-chunk.ensures.chunk ∙ ap (λ (s : ℕ). get_or (chunks s c.args.plain.now) number []) sized)
           ∙ sealed_more key header number cs out (c.args.out.now.items ++ container key c.args.shape.now c.args.prefix c.args.plain.now) below c.loop-number.invariant.left;
       room = omega (arith, c.loop-number.invariant.room, c.append_sealed.ensures.capacity);
+      capacity = omega (arith, c.loop-number.invariant.capacity, c.append_sealed.ensures.capacity);
     }
 
-pub returns : goal.returns
-returns c =
+pub returns-clause-capacity : goal.returns-clause-capacity
+returns-clause-capacity c = c.loop-number.invariant.capacity
+
+pub returns-clause-container : goal.returns-clause-container
+returns-clause-container c =
     let size = size_of c.args.shape.now in
     let cs = chunks size c.args.plain.now in
     let sized : c.of-cut.result.size ≡ size = c.of-cut.ensures.size ∙ ap (λ (h : List ℕ). size_in h) c.of-header.ensures.header

@@ -10,4 +10,5 @@ abbrev pub invariant-loop-number : goal.invariant-loop-number
 invariant-loop-number l = record {
   left : l.out.items ++ stream l.key l.header l.number (drop l.number (chunks (size_of l.shape) l.plain)) ≡ l.fn.out.items ++ container l.key l.shape l.fn.prefix l.plain;
   room : length (l.fn.out.items ++ container l.key l.shape l.fn.prefix l.plain) ≤ vec_capacity l.out;
+  capacity : vec_capacity l.fn.out ≤ vec_capacity l.out;
 }
