@@ -1,8 +1,8 @@
 -- What `verify --show` prints of a good container, on the line behind its own.
-use Rattle.std.specs.Prelude.{◌≡◌, ℕ, ◌/◌, ◌%◌, ◌==◌, ◌&&◌, nat_lt, not, Bool, List, [], ◌∷◌, ◌++◌, take, drop}
+use Rattle.std.specs.Prelude.{◌≡◌, ◌≤◌, ℕ, ◌/◌, ◌%◌, ◌==◌, ◌&&◌, nat_lt, not, Bool, List, [], ◌∷◌, ◌++◌, take, drop}
 use Rattle.std.specs.Prelude.{false, flat_map, slice_index, codes, if◌then◌else◌}
 use Rattle.std.specs.Fmt.{decimal, digit_glyph}
-use Rattle.journal_core.specs.Range.{prefix_of}
+use Rattle.journal_core.specs.Range.{most_device, prefix_of}
 use Rattle.container_core.specs.Container.{size_in}
 use Rattle.container_core.specs.Stream.{prefix_in}
 use Rattle.command_core.specs.declared.facts.Facts.{Facts}
@@ -16,6 +16,7 @@ pub record IsOfHeader (facts : Facts) (header : List ℕ) : Type 0 where
   pub version : facts.version ≡ slice_index header 8
   pub chunk : facts.chunk ≡ size_in header
   pub prefix : prefix_of facts.device facts.number ≡ prefix_in header
+  pub few : facts.device ≤ most_device
   pub label : label_of facts ≡ drop 25 header
 
 -- a byte that is printed as it is: printable ASCII, but the quote and the backslash

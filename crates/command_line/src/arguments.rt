@@ -11,7 +11,7 @@ Behind a command, --help tells its options and what it prints.";
 /// What stands at the end of the help of `open` and `verify`.
 const FILES_HELP: &str =
     "A line on standard output tells of each FILE. Exit status: 0 where none failed, 1 where some did, 2 where
-nothing was done, or a line could not be written. open holds a FILE's plaintext in memory, verify some dozens of its chunks.";
+nothing was done, or a line could not be written. open holds a FILE's plaintext in memory, verify some megabytes of it.";
 
 /// What stands at the end of the help of `seal`.
 const SEAL_HELP: &str =

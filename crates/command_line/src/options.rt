@@ -81,7 +81,7 @@ pub(crate) static FILE_ROWS: [Row; 4] = [
 pub(crate) static LABEL_ROWS: [Row; 1] = [Row {
     name: "label",
     takes: Takes::Text,
-    help: "Only FILEs with this label pass, 0 to 255 bytes of UTF-8; without it any label passes, and none",
+    help: "Only FILEs with this label pass, 0 to 255 bytes of UTF-8; without it no label is looked at",
 }];
 
 /// What `verify` takes besides these.

@@ -128,9 +128,12 @@ pub fn open_request<'m, 'a>(matches: &'m ArgMatches<'a>) -> Result<OpenRequest<'
     ensures label { IfOk result (λ request. option_map (λ label. label.now) request.label
         ≡ first_value (found_of matches.now) (codes "label")) }
     ensures short { IfOk result (λ request. IfSome request.label (λ label. length label.now ≤ MAX_LABEL)) }
-    ensures show { IfOk result (λ request. one_text (found_of matches.now) (codes "show") ≡ None → request.show ≡ false) }
     ensures shown { IfOk result (λ request. one_text (found_of matches.now) (codes "show") ≡ Some (codes "true")
         → request.show ≡ true) }
+    ensures hidden { IfOk result (λ request. one_text (found_of matches.now) (codes "show") ≡ Some (codes "false")
+        → request.show ≡ false) }
+    ensures without { IfOk result (λ request. one_text (found_of matches.now) (codes "show") ≡ None
+        → request.show ≡ false) }
     ensures too_long { result ≡ Err UsageFault.LabelTooLong
         → IfSome (first_value (found_of matches.now) (codes "label")) (λ label. MAX_LABEL < length label) }
 {
