@@ -1,5 +1,5 @@
-//! Containers under the key 00 01 .. 1f, device 1 and file 0, and digests of longer ones, of Python's `cryptography` and
-//! `hashlib`.
+//! Containers under the key 00 01 .. 1f, device 1 and file 0, and digests of longer ones, of Python's `cryptography`
+//! and `hashlib`.
 
 // The container of the empty plaintext.
 pub(crate) static EMPTY: [u8; 40] = [

@@ -1,5 +1,5 @@
-//! Version 2: containers that are cut or altered, or whose chunks were exchanged or moved. All engines refuse them as the
-//! tables of `container_tests` say, which are of the format, and before anything is written.
+//! Version 2: containers that are cut or altered, or whose chunks were exchanged or moved. All engines refuse them as
+//! the tables of `container_tests` say, which are of the format, and before anything is written.
 ghost use Rattle.std.specs.Prelude.{◌<◌, ◌≤◌};
 
 use crate::shapes::{FRONT, container_of, size_of};
@@ -111,8 +111,8 @@ fn damaged_chunks_are_refused(rt: HostRuntime) -> Result<(), Fail> {
     Ok(())
 }
 
-// Bytes that are changed in a container of two whole chunks and a byte: how many whole chunks stand before it behind the
-// header, how many bytes of its own chunk, how many of all are taken off again, and the chunk that is named.
+// Bytes that are changed in a container of two whole chunks and a byte: how many whole chunks stand before it behind
+// the header, how many bytes of its own chunk, how many of all are taken off again, and the chunk that is named.
 static CHANGES: [(u8, u8, u8, u32); 8] = [
     (0, 0, 0, 0),
     (1, 0, 17, 0),

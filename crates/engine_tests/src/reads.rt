@@ -186,8 +186,8 @@ fn an_endless_input_of_another_version_is_read_to_its_bound(rt: HostRuntime) -> 
     Ok(())
 }
 
-// Whether opening and verifying by a reader that fails behind so many bytes have the fault of a failed read, and nothing
-// is written.
+// Whether opening and verifying by a reader that fails behind so many bytes have the fault of a failed read, and
+// nothing is written.
 fn is_failure_seen<R: Threads + Sync>(
     rt: &R,
     alloc: Global,
@@ -216,8 +216,8 @@ fn is_failure_seen<R: Threads + Sync>(
     Some(opened == failed && verified == failed && writer.bytes().is_empty())
 }
 
-// Whether 1 and 4 workers see a reader that fails behind 24 bytes of a container, behind 25, and behind all of its header
-// but a byte.
+// Whether 1 and 4 workers see a reader that fails behind 24 bytes of a container, behind 25, and behind all of its
+// header but a byte.
 fn are_failures_seen<R: Threads + Sync>(rt: &R, alloc: Global, label: usize) -> Option<bool> {
     let bytes = container_of(alloc, 12, label, b"1")?;
     let header = (FRONT + label.min(255)) as u64;

@@ -1,5 +1,5 @@
-//! Version 2: chunks of 2^12, 2^16 and 2^20 bytes under labels of 0, 1 and 255 bytes, made and opened by all engines. The
-//! digests are those of Python's `cryptography` and `hashlib`.
+//! Version 2: chunks of 2^12, 2^16 and 2^20 bytes under labels of 0, 1 and 255 bytes, made and opened by all engines.
+//! The digests are those of Python's `cryptography` and `hashlib`.
 ghost use Rattle.std.specs.Prelude.{◌<◌, ◌≤◌};
 
 use crate::containers::SHAPED;
