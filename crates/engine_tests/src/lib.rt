@@ -6,6 +6,8 @@ mod audits;
 #[cfg(test)]
 mod containers;
 #[cfg(test)]
+mod damages;
+#[cfg(test)]
 mod engines;
 #[cfg(test)]
 mod gates;
@@ -14,10 +16,12 @@ mod one_thread;
 #[cfg(test)]
 mod overlap;
 #[cfg(test)]
+mod reads;
+#[cfg(test)]
 mod rounds;
 #[cfg(test)]
-mod tables;
+mod shapes;
 #[cfg(test)]
-mod version_two;
+mod tables;
 #[cfg(test)]
 mod windows;

@@ -36,7 +36,7 @@ fn forty_chunks(alloc: Global) -> Result<Vec<u8>, Fail> {
 
 // Why these bytes don't verify, by so many workers in windows of so many chunks, where opening them says the same and
 // writes nothing.
-fn fault_in<R: Threads + Sync>(
+pub(crate) fn fault_in<R: Threads + Sync>(
     rt: &R,
     alloc: Global,
     bytes: &[u8],

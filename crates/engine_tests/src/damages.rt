@@ -1,0 +1,180 @@
+//! Version 2: containers that are cut or altered, or whose chunks were exchanged or moved. All engines refuse them as
+//! the tables of `container_tests` say, which are of the format, and before anything is written.
+ghost use Rattle.std.specs.Prelude.{◌<◌, ◌≤◌};
+
+use crate::shapes::{FRONT, container_of, size_of};
+use crate::windows::{LIMIT, fault_in};
+use container_core::{Key, OpenFault, TAG};
+use container_tests::{
+    CHUNK_COUNT, Case, LONG_SHAPES, SHAPES, chunk_cases, header_cases, header_count,
+};
+use crew_core::{Free, MAX_WORKERS};
+use crew_tests::{COUNTING, flip, pattern};
+use engine_core::{run_open, run_verify, verify_one};
+use io_memory::{FromMemory, Schedule, ToMemory};
+use std::alloc::Global;
+use std::test::Fail;
+use std::thread::Threads;
+
+const MOST: usize = usize::MAX;
+
+// Why so many workers refuse these bytes, where opening and verifying say the same and nothing is written.
+fn refusal_by<R: Threads + Sync>(
+    rt: &R,
+    alloc: Global,
+    bytes: &[u8],
+    workers: u32,
+) -> Option<OpenFault>
+    requires workers { (0 < workers) × (workers ≤ MAX_WORKERS) }
+{
+    let key = Key::new(COUNTING);
+    let mut reader = FromMemory::new(bytes, 70_001, Schedule::Never);
+    let verified = run_verify(rt, alloc, &key, &mut reader, LIMIT, workers, &Free);
+    let mut reader = FromMemory::new(bytes, MOST, Schedule::Never);
+    let mut writer = ToMemory::new(alloc, 64, MOST, Schedule::Never).ok()?;
+    let opened = run_open(
+        rt,
+        alloc,
+        &key,
+        &mut reader,
+        &mut writer,
+        LIMIT,
+        workers,
+        &Free,
+    );
+    if opened == verified && writer.bytes().is_empty() {
+        opened.err()
+    } else {
+        None
+    }
+}
+
+// Why one thread refuses them.
+fn refusal_by_one(alloc: Global, bytes: &[u8]) -> Option<OpenFault> {
+    let mut reader = FromMemory::new(bytes, MOST, Schedule::Never);
+    verify_one(alloc, &Key::new(COUNTING), &mut reader, LIMIT).err()
+}
+
+// Why all refuse them, where that is one fault: one thread, 1 and 4 workers, and 2 in windows of one chunk.
+fn refusal_of<R: Threads + Sync>(
+    rt: &R,
+    alloc: Global,
+    bytes: &[u8],
+) -> Result<Option<OpenFault>, Fail> {
+    let fault = refusal_by_one(alloc, bytes);
+    let in_ones = Some(fault_in(rt, alloc, bytes, LIMIT, 2, 1)?);
+    let is_one = in_ones == fault
+        && refusal_by(rt, alloc, bytes, 1) == fault
+        && refusal_by(rt, alloc, bytes, 4) == fault;
+    Ok(if is_one { fault } else { None })
+}
+
+// Whether all engines refuse the bytes of a case as it says.
+fn is_refused<R: Threads + Sync>(rt: &R, alloc: Global, case: &Case) -> Result<bool, Fail> {
+    match refusal_of(rt, alloc, case.bytes())? {
+        Some(fault) => Ok(case.is_answered(&Err(fault))),
+        None => Ok(false),
+    }
+}
+
+// Whether there are so many cases, of which all but the first, a good container, are refused.
+fn are_refused<R: Threads + Sync>(
+    rt: &R,
+    alloc: Global,
+    cases: &[Case],
+    count: usize,
+) -> Result<bool, Fail> {
+    for case in cases.get(1..).ok_or("no case")? {
+        if !is_refused(rt, alloc, case)? {
+            return Ok(false);
+        }
+    }
+    Ok(cases.len() == count)
+}
+
+#[test]
+fn damaged_headers_are_refused(rt: HostRuntime) -> Result<(), Fail> {
+    for (exponent, label) in &SHAPES {
+        let cases = header_cases(rt.alloc(), *exponent, *label)?;
+        assert!(rt; are_refused(&rt, rt.alloc(), cases.as_slice(), header_count(*label))?);
+    }
+    Ok(())
+}
+
+// Cut, and with chunks exchanged, inserted again, taken out, or of another file.
+#[test]
+fn damaged_chunks_are_refused(rt: HostRuntime) -> Result<(), Fail> {
+    for (exponent, label) in &LONG_SHAPES {
+        let cases = chunk_cases(rt.alloc(), *exponent, *label)?;
+        assert!(rt; are_refused(&rt, rt.alloc(), cases.as_slice(), CHUNK_COUNT)?);
+    }
+    Ok(())
+}
+
+// Bytes that are changed in a container of two whole chunks and a byte: how many whole chunks stand before it behind
+// the header, how many bytes of its own chunk, how many of all are taken off again, and the chunk that is named.
+static CHANGES: [(u8, u8, u8, u32); 8] = [
+    (0, 0, 0, 0),
+    (1, 0, 17, 0),
+    (1, 0, 16, 0),
+    (1, 0, 1, 0),
+    (1, 0, 0, 1),
+    (2, 0, 1, 1),
+    (2, 0, 0, 2),
+    (2, 16, 0, 2),
+];
+
+// Whether each of these changes is seen, where a header and a sealed chunk have so many bytes.
+fn are_seen<R: Threads + Sync>(
+    rt: &R,
+    alloc: Global,
+    bytes: &mut [u8],
+    header: usize,
+    sealed: usize,
+) -> Result<bool, Fail>
+    requires header { header ≤ 280 }
+    requires sealed { sealed ≤ 1048592 }
+{
+    for (chunks, more, less, chunk) in &CHANGES {
+        let most = header + usize::from(*chunks) * sealed + usize::from(*more);
+        let place = most.saturating_sub(usize::from(*less));
+        flip(bytes, place, 1);
+        if refusal_of(rt, alloc, bytes)? != Some(OpenFault::Forged { chunk: *chunk }) {
+            return Ok(false);
+        }
+        flip(bytes, place, 1);
+    }
+    Ok(true)
+}
+
+// The container of two whole chunks of the pattern and a byte.
+fn three_chunks(alloc: Global, exponent: u32, label: usize) -> Result<Vec<u8>, Fail> {
+    let size = size_of(exponent);
+    let plain = pattern(alloc, 2 * size + 1)?;
+    let bytes = container_of(alloc, exponent, label, plain.as_slice()).ok_or("not sealed")?;
+    if bytes.len() != FRONT + label.min(255) + 2 * (size + TAG) + 1 + TAG {
+        return Err("another length".into());
+    }
+    Ok(bytes)
+}
+
+#[test]
+fn changed_chunks_are_named(rt: HostRuntime) -> Result<(), Fail> {
+    for (exponent, label) in &LONG_SHAPES {
+        let mut bytes = three_chunks(rt.alloc(), *exponent, *label)?;
+        let header = FRONT + (*label).min(255);
+        let sealed = size_of(*exponent) + TAG;
+        assert!(rt; are_seen(&rt, rt.alloc(), bytes.as_mut_slice(), header, sealed)?);
+    }
+    Ok(())
+}
+
+// A label that is a byte longer than it was leaves a last chunk without a byte of plaintext.
+#[test]
+fn a_longer_label_is_a_wrong_length(rt: HostRuntime) -> Result<(), Fail> {
+    let mut bytes = three_chunks(rt.alloc(), 12, 0)?;
+    flip(bytes.as_mut_slice(), FRONT - 1, 1);
+    let fault = refusal_of(&rt, rt.alloc(), bytes.as_slice())?;
+    assert!(rt; fault == Some(OpenFault::BadLength));
+    Ok(())
+}
