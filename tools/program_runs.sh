@@ -669,8 +669,10 @@ wants show-label 0 'good life/shapes/empty.stm bytes 0
   version 2 chunk 4096 device 3 file 0 label "a\x22b"' ''
 run open --key "$key" --label 'a"b' life/shapes/empty.stm
 wants right-label 0 'opened life/shapes/empty.stm bytes 0' ''
-run verify --key "$key" --label "$(printf 'x%.0s' $(seq 256))" life/shapes/empty.stm
-wants label-too-long 2 '' 'usage: label too long'
+for command in verify open; do
+    run $command --key none --label "$(printf 'x%.0s' $(seq 256))" life/shapes/empty.stm
+    wants "$command-label-too-long" 2 '' 'usage: label too long'
+done
 rm -f life/shapes/empty.stm life/shapes/plain
 # A label that was changed, its length, and another chunk size: see docs/FORMATS.md.
 run seal --key "$key" --ledger life/shapes/ledger --device 2 --exponent 12 --label ab life/shapes/empty

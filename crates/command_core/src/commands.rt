@@ -1,4 +1,4 @@
-//! The commands over a folder: each file in turn, with one line on standard output for each.
+//! The commands over a folder: each file in turn, with its line on standard output.
 //!
 //! A file that fails keeps no other from being worked. Where a line can't be written no further line is tried, the
 //! files are still worked, and the exit status is 2.

@@ -1,4 +1,4 @@
-//! What a command says of each file: one line on standard output.
+//! What a command says of each file on standard output: one line, and of a good file a second one where it is shown.
 ghost use Rattle.std.specs.Prelude.{Some};
 ghost use Rattle.command_core.specs.Lines.{fault_text, line_text};
 
@@ -63,7 +63,7 @@ pub enum FileOutcome {
     Failed(FileFault),
 }
 
-/// A file's line, without its line feed.
+/// A file's line, and the second one of what is shown, without the line feed at their end.
 #[derive(Clone, Copy, PartialEq, Eq, Debug)]
 pub struct Line<'a> {
     /// The name, as it was given.

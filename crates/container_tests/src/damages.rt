@@ -23,17 +23,6 @@ pub static SHAPES: [(u32, usize); 9] = [
     (20, 255),
 ];
 
-/// Those of containers of three chunks: one alone of the greatest chunks, as it has 2 MiB.
-pub static LONG_SHAPES: [(u32, usize); 7] = [
-    (12, 0),
-    (12, 1),
-    (12, 255),
-    (16, 0),
-    (16, 1),
-    (16, 255),
-    (20, 255),
-];
-
 /// Bytes that are opened, and what is answered: so many zero bytes, or a fault.
 #[derive(Drop)]
 pub struct Case {
@@ -280,7 +269,7 @@ fn damaged_headers_are_refused(rt: HostRuntime) -> Result<(), Fail> {
 
 #[test]
 fn damaged_chunks_are_refused(rt: HostRuntime) -> Result<(), Fail> {
-    for (exponent, label) in &LONG_SHAPES {
+    for (exponent, label) in &SHAPES {
         let cases = chunk_cases(rt.alloc(), *exponent, *label)?;
         assert!(rt; are_answered(rt.alloc(), cases.as_slice(), CHUNK_COUNT));
     }

@@ -13,7 +13,5 @@ mod version_two;
 mod whole;
 
 pub use crate::alterations::{LENGTH, Opener, print_table};
-pub use crate::damages::{
-    CHUNK_COUNT, Case, LONG_SHAPES, SHAPES, chunk_cases, header_cases, header_count,
-};
+pub use crate::damages::{CHUNK_COUNT, Case, SHAPES, chunk_cases, header_cases, header_count};
 pub use crate::samples::{COUNTING, EMPTY, EMPTY_TWO, prefix_of};

@@ -4,9 +4,7 @@ ghost use Rattle.std.specs.Prelude.{◌<◌, ◌≤◌};
 
 use crate::COUNTING;
 use container_core::Key;
-use container_tests::{
-    CHUNK_COUNT, Case, LONG_SHAPES, SHAPES, chunk_cases, header_cases, header_count,
-};
+use container_tests::{CHUNK_COUNT, Case, SHAPES, chunk_cases, header_cases, header_count};
 use crew_core::{Free, MAX_WORKERS, open_whole};
 use std::alloc::Global;
 use std::test::Fail;
@@ -41,7 +39,7 @@ fn damaged_headers_are_refused(rt: HostRuntime) -> Result<(), Fail> {
 
 #[test]
 fn damaged_chunks_are_refused(rt: HostRuntime) -> Result<(), Fail> {
-    for (exponent, label) in &LONG_SHAPES {
+    for (exponent, label) in &SHAPES {
         let cases = chunk_cases(rt.alloc(), *exponent, *label)?;
         assert!(rt; are_answered(&rt, rt.alloc(), cases.as_slice(), CHUNK_COUNT));
     }

@@ -5,9 +5,7 @@ ghost use Rattle.std.specs.Prelude.{◌<◌, ◌≤◌};
 use crate::shapes::{FRONT, container_of, size_of};
 use crate::windows::{LIMIT, fault_in};
 use container_core::{Key, OpenFault, TAG};
-use container_tests::{
-    CHUNK_COUNT, Case, LONG_SHAPES, SHAPES, chunk_cases, header_cases, header_count,
-};
+use container_tests::{CHUNK_COUNT, Case, SHAPES, chunk_cases, header_cases, header_count};
 use crew_core::{Free, MAX_WORKERS};
 use crew_tests::{COUNTING, flip, pattern};
 use engine_core::{run_open, run_verify, verify_one};
@@ -104,7 +102,7 @@ fn damaged_headers_are_refused(rt: HostRuntime) -> Result<(), Fail> {
 // Cut, and with chunks exchanged, inserted again, taken out, or of another file.
 #[test]
 fn damaged_chunks_are_refused(rt: HostRuntime) -> Result<(), Fail> {
-    for (exponent, label) in &LONG_SHAPES {
+    for (exponent, label) in &SHAPES {
         let cases = chunk_cases(rt.alloc(), *exponent, *label)?;
         assert!(rt; are_refused(&rt, rt.alloc(), cases.as_slice(), CHUNK_COUNT)?);
     }
@@ -160,7 +158,7 @@ fn three_chunks(alloc: Global, exponent: u32, label: usize) -> Result<Vec<u8>, F
 
 #[test]
 fn changed_chunks_are_named(rt: HostRuntime) -> Result<(), Fail> {
-    for (exponent, label) in &LONG_SHAPES {
+    for (exponent, label) in &SHAPES {
         let mut bytes = three_chunks(rt.alloc(), *exponent, *label)?;
         let header = FRONT + (*label).min(255);
         let sealed = size_of(*exponent) + TAG;

@@ -5,7 +5,7 @@ ghost use Rattle.std.specs.Prelude.{◌<◌, ◌≤◌};
 use container_core::{Key, Shape, seal};
 use crew_core::{Gate, MAX_WORKERS};
 use crew_tests::{COUNTING, Late, Meeting, Recorder, grant_of, pattern, zeros};
-use engine_core::{run_open, run_plain, run_seal, run_verify};
+use engine_core::{run_check, run_open, run_plain, run_read, run_seal, run_verify};
 use io_memory::{FromMemory, Schedule, ToMemory};
 use std::alloc::Global;
 use std::test::Fail;
@@ -28,9 +28,18 @@ enum Engine {
     Open,
     Verify,
     Plain,
+    Read,
+    Check,
 }
 
-static ENGINES: [Engine; 4] = [Engine::Seal, Engine::Open, Engine::Verify, Engine::Plain];
+static ENGINES: [Engine; 6] = [
+    Engine::Seal,
+    Engine::Open,
+    Engine::Verify,
+    Engine::Plain,
+    Engine::Read,
+    Engine::Check,
+];
 
 // Whether an engine does its work over this plaintext: over its container, where the engine doesn't seal.
 fn runs<R: Threads + Sync, G: Gate + Sync>(
@@ -95,6 +104,8 @@ fn reads<R: Threads + Sync, G: Gate + Sync>(
     match engine {
         Engine::Open => opens(rt, alloc, &mut reader, workers, gate) == Some(true),
         Engine::Verify => run_verify(rt, alloc, &key, &mut reader, LIMIT, workers, gate).is_ok(),
+        Engine::Read => run_read(rt, alloc, &key, &mut reader, LIMIT, workers, gate).is_ok(),
+        Engine::Check => run_check(rt, alloc, &key, &mut reader, LIMIT, workers, gate).is_ok(),
         _ => run_plain(rt, alloc, &key, &mut reader, LIMIT, workers, gate).is_ok(),
     }
 }
@@ -142,7 +153,27 @@ fn two_workers_meet_in_each_engine(rt: HostRuntime) -> Result<(), Fail> {
     Ok(())
 }
 
-// That the test above can fail: one worker passes twice, and the gate gives up.
+// Whether two workers meet over a container of two chunks of 1 MiB, whose windows have as many chunks as workers.
+fn meet_over_great_chunks<R: Threads + Sync>(rt: &R, alloc: Global, plain: &[u8]) -> Option<bool> {
+    let shape = Shape::two(20, b"").ok()?;
+    let container = seal(alloc, &Key::new(COUNTING), &shape, PREFIX, plain).ok()?;
+    for engine in [Engine::Read, Engine::Check] {
+        let gate = Meeting::new(2, TURNS);
+        if !reads(rt, alloc, engine, container.as_slice(), 2, &gate) || gate.gave_up() {
+            return Some(false);
+        }
+    }
+    Some(true)
+}
+
+#[test]
+fn two_workers_meet_over_great_chunks(rt: HostRuntime) -> Result<(), Fail> {
+    let plain = zeros(rt.alloc(), (1 << 20) + 1)?;
+    assert!(rt; meet_over_great_chunks(&rt, rt.alloc(), plain.as_slice()) == Some(true));
+    Ok(())
+}
+
+// That two workers meet can be missed: one worker passes twice, and the gate gives up.
 #[test]
 fn one_worker_meets_nobody(rt: HostRuntime) -> Result<(), Fail> {
     let plain = zeros(rt.alloc(), 65_537)?;
