@@ -586,7 +586,7 @@ wants more-lanes-than-16 2 '' "begins error: invalid value '17' for '--lanes <N>
 run seal --help
 wants seal-help 0 'begins Seals each FILE to FILE.stm' ''
 is help-of-lanes grep -q 'above 1 only with one worker' out
-is help-of-window grep -q 'of no effect with more than one lane' out
+is help-of-window grep -q 'of no effect with several lanes' out
 run seal --key "$key" --device 1 life/waits
 wants no-ledger 2 '' 'begins error: the following required arguments were not provided:
   --ledger <F>'

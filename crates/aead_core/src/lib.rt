@@ -5,7 +5,7 @@
 //! tag of a plaintext, `opened` the plaintext of such a pair.
 #![tactic(auto)]
 
-ghost use Rattle.std.specs.Prelude.{◌≡◌, ℕ, ◌+◌, ◌-◌, ◌*◌, ◌/◌, ◌%◌, ◌^◌, ◌<◌, ◌≤◌, ◌↔◌, List, ◌++◌, length, take, drop};
+ghost use Rattle.std.specs.Prelude.{◌≡◌, ℕ, ◌+◌, ◌-◌, ◌*◌, ◌/◌, ◌^◌, ◌<◌, ◌≤◌, ◌↔◌, List, ◌++◌, length, take, drop};
 ghost use Rattle.std.specs.Prelude.{IsTrue, Some, None, false, if◌then◌else◌};
 ghost use Rattle.chacha_core.specs.ChaCha20.{chacha20};
 ghost use Rattle.poly_core.specs.Absorbed.{Absorbed};

@@ -101,8 +101,8 @@ fn a_batch_of_version_two(rt: HostRuntime) -> Result<(), Fail> {
     Ok(())
 }
 
-// Whether a gate that all of so many jobs have to meet gives up, and the outcomes, where there are as many passes as jobs
-// and each job is sealed.
+// Whether a gate that all of so many jobs have to meet gives up, and the outcomes, where there are as many passes as
+// jobs and each job is sealed.
 fn met<R: Threads + Sync>(
     rt: &R,
     alloc: Global,

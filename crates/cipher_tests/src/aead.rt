@@ -143,7 +143,8 @@ fn is_refused_cut(pair: Pair) -> bool {
     }
 }
 
-// Each altered byte of the ciphertext makes both calls refuse, and a missing first byte `check`, which takes the pair itself.
+// Each altered byte of the ciphertext makes both calls refuse, and a missing first byte `check`, which takes the pair
+// itself.
 #[test]
 fn each_altered_byte_is_seen(rt: HostRuntime) -> Result<(), Fail> {
     let pair = first_pair();

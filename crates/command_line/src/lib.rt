@@ -1,6 +1,7 @@
 //! The command line of `sealer`: its commands and options, with their ranges, and what a command is asked for.
 //!
-//! What the parser took lies in the ranges that `sealer_core` asks for, so the program calls it only within its conditions.
+//! What the parser took lies in the ranges that `sealer_core` asks for, so the program calls it only within its
+//! conditions.
 #![tactic(auto)]
 
 pub mod arguments;

@@ -39,8 +39,8 @@ pub(crate) fn container_of(header: u64, size: u64, plain: u64) -> u64
     header + plain + TAG as u64 * chunks_of(size, plain)
 }
 
-/// How many bytes the container of so many plaintext bytes has in a shape: the header's, the plaintext's, and 16 for each
-/// chunk.
+/// How many bytes the container of so many plaintext bytes has in a shape: the header's, the plaintext's, and 16 for
+/// each chunk.
 pub fn container_bytes(shape: &Shape, plain: u64) -> u64
     requires { plain ≤ MAX_PLAIN }
     ensures { result ≡ container_length (24 + length (label_bytes shape.now.label)) (size_of shape.now) plain }
@@ -48,8 +48,8 @@ pub fn container_bytes(shape: &Shape, plain: u64) -> u64
     container_of(shape.header_bytes() as u64, shape.chunk() as u64, plain)
 }
 
-/// How a plaintext, or what stands behind the header of its container, is cut into chunks. Contracts see the size of the
-/// chunks, 2^12 to 2^20 bytes, and the number of plaintext bytes, at most 2^40.
+/// How a plaintext, or what stands behind the header of its container, is cut into chunks. Contracts see the size of
+/// the chunks, 2^12 to 2^20 bytes, and the number of plaintext bytes, at most 2^40.
 #[derive(Clone, Copy, PartialEq, Eq, Debug)]
 pub struct Cut {
     size: u64,
@@ -81,9 +81,9 @@ impl Cut {
         }
     }
 
-    /// The cut of so many bytes behind a header, into chunks of 2^e bytes by the exponent e that it names. `TooLong` over
-    /// 2^40 + 16 * 2^(40 - e) bytes; else `BadLength` where no plaintext has a container with so many bytes behind its
-    /// header.
+    /// The cut of so many bytes behind a header, into chunks of 2^e bytes by the exponent e that it names. `TooLong`
+    /// over 2^40 + 16 * 2^(40 - e) bytes; else `BadLength` where no plaintext has a container with so many bytes behind
+    /// its header.
     ///
     /// All chunks but the last have 2^e + 16 bytes with their tags. The last has 17 to 2^e + 16, or 16 where it is the
     /// only one.

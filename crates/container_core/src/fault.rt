@@ -6,8 +6,8 @@ use std::error::Error;
 use std::fmt;
 
 /// Why a container wasn't opened. The first eight are tested in this order, but of what begins as version 2: there
-/// `ShortHeader` of fewer than 24 bytes comes first, then `BadExponent`, `KeyMismatch`, `ShortHeader` of a header that ends
-/// too early, `TooLong`, `BadLength` and `Forged`. No function of this crate answers `Read` or `Write`.
+/// `ShortHeader` of fewer than 24 bytes comes first, then `BadExponent`, `KeyMismatch`, `ShortHeader` of a header that
+/// ends too early, `TooLong`, `BadLength` and `Forged`. No function of this crate answers `Read` or `Write`.
 #[derive(Clone, Copy, PartialEq, Eq, Debug)]
 pub enum OpenFault {
     /// More bytes than the container of the greatest plaintext allowed.

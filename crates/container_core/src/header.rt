@@ -134,8 +134,8 @@ impl Header {
         if bytes.len() > 25 { &bytes[25..] } else { &[] }
     }
 
-    /// How many bytes the container of so many plaintext bytes has under this header: the header's, the plaintext's, and
-    /// 16 for each chunk.
+    /// How many bytes the container of so many plaintext bytes has under this header: the header's, the plaintext's,
+    /// and 16 for each chunk.
     pub fn container_bytes(&self, plain: u64) -> u64
         requires { plain ≤ MAX_PLAIN }
         ensures { result ≡ container_length (length self.now) (size_in self.now) plain }
@@ -153,8 +153,8 @@ pub fn begins_as_two(bytes: &[u8]) -> bool
     begin == MAGIC_TWO.as_slice()
 }
 
-/// How many bytes the header has with which these bytes begin: 24, and in version 2 one more and as many as that says. Of
-/// version 2 with fewer than 25 bytes it is 25.
+/// How many bytes the header has with which these bytes begin: 24, and in version 2 one more and as many as that says.
+/// Of version 2 with fewer than 25 bytes it is 25.
 #[tactic(auto, unfolding(crate::specs::Container::header_length))]
 pub fn header_bytes(bytes: &[u8]) -> usize
     ensures value { result ≡ header_length bytes.now }

@@ -111,8 +111,8 @@ pub fn chunks_by_number()
         → length (sealed_chunks size body) ≡ chunk_count size n }
 {}
 
-/// How many chunks there are: one of a plaintext of up to `size` bytes, else one more than of what is left without so many;
-/// and in how many bytes they stand.
+/// How many chunks there are: one of a plaintext of up to `size` bytes, else one more than of what is left without so
+/// many; and in how many bytes they stand.
 pub fn chunks_counted()
     ensures one { (size n : ℕ) → 0 < size → n ≤ size → chunk_count size n ≡ 1 }
     ensures whole { (size k : ℕ) → 0 < size → 0 < k → chunk_count size (k * size) ≡ k }

@@ -1,5 +1,5 @@
-//! Sealed containers: a header of 24 bytes, in version 2 with a label behind it, and the chunks of a plaintext, sealed as
-//! in STREAM over the AEAD of RFC 8439.
+//! Sealed containers: a header of 24 bytes, in version 2 with a label behind it, and the chunks of a plaintext, sealed
+//! as in STREAM over the AEAD of RFC 8439.
 //!
 //! `specs/` has the format: `chunks` of a plaintext, `stream` of a list of chunks, `container` of a key, a shape, a
 //! prefix and a plaintext, and `opening`, which names the first fault of any bytes, or gives their plaintext.

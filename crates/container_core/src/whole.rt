@@ -33,8 +33,8 @@ fn is_long_one(front: &[u8], bytes: u64, most: u64) -> bool
 
 /// The header and the cut of a container of so many bytes under a key, of at most `most` plaintext bytes, or the first
 /// fault that shows before any chunk is opened. `front` is the container's beginning: its header at least, or all that
-/// it has. Of version 2 the header's faults come first, then `TooLong` and `BadLength`; else `TooLong`, the header's and
-/// `BadLength`. Takes no memory.
+/// it has. Of version 2 the header's faults come first, then `TooLong` and `BadLength`; else `TooLong`, the header's
+/// and `BadLength`. Takes no memory.
 pub fn begin_within(
     key: &Key,
     front: &[u8],
@@ -165,8 +165,8 @@ pub fn open_into(
 }
 
 /// The plaintext of a container under a key, of at most 2^40 bytes, or the first fault that applies: those that `begin`
-/// names, and then `Forged`. `OutOfMemory` where the room for the plaintext was refused, which is asked for once all but
-/// the tags was tested, and before any of these is.
+/// names, and then `Forged`. `OutOfMemory` where the room for the plaintext was refused, which is asked for once all
+/// but the tags was tested, and before any of these is.
 pub fn open(alloc: Global, key: &Key, bytes: &[u8]) -> Result<Vec<u8>, OpenFault>
     ensures plaintext { IfOk result (λ out. opening key.now MAX_PLAIN bytes.now ≡ Ok out.items) }
     ensures fault { IfErr result (λ fault. (fault ≡ OpenFault.OutOfMemory)

@@ -1,5 +1,5 @@
-//! Containers of version 2 that are cut or altered, of each size and label of a table, and what opening answers to each,
-//! which is of the format. Whoever opens containers in a way of his own goes over the same cases.
+//! Containers of version 2 that are cut or altered, of each size and label of a table, and what opening answers to
+//! each, which is of the format. Whoever opens containers in a way of his own goes over the same cases.
 ghost use Rattle.std.specs.Prelude.{◌≤◌, ◌+◌, ◌*◌, length};
 
 use crate::alterations::{MOVES, moved};
@@ -217,9 +217,9 @@ fn add_chunk_cases(
     add_moves(cases, alloc, bytes, other, header, sealed)
 }
 
-/// The container of two whole chunks of 2^exponent zero bytes and one more, under the key 00 01 .. 1f and with a label of
-/// so many bytes: as it is, cut about the ends of its header and its chunks, and with chunks exchanged, repeated, left out
-/// or taken from another file.
+/// The container of two whole chunks of 2^exponent zero bytes and one more, under the key 00 01 .. 1f and with a label
+/// of so many bytes: as it is, cut about the ends of its header and its chunks, and with chunks exchanged, repeated,
+/// left out or taken from another file.
 pub fn chunk_cases(alloc: Global, exponent: u32, label: usize) -> Result<Vec<Case>, Fail> {
     let shape = Shape::two(exponent, label_of(label))?;
     let (key, header, chunk) = (counting_key(), shape.header_bytes(), shape.chunk());

@@ -13,11 +13,11 @@ use std::alloc::{AllocError, Global};
 use std::thread::Threads;
 use worker_core::Gate;
 
-/// Seals at most 65,535 jobs, each of at most 2^40 bytes, in one shape, by 1 to 16 lanes. Lane i uses the seat at place i. The lanes
-/// draw the jobs in the order of their numbers, each its next when it is done with the last, till none is left: for
-/// each a lane passes the gate with the job's number, issues a number, and seals the job on its own thread. So a lane
-/// that is held up holds up one job alone. The caller's thread is lane 0, and a lane that can't be started is left out.
-/// There are no more lanes than jobs.
+/// Seals at most 65,535 jobs, each of at most 2^40 bytes, in one shape, by 1 to 16 lanes. Lane i uses the seat at place
+/// i. The lanes draw the jobs in the order of their numbers, each its next when it is done with the last, till none is
+/// left: for each a lane passes the gate with the job's number, issues a number, and seals the job on its own thread.
+/// So a lane that is held up holds up one job alone. The caller's thread is lane 0, and a lane that can't be started is
+/// left out. There are no more lanes than jobs.
 ///
 /// The answer has one outcome for each job, in the order of the jobs. Nothing is settled: that is the caller's. Where
 /// memory for what the lanes share, or for the places of all outcomes, is refused, nothing was issued. Each lane has

@@ -1,5 +1,5 @@
-//! A body sealed or opened in rounds: while the crew makes one, the caller's thread appends the bytes of the one before,
-//! and then draws pieces as the others do.
+//! A body sealed or opened in rounds: while the crew makes one, the caller's thread appends the bytes of the one
+//! before, and then draws pieces as the others do.
 //!
 //! The room of the crew is made before the first piece is, and so is that of the whole, by the caller: from then on
 //! nothing answers that memory was refused. Each round asks for one word more, and does without it.
@@ -24,8 +24,8 @@ use std::alloc::{AllocError, Global};
 use std::thread::Threads;
 use worker_core::{Crew, Gate, MAX_WORKERS};
 
-// Plaintext bytes of a round that isn't the last: 4 MiB, sealed in some 5 ms by one worker, where a thread starts in less
-// than 0.1 ms. It has 4 chunks of 1 MiB, 64 of 64 KiB, or 1,024 of 4 KiB.
+// Plaintext bytes of a round that isn't the last: 4 MiB, sealed in some 5 ms by one worker, where a thread starts in
+// less than 0.1 ms. It has 4 chunks of 1 MiB, 64 of 64 KiB, or 1,024 of 4 KiB.
 const ROUND: usize = 1 << 22;
 
 // How many chunks of this size a round has that isn't the last.

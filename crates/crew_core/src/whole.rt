@@ -21,8 +21,8 @@ use std::alloc::{AllocError, Global};
 use std::thread::Threads;
 use worker_core::{Gate, MAX_WINDOW};
 
-// Chunks sealed, behind what stands in front of them. All memory but the claim word of a round is taken before the first is
-// sealed.
+// Chunks sealed, behind what stands in front of them. All memory but the claim word of a round is taken before the
+// first is sealed.
 fn sealed_behind<R: Threads + Sync, G: Gate + Sync>(
     rt: &R,
     alloc: Global,
@@ -57,11 +57,11 @@ fn sealed_behind<R: Threads + Sync, G: Gate + Sync>(
     Ok(out)
 }
 
-/// Seals a plaintext of at most 2^40 bytes under the prefix of a grant, in a shape, by 1 to 16 workers, of which the caller's
-/// thread is the first. The answer is the container, whatever the number of workers and the gate; or that memory was
-/// refused, before any chunk was sealed. The grant comes back spent: sealed with the container, void without one. Beside
-/// the container it takes room for 4 MiB of chunks, or as many as there are, and for as many again for each worker. Of chunks
-/// of 1 MiB a round has 4, of 512 KiB 8, and no more workers start.
+/// Seals a plaintext of at most 2^40 bytes under the prefix of a grant, in a shape, by 1 to 16 workers, of which the
+/// caller's thread is the first. The answer is the container, whatever the number of workers and the gate; or that
+/// memory was refused, before any chunk was sealed. The grant comes back spent: sealed with the container, void without
+/// one. Beside the container it takes room for 4 MiB of chunks, or as many as there are, and for as many again for each
+/// worker. Of chunks of 1 MiB a round has 4, of 512 KiB 8, and no more workers start.
 pub fn seal_whole<R: Threads + Sync, G: Gate + Sync>(
     rt: &R,
     alloc: Global,
@@ -100,13 +100,13 @@ pub fn seal_whole<R: Threads + Sync, G: Gate + Sync>(
     }
 }
 
-/// Seals a part of STREAM, at most 256 chunks numbered from `first` on, by 1 to 16 workers, of which the caller's thread
-/// is the first. With `last` its last chunk is the last of all, and the answer is STREAM of the chunks. Without it the
-/// part has whole chunks, and the answer is what each STREAM begins with that begins with these chunks and goes on. A part
-/// without a byte is that of an empty plaintext alone: numbered 0, and the last. The last number is below 2^32.
-/// `AllocError` where memory was refused, before any chunk was sealed; it takes as much as `seal_whole`, and starts no more
-/// workers. No grant is spent here: that under one header each number is sealed once, and one chunk as the last, is the
-/// caller's part.
+/// Seals a part of STREAM, at most 256 chunks numbered from `first` on, by 1 to 16 workers, of which the caller's
+/// thread is the first. With `last` its last chunk is the last of all, and the answer is STREAM of the chunks. Without
+/// it the part has whole chunks, and the answer is what each STREAM begins with that begins with these chunks and goes
+/// on. A part without a byte is that of an empty plaintext alone: numbered 0, and the last. The last number is below
+/// 2^32. `AllocError` where memory was refused, before any chunk was sealed; it takes as much as `seal_whole`, and
+/// starts no more workers. No grant is spent here: that under one header each number is sealed once, and one chunk as
+/// the last, is the caller's part.
 pub fn seal_round<R: Threads + Sync, G: Gate + Sync>(
     rt: &R,
     alloc: Global,
@@ -151,9 +151,9 @@ pub fn seal_round<R: Threads + Sync, G: Gate + Sync>(
 }
 
 /// Opens a container under a key by 1 to 16 workers, of which the caller's thread is the first. The answer is that of
-/// `container_core::open`, whatever the number of workers and the gate: the plaintext, or the fault that `begin` names, or
-/// else `Forged` of the least chunk that doesn't check; or `OutOfMemory` where memory was refused, before any chunk was
-/// opened. Beside the plaintext it takes as much as `seal_whole` beside the container, and starts no more workers.
+/// `container_core::open`, whatever the number of workers and the gate: the plaintext, or the fault that `begin` names,
+/// or else `Forged` of the least chunk that doesn't check; or `OutOfMemory` where memory was refused, before any chunk
+/// was opened. Beside the plaintext it takes as much as `seal_whole` beside the container, and starts no more workers.
 pub fn open_whole<R: Threads + Sync, G: Gate + Sync>(
     rt: &R,
     alloc: Global,

@@ -1,5 +1,5 @@
-//! Containers of version 2 that are cut or altered: 1 and 4 workers answer what the tables of `container_tests` say, which
-//! are of the format.
+//! Containers of version 2 that are cut or altered: 1 and 4 workers answer what the tables of `container_tests` say,
+//! which are of the format.
 ghost use Rattle.std.specs.Prelude.{◌<◌, ◌≤◌};
 
 use crate::COUNTING;

@@ -9,7 +9,8 @@ use ledger_core::{Device, IssueFault, Ledger, Range, Seat, Way};
 use std::alloc::{AllocError, Global};
 use std::thread::Threads;
 
-// Whether the number 0, issued at a seat, is sealed with the container of 65,537 zeros by two workers, or void without it.
+// Whether the number 0, issued at a seat, is sealed with the container of 65,537 zeros by two workers, or void without
+// it.
 fn is_spent_by_its_result<R: Threads + Sync>(
     rt: &R,
     alloc: Global,
@@ -41,8 +42,8 @@ fn next_number(ledger: &Ledger, seat: &mut Seat) -> Option<u32>
     Some(grant.number())
 }
 
-// Whether the seat of a ledger of two numbers spends number 0 on a sealing, whether or not that was refused memory, and is
-// granted number 1 next.
+// Whether the seat of a ledger of two numbers spends number 0 on a sealing, whether or not that was refused memory, and
+// is granted number 1 next.
 fn goes_on<R: Threads + Sync>(rt: &R, alloc: Global) -> Option<bool> {
     let range = Range::new(Device::new(1)?, 0, 2).ok()?;
     let (ledger, mut seats) = Ledger::open(alloc, range, 1).ok()?;

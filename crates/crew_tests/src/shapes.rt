@@ -1,6 +1,6 @@
 //! Containers of version 2, in chunks of 4 KiB and of 1 MiB, by several workers. What they must be is what one thread
-//! seals, and their digests are those of Python's `cryptography` and `hashlib`; a round has 1,024 of the small chunks, or 4
-//! of the great ones. Cut and altered ones answer as the tables of `container_tests` say.
+//! seals, and their digests are those of Python's `cryptography` and `hashlib`; a round has 1,024 of the small chunks,
+//! or 4 of the great ones. Cut and altered ones answer as the tables of `container_tests` say.
 ghost use Rattle.std.specs.Prelude.{◌<◌, ◌≤◌, length};
 
 use crate::damaged::is_refused_for;
@@ -60,7 +60,8 @@ fn is_made_by<R: Threads + Sync>(
     }
 }
 
-// The container of a plaintext in chunks of 2^exponent bytes, which 1, 4 and 16 workers seal and open as one thread does.
+// The container of a plaintext in chunks of 2^exponent bytes, which 1, 4 and 16 workers seal and open as one thread
+// does.
 fn made_by_all<R: Threads + Sync>(
     rt: &R,
     alloc: Global,

@@ -363,9 +363,9 @@ fn usual_window(header: &Header, workers: u32) -> u32
 }
 
 /// Opens all that the reader has left in rounds of `window` chunks (of 1 MiB, and a chunk a worker at least, where no
-/// number is given), by 1 to 16 workers, appends its plaintext where the
-/// task is `Opening`, and answers its header and how many bytes the plaintext has; or the first fault of the container. A
-/// failure leaves some of the plaintext. Of an input that is too long one byte past the longest container is read.
+/// number is given), by 1 to 16 workers, appends its plaintext where the task is `Opening`, and answers its header and
+/// how many bytes the plaintext has; or the first fault of the container. A failure leaves some of the plaintext. Of an
+/// input that is too long one byte past the longest container is read.
 pub(crate) fn open_rounds<T: Threads + Sync, R: Source, G: Gate + Sync>(
     rt: &T,
     alloc: Global,

@@ -116,7 +116,8 @@ fn ranges_end_at_the_last_number(rt: HostRuntime) {
     assert!(rt; is_told(range));
 }
 
-// Whether seat 0 issues 7, seat 1 issues 8, and then no number is left for seat 0. Calls that name another seat are refused.
+// Whether seat 0 issues 7, seat 1 issues 8, and then no number is left for seat 0. Calls that name another seat are
+// refused.
 fn issues_7_and_8(book: &mut Book) -> bool {
     issues(book, 2, Err(BookFault::BadSeats))
         && issues(book, 0, Ok(7))
