@@ -29,13 +29,13 @@ pub(crate) enum Trouble {
 }
 
 #[derive(Clone, Copy)]
-pub(crate) enum Work<'a> {
+pub(crate) enum Work {
     Seal { workers: u32, lanes: u32 },
     Open,
     Verify,
     // The same where this label is asked for.
-    OpenLabelled(&'a [u8]),
-    VerifyLabelled(&'a [u8]),
+    OpenLabelled(&'static [u8]),
+    VerifyLabelled(&'static [u8]),
     // Verifying, and what the headers say is told.
     Show,
 }
@@ -58,7 +58,7 @@ pub(crate) enum Left<'a> {
 pub(crate) struct Case<'a> {
     pub(crate) folder: &'a [(&'a str, &'a [u8])],
     pub(crate) trouble: Trouble,
-    pub(crate) work: Work<'a>,
+    pub(crate) work: Work,
     pub(crate) files: &'a [&'a str],
     pub(crate) max_bytes: u64,
     pub(crate) status: u8,
