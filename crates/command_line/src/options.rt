@@ -128,7 +128,7 @@ pub(crate) static SEAL_ROWS: [Row; 8] = [
             most: MAX_WINDOW,
             absent: Absent::Nothing,
         },
-        help: "Chunks sealed at a time, 1 to 256; without it 1 MiB, or one a worker; of no effect with several lanes",
+        help: "Chunks sealed at a time, 1 to 256; without it 1 MiB, by one worker at most 16; of no effect with several lanes",
     },
     Row {
         name: "exponent",

@@ -7,7 +7,7 @@ ghost use Rattle.command_line.specs.Asked.{shape_asked};
 
 use clap::ArgMatches;
 use container_core::{MAX_EXPONENT, MAX_LABEL, MAX_PLAIN, MIN_EXPONENT, Shape};
-use crew_core::{MAX_LANES, MAX_WINDOW, MAX_WORKERS};
+use crew_core::{MAX_LANES, MAX_WINDOW, MAX_WORKERS, usual_window};
 use ledger_core::Device;
 use thiserror::Error as ThisError;
 
@@ -210,15 +210,14 @@ fn max_bytes(matches: &ArgMatches<'_>) -> u64
         .min(MAX_PLAIN)
 }
 
-// The number of chunks of a round, which the command line has tested; where none is given, as many as 1 MiB has, and no
-// fewer than workers.
+// The number of chunks of a round, which the command line has tested, or the usual one where none is given.
 fn window(matches: &ArgMatches<'_>, shape: &Shape, workers: u32) -> u32
+    requires { (0 < workers) × (workers ≤ MAX_WORKERS) }
     ensures { (0 < result) × (result ≤ MAX_WINDOW) }
 {
-    let chunks = (1 << 20) / shape.chunk();
     matches
         .get_one::<u32>("window")
-        .unwrap_or((chunks as u32).max(workers))
+        .unwrap_or(usual_window(shape.chunk(), workers))
         .max(1)
         .min(MAX_WINDOW)
 }

@@ -166,8 +166,7 @@ pub fn run_plain<T: Threads + Sync, R: Source, G: Gate + Sync>(
     run_plain_by(rt, alloc, key, reader, max_bytes, workers, window, gate)
 }
 
-/// `run_plain`, which answers with the plaintext the container's header. Its rounds have as many chunks as 1 MiB has,
-/// and no fewer than workers.
+/// `run_plain`, which answers with the plaintext the container's header. Its rounds have `usual_window` chunks.
 pub fn run_read<T: Threads + Sync, R: Source, G: Gate + Sync>(
     rt: &T,
     alloc: Global,

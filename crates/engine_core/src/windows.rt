@@ -5,7 +5,7 @@
 //! with a chunk that doesn't check is read to its end, or to one byte past the longest: that its length is wrong comes
 //! first.
 ghost use Rattle.std.specs.Prelude.{◌≡◌, ◌≢◌, ◌⊎◌, ℕ, ◌+◌, ◌-◌, ◌*◌, ◌^◌, ◌<◌, ◌≤◌, ◌++◌, Bool, true, false, List};
-ghost use Rattle.std.specs.Prelude.{[], ◌∷◌, length, take, min, slice_index, Ok, Err, IfOk, IfErr, OnOk, OnErr, IfSome};
+ghost use Rattle.std.specs.Prelude.{[], length, take, min, slice_index, Ok, Err, IfOk, IfErr, OnOk, OnErr, IfSome};
 ghost use Rattle.container_core.specs.Chunks.{body_length, chunk_count, container_length, sealed_chunks};
 ghost use Rattle.container_core.specs.Container.{size_in};
 ghost use Rattle.container_core.specs.Faults.{IsOfBytes};
@@ -29,7 +29,7 @@ use std::alloc::{AllocError, Global};
 use std::mem;
 use std::thread::Threads;
 use window_core::Window;
-use worker_core::{Gate, MAX_WINDOW, MAX_WORKERS};
+use worker_core::{Gate, MAX_WINDOW, MAX_WORKERS, usual_window};
 
 // How many bytes so many sealed chunks have, none of which is the last, under a header.
 fn sealed_bytes(chunks: u32, header: &Header) -> usize
@@ -353,17 +353,8 @@ fn open_body<T: Threads + Sync, R: Source, G: Gate + Sync>(
     }
 }
 
-// The chunks of a window where no number of them is asked for: as many as 1 MiB has, and no fewer than workers.
-fn usual_window(header: &Header, workers: u32) -> u32
-    requires { (0 < workers) × (workers ≤ MAX_WORKERS) }
-    ensures { (0 < result) × (result ≤ MAX_WINDOW) }
-{
-    let chunks = (1 << 20) / header.chunk();
-    (chunks as u32).min(MAX_WINDOW).max(workers)
-}
-
-/// Opens all that the reader has left in rounds of `window` chunks (of 1 MiB, and a chunk a worker at least, where no
-/// number is given), by 1 to 16 workers, appends its plaintext where the task is `Opening`, and answers its header and
+/// Opens all that the reader has left in rounds of `window` chunks (of `usual_window`, where no number is given), by
+/// 1 to 16 workers, appends its plaintext where the task is `Opening`, and answers its header and
 /// how many bytes the plaintext has; or the first fault of the container. A failure leaves some of the plaintext. Of an
 /// input that is too long one byte past the longest container is read.
 pub(crate) fn open_rounds<T: Threads + Sync, R: Source, G: Gate + Sync>(
@@ -394,7 +385,7 @@ pub(crate) fn open_rounds<T: Threads + Sync, R: Source, G: Gate + Sync>(
 {
     match open_front(key, reader, max_bytes) {
         Ok(header) => {
-            let window = window.unwrap_or(usual_window(&header, workers));
+            let window = window.unwrap_or(usual_window(header.chunk(), workers));
             match open_body(
                 rt, alloc, task, key, &header, reader, max_bytes, workers, window, out, gate,
             ) {

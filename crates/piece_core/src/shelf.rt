@@ -2,7 +2,7 @@
 //!
 //! A piece that has as many bytes as its place is written where it belongs in the whole, and let go. Another one, which
 //! this shelf's work did not make, is kept apart.
-ghost use Rattle.std.specs.Prelude.{◌≡◌, ◌≢◌, ℕ, ◌+◌, ◌<◌, ◌≤◌, ◌++◌, ◌↔◌, List, [], length, replicate, slice_index_or};
+ghost use Rattle.std.specs.Prelude.{◌≡◌, ◌≢◌, ℕ, ◌+◌, ◌<◌, ◌≤◌, ◌++◌, ◌↔◌, [], length, replicate, slice_index_or};
 ghost use Rattle.std.specs.Prelude.{option_map, None, Some, Ok, Err, IfOk, IfErr, OnOk, OnErr, IfSome, IfNone, IsTrue};
 ghost use Rattle.std.specs.Bool.{OnTrue, OnFalse};
 ghost use Rattle.piece_core.specs.Pieces.{WorkView, empty_shelf, Fits, place_of, with_piece};
