@@ -6,7 +6,7 @@
 The inputs are containers of both versions, for `verify` and `open`, key files, journals for `audit`, and command lines.
 Some are as they should be; the others are wrong where the formats have their fields and bounds, and of the containers
 some are sealed in a wrong way with good tags. What must be said of each is computed in tools/fuzz/ from docs/FORMATS.md
-and README.md, apart from the program and the other tools.
+and docs/MANUAL.md, apart from the program and the other tools.
 
 There are 10,000 cases where no number is given, and a seed is drawn where none is given; the same numbers make the same
 cases. Any other answer, a crash or a hang is printed with the seed and the case, and what the case was given is kept in

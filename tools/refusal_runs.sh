@@ -1,6 +1,6 @@
 #!/bin/bash
 # Runs the built program with its allocations refused in turn, and with threads refused (tools/refuse.c). Whatever is refused, the run
-# ends by itself with a status and a text of README, what stands on the disk is whole, and no number is given twice. Of the 2,500
+# ends by itself with a status and a text of docs/MANUAL.md, what stands on the disk is whole, and no number is given twice. Of the 2,500
 # allocations in which the ledger file is opened every fifth is refused (by several workers or lanes every fiftieth), and of those from
 # which on all are refused every seventh; all others each.
 # Prints 'N refusals as they should be', or what differs. Where no C compiler is there it says so and ends well, and under CI it fails.

@@ -3,7 +3,7 @@
 
 Over one ledger file that lives on, by one lane, two lanes and two workers, the program is killed at each of its system calls, and each
 of its calls on files and memory is made to fail (EIO, ENOSPC, EINTR, ENOMEM). After a kill no number may be given out that a container
-already has, and the run after must succeed. After an error the run must end by itself, with a status and a text of README.
+already has, and the run after must succeed. After an error the run must end by itself, with a status and a text of docs/MANUAL.md.
 Of all stops, some 2,800, each NIGHTS-th is tried (9 where none is given, which takes a minute), from the NIGHT-th on (0): a run a night
 with NIGHT 0 to 8 tries all, as does one with NIGHTS 1.
 
