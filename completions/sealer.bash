@@ -1,0 +1,55 @@
+# Completions of sealer(1) for bash. tools/check_completions.sh holds them against --help.
+
+_sealer() {
+    local current=${COMP_WORDS[COMP_CWORD]} before=${COMP_WORDS[COMP_CWORD - 1]} command='' at only_files='' words=''
+    # bash cuts words at '='
+    if [ "$current" = = ]; then
+        current=''
+    elif [ "$before" = = ] && [ "$COMP_CWORD" -ge 2 ]; then
+        before=${COMP_WORDS[COMP_CWORD - 2]}
+    fi
+    for ((at = 1; at < COMP_CWORD; at++)); do
+        case ${COMP_WORDS[at]} in
+            --) [ -z "$command" ] || only_files=1 ;;
+            -*) ;;
+            *) [ -n "$command" ] || command=${COMP_WORDS[at]} ;;
+        esac
+    done
+    COMPREPLY=()
+    if [ -z "$only_files" ] && [ -n "$command" ]; then
+        case $before in
+            --key | --ledger | --journal) _sealer_files "$current"; return ;;
+            --workers | --lanes) mapfile -t COMPREPLY < <(compgen -W '1 2 4 8 16' -- "$current"); return ;;
+            --exponent) mapfile -t COMPREPLY < <(compgen -W '12 13 14 15 16 17 18 19 20' -- "$current"); return ;;
+            --device | --window | --max-bytes | --label) return ;;
+        esac
+    fi
+    case $command in
+        '') words='seal open verify audit help --help -h' ;;
+        seal)
+            words='--key --ledger --no-new-ledger --device --workers --lanes --window --exponent --label --max-bytes
+                --journal --help -h'
+            ;;
+        open) words='--key --label --workers --max-bytes --help -h' ;;
+        verify) words='--key --label --show --workers --max-bytes --help -h' ;;
+        audit) words='--help -h' ;;
+        help) words='seal open verify audit help' ;;
+        *) return ;;
+    esac
+    case $only_files$current:$command in
+        -*:* | *: | *:help) mapfile -t COMPREPLY < <(compgen -W "$words" -- "$current") ;;
+        *:open) _sealer_files "$current" .stm ;;
+        *:seal | *:verify) _sealer_files "$current" ;;
+    esac
+}
+
+# _sealer_files BEGINNING [END]: the names with this beginning, of files with this end and of folders
+_sealer_files() {
+    local name
+    while IFS= read -r name; do
+        if [ -d "$name" ] || [[ $name == *"${2:-}" ]]; then COMPREPLY+=("$name"); fi
+    done < <(compgen -f -- "$1")
+    compopt -o filenames 2>/dev/null
+}
+
+complete -F _sealer sealer
