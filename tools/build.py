@@ -3,8 +3,8 @@
 
 Each crate that it stands on is proved once those below it are, several side by side, those with the longest chain of
 crates above them first. N is how many processes prove at a time, in place of one for each processor; where memory is
-short there are fewer. With x86-64-v3 as CPU the program is built for processors with AVX2; on any other such a program
-says so, and ends with status 127.
+short there are fewer. With x86-64-v3 as CPU the program is built for processors with AVX2, and is
+crates/sealer/out/sealer-x86-64-v3 too; on any other processor it says so, and ends with status 127.
 
 `cd crates/sealer && rt run` does the same with one crate at a time. `rt lib` keeps the folders of all crates below its
 own to itself, so here each crate is proved in a room of its own among the system's temporary files: a copy of it and of
@@ -199,6 +199,10 @@ def main():
         status, log = runs.run(program.folder, "run", "--jobs", str(processes), *cpu, "--", "--help")
         if status and not (cpu and status == OTHER_CPU):
             sys.exit(log or "ended")
+        if given.cpu:
+            # which a later build for any processor leaves there, for tools/install.sh
+            built = program.folder / "out" / PROGRAM
+            shutil.copy2(built, built.with_name(f"{PROGRAM}-{given.cpu}"))
     except KeyboardInterrupt:
         sys.exit("stopped")
     finally:

@@ -1,0 +1,119 @@
+#!/bin/bash
+# tools/install.sh in scratch folders: what it puts where, what it says, which build it picks, what it doesn't replace, and that nothing
+# stays behind --uninstall. Prints 'N conditions hold', or those that don't.
+# usage: tools/check_install.sh [INSTALL.SH]
+set -u
+cd "$(dirname "$0")/.."
+script=$(realpath "${1:-tools/install.sh}")
+room=$(mktemp -d)
+trap 'rm -rf "$room"' EXIT
+conditions=0 bad=0
+is() { conditions=$((conditions + 1)); "${@:2}" || { bad=1; echo "$1: does not hold; it printed: $(cat "$room/out")"; }; }
+no() { ! "$@"; }
+says() { grep -qF -- "$1" "$room/out"; }
+
+# a tree of its own, whose builds can be exchanged
+tree="$room/a tree"
+mkdir -p "$tree/tools" "$tree/crates/sealer/out" "$tree/crates/sealer/src"
+cp -r man completions "$tree"
+cp "$script" "$tree/tools/install.sh"
+touch -d '2001-01-01' "$tree/crates/sealer/src/main.rt"
+cp crates/sealer/out/sealer "$tree/crates/sealer/out/sealer"
+install() { "$tree/tools/install.sh" "$@" > "$room/out" 2>&1; status=$?; }
+prefix="$room/pre fix"
+mkdir -p "$prefix/bin"
+
+install "$prefix"
+is installed test $status = 0
+is program cmp -s "$prefix/bin/sealer" crates/sealer/out/sealer
+is program-runs test "$("$prefix/bin/sealer" audit < examples/journal.txt)" = 'legal: 2 granted, 1 sealed, 1 void, 0 open, 1 refused'
+for page in sealer.1 sealer-container.5 sealer-journal.5; do
+    is "$page" cmp -s "man/$page" "$prefix/share/man/man${page##*.}/$page"
+done
+if command -v man >/dev/null; then
+    is man-finds-it test -n "$(MANPATH="$prefix/share/man" man -w 1 sealer 2>/dev/null)"
+else
+    echo 'left out: man, which is not there'
+    [ -z "${CI:-}" ] || bad=1
+fi
+is bash cmp -s completions/sealer.bash "$prefix/share/bash-completion/completions/sealer"
+is zsh cmp -s completions/_sealer "$prefix/share/zsh/site-functions/_sealer"
+is fish cmp -s completions/sealer.fish "$prefix/share/fish/vendor_completions.d/sealer.fish"
+is says-what test "$(grep -c '^installed ' "$room/out")" = 7
+is says-which says "the program is $tree/crates/sealer/out/sealer"
+find "$prefix" -type f | sort > "$room/files"
+
+# again, over itself; and over a file that was changed, or is a link
+install "$prefix"
+is again test $status = 0
+is again-the-same test "$(find "$prefix" -type f | sort)" = "$(cat "$room/files")"
+echo other > "$prefix/share/man/man1/sealer.1"
+rm "$prefix/bin/sealer"
+install "$prefix"
+is changed test $status = 1
+is changed-is-named says "$prefix/share/man/man1/sealer.1 is there"
+is changed-installs-nothing no test -e "$prefix/bin/sealer"
+is changed-stays test "$(cat "$prefix/share/man/man1/sealer.1")" = other
+
+cp crates/sealer/out/sealer "$room/copy"
+echo "$(sha256sum < "$room/copy" | cut -d ' ' -f 1) bin/sealer" >> "$prefix/share/sealer/installed"
+ln -s "$room/copy" "$prefix/bin/sealer"
+cp man/sealer.1 "$prefix/share/man/man1/sealer.1"
+install "$prefix"
+is same-by-a-link test $status = 1
+is same-by-a-link-is-named says "$prefix/bin/sealer is there"
+rm "$prefix/bin/sealer"
+echo other > "$prefix/share/man/man1/sealer.1"
+
+# away: what was changed stays, and so do the folders that were there
+install "$prefix" --uninstall
+is uninstalled-but-one test $status = 1
+is the-changed-stays test "$(cat "$prefix/share/man/man1/sealer.1")" = other
+rm -r "$prefix/share"
+install "$prefix"
+is once-more test $status = 0
+install --uninstall "$prefix"
+is uninstalled test $status = 0
+is nothing-stays test "$(find "$prefix" | wc -l)" = 2
+is the-folder-stays test -d "$prefix/bin"
+install "$prefix" --uninstall
+is nothing-to-uninstall test $status = 1
+
+# what others put there
+echo theirs > "$prefix/bin/sealer"
+install "$prefix"
+is foreign test $status = 1
+is foreign-stays test "$(cat "$prefix/bin/sealer")" = theirs
+is foreign-installs-nothing no test -e "$prefix/share"
+rm "$prefix/bin/sealer"
+ln -s nowhere "$prefix/bin/sealer"
+install "$prefix"
+is link test $status = 1
+is link-stays test "$(readlink "$prefix/bin/sealer")" = nowhere
+rm "$prefix/bin/sealer"
+
+# which build
+v3=$tree/crates/sealer/out/sealer-x86-64-v3
+cp crates/sealer/out/sealer "$v3"
+install "$prefix"
+is avx2 says "this processor has AVX2: the program is $v3"
+printf '#!/bin/sh\necho this machine lacks a feature of x86-64-v3 >&2\nexit 127\n' > "$v3"
+chmod +x "$v3"
+install "$prefix"
+is no-avx2-is-told says "$v3 doesn't run on this machine"
+is no-avx2 says "the program is $tree/crates/sealer/out/sealer"
+is no-avx2-installed cmp -s "$prefix/bin/sealer" crates/sealer/out/sealer
+cp crates/sealer/out/sealer "$v3"
+touch -d '2000-01-01' "$v3"
+install "$prefix"
+is old-build says "$v3 is older than its sources"
+rm "$v3" "$tree/crates/sealer/out/sealer"
+install "$prefix"
+is no-build test $status = 1
+is no-build-leaves-what-was cmp -s "$prefix/bin/sealer" crates/sealer/out/sealer
+install "$prefix" --uninstall
+install --more
+is usage test $status = 2
+is nothing-at-the-end test "$(find "$prefix" | wc -l)" = 2
+[ $bad = 0 ] && echo "$conditions conditions hold"
+exit $bad
