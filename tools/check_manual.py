@@ -3,7 +3,8 @@
 
 Compared of each command: that all three have it, its options with the word for their value, which of them are required,
 the ranges and the defaults that --help gives; of the two documents the synopsis too, which is held against the options.
-The texts of faults are the same in the tables of the manual, in its section on faults and under DIAGNOSTICS of the page.
+The texts of faults are the same in the tables of the manual, in its section on faults and under DIAGNOSTICS of the page,
+and their parts, between colons and numbers, are in the code.
 Prints what differs, with status 1, or how much was compared.
 """
 import re
@@ -174,6 +175,12 @@ def faults_of_manual(text):
     return tables, section
 
 
+def code():
+    """The code of the crates, less its comments."""
+    sources = "".join(it.read_text(encoding="utf-8") for it in sorted((TOP / "crates").glob("*/src/**/*.rt")))
+    return re.sub(r"^\s*//.*$", "", sources, flags=re.M)
+
+
 def main():
     program = sys.argv[1] if len(sys.argv) > 1 else PROGRAM
     page, manual = ((TOP / it).read_text(encoding="utf-8") for it in ("man/sealer.1", "docs/MANUAL.md"))
@@ -212,6 +219,10 @@ def main():
     for name, texts in (("the manual's section on faults", section), ("DIAGNOSTICS of man/sealer.1", diagnostics)):
         wrong += [f"'{it}': not in {name}" for it in sorted(tables - texts)]
         wrong += [f"'{it}': in {name}, and in no table of the manual" for it in sorted(texts - tables)]
+    sources = code()
+    for it in sorted(tables):
+        if not all(part in sources for part in re.split(r": |\bN ", it)):
+            wrong.append(f"'{it}': not in the code")
     if compared < 30 or len(tables) < 30:
         wrong.append(f"only {compared} options and {len(tables)} texts were found")
     for line in wrong:
