@@ -30,12 +30,6 @@ is program-runs test "$("$prefix/bin/sealer" audit < examples/journal.txt)" = 'l
 for page in sealer.1 sealer-container.5 sealer-journal.5; do
     is "$page" cmp -s "man/$page" "$prefix/share/man/man${page##*.}/$page"
 done
-if command -v man >/dev/null; then
-    is man-finds-it test -n "$(MANPATH="$prefix/share/man" man -w 1 sealer 2>/dev/null)"
-else
-    echo 'left out: man, which is not there'
-    [ -z "${CI:-}" ] || bad=1
-fi
 is bash cmp -s completions/sealer.bash "$prefix/share/bash-completion/completions/sealer"
 is zsh cmp -s completions/_sealer "$prefix/share/zsh/site-functions/_sealer"
 is fish cmp -s completions/sealer.fish "$prefix/share/fish/vendor_completions.d/sealer.fish"
@@ -91,6 +85,32 @@ install "$prefix"
 is link test $status = 1
 is link-stays test "$(readlink "$prefix/bin/sealer")" = nowhere
 rm "$prefix/bin/sealer"
+
+# below a home's .local man and the shells find what they look for by themselves, and zsh by what is told
+home="$room/home"
+mkdir "$home"
+install "$home/.local"
+at_home() { env -i HOME="$home" TERM=dumb LC_ALL=C.UTF-8 PATH="$home/.local/bin:/usr/bin:/bin" "$@" 2>/dev/null; }
+for tool in man zsh fish; do
+    command -v $tool >/dev/null && continue
+    echo "left out: what $tool finds, since it isn't there"
+    [ -z "${CI:-}" ] || bad=1
+done
+loader=/usr/share/bash-completion/bash_completion
+if [ ! -f $loader ]; then
+    echo "left out: what bash finds, since bash-completion isn't there"
+    [ -z "${CI:-}" ] || bad=1
+fi
+! command -v man >/dev/null || is man-finds-it test "$(at_home man -w sealer)" = "$home/.local/share/man/man1/sealer.1"
+! command -v fish >/dev/null || is fish-finds-it test "$(at_home fish -c 'complete -C "sealer seal --no"' | cut -f 1)" = --no-new-ledger
+if command -v zsh >/dev/null; then
+    fpath=$(sed -n 's/^for zsh: \(fpath=.*\), before compinit$/\1/p' "$room/out")
+    is zsh-finds-it test "$(at_home zsh -f -c "$fpath; autoload -Uz compinit; compinit -u -D; echo \$_comps[sealer]")" = _sealer
+fi
+[ ! -f $loader ] || is bash-finds-it test "$(at_home bash --norc -c "source $loader; _completion_loader sealer; complete -p sealer")" = \
+    'complete -F _sealer sealer'
+install "$home/.local" --uninstall
+is nothing-stays-at-home test -z "$(find "$home/.local" -mindepth 1 -name '*sealer*')"
 
 # which build
 v3=$tree/crates/sealer/out/sealer-x86-64-v3

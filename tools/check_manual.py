@@ -5,7 +5,7 @@ Compared of each command: that all three have it, its options with the word for 
 the ranges and the defaults that --help gives; of the two documents the synopsis too, which is held against the options.
 The texts of faults are the same in the tables of the manual, in its section on faults and under DIAGNOSTICS of the page,
 and their parts, between colons and numbers, are in the code.
-Prints what differs, with status 1, or how much was compared.
+README.md is short, and no link between the documents leads nowhere. Prints what differs, with status 1, or how much was compared.
 """
 import re
 import subprocess
@@ -181,6 +181,22 @@ def code():
     return re.sub(r"^\s*//.*$", "", sources, flags=re.M)
 
 
+def anchors(text):
+    """The anchors of the headings of a text of Markdown."""
+    headings = re.findall(r"^#+ (.*)$", re.sub(r"^```.*?^```", "", text, flags=re.M | re.S), re.M)
+    return {re.sub(r"[^\w -]", "", it.lower()).replace(" ", "-") for it in headings}
+
+
+def broken_links():
+    """The links between the documents that lead nowhere."""
+    for document in [TOP / "README.md", *sorted((TOP / "docs").glob("*.md"))]:
+        for link in re.findall(r"\]\(([^)#]*(?:#[^)]*)?)\)", document.read_text(encoding="utf-8")):
+            name, _, anchor = link.partition("#")
+            there = document.parent / name if name else document
+            if not name.startswith("http") and not (there.exists() and (not anchor or anchor in anchors(there.read_text()))):
+                yield f"{document.relative_to(TOP)}: there is no {link}"
+
+
 def main():
     program = sys.argv[1] if len(sys.argv) > 1 else PROGRAM
     page, manual = ((TOP / it).read_text(encoding="utf-8") for it in ("man/sealer.1", "docs/MANUAL.md"))
@@ -225,6 +241,10 @@ def main():
             wrong.append(f"'{it}': not in the code")
     if compared < 30 or len(tables) < 30:
         wrong.append(f"only {compared} options and {len(tables)} texts were found")
+    wrong += broken_links()
+    lines = (TOP / "README.md").read_text(encoding="utf-8").splitlines()
+    if len(lines) > 120 or max(map(len, lines)) > 140:
+        wrong.append(f"README.md has {len(lines)} lines, the longest of {max(map(len, lines))} columns: 120 and 140 are the limits")
     for line in wrong:
         print(line)
     if not wrong:

@@ -114,5 +114,5 @@ case :$PATH: in
     *":$prefix/bin:"*) ;;
     *) echo "$prefix/bin is not in PATH: PATH=$prefix/bin:\$PATH" ;;
 esac
-[ "$prefix" = /usr ] || [ "$prefix" = /usr/local ] || echo "for zsh: fpath=($prefix/share/zsh/site-functions \$fpath), before compinit"
+[ "$prefix" = /usr ] || [ "$prefix" = /usr/local ] || echo "for zsh: fpath=('$prefix/share/zsh/site-functions' \$fpath), before compinit"
 exit 0

@@ -28,7 +28,8 @@ export sealer first
 seals() { # SLOT JOURNAL FILE..
     local new=--no-new-ledger
     [ "$2" != made ] || new=
-    "$sealer" seal --key key --ledger "$PWD/ledgers/$1" $new --device $((first + $1)) --exponent 12 --journal "journals/$1.$2" -- "${@:3}"
+    "$sealer" seal --key key --ledger "$PWD/ledgers/$1" $new --device $((first + $1)) --exponent 12 \
+        --journal "journals/$1.$2" -- "${@:3}"
 }
 export -f seals
 for ((slot = 1; slot <= slots; slot++)); do
@@ -91,5 +92,6 @@ case $(prefixes twice) in
 esac
 [ -n "$(ranges)" ] || fault "a copied ledger isn't seen by ranges"
 
-[ $bad = 0 ] && echo "$((files + slots)) containers of $slots devices, in $(find journals -type f | wc -l) runs: opened and compared, no prefix twice"
+runs=$(find journals -type f | wc -l)
+[ $bad = 0 ] && echo "$((files + slots)) containers of $slots devices, in $runs runs: opened and compared, no prefix twice"
 exit $bad
