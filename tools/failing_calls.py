@@ -2,8 +2,8 @@
 """failing_calls.py: makes each call of `open`, `verify` and `audit` on files and memory fail once in turn, by strace, and looks at what they leave.
 
 By one worker and by two, each call behind the opening of the key file (for `audit` behind the first read of its input) fails with EIO,
-ENOSPC and EINTR, those on memory with ENOMEM, and the program is killed at each. And each write of an output fails while its removal fails
-too, of `open` and of `seal`. After an error: a status and a text of README, which fit the lines; an output is there whole or not at all,
+ENOSPC and EINTR, those on memory with ENOMEM, and the program is killed at each. And of `open` and of `seal` each write of an output fails,
+or the file takes no more than so many bytes, while its removal fails too, or doesn't. After an error: a status and a text of README, which fit the lines; an output is there whole or not at all,
 and not where its line says that it failed (but where its removal failed too); no input is altered, and no other file is there. After a kill:
 what has a line is whole.
 
@@ -13,6 +13,7 @@ fails. The program is crates/sealer/out/sealer, or $SEALER.
 import multiprocessing
 import os
 import re
+import resource
 import shutil
 import subprocess
 import sys
@@ -58,8 +59,9 @@ class Way:
         self.name, self.words, self.given = name, WAYS[name], given
         self.count, self.bad, self.shown = 0, [], Counter()
 
-    def run(self, *strace):
-        """One run under strace, with the files as they were given. The answer is status, lines and texts."""
+    def run(self, *strace, most=resource.RLIM_INFINITY):
+        """One run under strace, with the files as they were given, where no file takes more than so many bytes. The answer is status, lines
+        and texts."""
         for name in os.listdir("."):
             os.remove(name)
         for name, data in self.given.items():
@@ -67,7 +69,10 @@ class Way:
                 file.write(data)
         with open(f"{top}/examples/journal.txt", "rb") as journal:
             words = ["strace", "-f", "-qq", *strace, sealer, *self.words]
-            ran = subprocess.run(words, stdin=journal, capture_output=True, timeout=HANG)
+            narrow = lambda: resource.setrlimit(resource.RLIMIT_FSIZE, (most, most))
+            # Python ignores SIGXFSZ, and so does the program then.
+            more = {"restore_signals": False, "preexec_fn": narrow} if most != resource.RLIM_INFINITY else {}
+            ran = subprocess.run(words, stdin=journal, capture_output=True, timeout=HANG, **more)
         return ran.returncode, ran.stdout.decode(errors="replace").splitlines(), ran.stderr.decode(errors="replace").splitlines()
 
     def calls(self):
@@ -169,28 +174,39 @@ def worked(asked):
     return way.count, way.bad, way.shown
 
 
-def removals(given):
+def removals(given, ledger):
     """A write of an output fails, and its removal too: the line tells, and what is left is a beginning of it."""
     count, bad = 0, []
+    sealing = ["seal", "--key", key, "--ledger", "ledger", "--device", "1", "long"]
     ways = {
-        "open": (["open", "--key", key, "long.stm"], given, "long", PLAIN["long"]),
-        "seal": (["seal", "--key", key, "--ledger", "ledger", "--device", "1", "long"], {"long": PLAIN["long"]}, "long.stm", given["long.stm"]),
+        "open": (["open", "--key", key, "long.stm"], given, "long", PLAIN["long"], (0, 1, 23, 24, 25, 65_535, 65_536, 65_575, len(PLAIN["long"]) - 1)),
+        # The ledger file is shorter than these.
+        "seal": (sealing, {"long": PLAIN["long"], **ledger}, "long.stm", given["long.stm"], (65_575, 65_576, 65_592, len(given["long.stm"]) - 1)),
     }
-    for name, (words, files, output, whole) in ways.items():
+    for name, (words, files, output, whole, lengths) in ways.items():
+        way = Way("audit", files)
+        way.words = words
+        told = (1, [f"failed {words[-1]}: write failed"], [])
+        unremoved = ["-o", "/dev/null", "-e", "trace=write,unlink,unlinkat", "-e", "inject=unlink,unlinkat:error=EIO"]
         for n in range(1, 200):
-            way = Way("audit", files)
-            way.words = words
             # by name, so that the writes of ledger and lines aren't counted
-            strace = ["-P", output, "-P", os.path.abspath(output), "-e", "trace=write,unlink,unlinkat", "-e", f"inject=write:error=EIO:when={n}"]
-            status, lines, texts = way.run("-o", "/dev/null", *strace, "-e", "inject=unlink,unlinkat:error=EIO")
-            if status == 0:
+            by_name = ["-P", output, "-P", os.path.abspath(output)]
+            answer = way.run(*unremoved, *by_name, "-e", f"inject=write:error=EIO:when={n}")
+            if answer[0] == 0:
                 break
             count += 1
             left = read(output) if os.path.exists(output) else None
-            if (status, lines, texts) != (1, [f"failed {words[-1]}: write failed"], []) or left is None or left == whole or not whole.startswith(left):
-                bad.append(f"{name}, write {n} and removal: status {status}, {lines} {texts}, {left and len(left)} bytes left")
-        if n == 1 or n == 199:
+            if answer != told or left is None or left == whole or not whole.startswith(left):
+                bad.append(f"{name}, write {n} and removal: {answer}, {left and len(left)} bytes left")
+        if n in (1, 199):
             bad.append(f"{name}: {n - 1} writes of its output failed")
+        for most in lengths:
+            for strace, rest in ((unremoved, whole[:most]), (["-o", "/dev/null"], None)):
+                count += 1
+                answer = way.run(*strace, most=most)
+                left = read(output) if os.path.exists(output) else None
+                if answer != told or left != rest:
+                    bad.append(f"{name}, {most} bytes, {'' if rest is None else 'not '}removed: {answer}, {left and len(left)} bytes left")
     return count, bad
 
 
@@ -206,9 +222,14 @@ def main():
         os.chdir(f"{shared}/first")
         with open("long", "wb") as file:
             file.write(PLAIN["long"])
-        subprocess.run([sealer, "seal", "--key", key, "--ledger", "ledger", "--device", "1", "long"], stdout=subprocess.DEVNULL, check=True)
+        words = [sealer, "seal", "--key", key, "--ledger", "ledger", "--device", "1"]
+        subprocess.run([*words, "long"], stdout=subprocess.DEVNULL, check=True)
         given = {"small.stm": read(f"{top}/examples/numbers.stm"), "long.stm": read("long.stm")}
-        count, bad = removals(given)
+        ledger = {name: read(name) for name in ("ledger", "ledger-wal") if os.path.exists(name)}
+        # The next one on that ledger.
+        os.remove("long.stm")
+        subprocess.run([*words, "long"], stdout=subprocess.DEVNULL, check=True)
+        count, bad = removals({**given, "long.stm": read("long.stm")}, ledger)
         os.chdir("/")
         asked = [(name, given if name != "audit" else {}, shared, i, processors) for name in WAYS for i in range(processors)]
         shown = Counter()

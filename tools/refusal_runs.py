@@ -1,8 +1,9 @@
 #!/usr/bin/env python3
-"""refusal_runs.py [EVERY]: runs the built program with each of its allocations refused in turn, and with threads refused (tools/refuse.c).
+"""refusal_runs.py [EVERY]: runs the built program with each of its allocations refused in turn, with threads refused, and with reads and
+writes that move few bytes (tools/refuse.c).
 
 Of each kind of run below the 1st, 2nd, .. allocation is refused alone, and in other runs that one and all after it, until a run meets no
-refusal; with EVERY each EVERY-th alone. The kinds are worked side by side over the processors. Whatever is refused: the run ends by itself
+refusal; with EVERY each EVERY-th alone. And of each read and write what is beyond 1, 2, 4, 8, .. bytes. The kinds are worked side by side over the processors. Whatever is refused: the run ends by itself
 with a status and a text of README, and both fit its lines; an output is there whole or not at all, and not where its line says that it
 failed; a journal that was written is legal; no other file is left; and the next run on the ledger succeeds, under a number that no
 output has, nor a journal.
@@ -26,6 +27,8 @@ key = f"{top}/examples/key"
 every = int(sys.argv[1]) if len(sys.argv) > 1 else 1
 # Seconds after which a run hangs, and faults of one process after which it ends.
 HANG, ENOUGH = 60, 5
+# With these refused the answer is the same.
+HARMLESS = ("REFUSE_THREADS", "REFUSE_BEYOND")
 
 TEXTS = re.compile(
     r"usage: (an argument is no text|out of memory)|error: out of memory|key: cannot open|journal: (cannot create|out of memory)"
@@ -57,7 +60,7 @@ class Kind:
     made: list
     given: dict = dataclasses.field(default_factory=dict)
     least: int = 1000  # a run has at least so many allocations
-    which: tuple = ("REFUSE", "REFUSE_FROM")
+    which: tuple = ("REFUSE", "REFUSE_FROM", "REFUSE_BEYOND")
     input: bytes = b""
     line: str = ""  # what is said where nothing is refused
     first: int = 0  # the number that a sealing begins at
@@ -290,9 +293,9 @@ def part(asked):
         checker = Checker(made, shared)
         n = first
         while checker.refused(kind, which, n) and len(checker.bad) < ENOUGH:
-            if which == "REFUSE_THREADS" and checker.status != 0:
+            if which in HARMLESS and checker.status != (2 if kind.refused else 0):
                 checker.differs("another answer")
-            n += step
+            n += n if which == "REFUSE_BEYOND" else step
         os.chdir("/")
     return kind.name, which, n, checker
 
@@ -315,8 +318,8 @@ def main():
         asked = []
         for kind in all_kinds:
             for which in kind.which:
-                step = 1 if which == "REFUSE_THREADS" else processors * every
-                parts = 1 if which == "REFUSE_THREADS" else processors
+                step = 1 if which in HARMLESS else processors * every
+                parts = 1 if which in HARMLESS else processors
                 asked += [(kind, which, 1 + i * every, step, made, shared) for i in range(parts)]
         count, bad, seen, ends = 0, [], set(), {}
         with multiprocessing.Pool(processors) as pool:
@@ -330,9 +333,9 @@ def main():
         for which in kind.which:
             runs, end, told = ends[kind.name, which]
             print(f"{kind.name}: {runs} by {which}")
-            if end <= kind.least and not bad:
+            if end <= (1 if which == "REFUSE_BEYOND" else kind.least) and not bad:
                 bad.append(f"{kind.name}, {which}: only {end - 1} allocations")
-            if kind.threads and every == 1 and "refused to another thread" not in told:
+            if kind.threads and every == 1 and which not in HARMLESS and "refused to another thread" not in told:
                 bad.append(f"{kind.name}, {which}: nothing was refused to another thread")
     if every == 1:
         bad += [f"no refusal gives: {line}" for line in WANTED if line not in seen]
