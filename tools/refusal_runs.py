@@ -220,7 +220,7 @@ def containers():
         made.update({(name, number): read(f"{name}.stm") for number, name in enumerate(names)})
     for name in ("small", "long"):
         put({**FILES})
-        for number in range(2):
+        for number in range(3):
             assert started(sealing(name)).returncode == 0
             made[name, number] = read(f"{name}.stm")
             os.remove(f"{name}.stm")
@@ -244,8 +244,8 @@ def ledgers():
         words = ["strace", "-f", "-o", "/dev/null", "-e", "trace=fdatasync", "-e", f"inject=fdatasync:signal=KILL:when={n}"]
         subprocess.run([*words, sealer, *sealing("small")], capture_output=True)
         cut = files_of_ledger()
-        # One whose reservation came to nothing.
-        if len(cut.get("ledger-wal", b"")) > 56 and b" file 1 " in started(sealing("next")).stdout:
+        # The log has the reservation whole, and the ledger file hasn't it yet.
+        if len(cut.get("ledger-wal", b"")) > 56 and cut["ledger"] == used["ledger"] and b" file 2 " in started(sealing("next")).stdout:
             put({**FILES, **used})
             assert started(sealing("a", "b", "c", "small")).returncode == 0
             return used, cut, {**files_of_ledger(), "ledger-wal": cut["ledger-wal"]}
@@ -265,7 +265,7 @@ def kinds(made):
     yield Kind("seal three", sealing("--journal", "journal", *three), three, some(*three))
     yield Kind("seal over a ledger", sealing("--journal", "journal", "small"), ["small"], some("small", **ledger), first=1)
     if cut:
-        yield Kind("seal over a log", sealing("--journal", "journal", "small"), ["small"], some("small", **cut), first=1)
+        yield Kind("seal over a log", sealing("--journal", "journal", "small"), ["small"], some("small", **cut), first=2)
         given = some("small", **back)
         yield Kind("seal over another log", sealing("--journal", "journal", "small"), ["small"], given, 100, refused=True)
     elif os.environ.get("CI"):

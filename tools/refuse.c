@@ -6,7 +6,7 @@
  * REFUSE=N           the Nth allocation or growth is refused, counted from 1
  * REFUSE_FROM=N      that one, and all after it
  * REFUSE_THREADS=N   the Nth thread is refused, and all after it
- * REFUSE_BEYOND=N    of each read and write what is beyond N bytes
+ * REFUSE_BEYOND=N    of each read and write what is beyond N bytes, but of those at a place of a file (pread, pwrite)
  */
 #define _GNU_SOURCE
 #include <dlfcn.h>
@@ -96,11 +96,3 @@ static size_t within(size_t bytes) {
 ssize_t read(int file, void *bytes, size_t count) { return syscall(SYS_read, file, bytes, within(count)); }
 
 ssize_t write(int file, const void *bytes, size_t count) { return syscall(SYS_write, file, bytes, within(count)); }
-
-ssize_t pread64(int file, void *bytes, size_t count, off_t at) { return syscall(SYS_pread64, file, bytes, within(count), at); }
-
-ssize_t pwrite64(int file, const void *bytes, size_t count, off_t at) { return syscall(SYS_pwrite64, file, bytes, within(count), at); }
-
-ssize_t pread(int file, void *bytes, size_t count, off_t at) { return pread64(file, bytes, count, at); }
-
-ssize_t pwrite(int file, const void *bytes, size_t count, off_t at) { return pwrite64(file, bytes, count, at); }
