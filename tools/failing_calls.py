@@ -36,6 +36,8 @@ FAULTS = {call: ("error=EIO", "error=ENOSPC", "error=EINTR") for call in ON_FILE
 FAULTS.update({call: ("error=ENOMEM",) for call in ("mmap", "mremap", "munmap", "madvise", "mprotect", "clone3")})
 # It answers the end of the heap: one that is not higher says that memory was refused.
 FAULTS["brk"] = ("retval=0",)
+# The loader's and the threads', neither on files nor on memory: the program is killed at these, and that is all.
+OTHERS = "execve access arch_prctl set_tid_address set_robust_list rseq prlimit64 getrandom futex rt_sigaction rt_sigprocmask exit exit_group".split()
 # An error of these can't be passed over.
 MUST_SHOW = {"read": ("error=EIO", "error=ENOSPC"), "write": ("error=EIO", "error=ENOSPC")}
 PLAIN = {"small": b"".join(b"%d\n" % i for i in range(1, 401)), "long": b"".join(b"%d\n" % i for i in range(1, 50_001))}
@@ -94,6 +96,9 @@ class Way:
         most = Counter()
         for (_, call), count in own.items():
             most[call] = max(most[call], count)
+        for call in sorted(most):
+            if call not in FAULTS and call not in OTHERS:
+                self.bad.append(f"{self.name}: nothing is known of the call {call}")
         return [(call, early[call] + 1, count) for call, count in sorted(most.items()) if count > early[call]]
 
     def done(self):

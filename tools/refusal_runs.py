@@ -3,7 +3,8 @@
 writes that move few bytes (tools/refuse.c).
 
 Of each kind of run below the 1st, 2nd, .. allocation is refused alone, and in other runs that one and all after it, until a run meets no
-refusal; with EVERY each EVERY-th alone. And of each read and write what is beyond 1, 2, 4, 8, .. bytes. The kinds are worked side by side over the processors. Whatever is refused: the run ends by itself
+refusal. Of a sealing each second is refused with all after it, and over a log each fourth both ways; EVERY is a number by which these distances
+are multiplied, or 0 for all. And of each read and write what is beyond 1, 2, 4, 8, .. bytes. The kinds are worked side by side over the processors. Whatever is refused: the run ends by itself
 with a status and a text of README, and both fit its lines; an output is there whole or not at all, and not where its line says that it
 failed; a journal that was written is legal; no other file is left; and the next run on the ledger succeeds, under a number that no
 output has, nor a journal.
@@ -47,8 +48,10 @@ def text(lines):
     return "".join(f"{i}\n" for i in range(1, lines + 1)).encode()
 
 
-# Of seven chunks the long one. Each of the others is worth a lane.
+# Of seven chunks the long one. The last three are so long that the second lane has begun before the first has sealed all.
 FILES = {"small": text(400), "long": text(70_000), "a": text(8_000), "b": text(9_000)[::-1], "c": text(10_000), "next": b"next\n"}
+FILES.update({"x": text(90_000), "y": text(80_000)[::-1], "z": text(85_000)})
+THREE, LANES = ["a", "b", "c"], ["x", "y", "z"]
 
 
 @dataclasses.dataclass
@@ -64,8 +67,9 @@ class Kind:
     input: bytes = b""
     line: str = ""  # what is said where nothing is refused
     first: int = 0  # the number that a sealing begins at
+    each: dict = dataclasses.field(default_factory=dict)  # the distance of the allocations that are refused, where it isn't 1
     refused: bool = False  # the ledger is refused whatever is given to it
-    threads: bool = False  # some allocation is another thread's
+    threads: bool = False  # some allocation is another thread's; workers make none
 
 
 def read(name):
@@ -213,13 +217,12 @@ class Checker:
 def containers():
     """Each file's container under each number that it can get, by the program itself."""
     made = {}
-    for first in (0, 1, 2):
-        names = ["a", "b", "c"][first:] + ["a", "b", "c"][:first]
-        put({**FILES})
+    for names in (three[first:] + three[:first] for three in (THREE, LANES) for first in (0, 1, 2)):
+        put(FILES)
         assert started(sealing(*names)).returncode == 0
         made.update({(name, number): read(f"{name}.stm") for number, name in enumerate(names)})
     for name in ("small", "long"):
-        put({**FILES})
+        put(FILES)
         for number in range(3):
             assert started(sealing(name)).returncode == 0
             made[name, number] = read(f"{name}.stm")
@@ -255,34 +258,33 @@ def ledgers():
 def kinds(made):
     ledger, cut, back = ledgers()
     some = lambda *names, **more: {**{name: FILES[name] for name in (*names, "next")}, **more}
-    three = ["a", "b", "c"]
     numbers, long_stm = read(f"{top}/examples/numbers.stm"), made["long", 0]
     history = read(f"{top}/examples/journal.txt")
     verdict = "legal: 2 granted, 1 sealed, 1 void, 0 open, 1 refused"
-    yield Kind("seal", sealing("--journal", "journal", "small"), ["small"], some("small"))
-    yield Kind("seal by two workers", sealing("--workers", "2", "--journal", "journal", "long"), ["long"], some("long"), threads=True)
-    yield Kind("seal three by two lanes", sealing("--lanes", "2", "--journal", "journal", *three), three, some(*three), threads=True)
-    yield Kind("seal three", sealing("--journal", "journal", *three), three, some(*three))
-    yield Kind("seal over a ledger", sealing("--journal", "journal", "small"), ["small"], some("small", **ledger), first=1)
+    half, quarter = {"REFUSE_FROM": 2}, {"REFUSE": 4, "REFUSE_FROM": 4}
+    yield Kind("seal", sealing("--journal", "journal", "small"), ["small"], some("small"), each=half)
+    yield Kind("seal by two workers", sealing("--workers", "2", "--journal", "journal", "long"), ["long"], some("long"), each=half)
+    yield Kind("seal three by two lanes", sealing("--lanes", "2", "--journal", "journal", *LANES), LANES, some(*LANES), threads=True, each=half)
+    yield Kind("seal three", sealing("--journal", "journal", *THREE), THREE, some(*THREE), each=half)
+    yield Kind("seal over a ledger", sealing("--journal", "journal", "small"), ["small"], some("small", **ledger), first=1, each=half)
     if cut:
-        yield Kind("seal over a log", sealing("--journal", "journal", "small"), ["small"], some("small", **cut), first=2)
+        yield Kind("seal over a log", sealing("--journal", "journal", "small"), ["small"], some("small", **cut), first=2, each=quarter)
         given = some("small", **back)
-        yield Kind("seal over another log", sealing("--journal", "journal", "small"), ["small"], given, 100, refused=True)
+        yield Kind("seal over another log", sealing("--journal", "journal", "small"), ["small"], given, 100, refused=True, each=quarter)
     elif os.environ.get("CI"):
         sys.exit("refusal_runs: no run left a log")
     opened, good = (f"{word} long.stm bytes {len(FILES['long'])}" for word in ("opened", "good"))
     for workers in ("1", "2"):
         by = ["--key", key, "--workers", workers]
-        threads = workers == "2"
-        yield Kind(f"open by {workers}", ["open", *by, "long.stm"], ["long.stm"], {"long.stm": long_stm}, 50, threads=threads, line=opened)
-        yield Kind(f"verify by {workers}", ["verify", *by, "long.stm"], ["long.stm"], {"long.stm": long_stm}, 40, threads=threads, line=good)
+        yield Kind(f"open by {workers}", ["open", *by, "long.stm"], ["long.stm"], {"long.stm": long_stm}, 50, line=opened)
+        yield Kind(f"verify by {workers}", ["verify", *by, "long.stm"], ["long.stm"], {"long.stm": long_stm}, 40, line=good)
     yield Kind("open a small one", ["open", "--key", key, "small.stm"], ["small.stm"], {"small.stm": numbers}, 40, line="opened small.stm bytes 1492")
     yield Kind("audit", ["audit"], [], least=10, input=history, line=verdict)
     # Of four workers or lanes three are threads: what can't be started is worked on the others, with the same answer.
     by = ("REFUSE_THREADS",)
     yield Kind("seal, threads refused", sealing("--workers", "4", "long"), ["long"], some("long"), 3, by)
     yield Kind("open, threads refused", ["open", "--key", key, "--workers", "4", "long.stm"], ["long.stm"], {"long.stm": long_stm}, 3, by, line=opened)
-    yield Kind("lanes, threads refused", sealing("--lanes", "4", *three), three, some(*three), 2, by)
+    yield Kind("lanes, threads refused", sealing("--lanes", "4", *LANES), LANES, some(*LANES), 2, by)
 
 
 def part(asked):
@@ -296,6 +298,9 @@ def part(asked):
             if which in HARMLESS and checker.status != (2 if kind.refused else 0):
                 checker.differs("another answer")
             n += n if which == "REFUSE_BEYOND" else step
+        # In which run another thread makes some is open.
+        for _ in range(25) if kind.threads and which == "REFUSE" else ():
+            checker.refused(kind, "REFUSE_OTHERS", 1)
         os.chdir("/")
     return kind.name, which, n, checker
 
@@ -318,9 +323,10 @@ def main():
         asked = []
         for kind in all_kinds:
             for which in kind.which:
-                step = 1 if which in HARMLESS else processors * every
+                each = every * kind.each.get(which, 1) or 1
+                step = 1 if which in HARMLESS else processors * each
                 parts = 1 if which in HARMLESS else processors
-                asked += [(kind, which, 1 + i * every, step, made, shared) for i in range(parts)]
+                asked += [(kind, which, 1 + i * each, step, made, shared) for i in range(parts)]
         count, bad, seen, ends = 0, [], set(), {}
         with multiprocessing.Pool(processors) as pool:
             for name, which, end, checker in pool.imap_unordered(part, asked):
@@ -335,9 +341,9 @@ def main():
             print(f"{kind.name}: {runs} by {which}")
             if end <= (1 if which == "REFUSE_BEYOND" else kind.least) and not bad:
                 bad.append(f"{kind.name}, {which}: only {end - 1} allocations")
-            if kind.threads and every == 1 and which not in HARMLESS and "refused to another thread" not in told:
-                bad.append(f"{kind.name}, {which}: nothing was refused to another thread")
-    if every == 1:
+            if kind.threads and every < 2 and which == "REFUSE" and "refused to another thread" not in told:
+                bad.append(f"{kind.name}: nothing was refused to another thread")
+    if every < 2:
         bad += [f"no refusal gives: {line}" for line in WANTED if line not in seen]
     for line in bad[:40]:
         print(line)

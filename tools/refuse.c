@@ -5,6 +5,7 @@
  *
  * REFUSE=N           the Nth allocation or growth is refused, counted from 1
  * REFUSE_FROM=N      that one, and all after it
+ * REFUSE_OTHERS=N    of those of all threads but the first the Nth
  * REFUSE_THREADS=N   the Nth thread is refused, and all after it
  * REFUSE_BEYOND=N    of each read and write what is beyond N bytes, but of those at a place of a file (pread, pwrite)
  */
@@ -23,8 +24,8 @@ static void *(*next_malloc)(size_t);
 static void *(*next_realloc)(void *, size_t);
 static int (*next_memalign)(void **, size_t, size_t);
 static int (*next_thread)(pthread_t *, const pthread_attr_t *, void *(*)(void *), void *);
-static atomic_long allocations, threads;
-static long one, from, thread_from, beyond;
+static atomic_long allocations, theirs, threads;
+static long one, from, others, thread_from, beyond;
 
 static long number(const char *name) {
     const char *word = getenv(name);
@@ -38,6 +39,7 @@ __attribute__((constructor)) static void begin(void) {
     next_thread = (int (*)(pthread_t *, const pthread_attr_t *, void *(*)(void *), void *))dlsym(RTLD_NEXT, "pthread_create");
     one = number("REFUSE");
     from = number("REFUSE_FROM");
+    others = number("REFUSE_OTHERS");
     thread_from = number("REFUSE_THREADS");
     beyond = number("REFUSE_BEYOND");
 }
@@ -48,10 +50,12 @@ static void say(const char *text) {
 }
 
 static int is_refused(void) {
+    int is_first = syscall(SYS_gettid) == getpid();
     long n = atomic_fetch_add(&allocations, 1) + 1;
-    if (n != one && !(from > 0 && n >= from))
+    long k = is_first ? 0 : atomic_fetch_add(&theirs, 1) + 1;
+    if (n != one && !(from > 0 && n >= from) && !(others > 0 && k == others))
         return 0;
-    say(syscall(SYS_gettid) == getpid() ? "refused to the first thread\n" : "refused to another thread\n");
+    say(is_first ? "refused to the first thread\n" : "refused to another thread\n");
     return 1;
 }
 

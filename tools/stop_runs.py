@@ -4,7 +4,7 @@
 Over one ledger file that lives on, by one lane, two lanes and two workers, the program is killed at each of its system calls, and each
 of its calls on files and memory is made to fail (EIO, ENOSPC, EINTR, ENOMEM). After a kill no number may be given out that a container
 already has, and the run after must succeed. After an error the run must end by itself, with a status and a text of README, and an output
-that is there is whole, and its line doesn't say that it failed. All stops are tried, side by side over the processors, each process over a
+that is there is whole, its line doesn't say that it failed, and a journal without a fault is legal and has nothing open. All stops are tried, side by side over the processors, each process over a
 ledger of its own; with NIGHTS each NIGHTS-th, from the NIGHT-th on (0).
 
 Then it is killed as it makes a ledger, at each of its calls on files: the next run succeeds. And it is killed right behind its first finished
@@ -38,7 +38,9 @@ TEXTS = re.compile(
 LINES = re.compile(r"sealed \S+ file [0-9]+ bytes [0-9]+|failed \S+: (cannot open|cannot create|read failed|write failed|out of memory)")
 # The calls that are made to fail, and how.
 ON_FILES = "openat read pread64 write pwrite64 fsync fdatasync ftruncate statx newfstatat close fadvise64 readlink getcwd fchmod fchown fcntl".split()
-ON_MEMORY = ["mmap", "mremap", "clone3"]
+ON_MEMORY = ["mmap", "mremap", "munmap", "mprotect", "madvise", "clone3"]
+# The program is killed at these too, and that is all: they are the loader's and the threads', and neither on files nor on memory.
+OTHERS = "execve access arch_prctl set_tid_address set_robust_list rseq prlimit64 getrandom futex rt_sigaction rt_sigprocmask exit exit_group".split()
 FAULTS = {**{call: ("error=EIO", "error=ENOSPC", "error=EINTR") for call in ON_FILES}, **{call: ("error=ENOMEM",) for call in ON_MEMORY}}
 # It answers the end of the heap, and never an error: one that is not higher says that memory was refused.
 FAULTS["brk"] = ("retval=0",)
@@ -133,6 +135,12 @@ def stopped(way, call, n, how):
                     differs(f"{what}: {name}.stm is there: {check.stdout.strip()}, {run.stdout.strip()}")
             elif f"sealed {name} " in run.stdout:
                 differs(f"{what}: no {name}.stm")
+        if not run.stderr and os.path.exists("journal") and os.path.getsize("journal"):
+            with open("journal", "rb") as journal:
+                audit = subprocess.run([sealer, "audit"], stdin=journal, capture_output=True, text=True, timeout=60)
+            # A number stays open only where its settlement found no memory.
+            if audit.returncode != 0 or call in ON_FILES and ", 0 open, " not in audit.stdout:
+                differs(f"{what}: the journal is {audit.stdout.strip()}")
     take(what)
     after = subprocess.run(command("one lane", ["c"]), capture_output=True, text=True, timeout=60)
     if after.returncode != 0 or not after.stdout.startswith("sealed c file "):
@@ -282,6 +290,8 @@ def all_stops():
     for way in WAYS:
         most, late = calls(way)
         for call, count in sorted(most.items()):
+            if call not in FAULTS and call not in OTHERS:
+                differs(f"{way}: nothing is known of the call {call}")
             hows = [("signal=KILL", 1)] + [(fault, late[call] + 1) for fault in FAULTS.get(call, ())]
             found += [(way, call, n, how) for how, first in hows for n in range(first, count + 1)]
     return found
@@ -302,11 +312,13 @@ processors = len(os.sched_getaffinity(0))
 stops_to_try, _, bad = in_a_folder(all_stops)
 stops_to_try = stops_to_try[night % nights :: nights]
 parts = ["altered logs", "first runs"] + [stops_to_try[i :: 4 * processors] for i in range(4 * processors)]
-count = 0
+counts = []
 with multiprocessing.Pool(processors) as pool:
-    for _, some, wrong in pool.imap_unordered(worked, parts):
-        count += some
+    for _, some, wrong in pool.imap(worked, parts):
+        counts.append(some)
         bad += wrong
+count, kills = sum(counts), sum(how == "signal=KILL" for _, _, _, how in stops_to_try)
+print(f"altered ledgers: {counts[0]}; kills: {kills} and {counts[1]} as a ledger is made; calls that fail: {len(stops_to_try) - kills}")
 shutil.rmtree(shared)
 for line in bad:
     print(line)
