@@ -220,7 +220,7 @@ def main():
         print("failing_calls: skipped, strace is not there")
         sys.exit(1 if os.environ.get("CI") else 0)
     begun = time.monotonic()
-    place = "/dev/shm" if os.access("/dev/shm", os.W_OK) and shutil.disk_usage("/dev/shm").free > 1 << 25 else None
+    place = "/dev/shm" if os.access("/dev/shm", os.W_OK) and shutil.disk_usage("/dev/shm").free > 1 << 28 else None
     processors = len(os.sched_getaffinity(0))
     with tempfile.TemporaryDirectory(dir=place) as shared:
         os.mkdir(f"{shared}/first")

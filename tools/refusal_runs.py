@@ -311,8 +311,8 @@ def main():
         sys.exit(1 if os.environ.get("CI") else 0)
     begun = time.monotonic()
     # In memory, where that can be: the disk's pace is no part of this.
-    place = "/dev/shm" if os.access("/dev/shm", os.W_OK) and shutil.disk_usage("/dev/shm").free > 1 << 25 else None
     processors = len(os.sched_getaffinity(0))
+    place = "/dev/shm" if os.access("/dev/shm", os.W_OK) and shutil.disk_usage("/dev/shm").free > processors << 24 else None
     with tempfile.TemporaryDirectory(dir=place) as shared:
         subprocess.run(["cc", "-O2", "-shared", "-fPIC", "-o", f"{shared}/refuse.so", f"{top}/tools/refuse.c", "-ldl"], check=True)
         os.mkdir(f"{shared}/first")

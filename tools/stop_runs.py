@@ -306,7 +306,7 @@ def worked(chosen):
 
 begun = time.monotonic()
 # In memory, where that can be: the disk's pace is no part of this.
-place = "/dev/shm" if os.access("/dev/shm", os.W_OK) and shutil.disk_usage("/dev/shm").free > 1 << 25 else None
+place = "/dev/shm" if os.access("/dev/shm", os.W_OK) and shutil.disk_usage("/dev/shm").free > 1 << 28 else None
 shared = tempfile.mkdtemp(dir=place)
 processors = len(os.sched_getaffinity(0))
 stops_to_try, _, bad = in_a_folder(all_stops)
