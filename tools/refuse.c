@@ -7,7 +7,7 @@
  * REFUSE_FROM=N      that one, and all after it
  * REFUSE_OTHERS=N    of those of all threads but the first the Nth
  * REFUSE_THREADS=N   the Nth thread is refused, and all after it
- * REFUSE_BEYOND=N    of each read and write what is beyond N bytes, but of those at a place of a file (pread, pwrite)
+ * REFUSE_BEYOND=N    of each read and write what is beyond N bytes, but of the reads at a place (pread)
  */
 #define _GNU_SOURCE
 #include <dlfcn.h>
@@ -100,3 +100,7 @@ static size_t within(size_t bytes) {
 ssize_t read(int file, void *bytes, size_t count) { return syscall(SYS_read, file, bytes, within(count)); }
 
 ssize_t write(int file, const void *bytes, size_t count) { return syscall(SYS_write, file, bytes, within(count)); }
+
+ssize_t pwrite(int file, const void *bytes, size_t count, off_t at) { return syscall(SYS_pwrite64, file, bytes, within(count), at); }
+
+ssize_t pwrite64(int file, const void *bytes, size_t count, off_t at) { return pwrite(file, bytes, count, at); }
