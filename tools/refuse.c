@@ -5,7 +5,9 @@
  *
  * REFUSE=N           the Nth allocation or growth is refused, counted from 1
  * REFUSE_FROM=N      that one, and all after it
+ * REFUSE_OTHERS=N    of those of all threads but the first the Nth
  * REFUSE_THREADS=N   the Nth thread is refused, and all after it
+ * REFUSE_BEYOND=N    of each read and write what is beyond N bytes, but of the reads at a place (pread)
  */
 #define _GNU_SOURCE
 #include <dlfcn.h>
@@ -15,14 +17,15 @@
 #include <stdlib.h>
 #include <string.h>
 #include <sys/syscall.h>
+#include <sys/types.h>
 #include <unistd.h>
 
 static void *(*next_malloc)(size_t);
 static void *(*next_realloc)(void *, size_t);
 static int (*next_memalign)(void **, size_t, size_t);
 static int (*next_thread)(pthread_t *, const pthread_attr_t *, void *(*)(void *), void *);
-static atomic_long allocations, threads;
-static long one, from, thread_from;
+static atomic_long allocations, theirs, threads;
+static long one, from, others, thread_from, beyond;
 
 static long number(const char *name) {
     const char *word = getenv(name);
@@ -36,19 +39,23 @@ __attribute__((constructor)) static void begin(void) {
     next_thread = (int (*)(pthread_t *, const pthread_attr_t *, void *(*)(void *), void *))dlsym(RTLD_NEXT, "pthread_create");
     one = number("REFUSE");
     from = number("REFUSE_FROM");
+    others = number("REFUSE_OTHERS");
     thread_from = number("REFUSE_THREADS");
+    beyond = number("REFUSE_BEYOND");
 }
 
 static void say(const char *text) {
-    if (write(2, text, strlen(text)) < 0)
+    if (syscall(SYS_write, 2, text, strlen(text)) < 0)
         _exit(9);
 }
 
 static int is_refused(void) {
+    int is_first = syscall(SYS_gettid) == getpid();
     long n = atomic_fetch_add(&allocations, 1) + 1;
-    if (n != one && !(from > 0 && n >= from))
+    long k = is_first ? 0 : atomic_fetch_add(&theirs, 1) + 1;
+    if (n != one && !(from > 0 && n >= from) && !(others > 0 && k == others))
         return 0;
-    say(syscall(SYS_gettid) == getpid() ? "refused to the first thread\n" : "refused to another thread\n");
+    say(is_first ? "refused to the first thread\n" : "refused to another thread\n");
     return 1;
 }
 
@@ -79,3 +86,21 @@ int pthread_create(pthread_t *thread, const pthread_attr_t *how, void *(*body)(v
     }
     return next_thread(thread, how, body, with);
 }
+
+/* That much is read or written. It is told once. */
+static size_t within(size_t bytes) {
+    static atomic_int told;
+    if (beyond <= 0 || bytes <= (size_t)beyond)
+        return bytes;
+    if (!atomic_exchange(&told, 1))
+        say("refused some bytes\n");
+    return beyond;
+}
+
+ssize_t read(int file, void *bytes, size_t count) { return syscall(SYS_read, file, bytes, within(count)); }
+
+ssize_t write(int file, const void *bytes, size_t count) { return syscall(SYS_write, file, bytes, within(count)); }
+
+ssize_t pwrite(int file, const void *bytes, size_t count, off_t at) { return syscall(SYS_pwrite64, file, bytes, within(count), at); }
+
+ssize_t pwrite64(int file, const void *bytes, size_t count, off_t at) { return pwrite(file, bytes, count, at); }

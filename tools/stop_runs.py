@@ -3,9 +3,9 @@
 
 Over one ledger file that lives on, by one lane, two lanes and two workers, the program is killed at each of its system calls, and each
 of its calls on files and memory is made to fail (EIO, ENOSPC, EINTR, ENOMEM). After a kill no number may be given out that a container
-already has, and the run after must succeed. After an error the run must end by itself, with a status and a text of docs/MANUAL.md.
-Of all stops, some 2,800, each NIGHTS-th is tried (9 where none is given, which takes a minute), from the NIGHT-th on (0): a run a night
-with NIGHT 0 to 8 tries all, as does one with NIGHTS 1.
+already has, and the run after must succeed. After an error the run must end by itself, with a status and a text of docs/MANUAL.md, and an output
+that is there is whole, its line doesn't say that it failed, and a journal without a fault is legal and has nothing open. All stops are tried, side by side over the processors, each process over a
+ledger of its own; with NIGHTS each NIGHTS-th, from the NIGHT-th on (0).
 
 Then it is killed as it makes a ledger, at each of its calls on files: the next run succeeds. And it is killed right behind its first finished
 output, and of the ledger's two files the log is deleted, cut at 20 lengths, has one bit flipped at 50 places, or is another ledger's, without
@@ -14,18 +14,20 @@ file is lost or emptied.
 
 Prints 'N stops as they should be', or what differs. Needs strace; where it isn't there it says so and ends well, and under CI it fails.
 """
+import multiprocessing
 import os
 import re
 import shutil
 import subprocess
 import sys
 import tempfile
+import time
 from collections import Counter
 
 top = os.path.abspath(os.path.join(os.path.dirname(__file__), ".."))
 sealer = os.environ.get("SEALER", f"{top}/crates/sealer/out/sealer")
 key = f"{top}/examples/key"
-nights = int(sys.argv[1]) if len(sys.argv) > 1 else 9
+nights = int(sys.argv[1]) if len(sys.argv) > 1 else 1
 night = int(sys.argv[2]) if len(sys.argv) > 2 else 0
 
 # What a run may print on standard error, and how a line of a file may end that failed.
@@ -36,7 +38,9 @@ TEXTS = re.compile(
 LINES = re.compile(r"sealed \S+ file [0-9]+ bytes [0-9]+|failed \S+: (cannot open|cannot create|read failed|write failed|out of memory)")
 # The calls that are made to fail, and how.
 ON_FILES = "openat read pread64 write pwrite64 fsync fdatasync ftruncate statx newfstatat close fadvise64 readlink getcwd fchmod fchown fcntl".split()
-ON_MEMORY = ["mmap", "mremap", "clone3"]
+ON_MEMORY = ["mmap", "mremap", "munmap", "mprotect", "madvise", "clone3"]
+# The program is killed at these too, and that is all: they are the loader's and the threads', and neither on files nor on memory.
+OTHERS = "execve access arch_prctl set_tid_address set_robust_list rseq prlimit64 getrandom futex rt_sigaction rt_sigprocmask exit exit_group".split()
 FAULTS = {**{call: ("error=EIO", "error=ENOSPC", "error=EINTR") for call in ON_FILES}, **{call: ("error=ENOMEM",) for call in ON_MEMORY}}
 # It answers the end of the heap, and never an error: one that is not higher says that memory was refused.
 FAULTS["brk"] = ("retval=0",)
@@ -46,16 +50,14 @@ if not shutil.which("strace"):
     print("stop_runs: skipped, strace is not there")
     sys.exit(1 if os.environ.get("CI") else 0)
 
-room = tempfile.mkdtemp()
-os.chdir(room)
+# Of this process, in a folder of its own:
 given = {}  # the prefix of each container that was ever seen, and where
-stops = bad = turn = 0
+stops = 0
+told = []
 
 
 def differs(what):
-    global bad
-    bad += 1
-    print(what)
+    told.append(what)
 
 
 def command(way, files):
@@ -126,6 +128,19 @@ def stopped(way, call, n, how):
             differs(f"{what}: status {run.returncode} with '{run.stderr.strip()}'")
         if (run.returncode == 1) != ("failed " in run.stdout) and call != "write":
             differs(f"{what}: status {run.returncode} with '{run.stdout.strip()}'")
+        for name in ("a", "b"):
+            if os.path.exists(f"{name}.stm"):
+                check = subprocess.run([sealer, "verify", "--key", key, f"{name}.stm"], capture_output=True, text=True, timeout=60)
+                if check.returncode != 0 or f"failed {name}:" in run.stdout:
+                    differs(f"{what}: {name}.stm is there: {check.stdout.strip()}, {run.stdout.strip()}")
+            elif f"sealed {name} " in run.stdout:
+                differs(f"{what}: no {name}.stm")
+        if not run.stderr and os.path.exists("journal") and os.path.getsize("journal"):
+            with open("journal", "rb") as journal:
+                audit = subprocess.run([sealer, "audit"], stdin=journal, capture_output=True, text=True, timeout=60)
+            # A number stays open only where its settlement found no memory.
+            if audit.returncode != 0 or call in ON_FILES and ", 0 open, " not in audit.stdout:
+                differs(f"{what}: the journal is {audit.stdout.strip()}")
     take(what)
     after = subprocess.run(command("one lane", ["c"]), capture_output=True, text=True, timeout=60)
     if after.returncode != 0 or not after.stdout.startswith("sealed c file "):
@@ -249,27 +264,65 @@ def first_runs():
     put(*mine)
 
 
-with open("a", "w", encoding="ascii") as file:
-    file.write("a" * 200_000)
-for name in ("b", "c"):
-    with open(name, "w", encoding="ascii") as file:
-        file.write(name)
-subprocess.run(command("one lane", ["a"]), stdout=subprocess.DEVNULL, check=True)
-take("the first run")
-for way in WAYS:
-    most, late = calls(way)
-    for call, count in sorted(most.items()):
-        hows = [("signal=KILL", 1)] + [(fault, late[call] + 1) for fault in FAULTS.get(call, ())]
-        for how, first in hows:
-            for n in range(first, count + 1):
-                turn += 1
-                if turn % nights == night % nights:
-                    stopped(way, call, n, how)
-first_runs()
-altered_logs()
-os.chdir("/")
-shutil.rmtree(room)
+def in_a_folder(work):
+    """Does some work in a folder of its own, over a ledger that has a number. The answer is stops, and what differs."""
+    folder = tempfile.mkdtemp(dir=shared)
+    os.chdir(folder)
+    given.clear()
+    told.clear()
+    global stops
+    stops = 0
+    with open("a", "w", encoding="ascii") as file:
+        file.write("a" * 200_000)
+    for name in ("b", "c"):
+        with open(name, "w", encoding="ascii") as file:
+            file.write(name)
+    subprocess.run(command("one lane", ["a"]), stdout=subprocess.DEVNULL, check=True)
+    take("the first run")
+    answer = work()
+    os.chdir("/")
+    shutil.rmtree(folder)
+    return answer, stops, list(told)
+
+
+def all_stops():
+    found = []
+    for way in WAYS:
+        most, late = calls(way)
+        for call, count in sorted(most.items()):
+            if call not in FAULTS and call not in OTHERS:
+                differs(f"{way}: nothing is known of the call {call}")
+            hows = [("signal=KILL", 1)] + [(fault, late[call] + 1) for fault in FAULTS.get(call, ())]
+            found += [(way, call, n, how) for how, first in hows for n in range(first, count + 1)]
+    return found
+
+
+def worked(chosen):
+    """The work of one process: some stops, or what has a name."""
+    if isinstance(chosen, str):
+        return in_a_folder({"first runs": first_runs, "altered logs": altered_logs}[chosen])
+    return in_a_folder(lambda: [stopped(*stop) for stop in chosen])
+
+
+begun = time.monotonic()
+# In memory, where that can be: the disk's pace is no part of this.
+place = "/dev/shm" if os.access("/dev/shm", os.W_OK) and shutil.disk_usage("/dev/shm").free > 1 << 28 else None
+shared = tempfile.mkdtemp(dir=place)
+processors = len(os.sched_getaffinity(0))
+stops_to_try, _, bad = in_a_folder(all_stops)
+stops_to_try = stops_to_try[night % nights :: nights]
+parts = ["altered logs", "first runs"] + [stops_to_try[i :: 4 * processors] for i in range(4 * processors)]
+counts = []
+with multiprocessing.Pool(processors) as pool:
+    for _, some, wrong in pool.imap(worked, parts):
+        counts.append(some)
+        bad += wrong
+count, kills = sum(counts), sum(how == "signal=KILL" for _, _, _, how in stops_to_try)
+print(f"altered ledgers: {counts[0]}; kills: {kills} and {counts[1]} as a ledger is made; calls that fail: {len(stops_to_try) - kills}")
+shutil.rmtree(shared)
+for line in bad:
+    print(line)
 if bad:
-    print(f"{bad} of {stops} stops are not as they should be")
+    print(f"{len(bad)} faults in {count} stops")
     sys.exit(1)
-print(f"{stops} stops as they should be")
+print(f"{count} stops as they should be, in {time.monotonic() - begun:.0f} s")

@@ -1,0 +1,255 @@
+#!/usr/bin/env python3
+"""failing_calls.py: makes each call of `open`, `verify` and `audit` on files and memory fail once in turn, by strace, and looks at what they leave.
+
+By one worker and by two, each call behind the opening of the key file (for `audit` behind the first read of its input) fails with EIO,
+ENOSPC and EINTR, those on memory with ENOMEM, and the program is killed at each. And of `open` and of `seal` each write of an output fails,
+or the file takes no more than so many bytes, while its removal fails too, or doesn't. After an error: a status and a text of docs/MANUAL.md, which fit the lines; an output is there whole or not at all,
+and not where its line says that it failed (but where its removal failed too); no input is altered, and no other file is there. After a kill:
+what has a line is whole.
+
+Prints 'N failing calls as they should be', or what differs. Needs strace; where it isn't there it says so and ends well, and under CI it
+fails. The program is crates/sealer/out/sealer, or $SEALER.
+"""
+import multiprocessing
+import os
+import re
+import resource
+import shutil
+import subprocess
+import sys
+import tempfile
+import time
+from collections import Counter
+
+top = os.path.abspath(os.path.join(os.path.dirname(__file__), ".."))
+sealer = os.path.abspath(os.environ.get("SEALER", f"{top}/crates/sealer/out/sealer"))
+key = f"{top}/examples/key"
+# Seconds after which a run hangs, and faults of one way after which it ends.
+HANG, ENOUGH = 60, 10
+TEXTS = re.compile(r"usage: out of memory|error: out of memory|key: (cannot open|read failed)|audit: (read failed|write failed|out of memory)")
+FAULT = re.compile(r"failed (\S+): (cannot open|cannot create|read failed|write failed|out of memory)")
+ON_FILES = (
+    "openat read pread64 readv write pwrite64 writev fsync fdatasync ftruncate lseek statx newfstatat fstat close fadvise64 readlink unlink"
+    " unlinkat rename fchmod fchown fcntl poll ioctl"
+).split()
+FAULTS = {call: ("error=EIO", "error=ENOSPC", "error=EINTR") for call in ON_FILES}
+FAULTS.update({call: ("error=ENOMEM",) for call in ("mmap", "mremap", "munmap", "madvise", "mprotect", "clone3")})
+# It answers the end of the heap: one that is not higher says that memory was refused.
+FAULTS["brk"] = ("retval=0",)
+# The loader's and the threads', neither on files nor on memory: the program is killed at these, and that is all.
+OTHERS = "execve access arch_prctl set_tid_address set_robust_list rseq prlimit64 getrandom futex rt_sigaction rt_sigprocmask exit exit_group".split()
+# An error of these can't be passed over.
+MUST_SHOW = {"read": ("error=EIO", "error=ENOSPC"), "write": ("error=EIO", "error=ENOSPC")}
+PLAIN = {"small": b"".join(b"%d\n" % i for i in range(1, 401)), "long": b"".join(b"%d\n" % i for i in range(1, 50_001))}
+NAMES = ["small.stm", "long.stm"]
+VERDICT = "legal: 2 granted, 1 sealed, 1 void, 0 open, 1 refused"
+WAYS = {
+    f"{command} by {workers}": [command, "--key", key, "--workers", workers, *NAMES] for command in ("open", "verify") for workers in ("1", "2")
+}
+WAYS["audit"] = ["audit"]
+
+
+def read(name):
+    with open(name, "rb") as file:
+        return file.read()
+
+
+class Way:
+    """The runs of one command line, in a folder of its own."""
+
+    def __init__(self, name, given):
+        self.name, self.words, self.given = name, WAYS[name], given
+        self.count, self.bad, self.shown = 0, [], Counter()
+
+    def run(self, *strace, most=resource.RLIM_INFINITY):
+        """One run under strace, with the files as they were given, where no file takes more than so many bytes. The answer is status, lines
+        and texts."""
+        for name in os.listdir("."):
+            os.remove(name)
+        for name, data in self.given.items():
+            with open(name, "wb") as file:
+                file.write(data)
+        with open(f"{top}/examples/journal.txt", "rb") as journal:
+            words = ["strace", "-f", "-qq", *strace, sealer, *self.words]
+            narrow = lambda: resource.setrlimit(resource.RLIMIT_FSIZE, (most, most))
+            # Python ignores SIGXFSZ, and so does the program then.
+            more = {"restore_signals": False, "preexec_fn": narrow} if most != resource.RLIM_INFINITY else {}
+            ran = subprocess.run(words, stdin=journal, capture_output=True, timeout=HANG, **more)
+        return ran.returncode, ran.stdout.decode(errors="replace").splitlines(), ran.stderr.decode(errors="replace").splitlines()
+
+    def calls(self):
+        """How often a thread makes each call at most, before the work begins and in all."""
+        # beside the folder, which is emptied
+        trace = f"../trace {self.name}"
+        status, lines, _ = self.run("-o", trace)
+        if status != 0 or lines != self.done():
+            self.bad.append(f"{self.name}: status {status}, {lines}")
+        own, early, begun = Counter(), Counter(), False
+        for line in read(trace).decode(errors="replace").splitlines():
+            found = re.match(r"([0-9]+) +([a-z_0-9]+)\(", line)
+            if not found:
+                continue
+            begun = begun or f'"{key}"' in line and found[2] == "openat" or found[2] == "read" and "read(0," in line
+            own[found[1], found[2]] += 1
+            if not begun:
+                early[found[2]] += 1
+        most = Counter()
+        for (_, call), count in own.items():
+            most[call] = max(most[call], count)
+        for call in sorted(most):
+            if call not in FAULTS and call not in OTHERS:
+                self.bad.append(f"{self.name}: nothing is known of the call {call}")
+        return [(call, early[call] + 1, count) for call, count in sorted(most.items()) if count > early[call]]
+
+    def done(self):
+        """The lines where nothing fails."""
+        if self.words == ["audit"]:
+            return [VERDICT]
+        word = "opened" if self.words[0] == "open" else "good"
+        return [f"{word} {name} bytes {len(PLAIN[name[:-4]])}" for name in NAMES]
+
+    def failing(self, call, n, how):
+        """One run with one call that fails, or is the last."""
+        self.count += 1
+        what = f"{self.name}, {call} {n}, {how}"
+        try:
+            status, lines, texts = self.run("-o", "/dev/null", "-e", f"trace={call}", "-e", f"inject={call}:{how}:when={n}")
+        except subprocess.TimeoutExpired:
+            self.bad.append(f"{what}: hangs")
+            return
+        wrong = list(self.wrong(call, how, status, lines, texts)) if how != "signal=KILL" else []
+        wrong += self.wrong_files(lines, how == "signal=KILL")
+        self.shown[call, status] += 1
+        if wrong:
+            self.bad.append(f"{what}: {', '.join(wrong)}: status {status}, {lines} {texts}")
+
+    def wrong(self, call, how, status, lines, texts):
+        done = self.done()
+        if status not in (0, 1, 2):
+            yield "another status"
+        if len(texts) > 1 or any(not TEXTS.fullmatch(text) for text in texts):
+            yield "another text"
+        # Each line is that of a file, in their order.
+        names = [line.split(" ")[1].rstrip(":") for line in done]
+        said = [(FAULT.fullmatch(line) or [line, line.split(" ")[1:2]])[1] if line not in done else line.split(" ")[1] for line in lines]
+        if said != names[: len(said)]:
+            yield "another line"
+        failed = any(line not in done for line in lines)
+        if status != (2 if texts or len(lines) < len(done) else 1 if failed else 0):
+            yield "another status"
+        if status == 0 and how in MUST_SHOW.get(call, ()):
+            yield "a fault that nobody tells"
+
+    def wrong_files(self, lines, killed):
+        outputs = {name[:-4]: name for name in NAMES} if self.words[0] == "open" else {}
+        for name in sorted({*os.listdir("."), *self.given, *outputs}):
+            if name in self.given:
+                if not os.path.exists(name) or read(name) != self.given[name]:
+                    yield f"{name} is altered"
+            elif name not in outputs:
+                yield f"leaves {name}"
+            else:
+                opened = any(line.startswith(f"opened {name}.stm ") for line in lines)
+                failed = any(line.startswith(f"failed {name}.stm: ") for line in lines)
+                if os.path.exists(name):
+                    if failed:
+                        yield f"{name} is there"
+                    if read(name) != PLAIN[name] and (opened or not killed):
+                        yield f"{name} is not whole"
+                elif opened:
+                    yield f"no {name}"
+
+
+def worked(asked):
+    """All calls of one way, or one of so many parts of them."""
+    name, given, shared, first, step = asked
+    way = Way(name, given)
+    with tempfile.TemporaryDirectory(dir=shared) as place:
+        folder = f"{place}/files"
+        os.mkdir(folder)
+        os.chdir(folder)
+        turn = 0
+        for call, begin, end in way.calls():
+            for how in ("signal=KILL", *FAULTS.get(call, ())):
+                for n in range(begin, end + 1):
+                    turn += 1
+                    if turn % step == first and len(way.bad) < ENOUGH:
+                        way.failing(call, n, how)
+        os.chdir("/")
+    return way.count, way.bad, way.shown
+
+
+def removals(given, ledger):
+    """A write of an output fails, and its removal too: the line tells, and what is left is a beginning of it."""
+    count, bad = 0, []
+    sealing = ["seal", "--key", key, "--ledger", "ledger", "--device", "1", "long"]
+    ways = {
+        "open": (["open", "--key", key, "long.stm"], given, "long", PLAIN["long"], (0, 1, 23, 24, 25, 65_535, 65_536, 65_575, len(PLAIN["long"]) - 1)),
+        # The ledger file is shorter than these.
+        "seal": (sealing, {"long": PLAIN["long"], **ledger}, "long.stm", given["long.stm"], (65_575, 65_576, 65_592, len(given["long.stm"]) - 1)),
+    }
+    for name, (words, files, output, whole, lengths) in ways.items():
+        way = Way("audit", files)
+        way.words = words
+        told = (1, [f"failed {words[-1]}: write failed"], [])
+        unremoved = ["-o", "/dev/null", "-e", "trace=write,unlink,unlinkat", "-e", "inject=unlink,unlinkat:error=EIO"]
+        for n in range(1, 200):
+            # by name, so that the writes of ledger and lines aren't counted
+            by_name = ["-P", output, "-P", os.path.abspath(output)]
+            answer = way.run(*unremoved, *by_name, "-e", f"inject=write:error=EIO:when={n}")
+            if answer[0] == 0:
+                break
+            count += 1
+            left = read(output) if os.path.exists(output) else None
+            if answer != told or left is None or left == whole or not whole.startswith(left):
+                bad.append(f"{name}, write {n} and removal: {answer}, {left and len(left)} bytes left")
+        if n in (1, 199):
+            bad.append(f"{name}: {n - 1} writes of its output failed")
+        for most in lengths:
+            for strace, rest in ((unremoved, whole[:most]), (["-o", "/dev/null"], None)):
+                count += 1
+                answer = way.run(*strace, most=most)
+                left = read(output) if os.path.exists(output) else None
+                if answer != told or left != rest:
+                    bad.append(f"{name}, {most} bytes, {'' if rest is None else 'not '}removed: {answer}, {left and len(left)} bytes left")
+    return count, bad
+
+
+def main():
+    if not shutil.which("strace"):
+        print("failing_calls: skipped, strace is not there")
+        sys.exit(1 if os.environ.get("CI") else 0)
+    begun = time.monotonic()
+    place = "/dev/shm" if os.access("/dev/shm", os.W_OK) and shutil.disk_usage("/dev/shm").free > 1 << 28 else None
+    processors = len(os.sched_getaffinity(0))
+    with tempfile.TemporaryDirectory(dir=place) as shared:
+        os.mkdir(f"{shared}/first")
+        os.chdir(f"{shared}/first")
+        with open("long", "wb") as file:
+            file.write(PLAIN["long"])
+        words = [sealer, "seal", "--key", key, "--ledger", "ledger", "--device", "1"]
+        subprocess.run([*words, "long"], stdout=subprocess.DEVNULL, check=True)
+        given = {"small.stm": read(f"{top}/examples/numbers.stm"), "long.stm": read("long.stm")}
+        ledger = {name: read(name) for name in ("ledger", "ledger-wal") if os.path.exists(name)}
+        # The next one on that ledger.
+        os.remove("long.stm")
+        subprocess.run([*words, "long"], stdout=subprocess.DEVNULL, check=True)
+        count, bad = removals({**given, "long.stm": read("long.stm")}, ledger)
+        os.chdir("/")
+        asked = [(name, given if name != "audit" else {}, shared, i, processors) for name in WAYS for i in range(processors)]
+        shown = Counter()
+        with multiprocessing.Pool(processors) as pool:
+            for runs, wrong, told in pool.imap_unordered(worked, asked):
+                count += runs
+                bad += wrong
+                shown += told
+    for line in bad[:40]:
+        print(line)
+    print("failing_calls: " + ", ".join(f"{call} {sum(n for (c, _), n in shown.items() if c == call)}" for call in sorted({c for c, _ in shown})))
+    if bad:
+        sys.exit(f"failing_calls: {len(bad)} faults in {count} runs")
+    print(f"{count} failing calls as they should be, in {time.monotonic() - begun:.0f} s")
+
+
+if __name__ == "__main__":
+    main()

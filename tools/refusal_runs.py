@@ -1,0 +1,356 @@
+#!/usr/bin/env python3
+"""refusal_runs.py [EVERY]: runs the built program with each of its allocations refused in turn, with threads refused, and with reads and
+writes that move few bytes (tools/refuse.c).
+
+Of each kind of run below the 1st, 2nd, .. allocation is refused alone, and in other runs that one and all after it, until a run meets no
+refusal. Of a sealing each second is refused with all after it, and over a log each fourth both ways; EVERY is a number by which these distances
+are multiplied, or 0 for all. And of each read and write what is beyond 1, 2, 4, 8, .. bytes. The kinds are worked side by side over the processors. Whatever is refused: the run ends by itself
+with a status and a text of docs/MANUAL.md, and both fit its lines; an output is there whole or not at all, and not where its line says that it
+failed; a journal that was written is legal; no other file is left; and the next run on the ledger succeeds, under a number that no
+output has, nor a journal.
+
+Prints what each kind had and 'N refusals as they should be', or what differs. Where no C compiler is there it says so and ends well, and
+under CI it fails. The program is crates/sealer/out/sealer, or $SEALER.
+"""
+import dataclasses
+import multiprocessing
+import os
+import re
+import shutil
+import subprocess
+import sys
+import tempfile
+import time
+
+top = os.path.abspath(os.path.join(os.path.dirname(__file__), ".."))
+sealer = os.path.abspath(os.environ.get("SEALER", f"{top}/crates/sealer/out/sealer"))
+key = f"{top}/examples/key"
+every = int(sys.argv[1]) if len(sys.argv) > 1 else 1
+# Seconds after which a run hangs, and faults of one process after which it ends.
+HANG, ENOUGH = 60, 5
+# With these refused the answer is the same.
+HARMLESS = ("REFUSE_THREADS", "REFUSE_BEYOND")
+
+TEXTS = re.compile(
+    r"usage: (an argument is no text|out of memory)|error: out of memory|key: cannot open|journal: (cannot create|out of memory)"
+    r"|ledger: (cannot open|store failed|out of memory)|audit: out of memory"
+)
+FAULT = re.compile(r"failed (\S+): (out of memory|cannot open|cannot create)")
+DONE = re.compile(r"sealed (\S+) file ([0-9]+) bytes ([0-9]+)|(?:opened|good) (\S+) bytes ([0-9]+)|legal: .*")
+# What some run has to say.
+WANTED = (
+    "failed a: out of memory", "failed long.stm: out of memory", "ledger: out of memory", "journal: out of memory", "audit: out of memory",
+    "error: out of memory", "usage: an argument is no text", "ledger: store failed", "ledger: cannot open",
+)
+
+
+def text(lines):
+    return "".join(f"{i}\n" for i in range(1, lines + 1)).encode()
+
+
+# Of seven chunks the long one. The last three are so long that the second lane has begun before the first has sealed all.
+FILES = {"small": text(400), "long": text(70_000), "a": text(8_000), "b": text(9_000)[::-1], "c": text(10_000), "next": b"next\n"}
+FILES.update({"x": text(90_000), "y": text(80_000)[::-1], "z": text(85_000)})
+THREE, LANES = ["a", "b", "c"], ["x", "y", "z"]
+
+
+@dataclasses.dataclass
+class Kind:
+    """One command. `given` are the files that lie there, and `made` the files that it works."""
+
+    name: str
+    words: list
+    made: list
+    given: dict = dataclasses.field(default_factory=dict)
+    least: int = 1000  # a run has at least so many allocations
+    which: tuple = ("REFUSE", "REFUSE_FROM", "REFUSE_BEYOND")
+    input: bytes = b""
+    line: str = ""  # what is said where nothing is refused
+    first: int = 0  # the number that a sealing begins at
+    each: dict = dataclasses.field(default_factory=dict)  # the distance of the allocations that are refused, where it isn't 1
+    refused: bool = False  # the ledger is refused whatever is given to it
+    threads: bool = False  # some allocation is another thread's; workers make none
+
+
+def read(name):
+    with open(name, "rb") as file:
+        return file.read()
+
+
+def put(files):
+    """Leaves these files alone in the folder."""
+    for name in os.listdir("."):
+        os.remove(name)
+    for name, data in files.items():
+        with open(name, "wb") as file:
+            file.write(data)
+
+
+def started(words, **more):
+    return subprocess.run([sealer, *words], capture_output=True, timeout=HANG, **{"stdin": subprocess.DEVNULL, **more})
+
+
+def sealing(*words):
+    return ["seal", "--key", key, "--ledger", "ledger", "--device", "1", *words]
+
+
+class Checker:
+    """The runs of one process, in a folder of its own."""
+
+    def __init__(self, made, shared):
+        self.made, self.shared = made, shared
+        self.count, self.bad, self.seen = 0, [], set()
+
+    def differs(self, what):
+        self.bad.append(f"{self.what}: {what}: {self.out} {self.err} status {self.status}")
+
+    def refused(self, kind, which, n):
+        """One run and what it leaves. Whether something was refused."""
+        self.what, self.out, self.err, self.status = f"{kind.name}, {which}={n}", None, None, None
+        put(kind.given)
+        env = {**os.environ, which: str(n), "LD_PRELOAD": f"{self.shared}/refuse.so"}
+        try:
+            more = {"input": kind.input, "stdin": None} if kind.input else {}
+            ran = started(kind.words, env=env, **more)
+        except subprocess.TimeoutExpired:
+            self.count += 1
+            self.differs("hangs")
+            return True
+        told = ran.stderr.decode(errors="replace").splitlines()
+        self.err = [line for line in told if not line.startswith("refused ")]
+        self.out, self.status = ran.stdout.decode(errors="replace").splitlines(), ran.returncode
+        met = [line for line in told if line.startswith("refused ")]
+        self.seen.update(self.out, self.err, met)
+        self.answer(kind, which, bool(met))
+        if kind.words[0] == "seal":
+            self.sealed(kind)
+        else:
+            self.opened(kind)
+        self.count += bool(met)
+        return bool(met)
+
+    def answer(self, kind, which, met):
+        """Status, texts and lines go together."""
+        faults = [line for line in self.out if FAULT.fullmatch(line)]
+        wanted = max(len(kind.made), 1)
+        if self.status not in (0, 1, 2):
+            return self.differs("another status")
+        if self.err and (len(self.err) != 1 or not TEXTS.fullmatch(self.err[0]) or self.status != 2):
+            self.differs("another text")
+        if any(line not in faults and not DONE.fullmatch(line) for line in self.out) or len(self.out) > wanted:
+            self.differs("another line")
+        if self.status == 2:
+            # All said and nothing wrong: by one refusal that can't be.
+            if not self.err and len(self.out) == wanted and which == "REFUSE":
+                self.differs("no cause")
+        elif len(self.out) != wanted or self.status != bool(faults):
+            self.differs("another status")
+        if not met and self.status != 0 and not kind.refused:
+            self.differs("no refusal, and fails")
+        return None
+
+    def outputs(self, kind, name_of, wanted):
+        """Each output is whole or isn't there, as its line says, and no other file is left. The answer is which are there."""
+        left = set(os.listdir(".")) - set(kind.given)
+        if kind.words[0] == "seal":
+            left -= {"ledger", "ledger-wal", "journal"}
+        for name in kind.made if wanted else ():
+            output = name_of(name)
+            said = [line.split(" ")[0] for line in self.out if line.split(" ")[1:2] in ([name], [f"{name}:"])]
+            if output in left:
+                if read(output) not in wanted(name):
+                    self.differs(f"{output} is not whole")
+                if "failed" in said:
+                    self.differs(f"{output} is there")
+            elif said and "failed" not in said:
+                self.differs(f"no {output}")
+        if left - {name_of(name) for name in kind.made}:
+            self.differs(f"leaves {sorted(left)}")
+        for name, data in kind.given.items():
+            if not name.startswith("ledger") and read(name) != data:
+                self.differs(f"alters {name}")
+        return left
+
+    def opened(self, kind):
+        if kind.words[0] == "open":
+            self.outputs(kind, lambda name: name[:-4], lambda name: [FILES[name[:-4]]])
+        else:
+            self.outputs(kind, lambda name: None, None)
+        for line in self.out:
+            if not line.startswith("failed ") and line != kind.line:
+                self.differs("another answer")
+
+    def sealed(self, kind):
+        size = len(kind.made)
+        if kind.refused:
+            # Over it numbers would be given again: no run opens it, nor alters it.
+            if self.status != 2 or self.out or set(os.listdir(".")) - {"journal"} != set(kind.given):
+                self.differs(f"leaves {sorted(os.listdir('.'))}")
+            if any(read(name) != data for name, data in kind.given.items()):
+                self.differs("alters a file")
+            return
+        there = self.outputs(kind, lambda name: f"{name}.stm", lambda name: [self.made[name, kind.first + i] for i in range(size)])
+        numbers = {name[:-4]: int.from_bytes(read(name)[13:17], "big") for name in there if name.endswith(".stm")}
+        if len(set(numbers.values())) != len(numbers):
+            self.differs("one number twice")
+        for name, number, length in (DONE.fullmatch(line).groups()[:3] for line in self.out if line.startswith("sealed ")):
+            if numbers.get(name) != int(number) or len(FILES[name]) != int(length):
+                self.differs(f"{name} has number {numbers.get(name)}")
+        journal = read("journal") if os.path.exists("journal") else b""
+        if journal and not self.err:
+            verdict = started(["audit"], input=journal, stdin=None)
+            found = re.fullmatch(rb"legal: ([0-9]+) granted, ([0-9]+) sealed, ([0-9]+) void, ([0-9]+) open, 0 refused\n", verdict.stdout)
+            if verdict.returncode != 0 or not found:
+                self.differs(f"the journal is {verdict.stdout}")
+            elif int(found[2]) < len(there) - int(found[4]) or int(found[1]) < len(there):
+                self.differs(f"{len(there)} outputs, and the journal is {verdict.stdout}")
+        # The range was reserved or it wasn't; and it was where something was done with it.
+        if os.path.exists("ledger") or there:
+            after = started(sealing("next"))
+            found = re.fullmatch(rb"sealed next file ([0-9]+) bytes 5\n", after.stdout)
+            if after.returncode != 0 or not found:
+                self.differs(f"the next run prints {after.stdout} {after.stderr}")
+            elif int(found[1]) != kind.first + size and (there or journal or int(found[1]) != kind.first):
+                self.differs(f"the next number is {found[1]}")
+
+
+def containers():
+    """Each file's container under each number that it can get, by the program itself."""
+    made = {}
+    for names in (three[first:] + three[:first] for three in (THREE, LANES) for first in (0, 1, 2)):
+        put(FILES)
+        assert started(sealing(*names)).returncode == 0
+        made.update({(name, number): read(f"{name}.stm") for number, name in enumerate(names)})
+    for name in ("small", "long"):
+        put(FILES)
+        for number in range(3):
+            assert started(sealing(name)).returncode == 0
+            made[name, number] = read(f"{name}.stm")
+            os.remove(f"{name}.stm")
+    return made
+
+
+def files_of_ledger():
+    return {name: read(name) for name in ("ledger", "ledger-wal") if os.path.exists(name)}
+
+
+def ledgers():
+    """A ledger file that has a number; the same beside the log of a run that was killed as it reserved; and beside that log one that has
+    more numbers, which the log would take back."""
+    put(FILES)
+    assert started(sealing("a")).returncode == 0
+    used = files_of_ledger()
+    if not shutil.which("strace"):
+        return used, None, None
+    for n in range(1, 40):
+        put({**FILES, **used})
+        words = ["strace", "-f", "-o", "/dev/null", "-e", "trace=fdatasync", "-e", f"inject=fdatasync:signal=KILL:when={n}"]
+        subprocess.run([*words, sealer, *sealing("small")], capture_output=True)
+        cut = files_of_ledger()
+        # The log has the reservation whole, and the ledger file hasn't it yet.
+        if len(cut.get("ledger-wal", b"")) > 56 and cut["ledger"] == used["ledger"] and b" file 2 " in started(sealing("next")).stdout:
+            put({**FILES, **used})
+            assert started(sealing("a", "b", "c", "small")).returncode == 0
+            return used, cut, {**files_of_ledger(), "ledger-wal": cut["ledger-wal"]}
+    return used, None, None
+
+
+def kinds(made):
+    ledger, cut, back = ledgers()
+    some = lambda *names, **more: {**{name: FILES[name] for name in (*names, "next")}, **more}
+    numbers, long_stm = read(f"{top}/examples/numbers.stm"), made["long", 0]
+    history = read(f"{top}/examples/journal.txt")
+    verdict = "legal: 2 granted, 1 sealed, 1 void, 0 open, 1 refused"
+    half, quarter = {"REFUSE_FROM": 2}, {"REFUSE": 4, "REFUSE_FROM": 4}
+    yield Kind("seal", sealing("--journal", "journal", "small"), ["small"], some("small"), each=half)
+    yield Kind("seal by two workers", sealing("--workers", "2", "--journal", "journal", "long"), ["long"], some("long"), each=half)
+    yield Kind("seal three by two lanes", sealing("--lanes", "2", "--journal", "journal", *LANES), LANES, some(*LANES), threads=True, each=half)
+    yield Kind("seal three", sealing("--journal", "journal", *THREE), THREE, some(*THREE), each=half)
+    yield Kind("seal over a ledger", sealing("--journal", "journal", "small"), ["small"], some("small", **ledger), first=1, each=half)
+    if cut:
+        yield Kind("seal over a log", sealing("--journal", "journal", "small"), ["small"], some("small", **cut), first=2, each=quarter)
+        given = some("small", **back)
+        yield Kind("seal over another log", sealing("--journal", "journal", "small"), ["small"], given, 100, refused=True, each=quarter)
+    elif os.environ.get("CI"):
+        sys.exit("refusal_runs: no run left a log")
+    opened, good = (f"{word} long.stm bytes {len(FILES['long'])}" for word in ("opened", "good"))
+    for workers in ("1", "2"):
+        by = ["--key", key, "--workers", workers]
+        yield Kind(f"open by {workers}", ["open", *by, "long.stm"], ["long.stm"], {"long.stm": long_stm}, 50, line=opened)
+        yield Kind(f"verify by {workers}", ["verify", *by, "long.stm"], ["long.stm"], {"long.stm": long_stm}, 40, line=good)
+    yield Kind("open a small one", ["open", "--key", key, "small.stm"], ["small.stm"], {"small.stm": numbers}, 40, line="opened small.stm bytes 1492")
+    yield Kind("audit", ["audit"], [], least=10, input=history, line=verdict)
+    # Of four workers or lanes three are threads: what can't be started is worked on the others, with the same answer.
+    by = ("REFUSE_THREADS",)
+    yield Kind("seal, threads refused", sealing("--workers", "4", "long"), ["long"], some("long"), 3, by)
+    yield Kind("open, threads refused", ["open", "--key", key, "--workers", "4", "long.stm"], ["long.stm"], {"long.stm": long_stm}, 3, by, line=opened)
+    yield Kind("lanes, threads refused", sealing("--lanes", "4", *LANES), LANES, some(*LANES), 2, by)
+
+
+def part(asked):
+    """One kind's runs from a first one on, at a distance: a process works them in a folder of its own."""
+    kind, which, first, step, made, shared = asked
+    with tempfile.TemporaryDirectory(dir=shared) as folder:
+        os.chdir(folder)
+        checker = Checker(made, shared)
+        n = first
+        while checker.refused(kind, which, n) and len(checker.bad) < ENOUGH:
+            if which in HARMLESS and checker.status != (2 if kind.refused else 0):
+                checker.differs("another answer")
+            n += n if which == "REFUSE_BEYOND" else step
+        # In which run another thread makes some is open.
+        for _ in range(25) if kind.threads and which == "REFUSE" else ():
+            checker.refused(kind, "REFUSE_OTHERS", 1)
+        os.chdir("/")
+    return kind.name, which, n, checker
+
+
+def main():
+    if not shutil.which("cc"):
+        print("refusal_runs: skipped, no C compiler is there")
+        sys.exit(1 if os.environ.get("CI") else 0)
+    begun = time.monotonic()
+    # In memory, where that can be: the disk's pace is no part of this.
+    processors = len(os.sched_getaffinity(0))
+    place = "/dev/shm" if os.access("/dev/shm", os.W_OK) and shutil.disk_usage("/dev/shm").free > processors << 24 else None
+    with tempfile.TemporaryDirectory(dir=place) as shared:
+        subprocess.run(["cc", "-O2", "-shared", "-fPIC", "-o", f"{shared}/refuse.so", f"{top}/tools/refuse.c", "-ldl"], check=True)
+        os.mkdir(f"{shared}/first")
+        os.chdir(f"{shared}/first")
+        made = containers()
+        all_kinds = list(kinds(made))
+        os.chdir("/")
+        asked = []
+        for kind in all_kinds:
+            for which in kind.which:
+                each = every * kind.each.get(which, 1) or 1
+                step = 1 if which in HARMLESS else processors * each
+                parts = 1 if which in HARMLESS else processors
+                asked += [(kind, which, 1 + i * each, step, made, shared) for i in range(parts)]
+        count, bad, seen, ends = 0, [], set(), {}
+        with multiprocessing.Pool(processors) as pool:
+            for name, which, end, checker in pool.imap_unordered(part, asked):
+                count += checker.count
+                bad += checker.bad
+                seen |= checker.seen
+                runs, least, told = ends.get((name, which), (0, end, set()))
+                ends[name, which] = (runs + checker.count, min(least, end), told | checker.seen)
+    for kind in all_kinds:
+        for which in kind.which:
+            runs, end, told = ends[kind.name, which]
+            print(f"{kind.name}: {runs} by {which}")
+            if end <= (1 if which == "REFUSE_BEYOND" else kind.least) and not bad:
+                bad.append(f"{kind.name}, {which}: only {end - 1} allocations")
+            if kind.threads and every < 2 and which == "REFUSE" and "refused to another thread" not in told:
+                bad.append(f"{kind.name}: nothing was refused to another thread")
+    if every < 2:
+        bad += [f"no refusal gives: {line}" for line in WANTED if line not in seen]
+    for line in bad[:40]:
+        print(line)
+    if bad:
+        sys.exit(f"refusal_runs: {len(bad)} faults in {count} refusals")
+    print(f"{count} refusals as they should be, in {time.monotonic() - begun:.0f} s")
+
+
+if __name__ == "__main__":
+    main()

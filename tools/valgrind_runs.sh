@@ -1,0 +1,81 @@
+#!/bin/bash
+# Runs the built program on small inputs under valgrind: memcheck finds no read or write of what isn't the program's, no use of what was never
+# written, and nothing lost; helgrind and drd find no race, and there is nothing that they are told to pass over. Status, lines and files are
+# those of a run without them. Prints 'N runs under valgrind as they should be', or what differs. Where valgrind isn't there it says so and ends well, and
+# under CI it fails. The program is crates/sealer/out/sealer, or $SEALER.
+set -u
+cd "$(dirname "$0")/.."
+sealer=$(realpath "${SEALER:-crates/sealer/out/sealer}")
+key=$PWD/examples/key
+journal=$PWD/examples/journal.txt
+if ! command -v valgrind >/dev/null; then
+    echo "valgrind_runs: skipped, valgrind isn't there"
+    [ -z "${CI:-}" ] && exit 0 || exit 1
+fi
+room=$(mktemp -d)
+trap 'running=$(jobs -rp); [ -z "$running" ] || kill $running; rm -rf "$room"' EXIT
+mkdir "$room/given" "$room/results"
+cp examples/numbers.stm "$room/given"
+cd "$room/given" || exit 1
+# Of nine chunks each worker gets some, and each of the others is worth a lane.
+for name in a b c; do seq 1 15000 > $name; done
+seq 1 400 > small
+head -c 524289 /dev/zero > long
+"$sealer" seal --key "$key" --ledger "$room/ledger" --device 1 long > "$room/lines" && mv long plain || exit 1
+cp long.stm damaged.stm && printf x | dd of=damaged.stm bs=1 seek=70000 conv=notrunc 2>/dev/null
+
+# under NAME TOOL STATUS ARGS..: a run under the tool, and one without it, each in a folder that has the given files
+under() {
+    local name=$1 tool=$2 wanted=$3 folder=$room/$1 found='' run
+    local options=(--tool="$tool" --error-exitcode=99 --num-callers=30 --fair-sched=yes --log-file="$room/$1/log")
+    if [ "$tool" = memcheck ]; then
+        options+=(--leak-check=full '--show-leak-kinds=all' '--errors-for-leak-kinds=all')
+    fi
+    shift 3
+    mkdir "$folder" && cp -r "$room/given" "$folder/plain" && cp -r "$room/given" "$folder/tool"
+    (cd "$folder/plain" && "$sealer" "$@" < "$journal" > ../plain.out 2> ../plain.err; echo $? > ../plain.status)
+    (cd "$folder/tool" && valgrind "${options[@]}" "$sealer" "$@" < "$journal" > ../tool.out 2> ../tool.err; echo $? > ../tool.status)
+    # by lanes which file gets which number is open
+    sed -i 's/ file [0-9]* / /' "$folder/plain.out" "$folder/tool.out"
+    for run in plain tool; do
+        [ "$(cat "$folder/$run.status")" = "$wanted" ] || found="$found status $(cat "$folder/$run.status") ($run), not $wanted;"
+        (cd "$folder/$run" && ls) > "$folder/$run.left"
+    done
+    for what in out err left; do
+        cmp -s "$folder/plain.$what" "$folder/tool.$what" || found="$found $what is $(cat "$folder/tool.$what");"
+    done
+    grep -q 'ERROR SUMMARY: 0 errors' "$folder/log" || found="$found $(grep 'ERROR SUMMARY' "$folder/log" || echo no summary);"
+    if [ -z "$found" ]; then
+        : > "$room/results/$name"
+    else
+        { echo "$name:$found"; head -n "${LINES_OF_LOG:-60}" "$folder/log"; } > "$room/results/$name.bad"
+    fi
+    rm -rf "$folder"
+}
+# limited ARGS..: the same, as many side by side as there are processors
+begun=0
+limited() {
+    while [ "$(jobs -rp | wc -l)" -ge "$(nproc)" ]; do sleep 0.1; done
+    under "$@" &
+    begun=$((begun + 1))
+}
+sealing=(seal --key "$key" --ledger ledger --device 1 --journal journal)
+limited audit memcheck 0 audit
+limited no-command memcheck 2 pack
+limited help memcheck 0 --help
+limited seal memcheck 1 "${sealing[@]}" --exponent 12 --label ab small a none
+limited verify memcheck 1 verify --key "$key" --show long.stm damaged.stm none numbers.stm
+limited open memcheck 1 open --key "$key" long.stm damaged.stm numbers.stm small
+for tool in memcheck helgrind drd; do
+    limited seal-by-workers-$tool $tool 0 "${sealing[@]}" --workers 2 --window 2 plain small
+    limited seal-by-lanes-$tool $tool 1 "${sealing[@]}" --lanes 2 a none b c
+    limited open-by-workers-$tool $tool 1 open --key "$key" --workers 2 long.stm damaged.stm
+    limited verify-by-workers-$tool $tool 1 verify --key "$key" --workers 2 damaged.stm long.stm
+done
+wait
+bad=0
+for result in "$room"/results/*.bad; do [ ! -e "$result" ] || { bad=1; cat "$result"; }; done
+count=$(find "$room/results" -type f ! -name '*.bad' | wc -l)
+[ "$count" = "$begun" ] || { bad=1; echo "valgrind_runs: $count of $begun runs are as they should be"; }
+[ $bad = 0 ] && echo "$count runs under valgrind as they should be"
+exit $bad
