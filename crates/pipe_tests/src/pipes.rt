@@ -1,5 +1,5 @@
 //! A pipe under the key 00 01 .. 1f, device 1 and file 0, and the containers that it has to give.
-ghost use Rattle.std.specs.Prelude.{◌≡◌, ◌<◌, ◌≤◌, drop, take};
+ghost use Rattle.std.specs.Prelude.{◌≡◌, drop, take, true};
 ghost use Rattle.container_core.specs.Container.{hint_of};
 
 use container_core::{Header, Key, SealFault, Shape, seal};
@@ -63,6 +63,7 @@ pub fn known(alloc: Global, shape: &Shape, plain: &[u8], digest: &[u8; 32]) -> O
 }
 
 // Whether a header names this key.
+#[tactic(auto, unfolding(container_core::specs::Container::hint_of))]
 fn is_of(header: &Header, key: &Key) -> bool
     ensures { result ≡ true → take 7 (drop 17 header.now) ≡ hint_of key.now }
 {
