@@ -33,6 +33,7 @@ seal_number sealing.TooLong = 11
 seal_number sealing.OutOfMemory = 12
 seal_number sealing.Read = 13
 seal_number sealing.Write = 14
+seal_number sealing.TooManyChunks = 15
 
 -- what the program prints of a fault
 abbrev pub open_text : OpenFault → List ℕ
@@ -53,3 +54,4 @@ seal_text sealing.TooLong = codes "too long"
 seal_text sealing.OutOfMemory = codes "out of memory"
 seal_text sealing.Read = codes "read failed"
 seal_text sealing.Write = codes "write failed"
+seal_text sealing.TooManyChunks = codes "too many chunks"

@@ -79,7 +79,7 @@ impl fmt::Display for OpenFault {
 
 impl Error for OpenFault {}
 
-/// Why a plaintext wasn't sealed. `seal` never answers `Read` or `Write`.
+/// Why a plaintext wasn't sealed. `seal` never answers `Read`, `Write` or `TooManyChunks`.
 #[derive(Clone, Copy, PartialEq, Eq, Debug)]
 pub enum SealFault {
     /// More bytes than the greatest plaintext allowed.
@@ -90,6 +90,8 @@ pub enum SealFault {
     Read,
     /// The writer failed.
     Write,
+    /// A byte stands behind the most chunks that a stream may have.
+    TooManyChunks,
 }
 
 impl SealFault {
@@ -104,6 +106,7 @@ impl SealFault {
             SealFault::OutOfMemory => 12,
             SealFault::Read => 13,
             SealFault::Write => 14,
+            SealFault::TooManyChunks => 15,
         }
     }
 }
@@ -117,6 +120,7 @@ impl fmt::Display for SealFault {
             SealFault::OutOfMemory => write!(f, "out of memory"),
             SealFault::Read => write!(f, "read failed"),
             SealFault::Write => write!(f, "write failed"),
+            SealFault::TooManyChunks => write!(f, "too many chunks"),
         }
     }
 }

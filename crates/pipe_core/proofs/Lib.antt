@@ -1,0 +1,6 @@
+pub mod ChunkLemmas
+pub mod FeedLemmas
+pub mod IntakeLemmas
+pub mod Moves
+pub mod Orders
+pub mod Sums

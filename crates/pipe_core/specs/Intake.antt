@@ -1,0 +1,26 @@
+-- What the caller's thread has read of the input.
+use Rattle.std.specs.Prelude.{◌≡◌, ℕ, ◌*◌, ◌<◌, true, false, List, [], ◌∷◌, ◌++◌, length, Option, Some, None}
+use Rattle.container_core.specs.Chunks.{chunks}
+use Rattle.io_core.specs.Streams.{Consumes, IsAtEnd}
+use Rattle.pipe_core.specs.declared.intake.Intake.{Intake}
+
+-- the byte that was seen behind the chunks
+abbrev pub seen : Option ℕ → List ℕ
+seen None = []
+seen (Some byte) = byte ∷ []
+
+-- whole chunks, and the byte behind the last of them; nothing before the first
+pub record IsGoing (size : ℕ) (intake : Intake) (bytes : List ℕ) : Type 0 where
+  pub past : List ℕ
+  pub read : bytes ≡ past ++ seen intake.ahead
+  pub whole : length past ≡ intake.chunks * size
+  pub first : intake.chunks ≡ 0 → intake.ahead ≡ None
+  pub behind : 0 < intake.chunks → length (seen intake.ahead) ≡ 1
+
+-- of what the reader had at first so much was read
+pub record HasRead (size : ℕ) (left left' : Option (List ℕ)) (intake : Intake) : Type 0 where
+  pub bytes : List ℕ
+  pub consumed : Consumes left left' bytes
+  pub going : intake.ended ≡ false → IsGoing size intake bytes
+  pub end : intake.ended ≡ true → IsAtEnd left'
+  pub all : intake.ended ≡ true → (intake.chunks ≡ length (chunks size bytes)) × (intake.total ≡ length bytes)

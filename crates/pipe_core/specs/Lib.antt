@@ -1,0 +1,5 @@
+pub mod Hands
+pub mod Intake
+pub mod Order
+pub mod Pieces
+pub mod Pipe

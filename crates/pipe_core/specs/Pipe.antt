@@ -1,0 +1,49 @@
+-- What a pipe did with its reader and its writer.
+use Rattle.std.specs.Prelude.{◌≡◌, ℕ, ◌+◌, ◌*◌, ◌<◌, ◌≤◌, Bool, true, false, List, length, Option, Result, Ok, Err, OnOk, OnErr, IfOk, IfSome}
+use Rattle.container_core.specs.Container.{size_in}
+use Rattle.container_core.specs.declared.fault.SealFault.{SealFault}
+use Rattle.container_core.specs.declared.fault.SealFault.TheVariants as sealing_fault
+use Rattle.io_core.specs.Reads.{ConsumesExactly}
+use Rattle.io_core.specs.Streams.{IsAtEnd, Appends, AppendsFront, counted}
+use Rattle.pipe_core.specs.Order.{whole}
+
+-- whether this is the fault of a failed read
+abbrev pub is_read : SealFault → Bool
+is_read sealing_fault.Read = true
+is_read _ = false
+
+-- whether this is the fault of a failed write
+abbrev pub is_write : SealFault → Bool
+is_write sealing_fault.Write = true
+is_write _ = false
+
+-- whether a read failed
+abbrev pub read_failed : {A : Type 0} → Result A SealFault → Bool
+read_failed (Ok value) = false
+read_failed (Err fault) = is_read fault
+
+-- whether a write failed
+abbrev pub write_failed : {A : Type 0} → Result A SealFault → Bool
+write_failed (Ok value) = false
+write_failed (Err fault) = is_write fault
+
+-- The input is what the reader had left, where it tells that.
+pub record HasPiped (key header : List ℕ) (most : ℕ) (left left' : Option (List ℕ)) (failures failures' : Option ℕ)
+    (taken taken' : Option (List ℕ)) (refusals refusals' : Option ℕ) (result : Result ℕ SealFault) : Type 0 where
+  -- nothing is left unread
+  pub end : OnOk result (IsAtEnd left')
+  -- what was written is the header, and STREAM of the input's chunks
+  pub written : OnOk result (IfSome left (λ input. Appends taken taken' (whole key header input)))
+  -- the answer is the input's length
+  pub answer : IfOk result (λ n. IfSome left (λ input. n ≡ length input))
+  -- there are no more chunks than were allowed; where there are more, a byte behind these was read, and no other
+  pub within : OnOk result (IfSome left (λ input. length input ≤ most * size_in header))
+  pub more : result ≡ Err sealing_fault.TooManyChunks → IfSome left (λ input. most * size_in header < length input)
+  pub one : result ≡ Err sealing_fault.TooManyChunks → ConsumesExactly left left' (most * size_in header + 1)
+  -- at a fault a beginning of that was written
+  pub begun : OnErr result (IfSome left (λ input. AppendsFront taken taken' (whole key header input)))
+  -- a stream is never too long
+  pub endless : result ≡ Err sealing_fault.TooLong → ⊥
+  -- a failed read is Read, a failed write is Write, and no other fault is
+  pub read : failures' ≡ counted (read_failed result) failures
+  pub write : refusals' ≡ counted (write_failed result) refusals

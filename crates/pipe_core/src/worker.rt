@@ -1,0 +1,69 @@
+//! A worker: it takes jobs and gives pieces back, till a stop comes.
+ghost use Rattle.std.specs.Prelude.{◌≡◌, [], ◌<◌, length};
+ghost use Rattle.crossbeam_queue.specs.Passes.{view, IsPassOf};
+ghost use Rattle.pipe_core.specs.Hands.{hand, newcomer, HasRelayed};
+
+use crate::line::{Hand, JobLine, Naming, PieceLine, put_piece, take_task};
+use crate::piece::{Piece, Task, make_piece};
+use container_core::{Header, Key};
+use crossbeam_queue::Pass;
+use std::sync::Wait;
+use std::thread;
+use std::thread::Parker;
+use worker_core::Gate;
+
+// How often a thread looks for something to do before it sleeps.
+const LOOKS: u32 = 100;
+
+/// Looks again soon, or sleeps once it has looked so often for nothing. Answers how often it has looked since.
+pub(crate) fn rest<T: Wait>(rt: &T, bell: &Parker, looks: u32) -> u32 {
+    if looks < LOOKS {
+        thread::yield_now();
+        return looks + 1;
+    }
+    bell.park(rt);
+    0
+}
+
+/// What comes of the worker of this number: of each job that it took it gave one piece back. It passes the gate with a
+/// chunk's number right before it seals the chunk, and wakes the caller's thread, worker 0, once the piece is there.
+pub(crate) fn worker<N: Naming, R: Wait, G: Gate>(
+    rt: &R,
+    jobs: &JobLine<N>,
+    pieces: &PieceLine<N>,
+    key: &Key,
+    header: &Header,
+    gate: &G,
+    bells: &[Parker],
+    me: u32,
+    from: &mut Pass<Task, Hand>,
+    into: &mut Pass<Piece, Hand>,
+)
+    requires me { (0 < me) × (me < length bells.now) }
+    requires named { (key.now ≡ N.key) × (header.now ≡ N.header) }
+    requires from { IsPassOf jobs.now from.old × (view from.old ≡ newcomer) }
+    requires into { IsPassOf pieces.now into.old × (view into.old ≡ newcomer) }
+    ensures { IsPassOf jobs.now from.new × IsPassOf pieces.now into.new × HasRelayed 1 (view from.new) (view into.new) }
+{
+    let mut looks = 0;
+    for _ in rt.forever() {
+        match take_task(jobs, from) {
+            Some(
+                Task::Job {
+                    number,
+                    last,
+                    buffer,
+                    filled,
+                },
+            ) => {
+                gate.pass(me, number);
+                let piece = make_piece(key, header, number, last, buffer, filled);
+                put_piece(rt, pieces, into, piece);
+                bells[0].unpark();
+                looks = 0;
+            }
+            Some(Task::Stop) => break,
+            None => looks = rest(rt, &bells[me as usize], looks),
+        }
+    }
+}

@@ -1,0 +1,86 @@
+//! Reading goes on while chunks are sealed: a reader that is held until chunk 0 is sealed, which is held until chunk 1
+//! is, keeps nobody waiting.
+use crate::containers::TWO_CHUNKS;
+use crate::gates::Crossing;
+use crate::pipes::{Asked, known, piped, small, zeros};
+use io_core::FromRead;
+use io_memory::{Schedule, ToMemory};
+use std::alloc::Global;
+use std::io;
+use std::io::Read;
+use std::sync::Wait;
+use std::thread::Threads;
+
+// How often the reader and the gate look, where they are to meet, and where they can't.
+const TURNS: u64 = 1_000_000_000;
+
+const FEW_TURNS: u64 = 1_000;
+
+// The byte that is held, counted from 0: the first behind chunk 0 and the byte that is read with it.
+const HELD: usize = 4_097;
+
+// A reader that gives a byte a call, and byte 4,097 once chunk 0's pass was entered, or after the gate's turns.
+#[derive(Drop)]
+struct Held<'a> {
+    rest: &'a [u8],
+    given: usize,
+    gate: &'a Crossing,
+    gave_up: bool,
+}
+
+impl Read for Held<'_> {
+    fn read(&mut self, buf: &mut [u8]) -> io::Result<usize> {
+        if self.given == HELD && !self.gate.is_entered() {
+            self.gave_up = true;
+        }
+        if buf.is_empty() || self.rest.is_empty() {
+            return Ok(0);
+        }
+        buf[0] = self.rest[0];
+        self.rest = &self.rest[1..];
+        self.given = self.given.saturating_add(1);
+        Ok(1)
+    }
+}
+
+// Whether the reader and the gate give up where so many workers seal two small chunks to their container.
+fn give_up<T: Threads + Wait + Sync>(
+    rt: &T,
+    alloc: Global,
+    workers: u32,
+    turns: u64,
+) -> Option<(bool, bool)> {
+    let shape = small()?;
+    let plain = zeros(alloc, 8_192).ok()?;
+    let container = known(alloc, &shape, plain.as_slice(), &TWO_CHUNKS)?;
+    let gate = Crossing::new(turns);
+    let mut reader = FromRead(Held {
+        rest: plain.as_slice(),
+        given: 0,
+        gate: &gate,
+        gave_up: false,
+    });
+    let mut writer = ToMemory::new(alloc, 64, usize::MAX, Schedule::Never).ok()?;
+    let asked = Asked {
+        max_chunks: 2,
+        workers,
+        depth: 4,
+    };
+    let answer = piped(rt, alloc, &shape, &mut reader, &mut writer, asked, &gate)?;
+    if answer == Ok(8_192) && writer.bytes() == container.as_slice() {
+        Some((reader.0.gave_up, gate.gave_up()))
+    } else {
+        None
+    }
+}
+
+#[test]
+fn two_workers_meet_a_held_reader(rt: HostRuntime) {
+    assert!(rt; give_up(&rt, rt.alloc(), 2, TURNS) == Some((false, false)));
+}
+
+// That the test above can fail: one worker seals nothing beside the reading, and one chunk after the other.
+#[test]
+fn one_worker_meets_nobody(rt: HostRuntime) {
+    assert!(rt; give_up(&rt, rt.alloc(), 1, FEW_TURNS) == Some((true, true)));
+}

@@ -1,0 +1,17 @@
+//! Tests of `pipe_core`: streams sealed by 1 to 16 workers, over readers and writers in memory.
+#![tactic(auto)]
+
+#[cfg(test)]
+mod containers;
+#[cfg(test)]
+mod faults;
+#[cfg(test)]
+mod gates;
+#[cfg(test)]
+mod held;
+#[cfg(test)]
+mod passes;
+#[cfg(test)]
+mod pipes;
+#[cfg(test)]
+mod whole;

@@ -1,0 +1,149 @@
+//! A pipe under the key 00 01 .. 1f, device 1 and file 0, and the containers that it has to give.
+ghost use Rattle.std.specs.Prelude.{◌≡◌, drop, take, true};
+ghost use Rattle.container_core.specs.Container.{hint_of};
+
+use container_core::{Header, Key, SealFault, Shape, seal};
+use io_core::{Sink, Source};
+use io_memory::{FromMemory, Schedule, ToMemory};
+use pipe_core::{MAX_DEPTH, pipe};
+use sha2::{Digest, Sha256};
+use std::alloc::{AllocError, Global};
+use std::sync::Wait;
+use std::thread::Threads;
+use worker_core::{Free, Gate, MAX_WORKERS};
+
+/// 00 01 .. 1f.
+const COUNTING: [u8; 32] = [
+    0, 1, 2, 3, 4, 5, 6, 7, 8, 9, 10, 11, 12, 13, 14, 15, 16, 17, 18, 19, 20, 21, 22, 23, 24, 25,
+    26, 27, 28, 29, 30, 31,
+];
+
+/// Device 1, file 0.
+const PREFIX: [u8; 7] = [0, 0, 1, 0, 0, 0, 0];
+
+/// How a stream is sealed: at most so many chunks, by so many workers, with so many chunks read and not written.
+#[derive(Clone, Copy)]
+pub struct Asked {
+    pub max_chunks: u32,
+    pub workers: u32,
+    pub depth: u32,
+}
+
+/// Chunks of 4 KiB under an empty label.
+pub fn small() -> Option<Shape> {
+    Shape::two(12, b"").ok()
+}
+
+fn fill_pattern(bytes: &mut [u8]) {
+    for (i, byte) in bytes.iter_mut().enumerate() {
+        *byte = (i % 251) as u8;
+    }
+}
+
+/// So many bytes that don't repeat at a chunk's length: byte i is i modulo 251.
+pub fn pattern(alloc: Global, count: usize) -> Result<Vec<u8>, AllocError> {
+    let mut bytes = vec![in alloc; 0; count]?;
+    fill_pattern(bytes.as_mut_slice());
+    Ok(bytes)
+}
+
+/// So many zero bytes.
+pub fn zeros(alloc: Global, count: usize) -> Result<Vec<u8>, AllocError> {
+    vec![in alloc; 0; count]
+}
+
+/// The container of a plaintext, where its SHA-256 is this one.
+pub fn known(alloc: Global, shape: &Shape, plain: &[u8], digest: &[u8; 32]) -> Option<Vec<u8>> {
+    let bytes = seal(alloc, &Key::new(COUNTING), shape, PREFIX, plain).ok()?;
+    if Sha256::digest(bytes.as_slice()) == *digest {
+        Some(bytes)
+    } else {
+        None
+    }
+}
+
+// Whether a header names this key.
+#[tactic(auto, unfolding(container_core::specs::Container::hint_of))]
+fn is_of(header: &Header, key: &Key) -> bool
+    ensures { result ≡ true → take 7 (drop 17 header.now) ≡ hint_of key.now }
+{
+    header.bytes()[17..24] == key.id()[..7]
+}
+
+/// What the pipe answers, or `None` where it is asked for what it doesn't take.
+pub fn piped<T: Threads + Wait + Sync, R: Source, W: Sink, G: Gate + Sync>(
+    rt: &T,
+    alloc: Global,
+    shape: &Shape,
+    reader: &mut R,
+    writer: &mut W,
+    asked: Asked,
+    gate: &G,
+) -> Option<Result<u64, SealFault>> {
+    let key = Key::new(COUNTING);
+    let header = Header::of(&key, shape, PREFIX);
+    let Asked {
+        max_chunks,
+        workers,
+        depth,
+    } = asked;
+    if max_chunks == 0
+        || workers == 0
+        || workers > MAX_WORKERS
+        || depth == 0
+        || depth > MAX_DEPTH
+        || !is_of(&header, &key)
+    {
+        return None;
+    }
+    Some(pipe(
+        rt, alloc, &key, &header, reader, writer, max_chunks, workers, depth, gate,
+    ))
+}
+
+/// The answer over memory where nothing fails, and what was written, where so many bytes are read and written a call.
+pub fn sealed<T: Threads + Wait + Sync, G: Gate + Sync>(
+    rt: &T,
+    alloc: Global,
+    shape: &Shape,
+    plain: &[u8],
+    step: usize,
+    asked: Asked,
+    gate: &G,
+) -> Option<(Result<u64, SealFault>, ToMemory)> {
+    let mut reader = FromMemory::new(plain, step, Schedule::Never);
+    let mut writer = ToMemory::new(alloc, plain.len(), step, Schedule::Never).ok()?;
+    let answer = piped(rt, alloc, shape, &mut reader, &mut writer, asked, gate)?;
+    Some((answer, writer))
+}
+
+/// Whether this plaintext is sealed to this container.
+pub fn seals_to<T: Threads + Wait + Sync, G: Gate + Sync>(
+    rt: &T,
+    alloc: Global,
+    shape: &Shape,
+    plain: &[u8],
+    step: usize,
+    asked: Asked,
+    gate: &G,
+    container: &[u8],
+) -> bool {
+    match sealed(rt, alloc, shape, plain, step, asked, gate) {
+        Some((answer, writer)) => {
+            answer == Ok(plain.len() as u64) && writer.bytes() == container
+        }
+        None => false,
+    }
+}
+
+/// The same where all pass freely and any number of bytes is read and written a call.
+pub fn seals_freely<T: Threads + Wait + Sync>(
+    rt: &T,
+    alloc: Global,
+    shape: &Shape,
+    plain: &[u8],
+    asked: Asked,
+    container: &[u8],
+) -> bool {
+    seals_to(rt, alloc, shape, plain, usize::MAX, asked, &Free, container)
+}
