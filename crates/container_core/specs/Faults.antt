@@ -1,5 +1,5 @@
 -- The numbers of the faults, and their texts.
-use Rattle.std.specs.Prelude.{ℕ, List, ◌++◌, codes}
+use Rattle.std.specs.Prelude.{ℕ, Bool, true, false, List, ◌++◌, codes}
 use Rattle.std.specs.Fmt.{decimal}
 use Rattle.container_core.specs.declared.fault.OpenFault.{OpenFault}
 use Rattle.container_core.specs.declared.fault.OpenFault.TheVariants.{TooLong, ShortHeader, BadMagic, BadVersion}
@@ -34,6 +34,16 @@ seal_number sealing.OutOfMemory = 12
 seal_number sealing.Read = 13
 seal_number sealing.Write = 14
 seal_number sealing.TooManyChunks = 15
+
+-- whether this is the fault of a failed read
+abbrev pub is_failed_read : SealFault → Bool
+is_failed_read sealing.Read = true
+is_failed_read _ = false
+
+-- whether this is the fault of a failed write
+abbrev pub is_failed_write : SealFault → Bool
+is_failed_write sealing.Write = true
+is_failed_write _ = false
 
 -- what the program prints of a fault
 abbrev pub open_text : OpenFault → List ℕ

@@ -17,6 +17,7 @@ pub use crate::batch::seal_batch;
 pub use crate::outcome::Outcome;
 pub use crate::whole::{open_whole, seal_round, seal_whole};
 pub use piece_core::{Kind, Piece, PutFault, Shelf, ShelfFault, Work};
+pub use pipe_core::{MAX_DEPTH, pipe};
 pub use worker_core::{DEFAULT_WINDOW, Free, Gate, MAX_WINDOW, MAX_WORKERS, usual_window};
 
 /// The most lanes of a batch.

@@ -2,5 +2,6 @@ pub mod AnswerLemmas
 pub mod FrontLemmas
 pub mod OpeningRounds
 pub mod PieceLemmas
+pub mod PipeLemmas
 pub mod ReadingLemmas
 pub mod SealingRounds

@@ -14,7 +14,7 @@ use Rattle.container_core.specs.Shape.{ShapeView, size_of}
 use Rattle.container_core.specs.Stream.{stream, stream_by}
 use Rattle.round_core.specs.Answer.{joined}
 use Rattle.container_core.specs.declared.fault.SealFault.{SealFault}
-use Rattle.container_core.specs.declared.fault.SealFault.TheVariants.{TooLong, OutOfMemory, Read as ReadFailed, Write as WriteFailed}
+use Rattle.container_core.specs.declared.fault.SealFault.TheVariants.{TooLong, OutOfMemory, Read as ReadFailed, Write as WriteFailed, TooManyChunks}
 use Rattle.io_core.specs.Streams.{counted}
 use Rattle.engine_core.specs.Engine.{BeginsContainer, rounds_so_far, HasReadPlain, HasWrittenRounds, seal_read_failed, seal_write_failed}
 use Rattle.round_core.specs.Views.{PlacesView}
@@ -297,16 +297,10 @@ lead-none (x ∷ past) header some = refl
 -- ---- the engine's clauses once a round was begun
 
 same_read : (fault : SealFault) → seal_read_failed {A = Unit {0}} (Err fault) ≡ seal_read_failed {A = ℕ} (Err fault)
-same_read TooLong = refl
-same_read OutOfMemory = refl
-same_read ReadFailed = refl
-same_read WriteFailed = refl
+same_read fault = refl
 
 same_write : (fault : SealFault) → seal_write_failed {A = Unit {0}} (Err fault) ≡ seal_write_failed {A = ℕ} (Err fault)
-same_write TooLong = refl
-same_write OutOfMemory = refl
-same_write ReadFailed = refl
-same_write WriteFailed = refl
+same_write fault = refl
 
 no_memory : (fault : SealFault) → (fault ≡ ReadFailed) ⊎ (fault ≡ WriteFailed) → fault ≡ OutOfMemory → ⊥
 no_memory fault (inl is) e = absurd (read_is_no_memory (sym is ∙ e))
@@ -376,6 +370,7 @@ reads-limit most a b f g fault read kind consumed long same = record {
     no_read ReadFailed e (inl is) = cc
     no_read ReadFailed e (inr is) = cc
     no_read WriteFailed e which = refl
+    no_read TooManyChunks e which = refl
 
     none : (fault ≡ TooLong) ⊎ (fault ≡ WriteFailed) → seal_read_failed {A = ℕ} (Err fault) ≡ false
     none which = no_read fault refl which
@@ -501,6 +496,8 @@ begin_kinds OutOfMemory which = (λ e. cc, refl)
 begin_kinds ReadFailed which = (λ e. cc, refl)
 begin_kinds WriteFailed (inl is) = cc
 begin_kinds WriteFailed (inr is) = cc
+begin_kinds TooManyChunks (inl is) = cc
+begin_kinds TooManyChunks (inr is) = cc
 
 pub writes-none : (key : List ℕ) (shape : ShapeView) (prefix : List ℕ) (most window n : ℕ) (a b d : Option (List ℕ)) (g : Option ℕ) (fault : SealFault)
     → (fault ≡ OutOfMemory) ⊎ (fault ≡ ReadFailed) → ConsumesUpTo a b n

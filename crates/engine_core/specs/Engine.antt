@@ -9,7 +9,7 @@ use Rattle.container_core.specs.declared.fault.OpenFault.{OpenFault}
 use Rattle.container_core.specs.declared.fault.OpenFault.TheVariants as opening_fault
 use Rattle.container_core.specs.declared.fault.SealFault.{SealFault}
 use Rattle.container_core.specs.declared.fault.SealFault.TheVariants as sealing_fault
-use Rattle.container_core.specs.Faults.{IsOfBytes}
+use Rattle.container_core.specs.Faults.{IsOfBytes, is_failed_read, is_failed_write}
 use Rattle.container_core.specs.Opening.{longest, opening}
 use Rattle.container_core.specs.Stream.{stream_by}
 use Rattle.io_core.specs.Reads.{ConsumesExactly, ConsumesUpTo}
@@ -18,18 +18,12 @@ use Rattle.io_core.specs.Streams.{Appends, AppendsFront, Consumes, IsAtEnd, Keep
 -- whether a sealing ended by a failed read
 abbrev pub seal_read_failed : {A : Type 0} → Result A SealFault → Bool
 seal_read_failed (Ok value) = false
-seal_read_failed (Err sealing_fault.TooLong) = false
-seal_read_failed (Err sealing_fault.OutOfMemory) = false
-seal_read_failed (Err sealing_fault.Read) = true
-seal_read_failed (Err sealing_fault.Write) = false
+seal_read_failed (Err fault) = is_failed_read fault
 
 -- whether a sealing ended by a failed write
 abbrev pub seal_write_failed : {A : Type 0} → Result A SealFault → Bool
 seal_write_failed (Ok value) = false
-seal_write_failed (Err sealing_fault.TooLong) = false
-seal_write_failed (Err sealing_fault.OutOfMemory) = false
-seal_write_failed (Err sealing_fault.Read) = false
-seal_write_failed (Err sealing_fault.Write) = true
+seal_write_failed (Err fault) = is_failed_write fault
 
 -- whether an opening ended by a failed read
 abbrev pub open_read_failed : {A : Type 0} → Result A OpenFault → Bool

@@ -1,6 +1,7 @@
 //! The engines: sealing, opening and verifying from any reader to any writer, and the audit of a journal.
 //!
-//! `engine` has those of one thread, `run` those with workers, whose answers are the same. `front` reads a header, and
+//! `engine` has those of one thread, `run` those with workers, whose answers are the same, and
+//! `pipe` the one that seals a stream of any length. `front` reads a header, and
 //! `reading` what is read whole before anything is written; `sealing` has what seals a window at a time, `windows` what
 //! opens or checks, and `rooms` the room of both. `auditor` has the audit.
 #![tactic(auto)]
@@ -8,6 +9,7 @@
 pub mod auditor;
 pub mod engine;
 mod front;
+pub mod pipe;
 pub mod reading;
 mod rooms;
 pub mod run;
@@ -16,6 +18,7 @@ mod windows;
 
 pub use crate::auditor::run_audit;
 pub use crate::engine::{open_one, seal_one, verify_one};
+pub use crate::pipe::run_pipe;
 pub use crate::reading::read_plain;
 pub use crate::run::{
     run_check, run_open, run_open_by, run_plain, run_plain_by, run_read, run_seal, run_seal_by,

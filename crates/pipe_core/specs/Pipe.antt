@@ -1,31 +1,22 @@
 -- What a pipe did with its reader and its writer.
 use Rattle.std.specs.Prelude.{◌≡◌, ℕ, ◌+◌, ◌*◌, ◌<◌, ◌≤◌, Bool, true, false, List, length, Option, Result, Ok, Err, OnOk, OnErr, IfOk, IfSome}
 use Rattle.container_core.specs.Container.{size_in}
+use Rattle.container_core.specs.Faults.{is_failed_read, is_failed_write}
 use Rattle.container_core.specs.declared.fault.SealFault.{SealFault}
 use Rattle.container_core.specs.declared.fault.SealFault.TheVariants as sealing_fault
 use Rattle.io_core.specs.Reads.{ConsumesExactly}
 use Rattle.io_core.specs.Streams.{IsAtEnd, Appends, AppendsFront, counted}
 use Rattle.pipe_core.specs.Order.{whole}
 
--- whether this is the fault of a failed read
-abbrev pub is_read : SealFault → Bool
-is_read sealing_fault.Read = true
-is_read _ = false
-
--- whether this is the fault of a failed write
-abbrev pub is_write : SealFault → Bool
-is_write sealing_fault.Write = true
-is_write _ = false
-
 -- whether a read failed
 abbrev pub read_failed : {A : Type 0} → Result A SealFault → Bool
 read_failed (Ok value) = false
-read_failed (Err fault) = is_read fault
+read_failed (Err fault) = is_failed_read fault
 
 -- whether a write failed
 abbrev pub write_failed : {A : Type 0} → Result A SealFault → Bool
 write_failed (Ok value) = false
-write_failed (Err fault) = is_write fault
+write_failed (Err fault) = is_failed_write fault
 
 -- The input is what the reader had left, where it tells that.
 pub record HasPiped (key header : List ℕ) (most : ℕ) (left left' : Option (List ℕ)) (failures failures' : Option ℕ)

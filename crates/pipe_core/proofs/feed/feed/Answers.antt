@@ -1,7 +1,7 @@
 use Rattle.std.proofs.Common.{arith, ◌≡◌, ◌∙◌, true, refl, ap}
 use Rattle.container_core.specs.Container.{size_in}
 use Rattle.io_core.specs.Streams.{counted}
-use Rattle.pipe_core.specs.Pipe.{is_read}
+use Rattle.container_core.specs.Faults.{is_failed_read}
 use Rattle.pipe_core.proofs.ChunkLemmas.{begun_now}
 use Rattle.pipe_core.proofs.FeedLemmas.{written_at, begun_header, piped_as, piped_end, piped_more, piped_read, piped_write, seen_end}
 use Rattle.pipe_core.proofs.feed.feed.Goals as goal
@@ -152,7 +152,7 @@ returns-in-Err-read_on-clause-piped g c =
     let wrote = c.in-Ok-false.ensures in
     piped_as _ _ _ _ _ _ _ _ _ _ _ _ _ _ _ n.0 n.1 n.2
     (piped_read _ _ _ _ _ _ _ _ _ _ _ c.in-Err-read_on.fault c.in-Err-read_on.ensures.fault (begun_now _ _ _ _ _ _ (wrote.written _ was.written))
-    (c.in-Err-read_on.ensures.count ∙ ap (counted (is_read c.in-Err-read_on.fault)) was.failures) (wrote.count ∙ was.refusals))
+    (c.in-Err-read_on.ensures.count ∙ ap (counted (is_failed_read c.in-Err-read_on.fault)) was.failures) (wrote.count ∙ was.refusals))
 
 pub returns-then-len-eq0-clause-piped : goal.returns-then-len-eq0-clause-piped
 returns-then-len-eq0-clause-piped g c =

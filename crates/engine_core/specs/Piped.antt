@@ -1,0 +1,31 @@
+-- What the contract of the engine that seals a stream cites.
+use Rattle.std.specs.Prelude.{◌≡◌, ◌≢◌, ℕ, ◌+◌, ◌*◌, ◌<◌, ◌≤◌, List, length, Option, Result, Err, IfOk, OnOk, OnErr, IfSome}
+use Rattle.container_core.specs.Container.{container}
+use Rattle.container_core.specs.Shape.{ShapeView, size_of}
+use Rattle.container_core.specs.declared.fault.SealFault.{SealFault}
+use Rattle.container_core.specs.declared.fault.SealFault.TheVariants as sealing_fault
+use Rattle.engine_core.specs.Engine.{seal_read_failed, seal_write_failed}
+use Rattle.io_core.specs.Reads.{ConsumesExactly}
+use Rattle.io_core.specs.Streams.{Appends, AppendsFront, IsAtEnd, counted}
+
+-- What it did with its reader, which had `left` to be read, and has `left'` now, and with its writer, which had taken
+-- `taken`, and has `taken'` now. The input is what the reader had left, where it tells that.
+pub record HasPipedContainer (key : List ℕ) (shape : ShapeView) (prefix : List ℕ) (most : ℕ)
+    (left left' : Option (List ℕ)) (failures failures' : Option ℕ) (taken taken' : Option (List ℕ))
+    (refusals refusals' : Option ℕ) (result : Result ℕ SealFault) : Type 0 where
+  -- nothing is left unread, and what was written is the container of the whole input
+  pub end : OnOk result (IsAtEnd left')
+  pub written : OnOk result (IfSome left (λ input. Appends taken taken' (container key shape prefix input)))
+  -- the answer is the input's length
+  pub answer : IfOk result (λ n. IfSome left (λ input. n ≡ length input))
+  -- there are no more chunks than were allowed; where there are more, a byte behind these was read, and no other
+  pub within : OnOk result (IfSome left (λ input. length input ≤ most * size_of shape))
+  pub more : result ≡ Err sealing_fault.TooManyChunks → IfSome left (λ input. most * size_of shape < length input)
+  pub one : result ≡ Err sealing_fault.TooManyChunks → ConsumesExactly left left' (most * size_of shape + 1)
+  -- at a fault a beginning of that container was written
+  pub begun : OnErr result (IfSome left (λ input. AppendsFront taken taken' (container key shape prefix input)))
+  -- a stream is never too long
+  pub endless : result ≢ Err sealing_fault.TooLong
+  -- a failed read is Read, a failed write is Write, and no other fault is
+  pub read : failures' ≡ counted (seal_read_failed result) failures
+  pub write : refusals' ≡ counted (seal_write_failed result) refusals

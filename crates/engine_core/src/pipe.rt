@@ -1,0 +1,52 @@
+//! The engine that seals a stream of any length, in the memory of so many chunks.
+ghost use Rattle.std.specs.Prelude.{◌≡◌, ◌<◌, ◌≤◌, OnOk, OnErr};
+ghost use Rattle.crew_core.specs.Spending.{spent_as};
+ghost use Rattle.engine_core.specs.Piped.{HasPipedContainer};
+ghost use Rattle.journal_core.specs.declared.entry.Way.TheVariants.{Sealed, Void};
+ghost use Rattle.ledger_core.specs.Range.{prefix_of};
+
+use container_core::{Header, Key, SealFault, Shape};
+use crew_core::{Gate, MAX_DEPTH, MAX_WORKERS, pipe};
+use ledger_core::{Grant, Sink, Source, Spent};
+use std::alloc::Global;
+use std::sync::Wait;
+use std::thread::Threads;
+
+/// Reads a stream of at most `max_chunks` chunks (at least 1) to its end and writes its container in a shape, under a
+/// key and a grant's prefix, sealed by 1 to 16 workers that live as long as the stream, where at most `depth` chunks (1
+/// to 64) are read and not yet written. Answers the stream's length. `TooManyChunks` where a byte stands behind so many
+/// full chunks, and nothing past it is read; never `TooLong`. At every fault what was written begins the container of
+/// the whole stream. The header is written before anything is read. Memory is taken for at most `depth` chunks, two
+/// queues and a bell for each worker.
+pub fn run_pipe<T: Threads + Wait + Sync, R: Source, W: Sink, G: Gate + Sync>(
+    rt: &T,
+    alloc: Global,
+    key: &Key,
+    shape: &Shape,
+    grant: Grant,
+    reader: &mut R,
+    writer: &mut W,
+    max_chunks: u32,
+    workers: u32,
+    depth: u32,
+    gate: &G,
+) -> (Result<u64, SealFault>, Spent)
+    requires most { 0 < max_chunks }
+    requires workers { (0 < workers) × (workers ≤ MAX_WORKERS) }
+    requires depth { (0 < depth) × (depth ≤ MAX_DEPTH) }
+    ensures pipes { HasPipedContainer key.now shape.now (prefix_of grant.device grant.number) max_chunks
+        (R.left reader.old) (R.left reader.new) (R.failures reader.old) (R.failures reader.new)
+        (W.taken writer.old) (W.taken writer.new) (W.failures writer.old) (W.failures writer.new) result.0 }
+
+    // The grant is spent.
+    ensures sealed { OnOk result.0 (result.1 ≡ spent_as grant Sealed) }
+    ensures void { OnErr result.0 (result.1 ≡ spent_as grant Void) }
+{
+    let header = Header::of(key, shape, grant.prefix());
+    match pipe(
+        rt, alloc, key, &header, reader, writer, max_chunks, workers, depth, gate,
+    ) {
+        Ok(bytes) => (Ok(bytes), grant.used()),
+        Err(fault) => (Err(fault), grant.waste()),
+    }
+}
