@@ -1,8 +1,10 @@
-//! Tests of `pipe_core`: streams sealed by 1 to 16 workers, over readers and writers in memory.
+//! Tests of `pipe_core` and of `run_pipe`: streams sealed by 1 to 16 workers, over readers and writers in memory.
 #![tactic(auto)]
 
 #[cfg(test)]
 mod containers;
+#[cfg(test)]
+mod engine;
 #[cfg(test)]
 mod faults;
 #[cfg(test)]
