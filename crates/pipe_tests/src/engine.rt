@@ -1,4 +1,6 @@
 //! The engine over a stream, under a grant of device 1 and file 0: what is written, and how the grant ends.
+ghost use Rattle.std.specs.Prelude.{◌<◌};
+
 use crate::pipes::pattern;
 use container_core::{Key, SealFault, Shape, seal};
 use crew_tests::{COUNTING, grant_of};
