@@ -16,8 +16,8 @@ except ImportError:
     sys.exit(3)
 
 MAGIC, TAG = b"STRMSEAL", 16
-# Bytes of the greatest plaintext that is accepted.
-MOST = 1 << 40
+# Bytes of the greatest plaintext that is accepted, and how many chunks at most: their numbers have 32 bits.
+MOST, MOST_CHUNKS = (1 << 52) - (1 << 20), (1 << 32) - 1
 
 
 class Fault(Exception):
@@ -29,9 +29,14 @@ def container_length(header, exponent, plain):
     return header + plain + TAG * max(1, -(-plain // (1 << exponent)))
 
 
+def longest_container(header, exponent):
+    """The bytes of the longest container that is accepted."""
+    return container_length(header, exponent, min(MOST, MOST_CHUNKS << exponent))
+
+
 def header_of_version_1(key, data):
     """The header's length and the exponent."""
-    if len(data) > container_length(24, 16, MOST):
+    if len(data) > longest_container(24, 16):
         raise Fault("too long")
     if len(data) < 24:
         raise Fault("header cut short")
@@ -58,7 +63,7 @@ def header_of_version_2(key, data):
     if len(data) < 25 or len(data) < 25 + data[24]:
         raise Fault("header cut short")
     length = 25 + data[24]
-    if len(data) > container_length(length, exponent, MOST):
+    if len(data) > longest_container(length, exponent):
         raise Fault("too long")
     return length, exponent
 

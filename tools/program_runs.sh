@@ -203,11 +203,11 @@ for value in 0 17 -1 one; do
     run open --key "$key" "--workers=$value" files/numbers.stm
     wants "workers $value" 2 '' "begins error: invalid value '$value' for '--workers <N>'"
 done
-for value in 1099511627777 -1; do
+for value in 4503599626321921 -1; do
     run open --key "$key" "--max-bytes=$value" files/numbers.stm
     wants "max-bytes $value" 2 '' "begins error: invalid value '$value' for '--max-bytes <N>'"
 done
-run open --key "$key" --max-bytes 1099511627776 files/numbers.stm
+run open --key "$key" --max-bytes 4503599626321920 files/numbers.stm
 wants greatest 0 'opened files/numbers.stm bytes 1492' ''
 
 # Sealing: a life of a ledger file.

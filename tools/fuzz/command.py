@@ -4,8 +4,8 @@ from fuzz.run import Ask
 
 KEY, PLAIN = bytes(range(32)), bytes(range(200)) * 100
 # The least and the greatest value of the options that take a number: of each command, of `seal`, and for version 2.
-BOUNDS = {"--workers": (1, 16), "--max-bytes": (0, MOST)}
-SEAL_BOUNDS = {"--device": (0, 2**24 - 1), "--lanes": (1, 16), "--window": (1, 256)}
+BOUNDS = {"--workers": (1, 16), "--max-bytes": (0, 2**52 - 2**20)}
+SEAL_BOUNDS = {"--max-bytes": (0, MOST), "--device": (0, 2**24 - 1), "--lanes": (1, 16), "--window": (1, 256)}
 SECOND_BOUNDS = {"--exponent": (12, 20)}
 LABELS = ("", "a", "two words", "\u00e4" * 127 + "b", "x" * 255, "\n")
 NO_NUMBERS = ("", " ", "x", "1x", "1.0", "0x1", "1e1", "1,0", "--", "99999999999999999999", "\uff11", "one", "1 1")

@@ -18,7 +18,7 @@ use crate::facts::Facts;
 use crate::folder::{Folder, FolderFault};
 use crate::label::is_labelled;
 use crate::line::{FileFault, FileOutcome, Line};
-use container_core::{Key, MAX_PLAIN, OpenFault};
+use container_core::{Key, MAX_OPENED, MAX_PLAIN, OpenFault};
 use crew_core::{Free, MAX_WORKERS};
 use engine_core::{run_check, run_read};
 use ledger_core::{Failed, Sink, Source, write_all};
@@ -28,8 +28,11 @@ use std::thread::Threads;
 /// What a sealed file's name ends in.
 pub const SUFFIX: &str = ".stm";
 
-/// The greatest number of plaintext bytes of a file that can be asked for: 2^40.
+/// The greatest number of plaintext bytes of a file that can be sealed: 2^40.
 pub const MAX_BYTES: u64 = MAX_PLAIN;
+
+/// The greatest number of plaintext bytes of a file that can be opened: 2^52 - 2^20.
+pub const MAX_OPENED_BYTES: u64 = MAX_OPENED;
 
 /// The exit status where some file failed.
 const SOME_FAILED: u8 = 1;
@@ -44,7 +47,7 @@ pub struct OpenOptions<'a> {
     pub files: &'a [&'a str],
     /// The number of workers: 1 to 16.
     pub workers: u32,
-    /// The greatest number of plaintext bytes of a file: at most 2^40.
+    /// The greatest number of plaintext bytes of a file: at most 2^52 - 2^20.
     pub max_bytes: u64,
     /// The label that each container must have, where one is asked for. Version 1 has none, which is not the empty one.
     pub label: Option<&'a [u8]>,
@@ -93,7 +96,7 @@ fn read_labelled<T: Threads + Sync, R: Source>(
     workers: u32,
     label: Option<&[u8]>,
 ) -> Result<Vec<u8>, FileFault>
-    requires max_bytes { max_bytes ≤ MAX_BYTES }
+    requires max_bytes { max_bytes ≤ MAX_OPENED_BYTES }
     requires workers { (0 < workers) × (workers ≤ MAX_WORKERS) }
     ensures plaintext { IfOk result (λ plain. IfSome (R.left reader.old) (λ input.
         (opening key.now max_bytes input ≡ Ok plain.items) × IsLabelled (option_map (λ b. b.now) label.entry) input)) }
@@ -123,7 +126,7 @@ fn check_labelled<T: Threads + Sync, R: Source>(
     workers: u32,
     label: Option<&[u8]>,
 ) -> Result<(Facts, u64), FileFault>
-    requires max_bytes { max_bytes ≤ MAX_BYTES }
+    requires max_bytes { max_bytes ≤ MAX_OPENED_BYTES }
     requires workers { (0 < workers) × (workers ≤ MAX_WORKERS) }
     ensures good { IfOk result (λ checked. IfSome (R.left reader.old) (λ input.
         OpensTo key.now max_bytes input checked.1 × IsLabelled (option_map (λ b. b.now) label.entry) input)) }
@@ -153,7 +156,7 @@ fn open_file<T: Threads + Sync, F: Folder>(
     name: &str,
     options: &OpenOptions,
 ) -> FileOutcome
-    requires max_bytes { options.now.max_bytes ≤ MAX_BYTES }
+    requires max_bytes { options.now.max_bytes ≤ MAX_OPENED_BYTES }
     requires workers { (0 < options.now.workers) × (options.now.workers ≤ MAX_WORKERS) }
     ensures outcome { IsOfOpening result }
     ensures steps { F.steps folder.new ≡ stepped (F.steps folder.old)
@@ -202,7 +205,7 @@ fn verify_file<T: Threads + Sync, F: Folder>(
     options: &OpenOptions,
     show: bool,
 ) -> FileOutcome
-    requires max_bytes { options.now.max_bytes ≤ MAX_BYTES }
+    requires max_bytes { options.now.max_bytes ≤ MAX_OPENED_BYTES }
     requires workers { (0 < options.now.workers) × (options.now.workers ≤ MAX_WORKERS) }
     ensures outcome { IsOfVerifying show result }
     ensures steps { F.steps folder.new ≡ F.steps folder.old }
@@ -278,7 +281,7 @@ fn work_file<T: Threads + Sync, F: Folder>(
     options: &OpenOptions,
     task: Task,
 ) -> FileOutcome
-    requires max_bytes { options.now.max_bytes ≤ MAX_BYTES }
+    requires max_bytes { options.now.max_bytes ≤ MAX_OPENED_BYTES }
     requires workers { (0 < options.now.workers) × (options.now.workers ≤ MAX_WORKERS) }
     ensures outcome { IsOutcomeOf task result }
     ensures steps { F.steps folder.new ≡ stepped (F.steps folder.old)
@@ -299,7 +302,7 @@ fn work_all<T: Threads + Sync, F: Folder, W: Sink>(
     lines: &mut W,
     task: Task,
 ) -> u8
-    requires max_bytes { options.now.max_bytes ≤ MAX_BYTES }
+    requires max_bytes { options.now.max_bytes ≤ MAX_OPENED_BYTES }
     requires workers { (0 < options.now.workers) × (options.now.workers ≤ MAX_WORKERS) }
     ensures { AreWorked (IsOutcomeOf task) (steps_of task) (map (λ name. name.now) options.now.files.now) result
         (W.taken lines.old) (W.taken lines.new) (W.failures lines.old) (W.failures lines.new) (F.steps folder.old)
@@ -327,7 +330,7 @@ pub fn open_all<T: Threads + Sync, F: Folder, L: Sink + Drop, E: Sink + Drop, J:
 ) -> u8
     requires files { 0 < length options.now.files.now }
     requires workers { (0 < options.now.workers) × (options.now.workers ≤ MAX_WORKERS) }
-    requires max_bytes { options.now.max_bytes ≤ MAX_BYTES }
+    requires max_bytes { options.now.max_bytes ≤ MAX_OPENED_BYTES }
     ensures status { result ≤ 2 }
     ensures files { AreWorked IsOfOpening opening_steps (map (λ name. name.now) options.now.files.now) result
         (L.taken out.old.lines) (L.taken out.new.lines) (L.failures out.old.lines) (L.failures out.new.lines)
@@ -350,7 +353,7 @@ pub fn verify_all<T: Threads + Sync, F: Folder, L: Sink + Drop, E: Sink + Drop, 
 ) -> u8
     requires files { 0 < length options.now.files.now }
     requires workers { (0 < options.now.workers) × (options.now.workers ≤ MAX_WORKERS) }
-    requires max_bytes { options.now.max_bytes ≤ MAX_BYTES }
+    requires max_bytes { options.now.max_bytes ≤ MAX_OPENED_BYTES }
     ensures status { result ≤ 2 }
     ensures files { AreWorked (IsOfVerifying options.now.show) no_steps (map (λ name. name.now) options.now.files.now) result
         (L.taken out.old.lines) (L.taken out.new.lines) (L.failures out.old.lines) (L.failures out.new.lines)

@@ -11,7 +11,9 @@ pub mod key_file;
 pub(crate) mod label;
 pub mod line;
 
-pub use crate::commands::{MAX_BYTES, OpenOptions, Outs, open_all, tell, verify_all};
+pub use crate::commands::{
+    MAX_BYTES, MAX_OPENED_BYTES, OpenOptions, Outs, open_all, tell, verify_all,
+};
 pub use crate::facts::Facts;
 pub use crate::folder::{Folder, FolderFault};
 pub use crate::key_file::{KeyFault, read_key};

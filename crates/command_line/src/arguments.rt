@@ -1,5 +1,5 @@
 //! The commands, with the texts of their help.
-use crate::options::{FILE_ROWS, LABEL_ROWS, SEAL_ROWS, SHOW_ROWS, with_rows};
+use crate::options::{FILE_ROWS, OPEN_ROWS, SEAL_ROWS, SHOW_ROWS, with_rows};
 use clap::{Command, Error};
 use std::alloc::Global;
 
@@ -60,7 +60,7 @@ fn file_command<'a>(alloc: Global, name: &'a str, about: &'a str) -> Result<Comm
 // A command over sealed files.
 fn open_command<'a>(alloc: Global, name: &'a str, about: &'a str) -> Result<Command<'a>, Error> {
     let command = file_command(alloc, name, about)?;
-    with_rows(alloc, command.after_help(FILES_HELP), &LABEL_ROWS)
+    with_rows(alloc, command.after_help(FILES_HELP), &OPEN_ROWS)
 }
 
 fn seal_command<'a>(alloc: Global) -> Result<Command<'a>, Error> {

@@ -1,7 +1,7 @@
 //! What the commands take, a row for each option: its name, what its value may be, and its line in the help.
 
 use clap::{Arg, ArgAction, Command, Error, value_parser};
-use container_core::{MAX_EXPONENT, MAX_PLAIN, MIN_EXPONENT};
+use container_core::{MAX_EXPONENT, MAX_OPENED, MAX_PLAIN, MIN_EXPONENT};
 use crew_core::{MAX_LANES, MAX_WINDOW, MAX_WORKERS};
 use ledger_core::Device;
 use std::alloc::Global;
@@ -20,8 +20,9 @@ enum Takes {
         most: u32,
         absent: Absent,
     },
-    // A number of bytes up to the greatest of a plaintext, and the one that stands where none is given.
+    // A number of bytes up to a greatest, and the one that stands where none is given.
     Bytes {
+        most: i64,
         default: &'static str,
     },
     // Nothing: it is given or not.
@@ -48,7 +49,7 @@ pub(crate) struct Row {
 }
 
 /// What every command over files takes.
-pub(crate) static FILE_ROWS: [Row; 4] = [
+pub(crate) static FILE_ROWS: [Row; 3] = [
     Row {
         name: "key",
         takes: Takes::Path { is_required: true },
@@ -64,13 +65,6 @@ pub(crate) static FILE_ROWS: [Row; 4] = [
         help: "Workers on one file, side by side, 1 to 16",
     },
     Row {
-        name: "max-bytes",
-        takes: Takes::Bytes {
-            default: "1073741824",
-        },
-        help: "A FILE of more plaintext bytes is refused, 0 to 1099511627776",
-    },
-    Row {
         name: "FILE",
         takes: Takes::Files,
         help: "The files, whose lines stand in this order",
@@ -78,11 +72,21 @@ pub(crate) static FILE_ROWS: [Row; 4] = [
 ];
 
 /// What `open` and `verify` take besides.
-pub(crate) static LABEL_ROWS: [Row; 1] = [Row {
-    name: "label",
-    takes: Takes::Text,
-    help: "Only FILEs with this label pass, 0 to 255 bytes of UTF-8; without it no label is looked at",
-}];
+pub(crate) static OPEN_ROWS: [Row; 2] = [
+    Row {
+        name: "max-bytes",
+        takes: Takes::Bytes {
+            most: MAX_OPENED as i64,
+            default: "1073741824",
+        },
+        help: "A FILE of more plaintext bytes is refused, 0 to 4503599626321920",
+    },
+    Row {
+        name: "label",
+        takes: Takes::Text,
+        help: "Only FILEs with this label pass, 0 to 255 bytes of UTF-8; without it no label is looked at",
+    },
+];
 
 /// What `verify` takes besides these.
 pub(crate) static SHOW_ROWS: [Row; 1] = [Row {
@@ -92,7 +96,15 @@ pub(crate) static SHOW_ROWS: [Row; 1] = [Row {
 }];
 
 /// What `seal` takes besides.
-pub(crate) static SEAL_ROWS: [Row; 8] = [
+pub(crate) static SEAL_ROWS: [Row; 9] = [
+    Row {
+        name: "max-bytes",
+        takes: Takes::Bytes {
+            most: MAX_PLAIN as i64,
+            default: "1073741824",
+        },
+        help: "A FILE of more plaintext bytes is refused, 0 to 1099511627776",
+    },
     Row {
         name: "ledger",
         takes: Takes::Path { is_required: true },
@@ -177,10 +189,10 @@ fn arg_of<'a>(alloc: Global, row: &Row) -> Arg<'a> {
             most,
             absent,
         } => number(arg.long(row.name), *least, *most, absent),
-        Takes::Bytes { default } => arg
+        Takes::Bytes { most, default } => arg
             .long(row.name)
             .value_name("N")
-            .value_parser(value_parser!(u64).range(0..=MAX_PLAIN as i64))
+            .value_parser(value_parser!(u64).range(0..=*most))
             .default_value(default),
     }
 }

@@ -6,7 +6,7 @@ ghost use Rattle.container_core.specs.Shape.{IsShape, IsShort};
 ghost use Rattle.command_line.specs.Asked.{shape_asked};
 
 use clap::ArgMatches;
-use container_core::{MAX_EXPONENT, MAX_LABEL, MAX_PLAIN, MIN_EXPONENT, Shape};
+use container_core::{MAX_EXPONENT, MAX_LABEL, MAX_OPENED, MAX_PLAIN, MIN_EXPONENT, Shape};
 use crew_core::{MAX_LANES, MAX_WINDOW, MAX_WORKERS, usual_window};
 use ledger_core::Device;
 use thiserror::Error as ThisError;
@@ -100,7 +100,7 @@ pub fn seal_request<'m, 'a>(matches: &'m ArgMatches<'a>) -> Result<SealRequest<'
         workers,
         lanes,
         window: window(matches, &shape, workers),
-        max_bytes: max_bytes(matches),
+        max_bytes: max_bytes(matches, MAX_PLAIN),
         journal: matches.get_str("journal"),
         shape,
     })
@@ -124,7 +124,7 @@ pub struct OpenRequest<'m, 'a> {
 pub fn open_request<'m, 'a>(matches: &'m ArgMatches<'a>) -> Result<OpenRequest<'m, 'a>, UsageFault>
     ensures files { IfOk result (λ request. 0 < length request.files.now) }
     ensures workers { IfOk result (λ request. (0 < request.workers) × (request.workers ≤ MAX_WORKERS)) }
-    ensures max_bytes { IfOk result (λ request. request.max_bytes ≤ MAX_PLAIN) }
+    ensures max_bytes { IfOk result (λ request. request.max_bytes ≤ MAX_OPENED) }
     ensures label { IfOk result (λ request. option_map (λ label. label.now) request.label
         ≡ first_value (found_of matches.now) (codes "label")) }
     ensures short { IfOk result (λ request. IfSome request.label (λ label. length label.now ≤ MAX_LABEL)) }
@@ -151,7 +151,7 @@ pub fn open_request<'m, 'a>(matches: &'m ArgMatches<'a>) -> Result<OpenRequest<'
         key,
         files,
         workers: workers(matches),
-        max_bytes: max_bytes(matches),
+        max_bytes: max_bytes(matches, MAX_OPENED),
         label,
         show: matches.get_flag("show"),
     })
@@ -200,14 +200,14 @@ fn workers(matches: &ArgMatches<'_>) -> u32
         .min(MAX_WORKERS)
 }
 
-// The greatest number of plaintext bytes, which the command line has tested.
-fn max_bytes(matches: &ArgMatches<'_>) -> u64
-    ensures { result ≤ MAX_PLAIN }
+// The greatest number of plaintext bytes, at most so many, which the command line has tested.
+fn max_bytes(matches: &ArgMatches<'_>, most: u64) -> u64
+    ensures { result ≤ most }
 {
     matches
         .get_one::<u64>("max-bytes")
         .unwrap_or(DEFAULT_MAX_BYTES)
-        .min(MAX_PLAIN)
+        .min(most)
 }
 
 // The number of chunks of a round, which the command line has tested, or the usual one where none is given.

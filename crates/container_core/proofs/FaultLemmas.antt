@@ -1,5 +1,5 @@
 -- Which fault shows before any chunk is opened, and what opening answers by it.
-use Rattle.std.proofs.Common.{◌≡◌, ℕ, ◌+◌, ◌^◌, ◌<◌, ◌≤◌, Bool, true, false, List, [], ◌∷◌, ◌++◌, length, take, drop, Option, Some, None, length-append}
+use Rattle.std.proofs.Common.{◌≡◌, ℕ, ◌+◌, ◌*◌, ◌^◌, ◌<◌, ◌≤◌, Bool, true, false, List, [], ◌∷◌, ◌++◌, length, take, drop, Option, Some, None, length-append}
 use Rattle.std.proofs.Common.{Err, if◌then◌else◌, inl, inr, refl, ap, sym, ◌∙◌, subst, arith, take-append-drop}
 use Rattle.std.proofs.lemmas.List.{get_or_append_left, length-drop, take-append-le, drop-append-le, take_all}
 use Rattle.std.proofs.lemmas.Bool.{cases_Bool, cases_lt, false_from_ne_true}
@@ -11,127 +11,128 @@ use Rattle.container_core.specs.declared.fault.OpenFault.{OpenFault}
 use Rattle.container_core.specs.declared.fault.OpenFault.TheVariants.{TooLong, ShortHeader, BadMagic, BadVersion}
 use Rattle.container_core.specs.declared.fault.OpenFault.TheVariants.{BadExponent, KeyMismatch, BadLength, Forged}
 use Rattle.container_core.specs.declared.fault.OpenFault.TheVariants.{OutOfMemory, Read, Write}
-use Rattle.container_core.specs.Chunks.{sealed_chunks, container_length, has_plaintext}
+use Rattle.container_core.specs.Chunks.{sealed_chunks, container_length, container_limit, has_plaintext, most_of}
 use Rattle.container_core.specs.Cutting.{RefusesCut}
 use Rattle.container_core.specs.Opening.{header_fault, header_fault_one, header_fault_two, early_fault, longest}
 use Rattle.container_core.specs.Opening.{unsealed, unless, opening}
-use Rattle.container_core.proofs.PartsLemmas.{has_plaintext-of, plaintext_of-has, container_length-more}
+use Rattle.container_core.proofs.PartsLemmas.{has_plaintext-of, plaintext_of-has, container_length-more, most_of-chunks}
 use Rattle.container_core.proofs.HeaderLemmas.{not_below, fault-one, fault-two, length-one, length-two, least-length}
 use Rattle.container_core.proofs.OpeningLemmas.{no_early_fault, early-by_one, early-by_two, size-one, some_size}
 
 below : (m n : ℕ) → m < n → nat_lt m n ≡ true
 below m n e = grind (arith, nat_tests)
 
-pub longest-one : (most : ℕ) (bytes : List ℕ) → is_two bytes ≡ false → longest most bytes ≡ container_length 24 65536 most
+pub longest-one : (most : ℕ) (bytes : List ℕ) → is_two bytes ≡ false → longest most bytes ≡ container_limit 24 65536 most
 unfolding longest
 longest-one most bytes other =
-    ap (λ (b : Bool). if b then container_length (header_length bytes) (size_in bytes) most else container_length 24 65536 most) other
+    ap (λ (b : Bool). if b then container_limit (header_length bytes) (size_in bytes) most else container_limit 24 65536 most) other
 
 pub longest-two : (most : ℕ) (bytes : List ℕ) → is_two bytes ≡ true
-    → longest most bytes ≡ container_length (header_length bytes) (size_in bytes) most
+    → longest most bytes ≡ container_limit (header_length bytes) (size_in bytes) most
 unfolding longest
 longest-two most bytes begins =
-    ap (λ (b : Bool). if b then container_length (header_length bytes) (size_in bytes) most else container_length 24 65536 most) begins
+    ap (λ (b : Bool). if b then container_limit (header_length bytes) (size_in bytes) most else container_limit 24 65536 most) begins
 
 -- where the header has no fault
 pub longest-good : (key : List ℕ) (most : ℕ) (bytes : List ℕ) → header_fault key bytes ≡ None
-    → longest most bytes ≡ container_length (header_length bytes) (size_in bytes) most
+    → longest most bytes ≡ container_limit (header_length bytes) (size_in bytes) most
 longest-good key most bytes good =
     elim (cases_Bool (is_two bytes)) [
       | inl begins ↦ longest-two most bytes begins
       | inr other ↦
           longest-one most bytes other
-          ∙ ap (λ (s : ℕ). container_length 24 s most) (sym (size-one key bytes other good))
-          ∙ ap (λ (h : ℕ). container_length h (size_in bytes) most) (sym (length-one bytes other))
+          ∙ ap (λ (s : ℕ). container_limit 24 s most) (sym (size-one key bytes other good))
+          ∙ ap (λ (h : ℕ). container_limit h (size_in bytes) most) (sym (length-one bytes other))
     ]
 
 pub early-too_long_one : (key : List ℕ) (most : ℕ) (bytes : List ℕ) → is_two bytes ≡ false
-    → container_length 24 65536 most < length bytes → early_fault key most bytes ≡ Some TooLong
+    → container_limit 24 65536 most < length bytes → early_fault key most bytes ≡ Some TooLong
 early-too_long_one key most bytes other long =
-    early-by_one key most bytes _ _ _ other refl (below (container_length 24 65536 most) (length bytes) long) refl
+    early-by_one key most bytes _ _ _ other refl (below (container_limit 24 65536 most) (length bytes) long) refl
 
 pub early-too_long_two : (key : List ℕ) (most : ℕ) (bytes : List ℕ) → is_two bytes ≡ true → header_fault key bytes ≡ None
-    → container_length (header_length bytes) (size_in bytes) most < length bytes → early_fault key most bytes ≡ Some TooLong
+    → container_limit (header_length bytes) (size_in bytes) most < length bytes → early_fault key most bytes ≡ Some TooLong
 early-too_long_two key most bytes begins good long =
     early-by_two key most bytes _ _ _ begins good
-    (below (container_length (header_length bytes) (size_in bytes) most) (length bytes) long) refl
+    (below (container_limit (header_length bytes) (size_in bytes) most) (length bytes) long) refl
 
 -- of a header that has no fault
 pub early-too_long : (key : List ℕ) (most : ℕ) (bytes : List ℕ) → header_fault key bytes ≡ None
-    → container_length (header_length bytes) (size_in bytes) most < length bytes → early_fault key most bytes ≡ Some TooLong
+    → container_limit (header_length bytes) (size_in bytes) most < length bytes → early_fault key most bytes ≡ Some TooLong
 early-too_long key most bytes good long =
     elim (cases_Bool (is_two bytes)) [
       | inl begins ↦ early-too_long_two key most bytes begins good long
       | inr other ↦ early-too_long_one key most bytes other
-          (subst (λ (s : ℕ). container_length 24 s most < length bytes) (size-one key bytes other good)
-          (subst (λ (h : ℕ). container_length h (size_in bytes) most < length bytes) (length-one bytes other) long))
+          (subst (λ (s : ℕ). container_limit 24 s most < length bytes) (size-one key bytes other good)
+          (subst (λ (h : ℕ). container_limit h (size_in bytes) most < length bytes) (length-one bytes other) long))
     ]
 
 pub early-header_fault : (key : List ℕ) (most : ℕ) (bytes : List ℕ) (fault : OpenFault)
-    → (is_two bytes ≡ false → length bytes ≤ container_length 24 65536 most)
+    → (is_two bytes ≡ false → length bytes ≤ container_limit 24 65536 most)
     → header_fault key bytes ≡ Some fault → early_fault key most bytes ≡ Some fault
 early-header_fault key most bytes fault within bad =
     elim (cases_Bool (is_two bytes)) [
       | inl begins ↦ early-by_two key most bytes _ _ _ begins bad refl refl
       | inr other ↦ early-by_one key most bytes _ _ _ other bad
-          (not_below (container_length 24 65536 most) (length bytes) (within other)) refl
+          (not_below (container_limit 24 65536 most) (length bytes) (within other)) refl
     ]
 
 pub early-bad_length : (key : List ℕ) (most : ℕ) (bytes : List ℕ)
-    → length bytes ≤ container_length (header_length bytes) (size_in bytes) most
+    → length bytes ≤ container_limit (header_length bytes) (size_in bytes) most
     → header_fault key bytes ≡ None
-    → ((n : ℕ) → n ≤ most → length bytes ≡ container_length (header_length bytes) (size_in bytes) n → ⊥)
+    → ((n : ℕ) → n ≤ most_of most (size_in bytes) → length bytes ≡ container_length (header_length bytes) (size_in bytes) n → ⊥)
     → early_fault key most bytes ≡ Some BadLength
 early-bad_length key most bytes within good none =
     elim (cases_Bool (is_two bytes)) [
       | inl begins ↦ early-by_two key most bytes _ _ _ begins good
-          (not_below (container_length (header_length bytes) (size_in bytes) most) (length bytes) within) hasn't
+          (not_below (container_limit (header_length bytes) (size_in bytes) most) (length bytes) within) hasn't
       | inr other ↦
           let size = size-one key bytes other good in
           let header = length-one bytes other in
           early-by_one key most bytes _ _ _ other good
-          (not_below (container_length 24 65536 most) (length bytes)
-          (subst (λ (s : ℕ). length bytes ≤ container_length 24 s most) size
-          (subst (λ (h : ℕ). length bytes ≤ container_length h (size_in bytes) most) header within)))
-          (ap (λ (s : ℕ). has_plaintext 24 s most (length bytes)) (sym size)
-          ∙ ap (λ (h : ℕ). has_plaintext h (size_in bytes) most (length bytes)) (sym header) ∙ hasn't)
+          (not_below (container_limit 24 65536 most) (length bytes)
+          (subst (λ (s : ℕ). length bytes ≤ container_limit 24 s most) size
+          (subst (λ (h : ℕ). length bytes ≤ container_limit h (size_in bytes) most) header within)))
+          (ap (λ (s : ℕ). has_plaintext 24 s (most_of most s) (length bytes)) (sym size)
+          ∙ ap (λ (h : ℕ). has_plaintext h (size_in bytes) (most_of most (size_in bytes)) (length bytes)) (sym header) ∙ hasn't)
     ]
   where
-    hasn't : has_plaintext (header_length bytes) (size_in bytes) most (length bytes) ≡ false
-    hasn't = false_from_ne_true (has_plaintext (header_length bytes) (size_in bytes) most (length bytes))
-        (λ (e : has_plaintext (header_length bytes) (size_in bytes) most (length bytes) ≡ true).
-        let (n, few, long) = plaintext_of-has (header_length bytes) (size_in bytes) most (length bytes) e in none n few long)
+    hasn't : has_plaintext (header_length bytes) (size_in bytes) (most_of most (size_in bytes)) (length bytes) ≡ false
+    hasn't = false_from_ne_true (has_plaintext (header_length bytes) (size_in bytes) (most_of most (size_in bytes)) (length bytes))
+        (λ (e : has_plaintext (header_length bytes) (size_in bytes) (most_of most (size_in bytes)) (length bytes) ≡ true).
+        let (n, few, long) = plaintext_of-has (header_length bytes) (size_in bytes) (most_of most (size_in bytes)) (length bytes) e in none n few long)
 
-pub early-none : (key : List ℕ) (most : ℕ) (bytes : List ℕ) (n : ℕ) → n ≤ most
+pub early-none : (key : List ℕ) (most : ℕ) (bytes : List ℕ) (n : ℕ) → n ≤ most_of most (size_in bytes)
     → length bytes ≡ container_length (header_length bytes) (size_in bytes) n
     → header_fault key bytes ≡ None → early_fault key most bytes ≡ None
 early-none key most bytes n few long good =
-    let more = container_length-more (header_length bytes) (size_in bytes) n most (some_size bytes) few in
+    let more = container_length-more (header_length bytes) (size_in bytes) n (most_of most (size_in bytes)) (some_size bytes) few in
     no_early_fault key most bytes (record {
       header = good;
       within = omega (arith, more, long);
-      has = has_plaintext-of (header_length bytes) (size_in bytes) most (length bytes) n few long;
+      has = has_plaintext-of (header_length bytes) (size_in bytes) (most_of most (size_in bytes)) (length bytes) n few long;
     })
 
 -- what refuses the cutting of what stands behind the header
-pub early-refused : (key : List ℕ) (most : ℕ) (bytes : List ℕ) (body : ℕ) (fault : OpenFault) → most ≤ 1099511627776
+pub early-refused : (key : List ℕ) (most : ℕ) (bytes : List ℕ) (body : ℕ) (fault : OpenFault)
     → length bytes ≡ header_length bytes + body
-    → length bytes ≤ container_length (header_length bytes) (size_in bytes) most → header_fault key bytes ≡ None
+    → length bytes ≤ container_limit (header_length bytes) (size_in bytes) most → header_fault key bytes ≡ None
     → RefusesCut (size_in bytes) body fault → early_fault key most bytes ≡ Some fault
-early-refused key most bytes body TooLong few long within good refused =
-    let more = container_length-more (header_length bytes) (size_in bytes) most 1099511627776 (some_size bytes) few in
+early-refused key most bytes body TooLong long within good refused =
+    let more = container_length-more (header_length bytes) (size_in bytes) (most_of most (size_in bytes)) (4294967295 * size_in bytes) (some_size bytes)
+    (most_of-chunks most (size_in bytes)) in
     absurd (omega (arith, more, long, within, refused))
-early-refused key most bytes body ShortHeader few long within good refused = absurd refused
-early-refused key most bytes body BadMagic few long within good refused = absurd refused
-early-refused key most bytes body BadVersion few long within good refused = absurd refused
-early-refused key most bytes body BadExponent few long within good refused = absurd refused
-early-refused key most bytes body KeyMismatch few long within good refused = absurd refused
-early-refused key most bytes body BadLength few long within good refused =
+early-refused key most bytes body ShortHeader long within good refused = absurd refused
+early-refused key most bytes body BadMagic long within good refused = absurd refused
+early-refused key most bytes body BadVersion long within good refused = absurd refused
+early-refused key most bytes body BadExponent long within good refused = absurd refused
+early-refused key most bytes body KeyMismatch long within good refused = absurd refused
+early-refused key most bytes body BadLength long within good refused =
     early-bad_length key most bytes within good (λ n small e. refused.1 n (omega (arith, long, e)))
-early-refused key most bytes body (Forged chunk) few long within good refused = absurd refused
-early-refused key most bytes body OutOfMemory few long within good refused = absurd refused
-early-refused key most bytes body Read few long within good refused = absurd refused
-early-refused key most bytes body Write few long within good refused = absurd refused
+early-refused key most bytes body (Forged chunk) long within good refused = absurd refused
+early-refused key most bytes body OutOfMemory long within good refused = absurd refused
+early-refused key most bytes body Read long within good refused = absurd refused
+early-refused key most bytes body Write long within good refused = absurd refused
 
 -- what a beginning shows that has all of the header
 pub two-front : (front rest : List ℕ) → header_length front ≤ length front → is_two (front ++ rest) ≡ is_two front
@@ -201,16 +202,16 @@ early-front key front rest other most whole long =
     elim (cases_Bool (is_two front)) [
       | inl is ↦
           early-by_two key most (front ++ rest) _ _ _ (two-front front rest whole ∙ is) fault
-          (ap (λ (n : ℕ). nat_lt (container_length (header_length (front ++ rest)) (size_in (front ++ rest)) most) n) same
-          ∙ ap (λ (h : ℕ). nat_lt (container_length h (size_in (front ++ rest)) most) (length (front ++ other))) header
-          ∙ ap (λ (s : ℕ). nat_lt (container_length (header_length (front ++ other)) s most) (length (front ++ other))) size)
-          (ap (λ (n : ℕ). has_plaintext (header_length (front ++ rest)) (size_in (front ++ rest)) most n) same
-          ∙ ap (λ (h : ℕ). has_plaintext h (size_in (front ++ rest)) most (length (front ++ other))) header
-          ∙ ap (λ (s : ℕ). has_plaintext (header_length (front ++ other)) s most (length (front ++ other))) size)
+          (ap (λ (n : ℕ). nat_lt (container_limit (header_length (front ++ rest)) (size_in (front ++ rest)) most) n) same
+          ∙ ap (λ (h : ℕ). nat_lt (container_limit h (size_in (front ++ rest)) most) (length (front ++ other))) header
+          ∙ ap (λ (s : ℕ). nat_lt (container_limit (header_length (front ++ other)) s most) (length (front ++ other))) size)
+          (ap (λ (n : ℕ). has_plaintext (header_length (front ++ rest)) (size_in (front ++ rest)) (most_of most (size_in (front ++ rest))) n) same
+          ∙ ap (λ (h : ℕ). has_plaintext h (size_in (front ++ rest)) (most_of most (size_in (front ++ rest))) (length (front ++ other))) header
+          ∙ ap (λ (s : ℕ). has_plaintext (header_length (front ++ other)) s (most_of most s) (length (front ++ other))) size)
           ∙ sym (early-by_two key most (front ++ other) _ _ _ (two-front front other whole ∙ is) refl refl refl)
       | inr no_two ↦
           early-by_one key most (front ++ rest) _ _ _ (two-front front rest whole ∙ no_two) fault
-          (ap (λ (n : ℕ). nat_lt (container_length 24 65536 most) n) same) (ap (λ (n : ℕ). has_plaintext 24 65536 most n) same)
+          (ap (λ (n : ℕ). nat_lt (container_limit 24 65536 most) n) same) (ap (λ (n : ℕ). has_plaintext 24 65536 (most_of most 65536) n) same)
           ∙ sym (early-by_one key most (front ++ other) _ _ _ (two-front front other whole ∙ no_two) refl refl refl)
     ]
 

@@ -1,9 +1,10 @@
 -- The laws over the definitions.
-use Rattle.std.proofs.Common.{◌≡◌, ℕ, ◌+◌, ◌^◌, ◌<◌, ◌≤◌, ◌↔◌, Bool, true, false, eqb, not, List, [], ◌∷◌, ◌++◌}
+use Rattle.std.proofs.Common.{◌≡◌, ℕ, ◌+◌, ◌*◌, ◌^◌, ◌<◌, ◌≤◌, ◌↔◌, Bool, true, false, eqb, not, List, [], ◌∷◌, ◌++◌}
 use Rattle.std.proofs.Common.{length, length-append, get_or, take, drop, Option, Some, None, Result, Ok, Err, inl, inr}
 use Rattle.std.proofs.Common.{if◌then◌else◌, refl, ap, sym, ◌∙◌, subst, arith}
 use Rattle.std.proofs.lemmas.List.{take_at, drop_at, same_from_push}
 use Rattle.std.proofs.lemmas.Nat.{from_be_bytes-to_be_bytes_4}
+use Rattle.std.proofs.Math.Nat.{pow-le-pow_right}
 use Rattle.std.proofs.lemmas.Bool.{cases_Bool}
 use Rattle.std.proofs.lemmas.Result.{IfErr-at_err}
 use Rattle.std.specs.Prelude.{codes, nat_lt, IfSome, IfErr}
@@ -12,7 +13,7 @@ use Rattle.std.specs.Int.{w32, to_be_bytes, from_be_bytes}
 use Rattle.container_core.specs.declared.fault.OpenFault.{OpenFault}
 use Rattle.container_core.specs.declared.fault.OpenFault.TheVariants.{TooLong, ShortHeader, BadMagic, BadVersion}
 use Rattle.container_core.specs.declared.fault.OpenFault.TheVariants.{BadExponent, KeyMismatch, BadLength, Forged, OutOfMemory}
-use Rattle.container_core.specs.Chunks.{chunks, sealed_chunks, container_length, has_plaintext}
+use Rattle.container_core.specs.Chunks.{chunks, sealed_chunks, container_length, container_limit, has_plaintext, most_of}
 use Rattle.container_core.specs.Shape.{ShapeView, IsShape, size_of}
 use Rattle.container_core.specs.Stream.{nonce_of, prefix_in, is_nil, stream, opened_chunk}
 use Rattle.container_core.specs.Container.{hint_of, header_of, front_of, version_of, label_bytes, container, is_two, header_length}
@@ -21,9 +22,10 @@ use Rattle.container_core.specs.Faults.{IsOfBytes}
 use Rattle.container_core.specs.Opening.{header_fault, header_fault_one, header_fault_two, first_fault, early_fault, longest}
 use Rattle.container_core.specs.Opening.{unsealed, unless, opening, joined}
 use Rattle.container_core.proofs.PartsLemmas.{container_length-grows, container_length-more, has_plaintext-of, plaintext_of-has}
+use Rattle.container_core.proofs.PartsLemmas.{most_of-few, most_of-least, most_of-more}
 use Rattle.container_core.proofs.HeaderLemmas.{length-hint_of, length-prefix_in, prefix_in-header_of, shape_in-of, not_below}
-use Rattle.container_core.proofs.HeaderLemmas.{fault-one, fault-two}
-use Rattle.container_core.proofs.OpeningLemmas.{opening-container, container-opening, early-by_one, early-by_two, some_size}
+use Rattle.container_core.proofs.HeaderLemmas.{fault-one, fault-two, shape-bounds}
+use Rattle.container_core.proofs.OpeningLemmas.{opening-container, container-opening, early-by_one, early-by_two, some_size, unsealed-container}
 use Rattle.container_core.proofs.FaultLemmas.{longest-one, longest-two}
 
 same_flag : (a b : Bool) → ◌≡◌ {A = ℕ} (if a then 1 else 0) (if b then 1 else 0) → a ≡ b
@@ -82,14 +84,17 @@ pub container-injective : (key prefix other plain another : List ℕ) (shape for
     → length prefix ≡ 7 → length other ≡ 7
     → container key shape prefix plain ≡ container key form other another → (shape ≡ form) × (prefix ≡ other) × (plain ≡ another)
 container-injective key prefix other plain another shape form lawful formal seven also e =
-    let most = length plain + length another in
     let (shapes, prefixes) = names-injective key prefix plain other key another shape form seven also e in (
       shapes,
       prefixes,
-      same_ok plain another (opening key most (container key shape prefix plain))
-          (opening-container key prefix plain shape most lawful seven (omega arith))
-          (ap (λ (l : List ℕ). opening key most l) e ∙ opening-container key other another form most formal also (omega arith)),
+      same_ok plain another (bodies shape (container key shape prefix plain)) (unsealed-container key prefix plain shape seven)
+          (ap (λ (s : ShapeView). bodies s (container key shape prefix plain)) shapes
+          ∙ ap (λ (l : List ℕ). bodies form l) e ∙ unsealed-container key other another form also),
     )
+  where
+    bodies : ShapeView → List ℕ → Result (List ℕ) OpenFault
+    bodies s l = unsealed key (take (24 + length (label_bytes s.label)) l) 0
+        (sealed_chunks (size_of s) (drop (24 + length (label_bytes s.label)) l))
 
 -- a container is longer than a header, whatever stands for its prefix
 longer : (key prefix plain : List ℕ) (shape : ShapeView) → 17 ≤ length (container key shape prefix plain)
@@ -106,7 +111,8 @@ longer key prefix plain shape =
 
 pub opens_exactly : (key bytes plain : List ℕ) (most : ℕ)
     → (opening key most bytes ≡ Ok plain)
-    ↔ ((length plain ≤ most) × IsShape (shape_in bytes) × (bytes ≡ container key (shape_in bytes) (prefix_in bytes) plain))
+    ↔ ((length plain ≤ most_of most (size_in bytes)) × IsShape (shape_in bytes) × (bytes ≡ container key (shape_in bytes) (prefix_in bytes) plain))
+unfolding size_in
 opens_exactly key bytes plain most = (
   λ opens. let (few, lawful, same) = container-opening key bytes plain most opens in (few, lawful, sym same),
   λ found. let (few, lawful, same) = found in
@@ -115,6 +121,41 @@ opens_exactly key bytes plain most = (
       ap (λ (l : List ℕ). opening key most l) same
       ∙ opening-container key (prefix_in bytes) plain (shape_in bytes) most lawful (length-prefix_in bytes long) few,
 )
+
+-- no limit of at most 2 ^ 40 bytes is lessened
+pub sealed-fits : (shape : ShapeView) (n : ℕ) → IsShape shape → n ≤ 1099511627776 → n ≤ 4294967295 * size_of shape
+sealed-fits shape n lawful few =
+    let bounds = shape-bounds shape.exponent shape.label lawful in
+    let least : 4096 ≤ size_of shape = pow-le-pow_right {n = 2} (omega arith) bounds.0 in
+    omega (arith, least, few)
+
+size-shape : (bytes : List ℕ) → size_of (shape_in bytes) ≡ size_in bytes
+unfolding size_in
+size-shape bytes = refl
+
+pub most_of-sealed : (bytes : List ℕ) (most n : ℕ) → IsShape (shape_in bytes) → n ≤ 1099511627776 → n ≤ most
+    → n ≤ most_of most (size_in bytes)
+most_of-sealed bytes most n lawful sealed few =
+    let size = size-shape bytes in
+    let fits = sealed-fits (shape_in bytes) n lawful sealed in
+    most_of-least most (size_in bytes) n few (subst (λ (s : ℕ). n ≤ 4294967295 * s) size fits)
+
+pub opens_sealed : (key bytes plain : List ℕ) (most : ℕ) → most ≤ 1099511627776
+    → (opening key most bytes ≡ Ok plain)
+    ↔ ((length plain ≤ most) × IsShape (shape_in bytes) × (bytes ≡ container key (shape_in bytes) (prefix_in bytes) plain))
+opens_sealed key bytes plain most short = (
+  λ opens. let (few, lawful, same) = (opens_exactly key bytes plain most).0 opens in
+      let less = most_of-few most (size_in bytes) in
+      (omega (arith, few, less), lawful, same),
+  λ found. let (few, lawful, same) = found in
+      (opens_exactly key bytes plain most).1 (most_of-sealed bytes most (length plain) lawful (omega (arith, few, short)) few, lawful, same),
+)
+
+pub sealed-opens : (key prefix plain : List ℕ) (shape : ShapeView) (most : ℕ) → IsShape shape → length prefix ≡ 7
+    → length plain ≤ 1099511627776 → length plain ≤ most → opening key most (container key shape prefix plain) ≡ Ok plain
+sealed-opens key prefix plain shape most lawful seven sealed few =
+    opening-container key prefix plain shape most lawful seven
+    (most_of-least most (size_of shape) (length plain) few (sealed-fits shape (length plain) lawful sealed))
 
 of_all_tests : (a b c d e : Bool)
     → IfSome (if a then Some ShortHeader else (if not b then Some BadMagic else (if not c then Some BadVersion else (if not d then Some BadExponent else (if not e then Some KeyMismatch else None))))) IsOfBytes
@@ -176,15 +217,15 @@ early-of_bytes key most bytes =
     let header = header_fault-of_bytes key bytes in
     elim (cases_Bool (is_two bytes)) [
       | inl begins ↦ subst (λ (o : Option OpenFault). IfSome o IsOfBytes) (sym (early-by_two key most bytes _ _ _ begins refl refl refl))
-          (first-of_bytes (header_fault key bytes) (first_fault (if nat_lt (container_length (header_length bytes) (size_in bytes) most) (length bytes) then Some TooLong else None) (if not (has_plaintext (header_length bytes) (size_in bytes) most (length bytes)) then Some BadLength else None)) header
-          (first-of_bytes (if nat_lt (container_length (header_length bytes) (size_in bytes) most) (length bytes) then Some TooLong else None) (if not (has_plaintext (header_length bytes) (size_in bytes) most (length bytes)) then Some BadLength else None)
-          (long-of_bytes (nat_lt (container_length (header_length bytes) (size_in bytes) most) (length bytes)))
-          (bad-of_bytes (has_plaintext (header_length bytes) (size_in bytes) most (length bytes)))))
+          (first-of_bytes (header_fault key bytes) (first_fault (if nat_lt (container_limit (header_length bytes) (size_in bytes) most) (length bytes) then Some TooLong else None) (if not (has_plaintext (header_length bytes) (size_in bytes) (most_of most (size_in bytes)) (length bytes)) then Some BadLength else None)) header
+          (first-of_bytes (if nat_lt (container_limit (header_length bytes) (size_in bytes) most) (length bytes) then Some TooLong else None) (if not (has_plaintext (header_length bytes) (size_in bytes) (most_of most (size_in bytes)) (length bytes)) then Some BadLength else None)
+          (long-of_bytes (nat_lt (container_limit (header_length bytes) (size_in bytes) most) (length bytes)))
+          (bad-of_bytes (has_plaintext (header_length bytes) (size_in bytes) (most_of most (size_in bytes)) (length bytes)))))
       | inr other ↦ subst (λ (o : Option OpenFault). IfSome o IsOfBytes) (sym (early-by_one key most bytes _ _ _ other refl refl refl))
-          (first-of_bytes (if nat_lt (container_length 24 65536 most) (length bytes) then Some TooLong else None) (first_fault (header_fault key bytes) (if not (has_plaintext 24 65536 most (length bytes)) then Some BadLength else None))
-          (long-of_bytes (nat_lt (container_length 24 65536 most) (length bytes)))
-          (first-of_bytes (header_fault key bytes) (if not (has_plaintext 24 65536 most (length bytes)) then Some BadLength else None) header
-          (bad-of_bytes (has_plaintext 24 65536 most (length bytes)))))
+          (first-of_bytes (if nat_lt (container_limit 24 65536 most) (length bytes) then Some TooLong else None) (first_fault (header_fault key bytes) (if not (has_plaintext 24 65536 (most_of most 65536) (length bytes)) then Some BadLength else None))
+          (long-of_bytes (nat_lt (container_limit 24 65536 most) (length bytes)))
+          (first-of_bytes (header_fault key bytes) (if not (has_plaintext 24 65536 (most_of most 65536) (length bytes)) then Some BadLength else None) header
+          (bad-of_bytes (has_plaintext 24 65536 (most_of most 65536) (length bytes)))))
     ]
 
 unless-of_bytes : (f : Option OpenFault) (r : Result (List ℕ) OpenFault) → IfSome f IsOfBytes → IfErr r IsOfBytes → IfErr (unless f r) IsOfBytes
@@ -227,23 +268,25 @@ early-limits key most more bytes few within =
     elim (cases_Bool (is_two bytes)) [
       | inl begins ↦
           let some = some_size bytes in
-          let least : length bytes ≤ container_length (header_length bytes) (size_in bytes) most =
+          let least : length bytes ≤ container_limit (header_length bytes) (size_in bytes) most =
           subst (λ (n : ℕ). length bytes ≤ n) (longest-two most bytes begins) within in
-          let grows = container_length-more (header_length bytes) (size_in bytes) most more some few in
+          let fewer = most_of-more most more (size_in bytes) few in
+          let grows = container_length-more (header_length bytes) (size_in bytes) (most_of most (size_in bytes)) (most_of more (size_in bytes)) some fewer in
           early-by_two key most bytes _ _ _ begins refl
-          (not_below (container_length (header_length bytes) (size_in bytes) most) (length bytes) least)
-          (same_has (header_length bytes) (size_in bytes) most more (length bytes) some few least)
+          (not_below (container_limit (header_length bytes) (size_in bytes) most) (length bytes) least)
+          (same_has (header_length bytes) (size_in bytes) (most_of most (size_in bytes)) (most_of more (size_in bytes)) (length bytes) some fewer least)
           ∙ sym (early-by_two key more bytes _ _ _ begins refl
-          (not_below (container_length (header_length bytes) (size_in bytes) more) (length bytes) (omega (arith, grows, least))) refl)
+          (not_below (container_limit (header_length bytes) (size_in bytes) more) (length bytes) (omega (arith, grows, least))) refl)
       | inr other ↦
-          let least : length bytes ≤ container_length 24 65536 most =
+          let least : length bytes ≤ container_limit 24 65536 most =
           subst (λ (n : ℕ). length bytes ≤ n) (longest-one most bytes other) within in
-          let grows = container_length-more 24 65536 most more (omega arith) few in
+          let fewer = most_of-more most more 65536 few in
+          let grows = container_length-more 24 65536 (most_of most 65536) (most_of more 65536) (omega arith) fewer in
           early-by_one key most bytes _ _ _ other refl
-          (not_below (container_length 24 65536 most) (length bytes) least)
-          (same_has 24 65536 most more (length bytes) (omega arith) few least)
+          (not_below (container_limit 24 65536 most) (length bytes) least)
+          (same_has 24 65536 (most_of most 65536) (most_of more 65536) (length bytes) (omega arith) fewer least)
           ∙ sym (early-by_one key more bytes _ _ _ other refl
-          (not_below (container_length 24 65536 more) (length bytes) (omega (arith, grows, least))) refl)
+          (not_below (container_limit 24 65536 more) (length bytes) (omega (arith, grows, least))) refl)
     ]
 
 pub opening-limits : (key : List ℕ) (most more : ℕ) (bytes : List ℕ) → most ≤ more → length bytes ≤ longest most bytes
@@ -258,11 +301,11 @@ same_answer plain fault answer e f = cc
 
 -- what opens is the plaintext of which the bytes are the container, and such bytes have no fault
 pub opened_plaintext : (key bytes out plain : List ℕ) (most : ℕ) → opening key most bytes ≡ Ok out
-    → length plain ≤ most → IsShape (shape_in bytes) → bytes ≡ container key (shape_in bytes) (prefix_in bytes) plain → out ≡ plain
+    → length plain ≤ most_of most (size_in bytes) → IsShape (shape_in bytes) → bytes ≡ container key (shape_in bytes) (prefix_in bytes) plain → out ≡ plain
 opened_plaintext key bytes out plain most opens few lawful same =
     same_ok out plain (opening key most bytes) opens ((opens_exactly key bytes plain most).1 (few, lawful, same))
 
 pub no_fault : (key bytes plain : List ℕ) (most : ℕ) (fault : OpenFault) → opening key most bytes ≡ Err fault
-    → length plain ≤ most → IsShape (shape_in bytes) → bytes ≡ container key (shape_in bytes) (prefix_in bytes) plain → ⊥
+    → length plain ≤ most_of most (size_in bytes) → IsShape (shape_in bytes) → bytes ≡ container key (shape_in bytes) (prefix_in bytes) plain → ⊥
 no_fault key bytes plain most fault e few lawful same =
     same_answer plain fault (opening key most bytes) e ((opens_exactly key bytes plain most).1 (few, lawful, same))

@@ -11,7 +11,7 @@ use Rattle.std.specs.Prelude.{nat_lt}
 use Rattle.container_core.specs.declared.fault.OpenFault.{OpenFault}
 use Rattle.container_core.specs.declared.fault.OpenFault.TheVariants.{TooLong, BadLength, Forged}
 use Rattle.container_core.specs.Chunks.{parts, cut_every, chunks, sealed_chunks, body_length, container_length}
-use Rattle.container_core.specs.Chunks.{has_plaintext}
+use Rattle.container_core.specs.Chunks.{container_limit, has_plaintext, most_of}
 use Rattle.container_core.specs.Shape.{ShapeView, IsShape, IsShapeOf, size_of}
 use Rattle.container_core.specs.Stream.{prefix_in, is_nil, sealed_chunk, opened_chunk, stream}
 use Rattle.container_core.specs.Container.{header_of, container, label_bytes, is_two, header_length, size_in, shape_in}
@@ -161,8 +161,8 @@ length-container key prefix plain shape seven =
 -- whether the length fits, and the header has no fault
 pub record IsEarlyGood (key : List ℕ) (most : ℕ) (bytes : List ℕ) : Type 0 where
   pub header : header_fault key bytes ≡ None
-  pub within : length bytes ≤ container_length (header_length bytes) (size_in bytes) most
-  pub has : has_plaintext (header_length bytes) (size_in bytes) most (length bytes) ≡ true
+  pub within : length bytes ≤ container_limit (header_length bytes) (size_in bytes) most
+  pub has : has_plaintext (header_length bytes) (size_in bytes) (most_of most (size_in bytes)) (length bytes) ≡ true
 
 early_two : (key : List ℕ) (most : ℕ) (bytes : List ℕ) → is_two bytes ≡ true
     → early_fault key most bytes ≡ early_fault_two key most bytes
@@ -177,28 +177,28 @@ early_one key most bytes other = ap (λ (b : Bool). if b then early_fault_two ke
 -- the three parts of what shows early, of version 2
 pub early-by_two : (key : List ℕ) (most : ℕ) (bytes : List ℕ) (fault : Option OpenFault) (long has : Bool) → is_two bytes ≡ true
     → header_fault key bytes ≡ fault
-    → nat_lt (container_length (header_length bytes) (size_in bytes) most) (length bytes) ≡ long
-    → has_plaintext (header_length bytes) (size_in bytes) most (length bytes) ≡ has
+    → nat_lt (container_limit (header_length bytes) (size_in bytes) most) (length bytes) ≡ long
+    → has_plaintext (header_length bytes) (size_in bytes) (most_of most (size_in bytes)) (length bytes) ≡ has
     → early_fault key most bytes ≡ first_fault fault (first_fault (if long then Some TooLong else None) (if not has then Some BadLength else None))
 unfolding early_fault_two
 early-by_two key most bytes fault long has begins f l h =
-    let has_it = has_plaintext (header_length bytes) (size_in bytes) most (length bytes) in
+    let has_it = has_plaintext (header_length bytes) (size_in bytes) (most_of most (size_in bytes)) (length bytes) in
     early_two key most bytes begins
-    ∙ ap (λ (o : Option OpenFault). first_fault o (first_fault (if nat_lt (container_length (header_length bytes) (size_in bytes) most) (length bytes) then Some TooLong else None) (if not has_it then Some BadLength else None))) (sym (fault-two key bytes begins) ∙ f)
+    ∙ ap (λ (o : Option OpenFault). first_fault o (first_fault (if nat_lt (container_limit (header_length bytes) (size_in bytes) most) (length bytes) then Some TooLong else None) (if not has_it then Some BadLength else None))) (sym (fault-two key bytes begins) ∙ f)
     ∙ ap (λ (b : Bool). first_fault fault (first_fault (if b then Some TooLong else None) (if not has_it then Some BadLength else None))) l
     ∙ ap (λ (b : Bool). first_fault fault (first_fault (if long then Some TooLong else None) (if not b then Some BadLength else None))) h
 
 -- and of others
 pub early-by_one : (key : List ℕ) (most : ℕ) (bytes : List ℕ) (fault : Option OpenFault) (long has : Bool) → is_two bytes ≡ false
     → header_fault key bytes ≡ fault
-    → nat_lt (container_length 24 65536 most) (length bytes) ≡ long
-    → has_plaintext 24 65536 most (length bytes) ≡ has
+    → nat_lt (container_limit 24 65536 most) (length bytes) ≡ long
+    → has_plaintext 24 65536 (most_of most 65536) (length bytes) ≡ has
     → early_fault key most bytes ≡ first_fault (if long then Some TooLong else None) (first_fault fault (if not has then Some BadLength else None))
 unfolding early_fault_one
 early-by_one key most bytes fault long has other f l h =
-    let has_it = has_plaintext 24 65536 most (length bytes) in
+    let has_it = has_plaintext 24 65536 (most_of most 65536) (length bytes) in
     early_one key most bytes other
-    ∙ ap (λ (o : Option OpenFault). first_fault (if nat_lt (container_length 24 65536 most) (length bytes) then Some TooLong else None) (first_fault o (if not has_it then Some BadLength else None))) (sym (fault-one key bytes other) ∙ f)
+    ∙ ap (λ (o : Option OpenFault). first_fault (if nat_lt (container_limit 24 65536 most) (length bytes) then Some TooLong else None) (first_fault o (if not has_it then Some BadLength else None))) (sym (fault-one key bytes other) ∙ f)
     ∙ ap (λ (b : Bool). first_fault (if b then Some TooLong else None) (first_fault fault (if not has_it then Some BadLength else None))) l
     ∙ ap (λ (b : Bool). first_fault (if long then Some TooLong else None) (first_fault fault (if not b then Some BadLength else None))) h
 
@@ -220,17 +220,17 @@ pub no_early_fault : (key : List ℕ) (most : ℕ) (bytes : List ℕ) → IsEarl
 no_early_fault key most bytes good =
     elim (cases_Bool (is_two bytes)) [
       | inl begins ↦ early-by_two key most bytes None false true begins good.header
-          (not_below (container_length (header_length bytes) (size_in bytes) most) (length bytes) good.within) good.has
+          (not_below (container_limit (header_length bytes) (size_in bytes) most) (length bytes) good.within) good.has
       | inr other ↦
           let size = size-one key bytes other good.header in
           let header = length-one bytes other in
-          let within : length bytes ≤ container_length 24 65536 most =
-          subst (λ (s : ℕ). length bytes ≤ container_length 24 s most) size
-          (subst (λ (h : ℕ). length bytes ≤ container_length h (size_in bytes) most) header good.within) in
+          let within : length bytes ≤ container_limit 24 65536 most =
+          subst (λ (s : ℕ). length bytes ≤ container_limit 24 s most) size
+          (subst (λ (h : ℕ). length bytes ≤ container_limit h (size_in bytes) most) header good.within) in
           early-by_one key most bytes None false true other good.header
-          (not_below (container_length 24 65536 most) (length bytes) within)
-          (ap (λ (s : ℕ). has_plaintext 24 s most (length bytes)) (sym size)
-          ∙ ap (λ (h : ℕ). has_plaintext h (size_in bytes) most (length bytes)) (sym header) ∙ good.has)
+          (not_below (container_limit 24 65536 most) (length bytes) within)
+          (ap (λ (s : ℕ). has_plaintext 24 s (most_of most s) (length bytes)) (sym size)
+          ∙ ap (λ (h : ℕ). has_plaintext h (size_in bytes) (most_of most (size_in bytes)) (length bytes)) (sym header) ∙ good.has)
     ]
 
 early_parts : (b : Bool) (f : Option OpenFault) (h : Bool)
@@ -254,26 +254,26 @@ parts_of_early key most bytes e =
     elim (cases_Bool (is_two bytes)) [
       | inl begins ↦
           let (short, good, has) = early_parts_two
-          (nat_lt (container_length (header_length bytes) (size_in bytes) most) (length bytes)) (header_fault key bytes)
-          (has_plaintext (header_length bytes) (size_in bytes) most (length bytes))
+          (nat_lt (container_limit (header_length bytes) (size_in bytes) most) (length bytes)) (header_fault key bytes)
+          (has_plaintext (header_length bytes) (size_in bytes) (most_of most (size_in bytes)) (length bytes))
           (sym (early-by_two key most bytes _ _ _ begins refl refl refl) ∙ e) in
           record {
             header = good;
-            within = at_most (container_length (header_length bytes) (size_in bytes) most) (length bytes) short;
+            within = at_most (container_limit (header_length bytes) (size_in bytes) most) (length bytes) short;
             has = has;
           }
       | inr other ↦
-          let (short, good, has) = early_parts (nat_lt (container_length 24 65536 most) (length bytes)) (header_fault key bytes)
-          (has_plaintext 24 65536 most (length bytes)) (sym (early-by_one key most bytes _ _ _ other refl refl refl) ∙ e) in
+          let (short, good, has) = early_parts (nat_lt (container_limit 24 65536 most) (length bytes)) (header_fault key bytes)
+          (has_plaintext 24 65536 (most_of most 65536) (length bytes)) (sym (early-by_one key most bytes _ _ _ other refl refl refl) ∙ e) in
           let size = size-one key bytes other good in
           let header = length-one bytes other in
           record {
             header = good;
-            within = subst (λ (h : ℕ). length bytes ≤ container_length h (size_in bytes) most) (sym header)
-                (subst (λ (s : ℕ). length bytes ≤ container_length 24 s most) (sym size)
-                (at_most (container_length 24 65536 most) (length bytes) short));
-            has = ap (λ (h : ℕ). has_plaintext h (size_in bytes) most (length bytes)) header
-                ∙ ap (λ (s : ℕ). has_plaintext 24 s most (length bytes)) size ∙ has;
+            within = subst (λ (h : ℕ). length bytes ≤ container_limit h (size_in bytes) most) (sym header)
+                (subst (λ (s : ℕ). length bytes ≤ container_limit 24 s most) (sym size)
+                (at_most (container_limit 24 65536 most) (length bytes) short));
+            has = ap (λ (h : ℕ). has_plaintext h (size_in bytes) (most_of most (size_in bytes)) (length bytes)) header
+                ∙ ap (λ (s : ℕ). has_plaintext 24 s (most_of most s) (length bytes)) size ∙ has;
           }
     ]
 
@@ -297,7 +297,7 @@ unsealed-body size key header plain some =
     ap (λ (cs : List (List ℕ)). unsealed key header 0 cs) (sealed_chunks-parts size body (length plain) some (length-body size key header plain))
     ∙ unsealed-stream size key header 0 ((length plain - 1) / size) plain (omega (arith, full))
 
-unsealed-container : (key prefix plain : List ℕ) (shape : ShapeView) → length prefix ≡ 7
+pub unsealed-container : (key prefix plain : List ℕ) (shape : ShapeView) → length prefix ≡ 7
     → unsealed key (take (24 + length (label_bytes shape.label)) (container key shape prefix plain)) 0
     (sealed_chunks (size_of shape) (drop (24 + length (label_bytes shape.label)) (container key shape prefix plain))) ≡ Ok plain
 unfolding container
@@ -332,7 +332,7 @@ header_fault-container key prefix plain shape lawful seven =
 
 -- opening a plaintext's container gives the plaintext
 pub opening-container : (key prefix plain : List ℕ) (shape : ShapeView) (most : ℕ) → IsShape shape → length prefix ≡ 7
-    → length plain ≤ most → opening key most (container key shape prefix plain) ≡ Ok plain
+    → length plain ≤ most_of most (size_of shape) → opening key most (container key shape prefix plain) ≡ Ok plain
 unfolding opening
 opening-container key prefix plain shape most lawful seven within =
     let bytes = container key shape prefix plain in
@@ -341,14 +341,14 @@ opening-container key prefix plain shape most lawful seven within =
     let size = size_in-container key prefix plain shape in
     let long = length-container key prefix plain shape seven in
     let some : 0 < size_of shape = pow_pos shape.exponent in
-    let more = container_length-more end (size_of shape) (length plain) most some within in
-    let few : length bytes ≤ container_length (header_length bytes) (size_in bytes) most =
-    subst (λ (h : ℕ). length bytes ≤ container_length h (size_in bytes) most) (sym header)
-    (subst (λ (s : ℕ). length bytes ≤ container_length end s most) (sym size) (omega (arith, long, more))) in
-    let has : has_plaintext (header_length bytes) (size_in bytes) most (length bytes) ≡ true =
-    ap (λ (h : ℕ). has_plaintext h (size_in bytes) most (length bytes)) header
-    ∙ ap (λ (s : ℕ). has_plaintext end s most (length bytes)) size
-    ∙ has_plaintext-of end (size_of shape) most (length bytes) (length plain) within long in
+    let more = container_length-more end (size_of shape) (length plain) (most_of most (size_of shape)) some within in
+    let few : length bytes ≤ container_limit (header_length bytes) (size_in bytes) most =
+    subst (λ (h : ℕ). length bytes ≤ container_limit h (size_in bytes) most) (sym header)
+    (subst (λ (s : ℕ). length bytes ≤ container_limit end s most) (sym size) (omega (arith, long, more))) in
+    let has : has_plaintext (header_length bytes) (size_in bytes) (most_of most (size_in bytes)) (length bytes) ≡ true =
+    ap (λ (h : ℕ). has_plaintext h (size_in bytes) (most_of most (size_in bytes)) (length bytes)) header
+    ∙ ap (λ (s : ℕ). has_plaintext end s (most_of most s) (length bytes)) size
+    ∙ has_plaintext-of end (size_of shape) (most_of most (size_of shape)) (length bytes) (length plain) within long in
     let none = no_early_fault key most bytes
     (record { header = header_fault-container key prefix plain shape lawful seven; within = few; has = has }) in
     ap (λ (f : Option OpenFault). unless f (unsealed key (take (header_length bytes) bytes) 0 (sealed_chunks (size_in bytes) (drop (header_length bytes) bytes)))) none
@@ -358,7 +358,7 @@ opening-container key prefix plain shape most lawful seven within =
 
 -- what opens to a plaintext is its container, of the shape and under the prefix that the header names
 pub container-opening : (key bytes plain : List ℕ) (most : ℕ) → opening key most bytes ≡ Ok plain
-    → (length plain ≤ most) × IsShape (shape_in bytes) × (container key (shape_in bytes) (prefix_in bytes) plain ≡ bytes)
+    → (length plain ≤ most_of most (size_in bytes)) × IsShape (shape_in bytes) × (container key (shape_in bytes) (prefix_in bytes) plain ≡ bytes)
 unfolding opening container chunks cut_every size_in
 container-opening key bytes plain most e =
     let end = header_length bytes in
@@ -367,7 +367,7 @@ container-opening key bytes plain most e =
     let (none, opens) = unless_ok (early_fault key most bytes) (unsealed key (take end bytes) 0 (sealed_chunks size (drop end bytes))) plain e in
     let early = parts_of_early key most bytes none in
     let good = good_header key bytes early.header in
-    let (n, few, long) = plaintext_of-has end size most (length bytes) early.has in
+    let (n, few, long) = plaintext_of-has end size (most_of most size) (length bytes) early.has in
     let header = header_of key (shape_in bytes) (prefix_in bytes) in
     let body = drop end bytes in
     let left = length-drop end bytes in

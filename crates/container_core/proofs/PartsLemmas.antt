@@ -11,7 +11,7 @@ use Rattle.std.proofs.lemmas.List.{length-drop}
 use Rattle.std.proofs.lemmas.Bool.{or_cases, cases_Bool}
 use Rattle.std.proofs.lemmas.Bool.Decides.{Decides-eqb}
 use Rattle.container_core.specs.Chunks.{parts, cut_every, chunks, sealed_chunks, chunk_count, body_length}
-use Rattle.container_core.specs.Chunks.{container_length, has_plaintext}
+use Rattle.container_core.specs.Chunks.{container_length, has_plaintext, most_of}
 use Rattle.container_core.specs.Stream.{is_nil}
 
 pub length-parts : (size full : ℕ) (bytes : List ℕ) → length (parts size full bytes) ≡ full + 1
@@ -211,6 +211,34 @@ count-few size n least few =
     let some : 0 < size = omega (arith, least) in
     let full : (n - 1) / size < 268435456 = (div-lt_iff_lt-mul some).1 (omega (arith, least, few)) in
     omega (arith, full)
+
+-- a plaintext within what 32 bits number has so few chunks
+pub count-numbers : (size n : ℕ) → 0 < size → n ≤ 4294967295 * size → chunk_count size n ≤ 4294967295
+unfolding chunk_count
+count-numbers size n some few =
+    let full : (n - 1) / size < 4294967295 = (div-lt_iff_lt-mul some).1 (omega (arith, some, few)) in
+    omega (arith, full)
+
+-- what a limit is lessened to
+pub most_of-few : (most size : ℕ) → most_of most size ≤ most
+unfolding most_of
+most_of-few most size = omega arith
+
+pub most_of-chunks : (most size : ℕ) → most_of most size ≤ 4294967295 * size
+unfolding most_of
+most_of-chunks most size = omega arith
+
+pub most_of-least : (most size n : ℕ) → n ≤ most → n ≤ 4294967295 * size → n ≤ most_of most size
+unfolding most_of
+most_of-least most size n few fits = omega (arith, few, fits)
+
+pub most_of-more : (most more size : ℕ) → most ≤ more → most_of most size ≤ most_of more size
+unfolding most_of
+most_of-more most more size few = omega (arith, few)
+
+pub most_of-same : (most size : ℕ) → most ≤ 4294967295 * size → most_of most size ≡ most
+unfolding most_of
+most_of-same most size few = omega (arith, few)
 
 -- all chunks but the last are full, and that has a byte, unless there is none at all
 pub count-tight : (size n : ℕ) → 0 < n → (chunk_count size n - 1) * size < n

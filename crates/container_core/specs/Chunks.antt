@@ -1,14 +1,26 @@
 -- How a plaintext is cut into chunks, and how long its container is; and the sizes of the format, in bytes.
 use Rattle.std.specs.Prelude.{ℕ, zero, suc, ◌+◌, ◌-◌, ◌*◌, ◌/◌, ◌^◌, ◌==◌, ◌||◌, Bool, List, [], ◌∷◌, length, take}
-use Rattle.std.specs.Prelude.{drop}
+use Rattle.std.specs.Prelude.{drop, min}
 
 -- a tag
 abbrev pub tag_size : ℕ
 tag_size = 16
 
--- the greatest plaintext
+-- the greatest plaintext that is sealed
 abbrev pub max_plain : ℕ
 max_plain = 2 ^ 40
+
+-- the greatest plaintext that is opened: as many chunks of 2 ^ 20 bytes as a container may have
+abbrev pub max_opened : ℕ
+max_opened = 2 ^ 52 - 2 ^ 20
+
+-- how many chunks a container may have: their numbers have 32 bits, and so does how many there are
+abbrev pub max_chunks : ℕ
+max_chunks = 2 ^ 32 - 1
+
+-- the greatest plaintext in chunks of this size, where it may have `most` bytes
+unfoldable pub most_of : ℕ → ℕ → ℕ
+most_of most size = min most (max_chunks * size)
 
 -- so many parts of this size, and then the rest
 unfoldable pub parts : ℕ → ℕ → List ℕ → List (List ℕ)
@@ -39,6 +51,10 @@ body_length size n = n + tag_size * chunk_count size n
 -- how many bytes a container of n plaintext bytes has, whose header has so many
 abbrev pub container_length : ℕ → ℕ → ℕ → ℕ
 container_length header size n = header + body_length size n
+
+-- how many bytes the longest container has of a plaintext that may have `most`
+abbrev pub container_limit : ℕ → ℕ → ℕ → ℕ
+container_limit header size most = container_length header size (most_of most size)
 
 -- whether some plaintext of 0 to `most` bytes has a container of so many bytes
 unfoldable pub has_plaintext : ℕ → ℕ → ℕ → ℕ → Bool

@@ -5,7 +5,7 @@ use Rattle.std.specs.Str.{bytes_eq}
 use Rattle.container_core.specs.declared.fault.OpenFault.{OpenFault}
 use Rattle.container_core.specs.declared.fault.OpenFault.TheVariants.{TooLong, ShortHeader, BadMagic, BadVersion}
 use Rattle.container_core.specs.declared.fault.OpenFault.TheVariants.{BadExponent, KeyMismatch, BadLength, Forged}
-use Rattle.container_core.specs.Chunks.{container_length, has_plaintext, sealed_chunks}
+use Rattle.container_core.specs.Chunks.{container_limit, has_plaintext, most_of, sealed_chunks}
 use Rattle.container_core.specs.Stream.{is_nil, opened_chunk}
 use Rattle.container_core.specs.Container.{magic, hint_of, is_two, header_length, size_in}
 
@@ -36,15 +36,15 @@ abbrev pub first_fault : Option OpenFault → Option OpenFault → Option OpenFa
 first_fault (Some fault) later = Some fault
 first_fault None later = later
 
--- more bytes than the container of `most` plaintext bytes has
+-- more bytes than the longest container of a plaintext has that may have `most`
 abbrev pub too_long : ℕ → ℕ → ℕ → ℕ → Option OpenFault
 too_long header size most bytes =
-    if nat_lt (container_length header size most) bytes then Some TooLong else None
+    if nat_lt (container_limit header size most) bytes then Some TooLong else None
 
--- no plaintext of at most so many bytes has a container of so many
+-- no plaintext that may have `most` bytes has a container of so many
 abbrev pub bad_length : ℕ → ℕ → ℕ → ℕ → Option OpenFault
 bad_length header size most bytes =
-    if not (has_plaintext header size most bytes) then Some BadLength else None
+    if not (has_plaintext header size (most_of most size) bytes) then Some BadLength else None
 
 -- the first fault that shows before any chunk is opened, where a plaintext may have `most` bytes. Of version 2 the
 -- header's comes before its length, as the header says how long its container may be
@@ -67,8 +67,8 @@ early_fault key most bytes =
 -- how many bytes a container may have that begins so, where its plaintext may have `most`
 unfoldable pub longest : ℕ → List ℕ → ℕ
 longest most bytes =
-    if is_two bytes then container_length (header_length bytes) (size_in bytes) most
-    else container_length 24 65536 most
+    if is_two bytes then container_limit (header_length bytes) (size_in bytes) most
+    else container_limit 24 65536 most
 
 -- the plaintext of a chunk goes before that of the rest, unless one of them doesn't check
 abbrev pub joined : OpenFault → Option (List ℕ) → Result (List ℕ) OpenFault → Result (List ℕ) OpenFault

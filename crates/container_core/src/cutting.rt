@@ -5,7 +5,8 @@
 //! and of the container. Nothing here takes memory.
 ghost use Rattle.std.specs.Prelude.{◌≡◌, ℕ, ◌+◌, ◌-◌, ◌*◌, ◌^◌, ◌<◌, ◌≤◌, List, [], length, take, drop, min, slice_index_or};
 ghost use Rattle.std.specs.Prelude.{◌≢◌, IfOk, IfErr, IfSome, IfNone};
-ghost use Rattle.container_core.specs.Chunks.{chunks, chunk_count, body_length, container_length, sealed_chunks};
+ghost use Rattle.container_core.specs.Chunks.{chunks, chunk_count, body_length, container_length, container_limit};
+ghost use Rattle.container_core.specs.Chunks.{most_of, sealed_chunks};
 ghost use Rattle.container_core.specs.Container.{label_bytes, size_in};
 ghost use Rattle.container_core.specs.Shape.{size_of};
 ghost use Rattle.container_core.specs.Cutting.{RefusesCut};
@@ -13,17 +14,18 @@ ghost use Rattle.container_core.specs.Cutting.{RefusesCut};
 use crate::fault::OpenFault;
 use crate::header::Header;
 use crate::shape::Shape;
-use crate::{MAX_PLAIN, TAG};
+use crate::{MAX_CHUNKS, MAX_OPENED, MAX_PLAIN, TAG};
 use std::marker::Model;
 
 // How many chunks of a size a plaintext of so many bytes has.
 #[tactic(auto, unfolding(crate::specs::Chunks::chunk_count))]
 fn chunks_of(size: u64, plain: u64) -> u64
     requires size { 0 < size }
-    requires plain { plain ≤ MAX_PLAIN }
+    requires plain { plain ≤ MAX_OPENED }
     ensures count { result ≡ chunk_count size plain }
     ensures few { result ≤ plain + 1 }
-    ensures fewer { 4096 ≤ size → result ≤ 2 ^ 28 }
+    ensures fewer { 4096 ≤ size → plain ≤ MAX_PLAIN → result ≤ 2 ^ 28 }
+    ensures numbers { plain ≤ MAX_CHUNKS * size → result ≤ MAX_CHUNKS }
 {
     plain.saturating_sub(1) / size + 1
 }
@@ -33,23 +35,53 @@ fn chunks_of(size: u64, plain: u64) -> u64
 pub(crate) fn container_of(header: u64, size: u64, plain: u64) -> u64
     requires header { header ≤ 280 }
     requires size { 0 < size }
-    requires plain { plain ≤ MAX_PLAIN }
+    requires plain { plain ≤ MAX_OPENED }
     ensures { result ≡ container_length header size plain }
 {
     header + plain + TAG as u64 * chunks_of(size, plain)
 }
 
+// The greatest plaintext in chunks of a size: a chunk's number has 32 bits.
+fn greatest(size: u64) -> u64
+    requires { size ≤ 1048576 }
+    ensures value { result ≡ MAX_CHUNKS * size }
+    ensures few { result ≤ MAX_OPENED }
+{
+    u64::from(MAX_CHUNKS) * size
+}
+
+// How many bytes the longest container has of a plaintext that may have `most` bytes, under a header of so many, in
+// chunks of a size.
+#[tactic(auto, unfolding(crate::specs::Chunks::most_of))]
+pub(crate) fn longest_of(header: u64, size: u64, most: u64) -> u64
+    requires header { header ≤ 280 }
+    requires size { (0 < size) × (size ≤ 1048576) }
+    requires most { most ≤ MAX_OPENED }
+    ensures { result ≡ container_limit header size most }
+{
+    container_of(header, size, most.min(greatest(size)))
+}
+
 /// How many bytes the container of so many plaintext bytes has in a shape: the header's, the plaintext's, and 16 for
 /// each chunk.
 pub fn container_bytes(shape: &Shape, plain: u64) -> u64
-    requires { plain ≤ MAX_PLAIN }
+    requires { plain ≤ MAX_OPENED }
     ensures { result ≡ container_length (24 + length (label_bytes shape.now.label)) (size_of shape.now) plain }
 {
     container_of(shape.header_bytes() as u64, shape.chunk() as u64, plain)
 }
 
+/// How many bytes the longest container has in a shape whose plaintext may have `most` bytes: one of so many or, where
+/// they are more than 2^32 - 1 chunks have, of so many chunks.
+pub fn longest_bytes(shape: &Shape, most: u64) -> u64
+    requires { most ≤ MAX_OPENED }
+    ensures { result ≡ container_limit (24 + length (label_bytes shape.now.label)) (size_of shape.now) most }
+{
+    longest_of(shape.header_bytes() as u64, shape.chunk() as u64, most)
+}
+
 /// How a plaintext, or what stands behind the header of its container, is cut into chunks. Contracts see the size of
-/// the chunks, 2^12 to 2^20 bytes, and the number of plaintext bytes, at most 2^40.
+/// the chunks, 2^12 to 2^20 bytes, and the number of plaintext bytes, which are at most 2^32 - 1 chunks.
 #[derive(Clone, Copy, PartialEq, Eq, Debug)]
 pub struct Cut {
     size: u64,
@@ -82,19 +114,20 @@ impl Cut {
     }
 
     /// The cut of so many bytes behind a header, into chunks of 2^e bytes by the exponent e that it names. `TooLong`
-    /// over 2^40 + 16 * 2^(40 - e) bytes; else `BadLength` where no plaintext has a container with so many bytes behind
-    /// its header.
+    /// over (2^32 - 1) * (2^e + 16) bytes, which are 2^32 - 1 chunks; else `BadLength` where no plaintext has a
+    /// container with so many bytes behind its header.
     ///
     /// All chunks but the last have 2^e + 16 bytes with their tags. The last has 17 to 2^e + 16, or 16 where it is the
     /// only one.
     pub fn of_body(header: &Header, body: u64) -> Result<Cut, OpenFault>
         ensures size { IfOk result (λ cut. cut.size ≡ size_in header.now) }
         ensures places { IfOk result (λ cut. body ≡ body_length cut.size cut.plain) }
-        ensures within { IfOk result (λ cut. cut.plain ≤ MAX_PLAIN) }
+        ensures within { IfOk result (λ cut. cut.plain ≤ MAX_OPENED) }
+        ensures few { IfOk result (λ cut. cut.plain ≤ MAX_CHUNKS * cut.size) }
         ensures refused { IfErr result (RefusesCut (size_in header.now) body) }
     {
         let size = header.chunk() as u64;
-        if body > container_of(0, size, MAX_PLAIN) {
+        if body > container_of(0, size, greatest(size)) {
             return Err(OpenFault::TooLong);
         }
         match plain_of(size, body) {
@@ -114,7 +147,7 @@ impl Cut {
     pub fn count(self) -> u32
         ensures count { result ≡ chunk_count self.size self.plain }
         ensures some { 0 < result }
-        ensures few { result ≤ 2 ^ 28 }
+        ensures few { self.plain ≤ MAX_PLAIN → result ≤ 2 ^ 28 }
     {
         chunks_of(self.size, self.plain) as u32
     }
@@ -165,9 +198,9 @@ impl Cut {
 // The number of plaintext bytes of a container with so many bytes behind its header, if there is one.
 fn plain_of(size: u64, body: u64) -> Option<u64>
     requires size { (4096 ≤ size) × (size ≤ 1048576) }
-    requires body { body ≤ body_length size MAX_PLAIN }
+    requires body { body ≤ body_length size (MAX_CHUNKS * size) }
     ensures some { IfSome result (λ plain. body ≡ body_length size plain) }
-    ensures within { IfSome result (λ plain. plain ≤ MAX_PLAIN) }
+    ensures within { IfSome result (λ plain. plain ≤ MAX_CHUNKS * size) }
     ensures none { IfNone result ((plain : ℕ) → body ≢ body_length size plain) }
 {
     let tag = TAG as u64;

@@ -10,17 +10,17 @@
 //! | 24 | version 2: the label's length |
 //! | from 25 | version 2: the label |
 ghost use Rattle.std.specs.Prelude.{◌≡◌, ◌≤◌, ◌+◌, length, take, drop, slice_index, None, Some, IfOk, IfErr, OnOk};
-ghost use Rattle.container_core.specs.Chunks.{container_length};
+ghost use Rattle.container_core.specs.Chunks.{container_length, container_limit};
 ghost use Rattle.container_core.specs.Container.{front_of, header_of, header_length, is_two, size_in, label_bytes, version_of};
 ghost use Rattle.container_core.specs.Opening.{header_fault, header_fault_one, header_fault_two};
 ghost use Rattle.container_core.specs.Stream.{prefix_in};
 
-use crate::cutting::container_of;
+use crate::cutting::{container_of, longest_of};
 use crate::fault::OpenFault;
 use crate::image::Image;
 use crate::key::Key;
 use crate::shape::{Shape, power};
-use crate::{EXPONENT, HEADER, MAX_EXPONENT, MAX_PLAIN, MIN_EXPONENT};
+use crate::{EXPONENT, HEADER, MAX_EXPONENT, MAX_OPENED, MIN_EXPONENT};
 use std::marker::Model;
 
 const MAGIC: [u8; 8] = *b"STRMSEAL";
@@ -137,10 +137,19 @@ impl Header {
     /// How many bytes the container of so many plaintext bytes has under this header: the header's, the plaintext's,
     /// and 16 for each chunk.
     pub fn container_bytes(&self, plain: u64) -> u64
-        requires { plain ≤ MAX_PLAIN }
+        requires { plain ≤ MAX_OPENED }
         ensures { result ≡ container_length (length self.now) (size_in self.now) plain }
     {
         container_of(self.bytes().len() as u64, self.chunk() as u64, plain)
+    }
+
+    /// How many bytes the longest container has under this header whose plaintext may have `most` bytes: one of so many
+    /// or, where they are more than 2^32 - 1 chunks have, of so many chunks.
+    pub fn longest_bytes(&self, most: u64) -> u64
+        requires { most ≤ MAX_OPENED }
+        ensures { result ≡ container_limit (length self.now) (size_in self.now) most }
+    {
+        longest_of(self.bytes().len() as u64, self.chunk() as u64, most)
     }
 }
 

@@ -2,13 +2,15 @@
 ghost use Rattle.std.specs.Prelude.{◌≡◌, ℕ, ◌+◌, ◌-◌, ◌*◌, ◌^◌, ◌<◌, ◌≤◌, ◌↔◌, Bool, true, false, List, [], ◌∷◌, ◌++◌};
 ghost use Rattle.std.specs.Prelude.{length, take, drop, slice_index_or, None, Ok, Err};
 ghost use Rattle.container_core.specs.Chunks.{chunks, chunk_count, sealed_chunks};
-ghost use Rattle.container_core.specs.Chunks.{body_length, container_length, has_plaintext};
+ghost use Rattle.container_core.specs.Chunks.{body_length, container_length, container_limit, has_plaintext, most_of};
 ghost use Rattle.container_core.specs.Shape.{ShapeView, IsShape, size_of, two};
 ghost use Rattle.container_core.specs.Stream.{nonce_of, prefix_in, stream, stream_by};
 ghost use Rattle.container_core.specs.Container.{container, header_of, header_length, is_two, label_bytes, shape_in, size_in};
 ghost use Rattle.container_core.specs.declared.fault.OpenFault.{OpenFault};
 ghost use Rattle.container_core.specs.Faults.{IsOfBytes};
 ghost use Rattle.container_core.specs.Opening.{header_fault, early_fault, longest, opening, unsealed, unsealed_by, behind};
+
+use crate::{MAX_CHUNKS, MAX_PLAIN};
 
 /// Two chunks have one nonce only where prefix, number and place as the last are the same.
 pub fn nonces_differ()
@@ -21,7 +23,12 @@ pub fn nonces_differ()
 /// Bytes open to a plaintext exactly where they are its container, of the shape and under the prefix that their header
 /// names.
 pub fn opens_exactly_its_container()
-    ensures { (key bytes plain : List ℕ) (most : ℕ)
+    ensures exactly { (key bytes plain : List ℕ) (most : ℕ)
+        → (opening key most bytes ≡ Ok plain)
+        ↔ ((length plain ≤ most_of most (size_in bytes)) × IsShape (shape_in bytes)
+        × (bytes ≡ container key (shape_in bytes) (prefix_in bytes) plain)) }
+    // No limit of at most 2^40 bytes is lessened.
+    ensures sealed { (key bytes plain : List ℕ) (most : ℕ) → most ≤ MAX_PLAIN
         → (opening key most bytes ≡ Ok plain)
         ↔ ((length plain ≤ most) × IsShape (shape_in bytes)
         × (bytes ≡ container key (shape_in bytes) (prefix_in bytes) plain)) }
@@ -29,8 +36,18 @@ pub fn opens_exactly_its_container()
 
 /// Opening what was sealed gives the plaintext back.
 pub fn sealed_opens()
-    ensures { (key prefix plain : List ℕ) (shape : ShapeView) (most : ℕ) → IsShape shape → length prefix ≡ 7
-        → length plain ≤ most → opening key most (container key shape prefix plain) ≡ Ok plain }
+    ensures within { (key prefix plain : List ℕ) (shape : ShapeView) (most : ℕ) → IsShape shape → length prefix ≡ 7
+        → length plain ≤ most_of most (size_of shape) → opening key most (container key shape prefix plain) ≡ Ok plain }
+    ensures sealed { (key prefix plain : List ℕ) (shape : ShapeView) (most : ℕ) → IsShape shape → length prefix ≡ 7
+        → length plain ≤ MAX_PLAIN → length plain ≤ most
+        → opening key most (container key shape prefix plain) ≡ Ok plain }
+{}
+
+/// What a limit is lessened to, so that a chunk's number has 32 bits: no limit of at most 2^40 bytes is.
+pub fn limits_lessened()
+    ensures least { (most size n : ℕ) → (n ≤ most_of most size) ↔ ((n ≤ most) × (n ≤ MAX_CHUNKS * size)) }
+    ensures same { (most : ℕ) (shape : ShapeView) → IsShape shape → most ≤ MAX_PLAIN → most_of most (size_of shape) ≡ most }
+    ensures count { (most size n : ℕ) → 0 < size → n ≤ most_of most size → chunk_count size n < 2 ^ 32 }
 {}
 
 /// Bytes whose header has no fault begin with the header of the key, of the shape and of the prefix that they name.
@@ -71,11 +88,11 @@ pub fn limits_agree()
 
 /// How long a container may be that begins as some bytes do: what does not begin as version 2 is held to version 1.
 pub fn longest_containers()
-    ensures one { (bytes : List ℕ) (most : ℕ) → is_two bytes ≡ false → longest most bytes ≡ container_length 24 65536 most }
+    ensures one { (bytes : List ℕ) (most : ℕ) → is_two bytes ≡ false → longest most bytes ≡ container_limit 24 65536 most }
     ensures two { (bytes : List ℕ) (most : ℕ) → is_two bytes ≡ true
-        → longest most bytes ≡ container_length (header_length bytes) (size_in bytes) most }
+        → longest most bytes ≡ container_limit (header_length bytes) (size_in bytes) most }
     ensures good { (key bytes : List ℕ) (most : ℕ) → header_fault key bytes ≡ None
-        → longest most bytes ≡ container_length (header_length bytes) (size_in bytes) most }
+        → longest most bytes ≡ container_limit (header_length bytes) (size_in bytes) most }
 {}
 
 /// A container names the shape and the prefix under which it was sealed, whatever the keys are; and of one key, two

@@ -17,7 +17,7 @@ pub mod shape;
 pub mod whole;
 
 pub use crate::chunk::{append_opened, append_sealed, check_chunk, nonce, open_chunk, seal_chunk};
-pub use crate::cutting::{Cut, container_bytes};
+pub use crate::cutting::{Cut, container_bytes, longest_bytes};
 pub use crate::fault::{OpenFault, SealFault};
 pub use crate::header::{Header, begins_as_two, header_bytes, read_header};
 pub use crate::key::Key;
@@ -40,8 +40,13 @@ pub const MAX_LABEL: usize = 255;
 pub const MIN_EXPONENT: u32 = 12;
 /// The greatest exponent of version 2: chunks of 1 MiB.
 pub const MAX_EXPONENT: u32 = 20;
-/// Bytes of the greatest plaintext: 2^40.
+/// Bytes of the greatest plaintext that is sealed: 2^40.
 pub const MAX_PLAIN: u64 = 1 << 40;
+/// Bytes of the greatest plaintext that is opened: 2^52 - 2^20. It is that of 2^32 - 1 chunks of the greatest size; in
+/// chunks of 2^e bytes the greatest has (2^32 - 1) * 2^e.
+pub const MAX_OPENED: u64 = (1 << 52) - (1 << 20);
+/// How many chunks a container has at most: 2^32 - 1.
+pub const MAX_CHUNKS: u32 = u32::MAX;
 
 // The exponent of version 1.
 const EXPONENT: u8 = 16;

@@ -8,40 +8,41 @@ ghost use Rattle.std.specs.Prelude.{◌≡◌, ℕ, ◌+◌, ◌<◌, ◌≤◌,
 ghost use Rattle.std.specs.Bool.{OnTrue, OnFalse};
 ghost use Rattle.std.specs.Prelude.{false, vec_capacity, Ok, Err, Some, None, IfOk, IfErr, OnOk, OnErr, MatchResult};
 ghost use Rattle.container_core.specs.Container.{container, header_length, is_two, label_bytes, shape_in, size_in};
-ghost use Rattle.container_core.specs.Chunks.{body_length, container_length, sealed_chunks};
+ghost use Rattle.container_core.specs.Chunks.{body_length, container_length, container_limit, most_of, sealed_chunks};
 ghost use Rattle.container_core.specs.Opening.{early_fault, opening, unsealed};
 ghost use Rattle.container_core.specs.Shape.{size_of, IsShape};
 ghost use Rattle.container_core.specs.Stream.{prefix_in};
 
-use crate::MAX_PLAIN;
 use crate::chunk::{append, append_opened, append_sealed};
-use crate::cutting::{Cut, container_bytes};
+use crate::cutting::{Cut, container_bytes, longest_bytes};
 use crate::fault::{OpenFault, SealFault};
 use crate::header::{Header, begins_as_two, read_header};
 use crate::key::Key;
 use crate::shape::Shape;
+use crate::{MAX_OPENED, MAX_PLAIN};
 use std::alloc::Global;
 
-// Whether a container that doesn't begin as version 2 has more bytes than one of version 1 of `most` plaintext bytes.
+// Whether a container that doesn't begin as version 2 has more bytes than the longest of version 1 whose plaintext may
+// have `most`.
 fn is_long_one(front: &[u8], bytes: u64, most: u64) -> bool
-    requires { most ≤ MAX_PLAIN }
-    ensures long { OnTrue result ((is_two front.now ≡ false) × (container_length 24 65536 most < bytes)) }
-    ensures within { OnFalse result (is_two front.now ≡ false → bytes ≤ container_length 24 65536 most) }
+    requires { most ≤ MAX_OPENED }
+    ensures long { OnTrue result ((is_two front.now ≡ false) × (container_limit 24 65536 most < bytes)) }
+    ensures within { OnFalse result (is_two front.now ≡ false → bytes ≤ container_limit 24 65536 most) }
 {
-    !begins_as_two(front) && bytes > container_bytes(&Shape::one(), most)
+    !begins_as_two(front) && bytes > longest_bytes(&Shape::one(), most)
 }
 
-/// The header and the cut of a container of so many bytes under a key, of at most `most` plaintext bytes, or the first
-/// fault that shows before any chunk is opened. `front` is the container's beginning: its header at least, or all that
-/// it has. Of version 2 the header's faults come first, then `TooLong` and `BadLength`; else `TooLong`, the header's
-/// and `BadLength`. Takes no memory.
+/// The header and the cut of a container of so many bytes under a key, of at most `most` plaintext bytes (2^52 - 2^20
+/// at most) and 2^32 - 1 chunks, or the first fault that shows before any chunk is opened. `front` is the container's
+/// beginning: its header at least, or all that it has. Of version 2 the header's faults come first, then `TooLong` and
+/// `BadLength`; else `TooLong`, the header's and `BadLength`. Takes no memory.
 pub fn begin_within(
     key: &Key,
     front: &[u8],
     bytes: u64,
     most: u64,
 ) -> Result<(Header, Cut), OpenFault>
-    requires most { most ≤ MAX_PLAIN }
+    requires most { most ≤ MAX_OPENED }
     requires front { length front.now ≤ bytes }
     requires header { length front.now < bytes → header_length front.now ≤ length front.now }
     ensures header { IfOk result (λ begun. begun.0 ≡ take (header_length front.now) front.now) }
@@ -50,6 +51,7 @@ pub fn begin_within(
     ensures named { IfOk result (λ begun. begun.1.size ≡ size_in front.now) }
     ensures cut { IfOk result (λ begun. bytes ≡ container_length (header_length front.now) begun.1.size begun.1.plain) }
     ensures within { IfOk result (λ begun. begun.1.plain ≤ most) }
+    ensures few { IfOk result (λ begun. begun.1.plain ≤ most_of most begun.1.size) }
 
     // Of every container of so many bytes that begins so.
     ensures faultless { OnOk result ((whole : List ℕ) → length whole ≡ bytes → take (length front.now) whole ≡ front.now
@@ -65,7 +67,7 @@ pub fn begin_within(
         Ok(header) => header,
         Err(fault) => return Err(fault),
     };
-    let too_long = bytes > header.container_bytes(most);
+    let too_long = bytes > header.longest_bytes(most);
     if too_long {
         return Err(OpenFault::TooLong);
     }
@@ -75,18 +77,19 @@ pub fn begin_within(
     }
 }
 
-/// The header and the cut of a container under a key, of at most 2^40 plaintext bytes, or the first fault that shows
-/// before any chunk is opened: as `begin_within` names it. Takes no memory.
+/// The header and the cut of a container under a key, of at most 2^52 - 2^20 plaintext bytes and 2^32 - 1 chunks, or
+/// the first fault that shows before any chunk is opened: as `begin_within` names it. Takes no memory.
 pub fn begin(key: &Key, bytes: &[u8]) -> Result<(Header, Cut), OpenFault>
     ensures header { IfOk result (λ begun. begun.0 ≡ take (header_length bytes.now) bytes.now) }
     ensures size { IfOk result (λ begun. begun.1.size ≡ size_in begun.0) }
     ensures named { IfOk result (λ begun. begun.1.size ≡ size_in bytes.now) }
     ensures cut { IfOk result (λ begun. length bytes.now
         ≡ container_length (header_length bytes.now) begun.1.size begun.1.plain) }
-    ensures faultless { OnOk result (early_fault key.now MAX_PLAIN bytes.now ≡ None) }
-    ensures fault { IfErr result (λ fault. early_fault key.now MAX_PLAIN bytes.now ≡ Some fault) }
+    ensures few { IfOk result (λ begun. begun.1.plain ≤ most_of MAX_OPENED begun.1.size) }
+    ensures faultless { OnOk result (early_fault key.now MAX_OPENED bytes.now ≡ None) }
+    ensures fault { IfErr result (λ fault. early_fault key.now MAX_OPENED bytes.now ≡ Some fault) }
 {
-    begin_within(key, bytes, bytes.len() as u64, MAX_PLAIN)
+    begin_within(key, bytes, bytes.len() as u64, MAX_OPENED)
 }
 
 /// Appends the container of a plaintext of at most 2^40 bytes under a key and a prefix, in a shape, where there is room
@@ -164,22 +167,25 @@ pub fn open_into(
     Ok(())
 }
 
-/// The plaintext of a container under a key, of at most 2^40 bytes, or the first fault that applies: those that `begin`
-/// names, and then `Forged`. `OutOfMemory` where the room for the plaintext was refused, which is asked for once all
-/// but the tags was tested, and before any of these is.
+/// The plaintext of a container under a key, of at most 2^52 - 2^20 bytes and 2^32 - 1 chunks, or the first fault that
+/// applies: those that `begin` names, and then `Forged`. `OutOfMemory` where the room for the plaintext was refused,
+/// which is asked for once all but the tags was tested, and before any of these is.
 pub fn open(alloc: Global, key: &Key, bytes: &[u8]) -> Result<Vec<u8>, OpenFault>
-    ensures plaintext { IfOk result (λ out. opening key.now MAX_PLAIN bytes.now ≡ Ok out.items) }
+    ensures plaintext { IfOk result (λ out. opening key.now MAX_OPENED bytes.now ≡ Ok out.items) }
     ensures fault { IfErr result (λ fault. (fault ≡ OpenFault.OutOfMemory)
-        ⊎ (opening key.now MAX_PLAIN bytes.now ≡ Err fault)) }
+        ⊎ (opening key.now MAX_OPENED bytes.now ≡ Err fault)) }
 
     // Memory is taken only where neither the length nor the header has a fault.
-    ensures memory { result ≡ Err OpenFault.OutOfMemory → early_fault key.now MAX_PLAIN bytes.now ≡ None }
+    ensures memory { result ≡ Err OpenFault.OutOfMemory → early_fault key.now MAX_OPENED bytes.now ≡ None }
 
     // What opens is the container of its plaintext, of the shape and under the prefix that its header names, and such a
     // container opens.
     ensures sealed { IfOk result (λ out. bytes.now ≡ container key.now (shape_in bytes.now) (prefix_in bytes.now) out.items) }
     ensures shape { OnOk result (IsShape (shape_in bytes.now)) }
-    ensures opens { (plain : List ℕ) → length plain ≤ MAX_PLAIN → IsShape (shape_in bytes.now)
+    ensures opens { (plain : List ℕ) → length plain ≤ most_of MAX_OPENED (size_in bytes.now) → IsShape (shape_in bytes.now)
+        → bytes.now ≡ container key.now (shape_in bytes.now) (prefix_in bytes.now) plain
+        → MatchResult result (λ out. out.items ≡ plain) (λ fault. fault ≡ OpenFault.OutOfMemory) }
+    ensures opens_sealed { (plain : List ℕ) → length plain ≤ MAX_PLAIN → IsShape (shape_in bytes.now)
         → bytes.now ≡ container key.now (shape_in bytes.now) (prefix_in bytes.now) plain
         → MatchResult result (λ out. out.items ≡ plain) (λ fault. fault ≡ OpenFault.OutOfMemory) }
 {

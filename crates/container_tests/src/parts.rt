@@ -121,42 +121,52 @@ fn has_two_places(places: Cut) -> bool {
     first == 0 && whole == 65_536 && second == 65_552 && rest == 1
 }
 
-// Bytes behind a header, and how many chunks they are. The last of each size are of 2^40 bytes of plaintext.
-static BODIES: [(Option<u32>, u64, u32); 15] = [
+// Bytes behind a header, and how many chunks they are. The last of each size are of 2^32 - 1 chunks, and those before
+// them of 2^40 bytes of plaintext.
+static BODIES: [(Option<u32>, u64, u32); 19] = [
     (None, 16, 1),
     (None, 17, 1),
     (None, 65_552, 1),
     (None, 65_569, 2),
     (None, 131_104, 2),
     (None, 1_099_780_063_232, 1 << 24),
+    (None, 281_543_696_121_840, u32::MAX),
     (Some(12), 16, 1),
     (Some(12), 4_112, 1),
     (Some(12), 4_129, 2),
     (Some(12), 8_224, 2),
     (Some(12), 1_103_806_595_072, 1 << 28),
+    (Some(12), 17_660_905_517_040, u32::MAX),
     (Some(16), 65_569, 2),
+    (Some(16), 281_543_696_121_840, u32::MAX),
     (Some(20), 1_048_592, 1),
     (Some(20), 1_048_609, 2),
     (Some(20), 1_099_528_404_992, 1 << 20),
+    (Some(20), 4_503_668_345_798_640, u32::MAX),
 ];
 
-// The last of each size have more than 2^40 bytes of plaintext.
-static NO_BODIES: [(Option<u32>, u64, OpenFault); 15] = [
+// The last of each size are one byte more than 2^32 - 1 chunks, and those before them one more than 2^40 bytes of
+// plaintext have.
+static NO_BODIES: [(Option<u32>, u64, OpenFault); 19] = [
     (None, 0, OpenFault::BadLength),
     (None, 15, OpenFault::BadLength),
     (None, 65_553, OpenFault::BadLength),
     (None, 65_568, OpenFault::BadLength),
     (None, 131_105, OpenFault::BadLength),
-    (None, 1_099_780_063_233, OpenFault::TooLong),
+    (None, 1_099_780_063_233, OpenFault::BadLength),
+    (None, 281_543_696_121_841, OpenFault::TooLong),
     (Some(12), 15, OpenFault::BadLength),
     (Some(12), 4_113, OpenFault::BadLength),
     (Some(12), 4_128, OpenFault::BadLength),
     (Some(12), 8_240, OpenFault::BadLength),
-    (Some(12), 1_103_806_595_073, OpenFault::TooLong),
+    (Some(12), 1_103_806_595_073, OpenFault::BadLength),
+    (Some(12), 17_660_905_517_041, OpenFault::TooLong),
     (Some(16), 65_568, OpenFault::BadLength),
+    (Some(16), 281_543_696_121_841, OpenFault::TooLong),
     (Some(20), 1_048_593, OpenFault::BadLength),
     (Some(20), 1_048_608, OpenFault::BadLength),
-    (Some(20), 1_099_528_404_993, OpenFault::TooLong),
+    (Some(20), 1_099_528_404_993, OpenFault::BadLength),
+    (Some(20), 4_503_668_345_798_641, OpenFault::TooLong),
 ];
 
 fn have_chunks() -> bool {

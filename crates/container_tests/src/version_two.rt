@@ -5,7 +5,7 @@ ghost use Rattle.std.specs.Prelude.{◌^◌, ◌≤◌};
 use crate::samples::{EMPTY, EMPTY_TWO, counting_key, label_of, prefix_of, zeros_sealed};
 use crate::whole::{has_fault, is_cut_and_digested, opens_to_zeros};
 use container_core::{
-    BadShape, Key, MAX_PLAIN, OpenFault, Shape, begin_within, begins_as_two, header_bytes, seal,
+    BadShape, Key, MAX_OPENED, OpenFault, Shape, begin_within, begins_as_two, header_bytes, seal,
 };
 use std::alloc::Global;
 use std::test::Fail;
@@ -219,7 +219,7 @@ fn shapes_have_bounds(rt: HostRuntime) {
 // bytes: how many it has.
 fn plain_of(key: &Key, front: &[u8], bytes: u64, most: u64) -> Result<u64, OpenFault> {
     // For the contract of `begin_within`.
-    if most > MAX_PLAIN || front.len() as u64 > bytes || header_bytes(front) > front.len() {
+    if most > MAX_OPENED || front.len() as u64 > bytes || header_bytes(front) > front.len() {
         return Err(OpenFault::Read);
     }
     match begin_within(key, front, bytes, most) {
@@ -228,13 +228,46 @@ fn plain_of(key: &Key, front: &[u8], bytes: u64, most: u64) -> Result<u64, OpenF
     }
 }
 
-// Whether a container of so many plaintext bytes has so many bytes, and is the longest with which this beginning goes.
-fn is_longest(front: &[u8], most: u64, bytes: u64) -> bool
-    requires { bytes ≤ 2 ^ 41 }
+// Whether a container of so many plaintext bytes has so many bytes, and is the longest with which this beginning goes
+// where the plaintext may have `most`.
+fn is_longest_of(front: &[u8], most: u64, plain: u64, bytes: u64) -> bool
+    requires { bytes ≤ 2 ^ 53 }
 {
     let key = counting_key();
-    plain_of(&key, front, bytes, most) == Ok(most)
+    plain_of(&key, front, bytes, most) == Ok(plain)
         && plain_of(&key, front, bytes + 1, most) == Err(OpenFault::TooLong)
+}
+
+// The same of `most` plaintext bytes.
+fn is_longest(front: &[u8], most: u64, bytes: u64) -> bool
+    requires { bytes ≤ 2 ^ 53 }
+{
+    is_longest_of(front, most, most, bytes)
+}
+
+// The first bytes of version 2 with this exponent, and the label `ab`.
+fn front_of(exponent: u8) -> [u8; 27] {
+    let mut front = [0; 27];
+    front.copy_from_slice(&EMPTY_TWO[..27]);
+    front[9] = exponent;
+    front
+}
+
+// Exponents, and the greatest plaintext that is opened of each: 2^32 - 1 chunks; and the bytes of its container under a
+// header of 27.
+static LONGEST: [(u8, u64, u64); 3] = [
+    (12, 17_592_186_040_320, 17_660_905_517_067),
+    (16, 281_474_976_645_120, 281_543_696_121_867),
+    (20, 4_503_599_626_321_920, 4_503_668_345_798_667),
+];
+
+fn have_longest() -> bool {
+    for (exponent, plain, bytes) in &LONGEST {
+        if *bytes > 1 << 53 || !is_longest_of(&front_of(*exponent), MAX_OPENED, *plain, *bytes) {
+            return false;
+        }
+    }
+    true
 }
 
 // Of version 2 the header's faults come before the length's, else the length's.
@@ -249,6 +282,15 @@ fn longest_containers(rt: HostRuntime) {
     assert!(rt; is_longest(&EMPTY[..24], 1 << 40, 1_099_780_063_256));
     assert!(rt; is_longest(&EMPTY_TWO[..27], 8_192, 8_251));
     assert!(rt; is_longest(&EMPTY_TWO[..27], 1 << 40, 1_103_806_595_099));
+    assert!(rt;
+        is_longest_of(
+            &EMPTY[..24],
+            MAX_OPENED,
+            281_474_976_645_120,
+            281_543_696_121_864
+        )
+    );
+    assert!(rt; have_longest());
     assert!(rt; names_another_key(&EMPTY[..24], 41, OpenFault::TooLong));
     assert!(rt; names_another_key(&EMPTY_TWO[..27], 44, OpenFault::KeyMismatch));
 }

@@ -17,7 +17,7 @@ ghost use Rattle.crew_core.specs.Rounds.{CanMake, round_count};
 ghost use Rattle.worker_core.specs.Crew.{idle};
 
 use container_core::laws::{chunks_by_number, chunks_counted, rounds_of_a_stream, rounds_open};
-use container_core::{Cut, Header, Key, MAX_PLAIN, TAG};
+use container_core::{Cut, Header, Key, MAX_CHUNKS, MAX_PLAIN, TAG};
 use round_core::laws::{pieces_by_number, refused_pieces, rounds_are_opened, rounds_are_sealed};
 use round_core::{Places, Round, Task};
 use std::alloc::{AllocError, Global};
@@ -240,7 +240,7 @@ pub(crate) fn open_rounds<R: Threads + Sync, G: Gate + Sync>(
     gate: &G,
 ) -> Result<(), u32>
     requires size { cut.size ≡ size_in header.now }
-    requires plain { cut.plain ≤ MAX_PLAIN }
+    requires plain { cut.plain ≤ MAX_CHUNKS * cut.size }
     requires body { length body.now ≡ body_length cut.size cut.plain }
     requires ready { CanMake Task.Opening cut.size (min (round_count cut.size) (chunk_count cut.size cut.plain))
         rooms.crew rooms.places }

@@ -14,7 +14,9 @@ use crate::rounds::{Rooms, open_rounds, seal_rounds};
 use container_core::laws::{
     chunks_by_number, headers_name_their_shape, opening_faults, rounds_of_a_stream, rounds_open,
 };
-use container_core::{Cut, Header, Key, MAX_HEADER, MAX_PLAIN, OpenFault, Shape, TAG, begin};
+use container_core::{
+    Cut, Header, Key, MAX_HEADER, MAX_OPENED, MAX_PLAIN, OpenFault, Shape, TAG, begin,
+};
 use ledger_core::{Grant, Spent};
 use round_core::Task;
 use std::alloc::{AllocError, Global};
@@ -163,12 +165,12 @@ pub fn open_whole<R: Threads + Sync, G: Gate + Sync>(
     gate: &G,
 ) -> Result<Vec<u8>, OpenFault>
     requires { (0 < workers) × (workers ≤ MAX_WORKERS) }
-    ensures plaintext { IfOk result (λ out. opening key.now MAX_PLAIN container.now ≡ Ok out.items) }
+    ensures plaintext { IfOk result (λ out. opening key.now MAX_OPENED container.now ≡ Ok out.items) }
     ensures fault { IfErr result (λ fault. (fault ≡ OpenFault.OutOfMemory)
-        ⊎ (opening key.now MAX_PLAIN container.now ≡ Err fault)) }
+        ⊎ (opening key.now MAX_OPENED container.now ≡ Err fault)) }
 
     // Memory is taken only where neither the length nor the header has a fault.
-    ensures memory { result ≡ Err OpenFault.OutOfMemory → early_fault key.now MAX_PLAIN container.now ≡ None }
+    ensures memory { result ≡ Err OpenFault.OutOfMemory → early_fault key.now MAX_OPENED container.now ≡ None }
 {
     // No early fault is one of memory, and all chunks are a round that is the last.
     opening_faults();

@@ -16,11 +16,11 @@ use Rattle.io_core.specs.Reads.{ConsumesUpTo}
 use Rattle.io_core.specs.Streams.{Consumes, IsAtEnd}
 use Rattle.container_core.specs.declared.fault.OpenFault.{OpenFault}
 use Rattle.container_core.specs.declared.fault.OpenFault.TheVariants.{TooLong}
-use Rattle.container_core.specs.Chunks.{chunk_count, container_length}
+use Rattle.container_core.specs.Chunks.{chunk_count, container_length, container_limit, most_of}
 use Rattle.container_core.specs.Container.{header_length, is_two, size_in}
 use Rattle.container_core.specs.Faults.{IsOfBytes}
 use Rattle.container_core.specs.Opening.{header_fault, early_fault, longest, opening}
-use Rattle.container_core.proofs.PartsLemmas.{body-count, count-few, count-full}
+use Rattle.container_core.proofs.PartsLemmas.{body-count, count-full, count-grows, count-numbers, most_of-chunks, most_of-few}
 use Rattle.container_core.proofs.HeaderLemmas.{length-one, length-two, not_two, least-length, good_header, shape-bounds, size_in-bounds}
 use Rattle.container_core.proofs.FaultLemmas.{longest-one, longest-two, longest-good, early-too_long_one, early-too_long, opening-early}
 use Rattle.container_core.proofs.FaultLemmas.{two-front, size-front, length-front, fault-front}
@@ -88,8 +88,8 @@ longest-front front rest most whole =
     elim (cases_Bool (is_two front)) [
       | inl is ↦
           longest-two most (front ++ rest) (two-front front rest whole ∙ is)
-          ∙ ap (λ (h : ℕ). container_length h (size_in (front ++ rest)) most) (length-front front rest whole)
-          ∙ ap (λ (s : ℕ). container_length (header_length front) s most) (size-front front rest whole)
+          ∙ ap (λ (h : ℕ). container_limit h (size_in (front ++ rest)) most) (length-front front rest whole)
+          ∙ ap (λ (s : ℕ). container_limit (header_length front) s most) (size-front front rest whole)
           ∙ sym (longest-two most front is)
       | inr other ↦ longest-one most (front ++ rest) (two-front front rest whole ∙ other) ∙ sym (longest-one most front other)
     ]
@@ -103,13 +103,13 @@ says-one key front other all within =
 -- of a good header of which no byte more was read
 pub longest-read : (key header front : List ℕ) (most : ℕ) → length front ≤ header_length front → header_length front ≤ length front
     → header ≡ take (header_length front) front → header_fault key front ≡ None
-    → longest most header ≡ container_length (length header) (size_in header) most
+    → longest most header ≡ container_limit (length header) (size_in header) most
 longest-read key header front most within enough is good =
     let same : header ≡ front = is ∙ take_all (header_length front) front within in
     let whole : header_length front ≡ length front = omega (arith, within, enough) in
     ap (longest most) same ∙ longest-good key most front good
-    ∙ ap (λ (h : ℕ). container_length h (size_in front) most) whole
-    ∙ ap (λ (l : List ℕ). container_length (length l) (size_in l) most) (sym same)
+    ∙ ap (λ (h : ℕ). container_limit h (size_in front) most) whole
+    ∙ ap (λ (l : List ℕ). container_limit (length l) (size_in l) most) (sym same)
 
 -- a greater size makes no more chunks
 count-sizes : (less size n : ℕ) → 0 < less → less ≤ size → chunk_count size n ≤ chunk_count less n
@@ -123,20 +123,23 @@ count-sizes less size n some few =
     omega (arith, full, fuller, more)
 
 container-sizes : (header size most : ℕ) → header ≤ 280 → 4096 ≤ size
-    → container_length header size most ≤ container_length 280 4096 most
+    → container_limit header size most ≤ container_length 280 4096 most
 container-sizes header size most short least =
-    let long = body-count size most in
+    let long = body-count size (most_of most size) in
     let longer = body-count 4096 most in
-    let more = count-sizes 4096 size most (omega arith) least in
-    omega (arith, short, long, longer, more)
+    let few = most_of-few most size in
+    let more = count-sizes 4096 size (most_of most size) (omega arith) least in
+    let grows = count-grows 4096 (most_of most size) most (omega arith) few in
+    omega (arith, short, long, longer, few, more, grows)
 
--- none is longer than 2^40 bytes and 16 for each of 2^28 chunks, and its header
-pub container-few : (header size most : ℕ) → 4096 ≤ size → most ≤ 1099511627776
-    → container_length header size most ≤ header + 1103806595072
+-- none is longer than 2^52 - 2^20 bytes and 16 for each of 2^32 - 1 chunks, and its header
+pub container-few : (header size most : ℕ) → 4096 ≤ size → most ≤ 4503599626321920
+    → container_limit header size most ≤ header + 4503668345798640
 container-few header size most least few =
-    let long = body-count size most in
-    let count = count-few size most least few in
-    omega (arith, long, count, few)
+    let long = body-count size (most_of most size) in
+    let less = most_of-few most size in
+    let count = count-numbers size (most_of most size) (omega (arith, least)) (most_of-chunks most size) in
+    omega (arith, long, count, few, less)
 
 pub longest-most : (key front : List ℕ) (most : ℕ) → SaysLength key front → longest most front ≤ container_length 280 4096 most
 longest-most key front most says =
@@ -177,7 +180,7 @@ lost-behind (Some input) (Some rest) left'' front f end says grows fits first lo
 
 -- how much was read of an input that isn't of version 2
 pub lost-one : (most : ℕ) (left left' : Option (List ℕ)) → IfSome left (λ input. ConsumesUpTo left left' (longest most input + 1))
-    → IfSome left (λ input. is_two input ≡ false → ConsumesUpTo left left' (container_length 24 65536 most + 1))
+    → IfSome left (λ input. is_two input ≡ false → ConsumesUpTo left left' (container_limit 24 65536 most + 1))
 lost-one most None left' lost = tt
 lost-one most (Some input) left' lost = λ other.
     let e = longest-one most input other in

@@ -11,13 +11,14 @@ use Rattle.std.proofs.KnownBytes.{Consumes-trans}
 use Rattle.io_core.specs.Streams.{Consumes}
 use Rattle.container_core.specs.declared.fault.OpenFault.{OpenFault}
 use Rattle.container_core.specs.declared.fault.OpenFault.TheVariants.{TooLong, BadLength}
-use Rattle.container_core.specs.Chunks.{sealed_chunks, body_length, chunk_count, container_length}
+use Rattle.container_core.specs.Chunks.{sealed_chunks, body_length, chunk_count, container_length, container_limit, most_of}
 use Rattle.container_core.specs.Container.{header_length, size_in}
 use Rattle.container_core.specs.Cutting.{RefusesCut}
 use Rattle.container_core.specs.Views.{CutView}
 use Rattle.container_core.specs.Opening.{unsealed, unsealed_by, behind, unless, first_fault, early_fault, longest, opening}
 use Rattle.container_core.proofs.OpeningLemmas.{behind-behind, behind-nil}
-use Rattle.container_core.proofs.PartsLemmas.{body-count, container_length-grows, container_length-more, count-enough, count-few}
+use Rattle.container_core.proofs.PartsLemmas.{body-count, container_length-grows, container_length-more, count-enough, count-numbers}
+use Rattle.container_core.proofs.PartsLemmas.{most_of-chunks}
 use Rattle.container_core.proofs.PartsLemmas.{count-more, count-one, count-some, count-tight, count-whole}
 use Rattle.round_core.specs.declared.round.Task.{Task}
 use Rattle.round_core.specs.declared.round.Task.TheVariants.{Sealing, Opening, Checking}
@@ -136,10 +137,10 @@ cut-same cut size plain body some sized is cut_is =
     ap (λ (s : ℕ). chunk_count s cut.plain) sized ∙ ap (chunk_count size) (body-same size cut.plain plain some other)
 
 -- what has a plaintext's length is cut
-pub no-refusal : (size body plain : ℕ) (fault : OpenFault) → 0 < size → body ≡ body_length size plain → plain ≤ 1099511627776
+pub no-refusal : (size body plain : ℕ) (fault : OpenFault) → 0 < size → body ≡ body_length size plain → plain ≤ 4294967295 * size
     → RefusesCut size body fault → ⊥
 no-refusal size body plain TooLong some is few refused =
-    let more = container_length-more 0 size plain 1099511627776 some few in
+    let more = container_length-more 0 size plain (4294967295 * size) some few in
     absurd (omega (arith, more, is, refused))
 no-refusal size body plain BadLength some is few refused = refused.1 plain is
 no-refusal size body plain _ some is few refused = absurd refused
@@ -171,14 +172,19 @@ count-room size n room some enough =
       | inr within ↦ within
     ]
 
--- how many rounds' chunks there are at most within the longest container
-pub first-few : (size header most first held : ℕ) → 4096 ≤ size → most ≤ 1099511627776
-    → header + (first * (size + 16) + held) ≤ container_length header size most + 1 → first ≤ 268435456
-first-few size header most first held least few within =
-    let long = body-count size most in
-    let count = count-few size most least few in
-    let smaller : first * 4112 ≤ first * (size + 16) = mul-le-mul_left first (omega (arith, least)) in
-    omega (arith, long, count, smaller, within, few)
+-- how many chunks the rounds have within the longest container, the one in hand too where a byte was seen behind it
+pub first-few : (size header most first window held : ℕ) → 4096 ≤ size → window * (size + 16) < held
+    → header + (first * (size + 16) + held) ≤ container_limit header size most + 1 → first + window ≤ 4294967295
+first-few size header most first window held least full within =
+    let long = body-count size (most_of most size) in
+    let chunks = most_of-chunks most size in
+    let count = count-numbers size (most_of most size) (omega (arith, least)) chunks in
+    elim (cases_lt 4294967295 (first + window)) [
+      | inl over ↦
+          let many : 4294967296 * (size + 16) ≤ (first + window) * (size + 16) = mul-le-mul_right (size + 16) (omega (arith, over)) in
+          absurd (omega (arith, long, chunks, count, many, full, within))
+      | inr few ↦ few
+    ]
 
 -- ---- one round more
 

@@ -9,7 +9,7 @@ use Rattle.io_core.specs.Reads.{ConsumesUpTo}
 use Rattle.io_core.specs.Streams.{Consumes, IsAtEnd, counted}
 use Rattle.container_core.specs.declared.fault.OpenFault.{OpenFault}
 use Rattle.container_core.specs.declared.fault.OpenFault.TheVariants.{TooLong, Read, Write}
-use Rattle.container_core.specs.Chunks.{container_length}
+use Rattle.container_core.specs.Chunks.{container_length, container_limit}
 use Rattle.container_core.specs.Container.{header_length, is_two}
 use Rattle.container_core.specs.Faults.{IsOfBytes}
 use Rattle.container_core.specs.Opening.{header_fault, first_fault, early_fault, longest, opening}
@@ -72,7 +72,7 @@ bad-front key front most fault (Some input) (Some rest) first within end bad kin
           ]
     ]
   where
-    few : is_two front ≡ false → (is_two front ≡ true) ⊎ (length front < 24) → length front ≤ container_length 24 65536 most
+    few : is_two front ≡ false → (is_two front ≡ true) ⊎ (length front < 24) → length front ≤ container_limit 24 65536 most
     few other (inl two) = cc
     few other (inr short) = omega arith
 
@@ -104,7 +104,7 @@ opening-header : (key front read : List ℕ) (most : ℕ) (later fault : OpenFau
 opening-header key front read most later fault says other bad named =
     let whole : header_length front ≤ length front = omega (arith, says.whole) in
     let one = two-front front read whole ∙ other in
-    elim (cases_lt (container_length 24 65536 most) (length (front ++ read))) [
+    elim (cases_lt (container_limit 24 65536 most) (length (front ++ read))) [
       | inl long ↦ opening-early key most (front ++ read) fault (shown TooLong (early-too_long_one key most (front ++ read) one long))
       | inr within ↦ opening-early key most (front ++ read) fault
           (shown later (early-header_fault key most (front ++ read) later (λ _. within) (fault-front key front read whole ∙ bad)))

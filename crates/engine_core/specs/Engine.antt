@@ -2,7 +2,7 @@
 use Rattle.std.specs.Prelude.{◌≡◌, ◌≢◌, ℕ, ◌+◌, ◌*◌, ◌<◌, ◌≤◌, ◌++◌, Bool, true, false, List, [], ◌∷◌, length, take, Option}
 use Rattle.std.specs.Prelude.{Result, Ok, Err}
 use Rattle.std.specs.Prelude.{IfOk, IfErr, OnOk, OnErr, IfSome}
-use Rattle.container_core.specs.Chunks.{chunks, container_length}
+use Rattle.container_core.specs.Chunks.{chunks, container_length, container_limit}
 use Rattle.container_core.specs.Container.{container, header_length, header_of, is_two}
 use Rattle.container_core.specs.Shape.{ShapeView, size_of}
 use Rattle.container_core.specs.declared.fault.OpenFault.{OpenFault}
@@ -135,11 +135,12 @@ pub record HasReadContainer {A : Type 0} (key : List ℕ) (most : ℕ) (left lef
   pub all_read : result ≡ Err opening_fault.Write → IsAtEnd left'
   -- a fault of the bytes is the whole input's
   pub fault : IfErr result (λ fault. IsOfBytes fault → IfSome left (λ input. opening key most input ≡ Err fault))
-  -- of an input that is too long one byte past the longest container is read: past the longest of all, and past the
-  -- longest that begins so, which is version 1's where the input doesn't begin as version 2
+  -- of an input that is too long one byte past the longest container is read: no more than past the container of
+  -- `most` bytes in the least chunks under the greatest header, and past the longest that begins so, which is version
+  -- 1's where the input doesn't begin as version 2
   pub bound : ConsumesUpTo left left' (container_length 280 4096 most + 1)
   pub front : IfSome left (λ input. ConsumesUpTo left left' (longest most input + 1))
-  pub one : IfSome left (λ input. is_two input ≡ false → ConsumesUpTo left left' (container_length 24 65536 most + 1))
+  pub one : IfSome left (λ input. is_two input ≡ false → ConsumesUpTo left left' (container_limit 24 65536 most + 1))
   -- a failed read is Read, and no other fault is
   pub read : failures' ≡ counted (open_read_failed result) failures
 

@@ -4,7 +4,7 @@
 //! refusal other than a failed write leaves the writer as it was; and nothing of a plaintext is written before every
 //! chunk was checked.
 ghost use Rattle.std.specs.Prelude.{◌≡◌, ◌≢◌, ◌+◌, ◌-◌, ◌≤◌, length, Ok, Err, IfOk, IfErr, IfSome};
-ghost use Rattle.container_core.specs.Chunks.{container_length};
+ghost use Rattle.container_core.specs.Chunks.{container_limit};
 ghost use Rattle.container_core.specs.Container.{size_in};
 ghost use Rattle.container_core.specs.Faults.{IsOfBytes};
 ghost use Rattle.container_core.specs.Opening.{longest, opening};
@@ -18,7 +18,7 @@ ghost use Rattle.io_core.specs.Streams.{IsAtEnd, counted};
 use crate::front::open_front;
 use crate::reading::{read_body, read_plain};
 use container_core::{
-    Header, Key, MAX_PLAIN, OpenFault, SealFault, Shape, begin_within, open_into, seal,
+    Header, Key, MAX_OPENED, MAX_PLAIN, OpenFault, SealFault, Shape, begin_within, open_into, seal,
 };
 use ledger_core::{Failed, Sink, Source, write_all};
 use std::alloc::Global;
@@ -60,10 +60,10 @@ fn plain_body<R: Source>(
     reader: &mut R,
     max_bytes: u64,
 ) -> Result<Vec<u8>, OpenFault>
-    requires max_bytes { max_bytes ≤ MAX_PLAIN }
+    requires max_bytes { max_bytes ≤ MAX_OPENED }
     requires front { SaysLength key.now header.now }
     requires limit { longest max_bytes header.now
-        ≡ container_length (length header.now) (size_in header.now) max_bytes }
+        ≡ container_limit (length header.now) (size_in header.now) max_bytes }
     ensures opened { IfOk result (λ out.
         Answers key.now header.now max_bytes (R.left reader.old) (R.left reader.new) (Ok out.items)) }
     ensures refused { IfErr result (λ fault. IsOfBytes fault
@@ -74,7 +74,7 @@ fn plain_body<R: Source>(
     ensures count { R.failures reader.new ≡ counted (open_read_failed result) (R.failures reader.old) }
 {
     let front = header.bytes();
-    let most = header.container_bytes(max_bytes) - front.len() as u64;
+    let most = header.longest_bytes(max_bytes) - front.len() as u64;
     let body = match read_body(alloc, reader, most) {
         Ok(body) => body,
         Err(fault) => return Err(fault),
@@ -100,7 +100,7 @@ fn plain_one<R: Source>(
     reader: &mut R,
     max_bytes: u64,
 ) -> Result<Vec<u8>, OpenFault>
-    requires { max_bytes ≤ MAX_PLAIN }
+    requires { max_bytes ≤ MAX_OPENED }
     ensures plaintext { IfOk result (λ out.
         IfSome (R.left reader.old) (λ input. opening key.now max_bytes input ≡ Ok out.items)) }
     ensures no_write { result ≢ Err OpenFault.Write }
@@ -113,7 +113,7 @@ fn plain_one<R: Source>(
     }
 }
 
-/// Reads a container and writes its plaintext, which has at most `max_bytes` bytes (2^40 at most), once every chunk was
+/// Reads a container and writes its plaintext, which has at most `max_bytes` bytes (2^52 - 2^20 at most), once every chunk was
 /// checked. Answers the plaintext's length, or the first fault of the container. At every fault but `Write` nothing was
 /// written; at `Write` the whole input was read, and a beginning of its plaintext was written, and not the whole. Of an
 /// input that is too long one byte past the longest container is read.
@@ -124,7 +124,7 @@ pub fn open_one<R: Source, W: Sink>(
     writer: &mut W,
     max_bytes: u64,
 ) -> Result<u64, OpenFault>
-    requires { max_bytes ≤ MAX_PLAIN }
+    requires { max_bytes ≤ MAX_OPENED }
     ensures reads { HasReadContainer key.now max_bytes (R.left reader.old) (R.left reader.new)
         (R.failures reader.old) (R.failures reader.new) result }
     ensures writes { HasWrittenPlain key.now max_bytes (R.left reader.old)
@@ -144,7 +144,7 @@ pub fn verify_one<R: Source>(
     reader: &mut R,
     max_bytes: u64,
 ) -> Result<u64, OpenFault>
-    requires { max_bytes ≤ MAX_PLAIN }
+    requires { max_bytes ≤ MAX_OPENED }
     ensures length { IfOk result (λ n. IfSome (R.left reader.old) (λ input. OpensTo key.now max_bytes input n)) }
     ensures no_write { result ≢ Err OpenFault.Write }
     ensures reads { HasReadContainer key.now max_bytes (R.left reader.old) (R.left reader.new)

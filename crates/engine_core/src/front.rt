@@ -6,7 +6,7 @@
 ghost use Rattle.std.specs.Bool.{OnTrue, OnFalse};
 ghost use Rattle.std.specs.Prelude.{◌≡◌, ◌≢◌, ◌⊎◌, ℕ, ◌+◌, ◌-◌, ◌<◌, ◌≤◌, ◌++◌, true, false, List, length, take, Err};
 ghost use Rattle.std.specs.Prelude.{IfOk, IfErr, OnOk, OnErr, IfSome, is_err};
-ghost use Rattle.container_core.specs.Chunks.{container_length};
+ghost use Rattle.container_core.specs.Chunks.{container_limit};
 ghost use Rattle.container_core.specs.Container.{header_length, is_two, size_in};
 ghost use Rattle.container_core.specs.Faults.{IsOfBytes};
 ghost use Rattle.container_core.specs.Opening.{longest};
@@ -16,8 +16,8 @@ ghost use Rattle.engine_core.specs.Engine.{HasReadContainer, open_read_failed};
 ghost use Rattle.engine_core.specs.Fronts.{IsNamed, ReadsOn, SaysLength};
 
 use container_core::{
-    HEADER, Header, Key, MAX_HEADER, MAX_PLAIN, OpenFault, Shape, begin_within, begins_as_two,
-    container_bytes, header_bytes, read_header,
+    HEADER, Header, Key, MAX_HEADER, MAX_OPENED, OpenFault, Shape, begin_within, begins_as_two,
+    header_bytes, longest_bytes, read_header,
 };
 use io_core::{Failed, Source, fill};
 
@@ -103,7 +103,7 @@ pub(crate) fn refuse<R: Source>(
     max_bytes: u64,
     fault: OpenFault,
 ) -> OpenFault
-    requires most { max_bytes ≤ MAX_PLAIN }
+    requires most { max_bytes ≤ MAX_OPENED }
     requires front { SaysLength key.now front.now }
     requires limit { limit ≡ longest max_bytes front.now + 1 }
     requires total { (length front.now ≤ total) × (total ≤ limit) }
@@ -140,11 +140,11 @@ pub(crate) fn open_front<R: Source>(
     reader: &mut R,
     max_bytes: u64,
 ) -> Result<Header, OpenFault>
-    requires { max_bytes ≤ MAX_PLAIN }
+    requires { max_bytes ≤ MAX_OPENED }
     ensures header { IfOk result (λ header. Consumes (R.left reader.old) (R.left reader.new) header) }
     ensures front { IfOk result (λ header. SaysLength key.now header) }
     ensures limit { IfOk result (λ header. longest max_bytes header
-        ≡ container_length (length header) (size_in header) max_bytes) }
+        ≡ container_limit (length header) (size_in header) max_bytes) }
     ensures count { OnOk result (R.failures reader.new ≡ R.failures reader.old) }
     ensures no_write { result ≢ Err OpenFault.Write }
     ensures reads { IfErr result (λ fault. HasReadContainer {A = ℕ} key.now max_bytes (R.left reader.old)
@@ -160,7 +160,7 @@ pub(crate) fn open_front<R: Source>(
         Ok(header) => Ok(header),
         Err(fault) if comes_first(front) => Err(fault),
         Err(fault) => {
-            let limit = container_bytes(&Shape::one(), max_bytes) as usize + 1;
+            let limit = longest_bytes(&Shape::one(), max_bytes) as usize + 1;
             Err(refuse(key, front, reader, n, limit, max_bytes, fault))
         }
     }

@@ -14,7 +14,7 @@ ghost use Rattle.engine_core.specs.Engine.{HasHeader, OpensTo};
 
 use crate::sealing::seal_rounds;
 use crate::windows::open_rounds;
-use container_core::{Header, Key, MAX_PLAIN, OpenFault, SealFault, Shape};
+use container_core::{Header, Key, MAX_OPENED, MAX_PLAIN, OpenFault, SealFault, Shape};
 use crew_core::{DEFAULT_WINDOW, Gate, MAX_WINDOW, MAX_WORKERS};
 use ledger_core::{Failed, Grant, Sink, Source, Spent, write_all};
 use round_core::Task;
@@ -103,7 +103,7 @@ pub fn run_seal<T: Threads + Sync, R: Source, W: Sink, G: Gate + Sync>(
 
 /// Reads a container and checks it by 1 to 16 workers, in rounds of `window` chunks (1 to 256): while one is opened,
 /// the plaintext of the one before is taken and the one behind is read. Answers its plaintext, which has at most
-/// `max_bytes` bytes (2^40 at most), or the first fault of the container. A header's fault of version 2 is answered
+/// `max_bytes` bytes (2^52 - 2^20 at most), or the first fault of the container. A header's fault of version 2 is answered
 /// without reading on; of an input that is too long one byte past the longest container is read. It takes the memory of
 /// the plaintext, whose room doubles as it grows, of two windows of sealed chunks, and of a window of plaintext and as
 /// much for each worker.
@@ -117,7 +117,7 @@ pub fn run_plain_by<T: Threads + Sync, R: Source, G: Gate + Sync>(
     window: u32,
     gate: &G,
 ) -> Result<Vec<u8>, OpenFault>
-    requires max_bytes { max_bytes ≤ MAX_PLAIN }
+    requires max_bytes { max_bytes ≤ MAX_OPENED }
     requires workers { (0 < workers) × (workers ≤ MAX_WORKERS) }
     requires window { (0 < window) × (window ≤ MAX_WINDOW) }
     ensures plaintext { IfOk result (λ out.
@@ -154,7 +154,7 @@ pub fn run_plain<T: Threads + Sync, R: Source, G: Gate + Sync>(
     workers: u32,
     gate: &G,
 ) -> Result<Vec<u8>, OpenFault>
-    requires max_bytes { max_bytes ≤ MAX_PLAIN }
+    requires max_bytes { max_bytes ≤ MAX_OPENED }
     requires workers { (0 < workers) × (workers ≤ MAX_WORKERS) }
     ensures plaintext { IfOk result (λ out.
         IfSome (R.left reader.old) (λ input. opening key.now max_bytes input ≡ Ok out.items)) }
@@ -176,7 +176,7 @@ pub fn run_read<T: Threads + Sync, R: Source, G: Gate + Sync>(
     workers: u32,
     gate: &G,
 ) -> Result<(Header, Vec<u8>), OpenFault>
-    requires max_bytes { max_bytes ≤ MAX_PLAIN }
+    requires max_bytes { max_bytes ≤ MAX_OPENED }
     requires workers { (0 < workers) × (workers ≤ MAX_WORKERS) }
     ensures header { IfOk result (λ read. IfSome (R.left reader.old) (HasHeader read.0)) }
     ensures plaintext { IfOk result (λ read.
@@ -217,7 +217,7 @@ pub fn run_open_by<T: Threads + Sync, R: Source, W: Sink, G: Gate + Sync>(
     window: u32,
     gate: &G,
 ) -> Result<u64, OpenFault>
-    requires max_bytes { max_bytes ≤ MAX_PLAIN }
+    requires max_bytes { max_bytes ≤ MAX_OPENED }
     requires workers { (0 < workers) × (workers ≤ MAX_WORKERS) }
     requires window { (0 < window) × (window ≤ MAX_WINDOW) }
     ensures reads { HasReadContainer key.now max_bytes (R.left reader.old) (R.left reader.new)
@@ -243,7 +243,7 @@ pub fn run_open<T: Threads + Sync, R: Source, W: Sink, G: Gate + Sync>(
     workers: u32,
     gate: &G,
 ) -> Result<u64, OpenFault>
-    requires max_bytes { max_bytes ≤ MAX_PLAIN }
+    requires max_bytes { max_bytes ≤ MAX_OPENED }
     requires workers { (0 < workers) × (workers ≤ MAX_WORKERS) }
     ensures reads { HasReadContainer key.now max_bytes (R.left reader.old) (R.left reader.new)
         (R.failures reader.old) (R.failures reader.new) result }
@@ -268,7 +268,7 @@ pub fn run_verify_by<T: Threads + Sync, R: Source, G: Gate + Sync>(
     window: u32,
     gate: &G,
 ) -> Result<u64, OpenFault>
-    requires max_bytes { max_bytes ≤ MAX_PLAIN }
+    requires max_bytes { max_bytes ≤ MAX_OPENED }
     requires workers { (0 < workers) × (workers ≤ MAX_WORKERS) }
     requires window { (0 < window) × (window ≤ MAX_WINDOW) }
     ensures length { IfOk result (λ n. IfSome (R.left reader.old) (λ input. OpensTo key.now max_bytes input n)) }
@@ -305,7 +305,7 @@ pub fn run_verify<T: Threads + Sync, R: Source, G: Gate + Sync>(
     workers: u32,
     gate: &G,
 ) -> Result<u64, OpenFault>
-    requires max_bytes { max_bytes ≤ MAX_PLAIN }
+    requires max_bytes { max_bytes ≤ MAX_OPENED }
     requires workers { (0 < workers) × (workers ≤ MAX_WORKERS) }
     ensures length { IfOk result (λ n. IfSome (R.left reader.old) (λ input. OpensTo key.now max_bytes input n)) }
     ensures no_write { result ≢ Err OpenFault.Write }
@@ -326,7 +326,7 @@ pub fn run_check<T: Threads + Sync, R: Source, G: Gate + Sync>(
     workers: u32,
     gate: &G,
 ) -> Result<(Header, u64), OpenFault>
-    requires max_bytes { max_bytes ≤ MAX_PLAIN }
+    requires max_bytes { max_bytes ≤ MAX_OPENED }
     requires workers { (0 < workers) × (workers ≤ MAX_WORKERS) }
     ensures header { IfOk result (λ checked. IfSome (R.left reader.old) (HasHeader checked.0)) }
     ensures length { IfOk result (λ checked. IfSome (R.left reader.old) (λ input.

@@ -6,7 +6,7 @@
 //! first.
 ghost use Rattle.std.specs.Prelude.{◌≡◌, ◌≢◌, ◌⊎◌, ℕ, ◌+◌, ◌-◌, ◌*◌, ◌^◌, ◌<◌, ◌≤◌, ◌++◌, Bool, true, false, List};
 ghost use Rattle.std.specs.Prelude.{[], length, take, min, slice_index, Ok, Err, IfOk, IfErr, OnOk, OnErr, IfSome};
-ghost use Rattle.container_core.specs.Chunks.{body_length, chunk_count, container_length, sealed_chunks};
+ghost use Rattle.container_core.specs.Chunks.{body_length, chunk_count, container_limit, sealed_chunks};
 ghost use Rattle.container_core.specs.Container.{size_in};
 ghost use Rattle.container_core.specs.Faults.{IsOfBytes};
 ghost use Rattle.container_core.specs.Opening.{longest, opening, unsealed_by};
@@ -21,7 +21,7 @@ ghost use Rattle.engine_core.specs.Windows.{HasTurned, OpensRound, IsReady};
 use crate::front::{open_front, refuse};
 use crate::rooms::{Rooms, byte_behind};
 use container_core::laws::{chunks_by_number, chunks_of_two_parts, rounds_open};
-use container_core::{Cut, Header, Key, MAX_PLAIN, OpenFault, TAG, begin_within};
+use container_core::{Cut, Header, Key, MAX_CHUNKS, MAX_OPENED, OpenFault, TAG, begin_within};
 use io_core::{Failed, Source};
 use round_core::laws::{pieces_by_number, refused_pieces, rounds_are_checked, rounds_are_opened};
 use round_core::{Places, Round, Task};
@@ -241,7 +241,7 @@ fn open_last<T: Threads + Sync, G: Gate + Sync>(
 ) -> Result<(), OpenFault>
     requires task { task ≢ Task.Sealing }
     requires cut { (plain : ℕ) × (length rooms.old.current.held ≡ body_length (size_in header.now) plain)
-        × (plain ≤ MAX_PLAIN) × (first + chunk_count (size_in header.now) plain ≤ 2 ^ 32) }
+        × (plain ≤ MAX_CHUNKS * size_in header.now) × (first + chunk_count (size_in header.now) plain ≤ 2 ^ 32) }
     requires ready { IsReady task (size_in header.now) (length rooms.old.current.held)
         rooms.old.crew rooms.old.places }
     ensures opened { OnOk result ((last : List ℕ)
@@ -301,8 +301,8 @@ fn open_body<T: Threads + Sync, R: Source, G: Gate + Sync>(
     requires task { task ≢ Task.Sealing }
     requires front { SaysLength key.now header.now }
     requires limit { longest max_bytes header.now
-        ≡ container_length (length header.now) (size_in header.now) max_bytes }
-    requires max_bytes { max_bytes ≤ MAX_PLAIN }
+        ≡ container_limit (length header.now) (size_in header.now) max_bytes }
+    requires max_bytes { max_bytes ≤ MAX_OPENED }
     requires workers { (0 < workers) × (workers ≤ MAX_WORKERS) }
     requires window { (0 < window) × (window ≤ MAX_WINDOW) }
     requires empty { out.old.items ≡ [] }
@@ -319,7 +319,7 @@ fn open_body<T: Threads + Sync, R: Source, G: Gate + Sync>(
     // Rounds one behind the other open as the whole does.
     rounds_open();
     let image = header.bytes();
-    let limit = header.container_bytes(max_bytes) as usize + 1;
+    let limit = header.longest_bytes(max_bytes) as usize + 1;
     let size = sealed_bytes(window, header);
     let most = limit - image.len();
     let mut rooms = match begin(alloc, task, header, reader, most, window, workers) {
@@ -370,7 +370,7 @@ pub(crate) fn open_rounds<T: Threads + Sync, R: Source, G: Gate + Sync>(
     gate: &G,
 ) -> Result<(Header, u64), OpenFault>
     requires task { task ≢ Task.Sealing }
-    requires max_bytes { max_bytes ≤ MAX_PLAIN }
+    requires max_bytes { max_bytes ≤ MAX_OPENED }
     requires workers { (0 < workers) × (workers ≤ MAX_WORKERS) }
     requires window { IfSome window (λ chunks. (0 < chunks) × (chunks ≤ MAX_WINDOW)) }
     requires empty { out.old.items ≡ [] }

@@ -15,7 +15,7 @@ use Rattle.container_core.proofs.PartsLemmas.{body-count, count-below, count-eno
 use Rattle.piece_core.specs.declared.work.Kind.{Kind}
 use Rattle.piece_core.specs.declared.work.Kind.TheVariants.{Sealing, Opening}
 use Rattle.piece_core.specs.Values.{numbered, parts_of, value_at, values_of}
-use Rattle.piece_core.specs.Parts.{body_bytes, part_size, piece_size, piece_bytes, pieces_sum, IsCut}
+use Rattle.piece_core.specs.Parts.{body_bytes, part_size, piece_size, piece_bytes, pieces_sum, most_plain, IsCut}
 
 pub length-numbered : {A : Type 0} (f : ℕ → Bool → List ℕ → A) (i : ℕ) (parts : List (List ℕ)) → length (numbered f i parts) ≡ length parts
 unfolding numbered
@@ -151,9 +151,11 @@ length-value kind key header cut body n bytes is at e =
     ∙ sizes_agree kind cut.size cut.plain (length body) n (length (get_or (parts_of kind cut.size body) n [])) some is.bytes below long
     ∙ ap (λ size. min (piece_size kind size) (pieces_sum kind cut.size cut.plain - n * piece_size kind size)) is.size
 
--- what has no early fault has at most the greatest plaintext
-pub few_plain : (key bytes : List ℕ) (size plain : ℕ) → early_fault key MAX_PLAIN bytes ≡ None → size ≡ size_in bytes
-    → length bytes ≡ container_length (header_length bytes) size plain → plain ≤ MAX_PLAIN
-few_plain key bytes size plain none named is =
-    let within = (parts_of_early key MAX_PLAIN bytes none).within in
-    container_length-grows (header_length bytes) size MAX_PLAIN plain (some_bytes bytes size named) (rw (← is, named) within)
+-- of both kinds there are no more plaintext bytes than are opened
+pub most_plain-most : (kind : Kind) → most_plain kind ≤ 4503599626321920
+most_plain-most Sealing = omega arith
+most_plain-most Opening = omega arith
+
+pub most_plain-sealing : (kind : Kind) → kind ≡ Sealing → most_plain kind ≤ 1099511627776
+most_plain-sealing Sealing is = omega arith
+most_plain-sealing Opening is = cc

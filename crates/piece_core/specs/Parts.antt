@@ -1,6 +1,6 @@
 -- Inside: the parts of a work's body, and how many bytes its pieces have.
 use Rattle.std.specs.Prelude.{◌≡◌, ℕ, ◌+◌, ◌-◌, ◌≤◌, List, length}
-use Rattle.container_core.specs.declared.TheConstants.{MAX_PLAIN, TAG}
+use Rattle.container_core.specs.declared.TheConstants.{MAX_OPENED, MAX_PLAIN, TAG}
 use Rattle.container_core.specs.Chunks.{body_length}
 use Rattle.container_core.specs.Container.{size_in}
 use Rattle.container_core.specs.Views.{CutView}
@@ -13,10 +13,15 @@ abbrev pub body_bytes : Kind → ℕ → ℕ → ℕ
 body_bytes Sealing size plain = plain
 body_bytes Opening size plain = body_length size plain
 
--- the body is cut into the chunks that its header names, as a plaintext of at most 2^40 bytes is, or its container
+-- how many plaintext bytes there are at most
+abbrev pub most_plain : Kind → ℕ
+most_plain Sealing = MAX_PLAIN
+most_plain Opening = MAX_OPENED
+
+-- the body is cut into the chunks that its header names, as a plaintext of so many bytes is, or its container
 pub record IsCut (kind : Kind) (header : List ℕ) (cut : CutView) (body : List ℕ) : Type 0 where
   pub size : cut.size ≡ size_in header
-  pub few : cut.plain ≤ MAX_PLAIN
+  pub few : cut.plain ≤ most_plain kind
   pub bytes : length body ≡ body_bytes kind cut.size cut.plain
 
 -- how many bytes every part of a body has but the last

@@ -57,7 +57,7 @@ fn size_of_piece(kind: Kind, header: &Header) -> usize
 
 // What stands before the pieces, with room for so many bytes in all.
 fn front_bytes(alloc: Global, work: &Work, bytes: usize) -> Result<Vec<u8>, AllocError>
-    requires { bytes ≤ 2 ^ 41 }
+    requires { bytes ≤ 2 ^ 53 }
     ensures front { IfOk result (λ v. v.items ≡ front_of work.now.kind work.now.header) }
     ensures short { IfOk result (λ v. length v.items ≤ 280) }
 {

@@ -10,13 +10,15 @@ ghost use Rattle.piece_core.specs.Parts.{body_bytes, part_size, least_part, piec
 
 use crate::piece::Piece;
 use container_core::{
-    Cut, Header, Key, MAX_PLAIN, OpenFault, Shape, TAG, append_opened, append_sealed, begin,
+    Cut, Header, Key, MAX_CHUNKS, MAX_OPENED, MAX_PLAIN, OpenFault, Shape, TAG, append_opened,
+    append_sealed, begin,
 };
 use std::alloc::{AllocError, Global};
 use std::marker::Model;
 
-/// The most pieces of a work: as many as the greatest plaintext has of the least chunks.
-pub const MAX_PIECES: u32 = 1 << 28;
+/// The most pieces of a work: as many as a container has chunks. A sealing has at most 2^28: as many as the greatest
+/// plaintext has of the least chunks.
+pub const MAX_PIECES: u32 = MAX_CHUNKS;
 
 /// What is done to each chunk.
 #[derive(Clone, Copy, PartialEq, Eq, Debug)]
@@ -100,9 +102,9 @@ fn value_of(
 
 // Bytes of all pieces of a body that is cut so.
 fn sum_of_pieces(kind: Kind, cut: Cut) -> usize
-    requires { cut.plain ≤ MAX_PLAIN }
+    requires { cut.plain ≤ MAX_OPENED }
     ensures sum { result ≡ pieces_sum kind cut.size cut.plain }
-    ensures few { result ≤ 2 ^ 41 }
+    ensures few { result ≤ 2 ^ 53 }
 {
     match kind {
         Kind::Sealing => cut.plain() as usize + TAG * cut.count() as usize,
@@ -127,13 +129,13 @@ impl<'a> Work<'a> {
         }
     }
 
-    /// The work of opening a container of at most 2^40 plaintext bytes, of either version, or the first fault that
-    /// shows before any chunk is opened, as `container_core::begin` names it: from `TooLong` and those of the header to
-    /// `BadLength`. Takes no memory.
+    /// The work of opening a container of at most 2^52 - 2^20 plaintext bytes in at most 2^32 - 1 chunks, of either
+    /// version, or the first fault that shows before any chunk is opened, as `container_core::begin` names it: from
+    /// `TooLong` and those of the header to `BadLength`. Takes no memory.
     pub fn opening(key: &'a Key, container: &'a [u8]) -> Result<Work<'a>, OpenFault>
         ensures work { IfOk result (λ w. w ≡ opening_of key.now container.now) }
-        ensures faultless { OnOk result (early_fault key.now MAX_PLAIN container.now ≡ None) }
-        ensures fault { IfErr result (λ fault. early_fault key.now MAX_PLAIN container.now ≡ Some fault) }
+        ensures faultless { OnOk result (early_fault key.now MAX_OPENED container.now ≡ None) }
+        ensures fault { IfErr result (λ fault. early_fault key.now MAX_OPENED container.now ≡ Some fault) }
     {
         match begin(key, container) {
             Ok((header, cut)) => {
@@ -155,6 +157,7 @@ impl<'a> Work<'a> {
         ensures count { result ≡ length self.now.values }
         ensures some { 0 < result }
         ensures few { result ≤ MAX_PIECES }
+        ensures sealing { self.now.kind ≡ Kind.Sealing → result ≤ 2 ^ 28 }
     {
         self.cut.count()
     }
@@ -181,7 +184,7 @@ impl<'a> Work<'a> {
     pub(crate) fn bytes_of_pieces(&self) -> usize
         ensures least { (length self.now.values - 1) * piece_size self.now.kind (size_in self.now.header) ≤ result }
         ensures most { result ≤ length self.now.values * piece_size self.now.kind (size_in self.now.header) }
-        ensures few { result ≤ 2 ^ 41 }
+        ensures few { result ≤ 2 ^ 53 }
 
         // Every piece that checks has the length of a part, where as many bytes are cut behind each `piece_size` of
         // them.

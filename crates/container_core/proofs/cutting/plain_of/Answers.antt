@@ -1,4 +1,4 @@
-use Rattle.std.proofs.Common.{rules, arith}
+use Rattle.std.proofs.Common.{◌*◌, rules, arith}
 use Rattle.container_core.proofs.CutLemmas.{cut-full, cut-none, cut-rest, no-plain}
 use Rattle.container_core.proofs.PartsLemmas.{container_length-grows}
 use Rattle.container_core.proofs.cutting.plain_of.Goals.{then-rest-tag, else-rest-tag+then-rest-tag-2, else-rest-tag+else-rest-tag-2}
@@ -18,12 +18,12 @@ returns-then-full-eq0-clause-some c =
 pub returns-then-full-gt0-clause-within : goal.returns-then-full-gt0-clause-within
 returns-then-full-gt0-clause-within c =
     let is = returns-then-full-gt0-clause-some c in
-    container_length-grows 0 c.args.size 1099511627776 _ (search rules) (omega (arith, is, c.requires.body))
+    container_length-grows 0 c.args.size (4294967295 * c.args.size) _ (search rules) (omega (arith, is, c.requires.body))
 
 pub returns-then-full-eq0-clause-within : goal.returns-then-full-eq0-clause-within
 returns-then-full-eq0-clause-within c =
     let is = returns-then-full-eq0-clause-some c in
-    container_length-grows 0 c.args.size 1099511627776 _ (search rules) (omega (arith, is, c.requires.body))
+    container_length-grows 0 c.args.size (4294967295 * c.args.size) _ (search rules) (omega (arith, is, c.requires.body))
 
 pub returns-else-full-eq0-clause-none : goal.returns-else-full-eq0-clause-none
 returns-else-full-eq0-clause-none c = λ n. no-plain c.args.size c.args.body n (search rules) (search rules) (search rules) (search rules)

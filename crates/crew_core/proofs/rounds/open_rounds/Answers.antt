@@ -4,13 +4,13 @@ use Rattle.container_core.specs.Chunks.{sealed_chunks, body_length, chunk_count}
 use Rattle.container_core.specs.Container.{size_in}
 use Rattle.container_core.specs.Opening.{behind, unsealed_by}
 use Rattle.container_core.proofs.OpeningLemmas.{behind-nil}
-use Rattle.container_core.proofs.PartsLemmas.{count-few, count-some}
+use Rattle.container_core.proofs.PartsLemmas.{container_length-grows, count-numbers, count-some}
 use Rattle.round_core.specs.declared.round.Task.TheVariants.{Opening}
 use Rattle.round_core.specs.Answer.{answer, joined, named}
 use Rattle.round_core.specs.Values.{round_of, values_of}
 use Rattle.round_core.specs.Views.{RoundView}
 use Rattle.crew_core.specs.Rounds.{CanMake, round_count}
-use Rattle.crew_core.proofs.RoundLemmas.{can-less, opened-next, opened-not, sealed-within}
+use Rattle.crew_core.proofs.RoundLemmas.{can-less, opened-next, opened-not, round-body, sealed-within}
 use Rattle.crew_core.proofs.rounds.open_rounds.Goals as goal
 
 pub rounds-init : goal.rounds-init
@@ -28,9 +28,8 @@ rounds-init g c =
     record {
       done = sym (ap (λ (l : List ℕ). behind l whole) nothing ∙ behind-nil whole);
       fits = omega (arith, none, out, c.args.out.now.ok.0, c.requires.room, c.plain-plain.ensures);
-      few = omega (arith, c.requires.plain, c.plain-plain.ensures);
       rest = c.requires.body ∙ ap (λ (n : ℕ). body_length size n) (sym c.plain-plain.ensures);
-      numbers = let few = count-few size c.args.cut.plain (omega (arith, c.requires.size, c.chunk-size.ensures.value, c.chunk-size.ensures.least)) c.requires.plain in
+      numbers = let few = count-numbers size c.args.cut.plain (omega (arith, c.requires.size, c.chunk-size.ensures.value, c.chunk-size.ensures.least)) c.requires.plain in
           let same : chunk_count size c.plain-plain.result ≡ chunk_count size c.args.cut.plain = ap (λ (n : ℕ). chunk_count size n) c.plain-plain.ensures in
           omega (arith, few, same);
       ready = subst (λ (n : ℕ). CanMake Opening size (min (round_count size) (chunk_count size n)) c.args.rooms.crew c.args.rooms.places)
@@ -46,6 +45,20 @@ overflow_add-number g c =
     subst (λ (s : ℕ). chunk_count s c.rounds.plain ≡ round + chunk_count s (c.rounds.plain - round * s)) sized c.split_sealed.ensures.counted in
     let more = count-some size (c.rounds.plain - round * size) in
     omega (arith, c.rounds.invariant.numbers, counted, more)
+
+-- the last round is no longer than a full one
+pub of-cut-requires : goal.of-cut-requires
+of-cut-requires g c =
+    let size = c.args.cut.size in
+    let round = c.chunks_of_round-count.result in
+    let sized : c.chunk-size.result ≡ size = c.chunk-size.ensures.value ∙ sym c.requires.size in
+    let some : 0 < size = omega (arith, sized, c.chunk-size.ensures.least) in
+    let step : round * (c.chunk-size.result + 16) ≡ round * (size + 16) = ap (λ s. round * (s + 16)) sized in
+    let full = round-body size round some c.chunks_of_round-count.ensures.some in
+    let less = container_length-grows 0 size (round * size) c.rounds.plain some
+    (omega (arith, step, full, c.rounds-test.false, c.rounds.invariant.rest)) in
+    let bytes : round * c.chunk-size.result ≡ round * size = ap (λ s. round * s) sized in
+    omega (arith, less, bytes, c.chunks_of_round-count.ensures.bytes)
 
 pub make_round-requires-2-clause-ready : goal.make_round-requires-2-clause-ready
 make_round-requires-2-clause-ready g c κs within =
@@ -162,7 +175,6 @@ rounds-preserved g c =
       done = opened-next (c.rounds.out.items ++ joined c.rounds.rooms.places.values) c.make_round.new.out.items (joined values) next
           (unsealed_by key header number true (sealed_chunks size rest)) _ items parts before.done;
       fits = omega (arith, before.fits, c.make_round.ensures.room, grown, long, fits, less, c.rounds.out.ok.0, c.make_round.new.out.ok.0);
-      few = omega (arith, before.few);
       rest = behind_it ∙ ap (λ (n : ℕ). body_length size n) (sym less);
       numbers = let same : chunk_count size (c.rounds.plain - round * c.chunk-size.result) ≡ chunk_count size left = ap (λ (n : ℕ). chunk_count size n) less in
           omega (arith, before.numbers, counted, same);

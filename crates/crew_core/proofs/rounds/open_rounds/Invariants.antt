@@ -12,7 +12,6 @@ invariant-rounds g l = record {
   done : unsealed_by l.key l.header 0 true (sealed_chunks l.fn.cut.size l.body)
       ≡ behind (l.out.items ++ joined l.rooms.places.values) (unsealed_by l.key l.header l.number true (sealed_chunks l.fn.cut.size l.rest));
   fits : vec_len l.out + (length (joined l.rooms.places.values) + l.plain) ≤ vec_capacity l.out;
-  few : l.plain ≤ 1099511627776;
   rest : length l.rest ≡ body_length l.fn.cut.size l.plain;
   numbers : l.number + chunk_count l.fn.cut.size l.plain ≤ 4294967296;
   ready : CanMake Opening l.fn.cut.size (min (round_count l.fn.cut.size) (chunk_count l.fn.cut.size l.plain)) l.rooms.crew l.rooms.places;

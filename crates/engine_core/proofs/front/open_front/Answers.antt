@@ -1,5 +1,5 @@
 use Rattle.std.proofs.Common.{rules, ◌≡◌, ℕ, ◌+◌, length, take, sym, ap, ◌∙◌, arith, length-take-le}
-use Rattle.container_core.specs.Chunks.{container_length}
+use Rattle.container_core.specs.Chunks.{container_limit}
 use Rattle.container_core.specs.Container.{label_bytes}
 use Rattle.container_core.specs.Opening.{longest}
 use Rattle.container_core.specs.Shape.{ShapeView, size_of}
@@ -14,8 +14,8 @@ returns-in-Err-clause-reads g c =
 
 pub overflow_add-limit : goal.overflow_add-limit
 overflow_add-limit g c =
-    let limit : c.container_bytes.result ≡ container_length 24 65536 c.args.max_bytes = c.container_bytes.ensures
-    ∙ ap (λ (s : ShapeView). container_length (24 + length (label_bytes s.label)) (size_of s) c.args.max_bytes) c.one.ensures in
+    let limit : c.longest_bytes.result ≡ container_limit 24 65536 c.args.max_bytes = c.longest_bytes.ensures
+    ∙ ap (λ (s : ShapeView). container_limit (24 + length (label_bytes s.label)) (size_of s) c.args.max_bytes) c.one.ensures in
     let few = container-few 24 65536 c.args.max_bytes (omega arith) c.requires in
     omega (arith, limit, few)
 
@@ -29,8 +29,8 @@ refuse-requires-clause-front g c =
 pub refuse-requires-clause-limit : goal.refuse-requires-clause-limit
 refuse-requires-clause-limit g c =
     let front = take c.in-Ok.n c.read_front.new.image in
-    let limit : c.container_bytes.result ≡ container_length 24 65536 c.args.max_bytes = c.container_bytes.ensures
-    ∙ ap (λ (s : ShapeView). container_length (24 + length (label_bytes s.label)) (size_of s) c.args.max_bytes) c.one.ensures in
+    let limit : c.longest_bytes.result ≡ container_limit 24 65536 c.args.max_bytes = c.longest_bytes.ensures
+    ∙ ap (λ (s : ShapeView). container_limit (24 + length (label_bytes s.label)) (size_of s) c.args.max_bytes) c.one.ensures in
     ap (λ (n : ℕ). n + 1) (limit ∙ sym (longest-one c.args.max_bytes front c.if-comes_first.ensures.later.0))
 
 pub refuse-requires-clause-total : goal.refuse-requires-clause-total
@@ -61,8 +61,8 @@ returns-in-Err-2-clause-reads g c =
     let front = take c.in-Ok.n c.read_front.new.image in
     let read : length front ≡ c.in-Ok.n = length-take-le c.in-Ok.n c.read_front.new.image (search rules) in
     let (other, all) = c.if-comes_first.ensures.later in
-    let limit : c.container_bytes.result ≡ longest c.args.max_bytes front = c.container_bytes.ensures
-    ∙ ap (λ (s : ShapeView). container_length (24 + length (label_bytes s.label)) (size_of s) c.args.max_bytes) c.one.ensures
+    let limit : c.longest_bytes.result ≡ longest c.args.max_bytes front = c.longest_bytes.ensures
+    ∙ ap (λ (s : ShapeView). container_limit (24 + length (label_bytes s.label)) (size_of s) c.args.max_bytes) c.one.ensures
     ∙ sym (longest-one c.args.max_bytes front other) in
     read-refused c.args.key.now front c.args.max_bytes c.in-Ok.n _ _ _ _ _ c.in-Err-read_header.fault c.refuse.result
     (says-one c.args.key.now front other all (omega (arith, read, c.in-Ok.ensures.within))) other (sym read) c.in-Ok.ensures.front

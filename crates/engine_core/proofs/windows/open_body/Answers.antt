@@ -1,11 +1,11 @@
 use Rattle.std.proofs.Common.{rules, suc, ◌≡◌, ◌+◌, ◌-◌, true, false, ◌*◌, ◌<◌, ◌≤◌, ◌++◌, ℕ, List, [], Option, length, take, get_or, Ok, Err, sym, ap, ap₂, subst, ◌∙◌}
 use Rattle.std.proofs.Common.{arith, length-append, length-take-le}
 use Rattle.std.proofs.KnownBytes.{Consumes-trans}
-use Rattle.container_core.specs.Chunks.{body_length}
+use Rattle.container_core.specs.Chunks.{body_length, most_of}
 use Rattle.container_core.specs.Container.{size_in}
 use Rattle.container_core.specs.Opening.{longest}
 use Rattle.container_core.proofs.OpeningLemmas.{some_size}
-use Rattle.container_core.proofs.PartsLemmas.{container_length-more, count-few}
+use Rattle.container_core.proofs.PartsLemmas.{container_length-more, count-numbers, most_of-chunks}
 use Rattle.io_core.specs.Streams.{Consumes, IsAtEnd}
 use Rattle.round_core.specs.Answer.{joined}
 use Rattle.engine_core.specs.Fronts.{ReadsOn}
@@ -24,7 +24,7 @@ named-front header image whole same front = subst (λ (l : List ℕ). take (leng
 pub overflow_add-limit : goal.overflow_add-limit
 overflow_add-limit g c =
     let few = container-few (length c.args.header.now) (size_in c.args.header.now) c.args.max_bytes c.bytes-image.ensures.size.0 c.requires.max_bytes in
-    omega (arith, few, c.container_bytes.ensures, c.requires.front.short)
+    omega (arith, few, c.longest_bytes.ensures, c.requires.front.short)
 
 pub rounds-init : goal.rounds-init
 rounds-init g c = record {
@@ -46,9 +46,10 @@ rounds-init g c = record {
 pub open_full-requires-clause-numbers : goal.open_full-requires-clause-numbers
 open_full-requires-clause-numbers g c κs within =
     let before = c.rounds.invariant in
+    let many : length c.rounds.rooms.current.held ≡ c.args.window * (size_in c.args.header.now + 16) + 1 = search rules in
     let few = first-few (size_in c.args.header.now) (length c.args.header.now) c.args.max_bytes c.rounds.first
-    (length c.rounds.rooms.current.held) c.bytes-image.ensures.size.0 c.requires.max_bytes
-    (omega (arith, before.total.0, before.total.1, c.container_bytes.ensures)) in
+    c.args.window (length c.rounds.rooms.current.held) c.bytes-image.ensures.size.0 (omega (arith, many))
+    (omega (arith, before.total.0, before.total.1, c.longest_bytes.ensures)) in
     omega (arith, few, c.requires.window)
 
 pub returns-in-Err-open_full-clause-bound : goal.returns-in-Err-open_full-clause-bound
@@ -58,16 +59,17 @@ returns-in-Err-open_full-clause-bound g c =
     let read = before.past ++ c.rounds.rooms.current.held in
     let all = length-append read lost.0 in
     let done = length-append before.past c.rounds.rooms.current.held in
-    let limit = c.container_bytes.ensures ∙ sym c.requires.limit in
+    let limit = c.longest_bytes.ensures ∙ sym c.requires.limit in
     (read ++ lost.0, Consumes-trans _ _ _ _ _ before.consumed lost.1, omega (arith, before.total.0, before.long, lost.2, all, done, limit))
 
 pub checked-requires-clause-numbers : goal.checked-requires-clause-numbers
 checked-requires-clause-numbers g c =
     let before = c.rounds.invariant in
     let count : length c.open_full.new.rooms.places.values ≡ c.args.window = c.in-Ok-open_full.ensures.count in
+    let many : length c.rounds.rooms.current.held ≡ c.args.window * (size_in c.args.header.now + 16) + 1 = search rules in
     let few = first-few (size_in c.args.header.now) (length c.args.header.now) c.args.max_bytes c.rounds.first
-    (length c.rounds.rooms.current.held) c.bytes-image.ensures.size.0 c.requires.max_bytes
-    (omega (arith, before.total.0, before.total.1, c.container_bytes.ensures)) in
+    c.args.window (length c.rounds.rooms.current.held) c.bytes-image.ensures.size.0 (omega (arith, many))
+    (omega (arith, before.total.0, before.total.1, c.longest_bytes.ensures)) in
     omega (arith, few, c.requires.window, count)
 
 pub returns-in-Err-checked-clause-refused : goal.returns-in-Err-checked-clause-refused
@@ -89,7 +91,7 @@ returns-in-Err-checked-clause-refused g c = λ own.
     let refuses : Refuses key header first bytes c.in-Err-checked.fault =
     λ rest some. c.rounds_open.ensures.refused key header (size_in header) first true bytes rest c.args.window c.in-Err-checked.fault full c.requires.window.0 some refused in
     let named = c.refuse.ensures.named own in
-    let limit = c.container_bytes.ensures ∙ sym c.requires.limit in
+    let limit = c.longest_bytes.ensures ∙ sym c.requires.limit in
     let past = length-append before.past bytes in
     let all = length-append (before.past ++ bytes) held in
     let now : length c.held-in-rounds-2.result.now ≡ length held = search rules in
@@ -107,8 +109,8 @@ returns-in-Err-checked-clause-bound g c =
     let turned = c.in-Ok-open_full.ensures.turned.read in
     let lost = c.refuse.ensures.bound in
     let many : length old ≡ c.args.window * (size_in c.args.header.now + 16) + 1 = search rules in
-    let within : c.rounds.total + (length c.held-in-rounds-2.result.now - 1) ≤ c.container_bytes.result + 1 = search rules in
-    let limit = c.container_bytes.ensures ∙ sym c.requires.limit in
+    let within : c.rounds.total + (length c.held-in-rounds-2.result.now - 1) ≤ c.longest_bytes.result + 1 = search rules in
+    let limit = c.longest_bytes.ensures ∙ sym c.requires.limit in
     let done = length-append before.past old in
     let more = length-append (before.past ++ old) turned.0 in
     let all = length-append ((before.past ++ old) ++ turned.0) lost.0 in
@@ -122,9 +124,10 @@ returns-in-Err-checked-clause-bound g c =
 pub overflow_add-first : goal.overflow_add-first
 overflow_add-first g c =
     let before = c.rounds.invariant in
+    let many : length c.rounds.rooms.current.held ≡ c.args.window * (size_in c.args.header.now + 16) + 1 = search rules in
     let few = first-few (size_in c.args.header.now) (length c.args.header.now) c.args.max_bytes c.rounds.first
-    (length c.rounds.rooms.current.held) c.bytes-image.ensures.size.0 c.requires.max_bytes
-    (omega (arith, before.total.0, before.total.1, c.container_bytes.ensures)) in
+    c.args.window (length c.rounds.rooms.current.held) c.bytes-image.ensures.size.0 (omega (arith, many))
+    (omega (arith, before.total.0, before.total.1, c.longest_bytes.ensures)) in
     omega (arith, few, c.requires.window)
 
 pub rounds-preserved : goal.rounds-preserved
@@ -174,7 +177,7 @@ returns-in-Err-begin_within-clause-refused g c = λ own.
     let before = c.rounds.invariant in
     let header = c.args.header.now in
     let held = c.rounds.rooms.current.held in
-    let limit = c.container_bytes.ensures ∙ sym c.requires.limit in
+    let limit = c.longest_bytes.ensures ∙ sym c.requires.limit in
     let count : c.rounds.total ≡ length header + (length before.past + length held) = omega (arith, before.total.0, before.long) in
     let end : c.rounds.total < longest c.args.max_bytes header + 1 → IsAtEnd (g.R.Source.left c.rounds.reader) =
     elim c.rounds-test.branch [
@@ -217,8 +220,10 @@ open_last-requires-clause-cut g c κs within =
     let body : body_length size plain ≡ c.rounds.first * (size + 16) + length held = omega (arith, before.total.0, under) in
     let some = some-left size c.rounds.total (length header) plain c.rounds.first (length held) before.total.0 under before.some in
     let rest = body-rest size plain c.rounds.first (length held) (some_size header) body some in
-    let few : plain ≤ 1099511627776 = omega (arith, c.in-Ok-begin_within.ensures'.within, c.requires.max_bytes) in
-    let count = count-few size plain c.bytes-image.ensures.size.0 few in
+    let sized : c.in-Ok-begin_within.cut.size ≡ size = c.in-Ok-begin_within.ensures'.named ∙ ap size_in c.bytes-image.ensures.bytes in
+    let chunks = most_of-chunks c.args.max_bytes c.in-Ok-begin_within.cut.size in
+    let few : plain ≤ 4294967295 * size = omega (arith, c.in-Ok-begin_within.ensures'.few, chunks, sized) in
+    let count = count-numbers size plain (some_size header) few in
     (plain - c.rounds.first * size, rest.0, omega (arith, few), omega (arith, rest.1, count))
 
 pub open_last-requires-clause-ready : goal.open_last-requires-clause-ready
@@ -229,11 +234,13 @@ open_last-requires-clause-ready g c κs within =
     let held = c.rounds.rooms.current.held in
     let under = cut-under c.args.key.now header c.bytes-image.result.now c.rounds.total c.in-Ok-begin_within.cut c.requires.front
     c.bytes-image.ensures.bytes c.in-Ok-begin_within.ensures'.cut c.in-Ok-begin_within.ensures'.named in
-    let fits = container_length-more (length header) size c.in-Ok-begin_within.cut.plain c.args.max_bytes (some_size header) c.in-Ok-begin_within.ensures'.within in
+    let sized : c.in-Ok-begin_within.cut.size ≡ size = c.in-Ok-begin_within.ensures'.named ∙ ap size_in c.bytes-image.ensures.bytes in
+    let few = subst (λ (s : ℕ). c.in-Ok-begin_within.cut.plain ≤ most_of c.args.max_bytes s) sized c.in-Ok-begin_within.ensures'.few in
+    let fits = container_length-more (length header) size c.in-Ok-begin_within.cut.plain (most_of c.args.max_bytes size) (some_size header) few in
     let short : length held ≤ c.args.window * (size + 16) =
     elim c.rounds-test.branch [
       | then-rounds-test+else-held-size w ↦ search rules
-      | else-rounds-test w ↦ absurd (omega (arith, under, fits, c.container_bytes.ensures, w.rounds-test.false))
+      | else-rounds-test w ↦ absurd (omega (arith, under, fits, c.longest_bytes.ensures, w.rounds-test.false))
     ] in
     record {
       idle = before.ready.idle;
@@ -250,7 +257,7 @@ returns-in-Ok-open_last-clause-opened g c =
     let size = size_in header in
     let bytes = c.in-Ok-begin_within.cut.plain in
     let held = c.rounds.rooms.current.held in
-    let limit = c.container_bytes.ensures ∙ sym c.requires.limit in
+    let limit = c.longest_bytes.ensures ∙ sym c.requires.limit in
     let count : c.rounds.total ≡ length header + (length before.past + length held) = omega (arith, before.total.0, before.long) in
     let end : c.rounds.total < longest c.args.max_bytes header + 1 → IsAtEnd (g.R.Source.left c.rounds.reader) =
     elim c.rounds-test.branch [
@@ -283,7 +290,7 @@ returns-clause-refused g c = λ own.
     let header = c.args.header.now in
     let size = size_in header in
     let held = c.rounds.rooms.current.held in
-    let limit = c.container_bytes.ensures ∙ sym c.requires.limit in
+    let limit = c.longest_bytes.ensures ∙ sym c.requires.limit in
     let count : c.rounds.total ≡ length header + (length before.past + length held) = omega (arith, before.total.0, before.long) in
     let end : c.rounds.total < longest c.args.max_bytes header + 1 → IsAtEnd (g.R.Source.left c.rounds.reader) =
     elim c.rounds-test.branch [

@@ -1,6 +1,6 @@
-use Rattle.std.proofs.Common.{◌<◌, length, get_or, None, ap, ◌∙◌}
+use Rattle.std.proofs.Common.{◌<◌, arith, length, get_or, None, ap, ◌∙◌}
 use Rattle.piece_core.specs.Values.{values_of}
-use Rattle.piece_core.proofs.ValueLemmas.{length-value, pieces_of}
+use Rattle.piece_core.proofs.ValueLemmas.{length-value, most_plain-most, pieces_of}
 use Rattle.piece_core.proofs.work.Work.bytes_of_pieces.Goals as goal
 
 pub returns-clause-least : goal.returns-clause-least
@@ -20,3 +20,8 @@ returns-clause-each c = λ n bytes at e.
     let named = ap (λ v. get_or v.values n None) c.self.view_is ∙ e in
     rw (← c.self.view_is, c.sum_of_pieces.ensures.sum)
     (length-value w.kind w.key.now w.header w.cut w.body.now n bytes c.self.invariant below named)
+
+pub sum_of_pieces-requires : goal.sum_of_pieces-requires
+sum_of_pieces-requires c =
+    let most = most_plain-most c.self.inside.kind in
+    omega (arith, most, c.self.invariant.few)
