@@ -1,5 +1,8 @@
 //! The commands, with the texts of their help.
-use crate::options::{FILE_ROWS, OPEN_ROWS, SEAL_ROWS, SHOW_ROWS, with_rows};
+use crate::options::{
+    FILE_ROWS, KEY_ROWS, LEDGER_ROWS, OPEN_ROWS, PIPE_ROWS, SEAL_ROWS, SHAPE_ROWS, SHOW_ROWS,
+    with_rows,
+};
 use clap::{Command, Error};
 use std::alloc::Global;
 
@@ -23,14 +26,23 @@ A key is made by `openssl rand -hex 32`. Back up the key and the sealed files. K
 device number, and never use a copy of it, nor one that was restored: where it was lost or put back take a new device number,
 or a new key. Else two files can get one number, and then neither is safe.";
 
+/// What stands at the end of the help of `pipe`.
+const PIPE_HELP: &str =
+    "What stands on standard input is sealed as it comes, in the memory of --depth chunks, and its container written to
+standard output. One line on standard error tells of it. Exit status: 0 where the stream was sealed, 1 where that failed,
+and then the output is cut short, 2 where standard error tells why. The container is opened by open, like a FILE.stm.
+
+As for seal: never use a copy of a ledger file, nor one that was restored.";
+
 /// What stands at the end of the help of `audit`.
 const AUDIT_HELP: &str =
     "Exit status: 0 where the journal is legal, 1 where it is not, 2 where it could not be read or the verdict not be
 written.";
 
-/// The program's command: `seal`, `open`, `verify` and `audit`.
+/// The program's command: `seal`, `pipe`, `open`, `verify` and `audit`.
 pub fn command<'a>(alloc: Global) -> Result<Command<'a>, Error> {
     let seal = seal_command(alloc)?;
+    let pipe = pipe_command(alloc)?;
     let open = open_command(
         alloc,
         "open",
@@ -46,15 +58,21 @@ pub fn command<'a>(alloc: Global) -> Result<Command<'a>, Error> {
         .after_help(SEALER_HELP)
         .subcommand_required(true)
         .subcommand(seal)?
+        .subcommand(pipe)?
         .subcommand(open)?
         .subcommand(verify)?
         .subcommand(audit)?;
     Ok(sealer)
 }
 
+// A command that takes a key.
+fn key_command<'a>(alloc: Global, name: &'a str, about: &'a str) -> Result<Command<'a>, Error> {
+    with_rows(alloc, Command::new(alloc, name).about(about), &KEY_ROWS)
+}
+
 // A command over files.
 fn file_command<'a>(alloc: Global, name: &'a str, about: &'a str) -> Result<Command<'a>, Error> {
-    with_rows(alloc, Command::new(alloc, name).about(about), &FILE_ROWS)
+    with_rows(alloc, key_command(alloc, name, about)?, &FILE_ROWS)
 }
 
 // A command over sealed files.
@@ -69,5 +87,18 @@ fn seal_command<'a>(alloc: Global) -> Result<Command<'a>, Error> {
         "seal",
         "Seals each FILE to FILE.stm, each under a number of its own",
     )?;
-    with_rows(alloc, command.after_help(SEAL_HELP), &SEAL_ROWS)
+    let command = with_rows(alloc, command.after_help(SEAL_HELP), &LEDGER_ROWS)?;
+    let command = with_rows(alloc, command, &SEAL_ROWS)?;
+    with_rows(alloc, command, &SHAPE_ROWS)
+}
+
+fn pipe_command<'a>(alloc: Global) -> Result<Command<'a>, Error> {
+    let command = key_command(
+        alloc,
+        "pipe",
+        "Seals standard input to standard output, a stream of any length, under a number of its own",
+    )?;
+    let command = with_rows(alloc, command.after_help(PIPE_HELP), &LEDGER_ROWS)?;
+    let command = with_rows(alloc, command, &PIPE_ROWS)?;
+    with_rows(alloc, command, &SHAPE_ROWS)
 }

@@ -10,6 +10,6 @@ pub mod requests;
 
 pub use crate::arguments::command;
 pub use crate::requests::{
-    DEFAULT_EXPONENT, DEFAULT_MAX_BYTES, OpenRequest, SealRequest, UsageFault, open_request,
-    seal_request,
+    DEFAULT_EXPONENT, DEFAULT_MAX_BYTES, OpenRequest, PipeRequest, SealRequest, UsageFault,
+    open_request, pipe_request, seal_request,
 };

@@ -2,7 +2,7 @@
 
 use clap::{Arg, ArgAction, Command, Error, value_parser};
 use container_core::{MAX_EXPONENT, MAX_OPENED, MAX_PLAIN, MIN_EXPONENT};
-use crew_core::{MAX_LANES, MAX_WINDOW, MAX_WORKERS};
+use crew_core::{MAX_DEPTH, MAX_LANES, MAX_WINDOW, MAX_WORKERS};
 use ledger_core::Device;
 use std::alloc::Global;
 
@@ -48,8 +48,8 @@ pub(crate) struct Row {
     help: &'static str,
 }
 
-/// What every command over files takes.
-pub(crate) static FILE_ROWS: [Row; 3] = [
+/// What every command takes that seals, opens or verifies.
+pub(crate) static KEY_ROWS: [Row; 2] = [
     Row {
         name: "key",
         takes: Takes::Path { is_required: true },
@@ -62,14 +62,16 @@ pub(crate) static FILE_ROWS: [Row; 3] = [
             most: MAX_WORKERS,
             absent: Absent::Default("1"),
         },
-        help: "Workers on one file, side by side, 1 to 16",
-    },
-    Row {
-        name: "FILE",
-        takes: Takes::Files,
-        help: "The files, whose lines stand in this order",
+        help: "Workers on one file or stream, side by side, 1 to 16",
     },
 ];
+
+/// What every command over files takes besides.
+pub(crate) static FILE_ROWS: [Row; 2] = [Row {
+    name: "FILE",
+    takes: Takes::Files,
+    help: "The files, whose lines stand in this order",
+}];
 
 /// What `open` and `verify` take besides.
 pub(crate) static OPEN_ROWS: [Row; 2] = [
@@ -95,16 +97,8 @@ pub(crate) static SHOW_ROWS: [Row; 1] = [Row {
     help: "Behind the line of a good FILE print its version, bytes of a chunk, device, number and label",
 }];
 
-/// What `seal` takes besides.
-pub(crate) static SEAL_ROWS: [Row; 9] = [
-    Row {
-        name: "max-bytes",
-        takes: Takes::Bytes {
-            most: MAX_PLAIN as i64,
-            default: "1073741824",
-        },
-        help: "A FILE of more plaintext bytes is refused, 0 to 1099511627776",
-    },
+/// What a command that seals takes besides: its numbers.
+pub(crate) static LEDGER_ROWS: [Row; 3] = [
     Row {
         name: "ledger",
         takes: Takes::Path { is_required: true },
@@ -124,6 +118,18 @@ pub(crate) static SEAL_ROWS: [Row; 9] = [
         },
         help: "The number of this ledger under this key, 0 to 16777215: no two ledgers share one",
     },
+];
+
+/// What `seal` takes besides.
+pub(crate) static SEAL_ROWS: [Row; 3] = [
+    Row {
+        name: "max-bytes",
+        takes: Takes::Bytes {
+            most: MAX_PLAIN as i64,
+            default: "1073741824",
+        },
+        help: "A FILE of more plaintext bytes is refused, 0 to 1099511627776",
+    },
     Row {
         name: "lanes",
         takes: Takes::Number {
@@ -142,6 +148,37 @@ pub(crate) static SEAL_ROWS: [Row; 9] = [
         },
         help: "Chunks sealed at a time, 1 to 256; without it 1 MiB, by one worker at most 16; of no effect with several lanes",
     },
+];
+
+/// What `pipe` takes besides.
+pub(crate) static PIPE_ROWS: [Row; 3] = [
+    Row {
+        name: "depth",
+        takes: Takes::Number {
+            least: 1,
+            most: MAX_DEPTH,
+            absent: Absent::Default("16"),
+        },
+        help: "Chunks that are read and not yet written, at most, 1 to 64",
+    },
+    Row {
+        name: "max-chunks",
+        takes: Takes::Number {
+            least: 1,
+            most: u32::MAX,
+            absent: Absent::Default("16384"),
+        },
+        help: "A stream of more chunks is refused where the next one begins, 1 to 4294967295",
+    },
+    Row {
+        name: "force-terminal",
+        takes: Takes::Nothing,
+        help: "Write the container to a terminal too",
+    },
+];
+
+/// What a command that seals takes besides: the containers' shape, and the journal.
+pub(crate) static SHAPE_ROWS: [Row; 3] = [
     Row {
         name: "exponent",
         takes: Takes::Number {

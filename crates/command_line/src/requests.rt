@@ -7,7 +7,7 @@ ghost use Rattle.command_line.specs.Asked.{shape_asked};
 
 use clap::ArgMatches;
 use container_core::{MAX_EXPONENT, MAX_LABEL, MAX_OPENED, MAX_PLAIN, MIN_EXPONENT, Shape};
-use crew_core::{MAX_LANES, MAX_WINDOW, MAX_WORKERS, usual_window};
+use crew_core::{MAX_DEPTH, MAX_LANES, MAX_WINDOW, MAX_WORKERS, usual_window};
 use ledger_core::Device;
 use thiserror::Error as ThisError;
 
@@ -28,6 +28,9 @@ pub enum UsageFault {
     /// A label of more than 255 bytes.
     #[error("label too long")]
     LabelTooLong,
+    /// A container would be written to a terminal, and that wasn't asked for. The program tells it; no request does.
+    #[error("standard output is a terminal")]
+    Terminal,
 }
 
 /// What `seal` is asked for.
@@ -103,6 +106,70 @@ pub fn seal_request<'m, 'a>(matches: &'m ArgMatches<'a>) -> Result<SealRequest<'
         max_bytes: max_bytes(matches, MAX_PLAIN),
         journal: matches.get_str("journal"),
         shape,
+    })
+}
+
+/// What `pipe` is asked for.
+#[derive(Drop)]
+pub struct PipeRequest<'a> {
+    pub key: &'a str,
+    pub ledger: &'a str,
+    /// Whether a ledger file is made where there is none.
+    pub may_make: bool,
+    pub device: Device,
+    pub workers: u32,
+    /// Chunks that are read and not yet written, at most.
+    pub depth: u32,
+    /// Chunks that the stream may have.
+    pub max_chunks: u32,
+    pub journal: Option<&'a str>,
+    /// The shape of the container: version, size of chunks, label.
+    pub shape: Shape,
+    /// Whether the container may be written to a terminal.
+    pub to_terminal: bool,
+}
+
+/// What `pipe` is asked for. `LabelTooLong` where the label has more than 255 bytes.
+pub fn pipe_request<'a>(matches: &ArgMatches<'a>) -> Result<PipeRequest<'a>, UsageFault>
+    ensures workers { IfOk result (λ request. (0 < request.workers) × (request.workers ≤ MAX_WORKERS)) }
+    ensures depth { IfOk result (λ request. (0 < request.depth) × (request.depth ≤ MAX_DEPTH)) }
+    ensures most { IfOk result (λ request. 0 < request.max_chunks) }
+
+    // The label is the one that was given. Without it, and without an exponent, the container is of version 1.
+    ensures shape { IfOk result (λ request. (exponent : Option ℕ)
+        × (one_text (found_of matches.now) (codes "exponent") ≡ None → exponent ≡ None)
+        × (request.shape ≡ shape_asked exponent (first_value (found_of matches.now) (codes "label")))) }
+    ensures lawful { IfOk result (λ request. IsShape request.shape) }
+    ensures short { IfOk result (λ request. IsShort request.shape.label) }
+    ensures hidden { IfOk result (λ request. one_text (found_of matches.now) (codes "force-terminal")
+        ≡ Some (codes "false") → request.to_terminal ≡ false) }
+    ensures too_long { result ≡ Err UsageFault.LabelTooLong
+        → IfSome (first_value (found_of matches.now) (codes "label")) (λ label. MAX_LABEL < length label) }
+{
+    let (Some(key), Some(ledger)) = (matches.get_str("key"), matches.get_str("ledger")) else {
+        return Err(UsageFault::Missing);
+    };
+    let Some(number) = matches.get_one::<u32>("device") else {
+        return Err(UsageFault::Missing);
+    };
+    let Some(device) = Device::new(number) else {
+        return Err(UsageFault::Missing);
+    };
+    let shape = match shape_of(exponent(matches), matches.get_str("label")) {
+        Ok(shape) => shape,
+        Err(fault) => return Err(fault),
+    };
+    Ok(PipeRequest {
+        key,
+        ledger,
+        may_make: !matches.get_flag("no-new-ledger"),
+        device,
+        workers: workers(matches),
+        depth: depth(matches),
+        max_chunks: matches.get_one::<u32>("max-chunks").unwrap_or(1).max(1),
+        journal: matches.get_str("journal"),
+        shape,
+        to_terminal: matches.get_flag("force-terminal"),
     })
 }
 
@@ -220,6 +287,17 @@ fn window(matches: &ArgMatches<'_>, shape: &Shape, workers: u32) -> u32
         .unwrap_or(usual_window(shape.chunk(), workers))
         .max(1)
         .min(MAX_WINDOW)
+}
+
+// How many chunks are read and not yet written, which the command line has tested.
+fn depth(matches: &ArgMatches<'_>) -> u32
+    ensures { (0 < result) × (result ≤ MAX_DEPTH) }
+{
+    matches
+        .get_one::<u32>("depth")
+        .unwrap_or(1)
+        .max(1)
+        .min(MAX_DEPTH)
 }
 
 // The number of lanes, which the command line has tested.

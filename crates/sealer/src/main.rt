@@ -4,7 +4,7 @@
 //! journal file, or of the program's own reading and writing.
 #![tactic(auto)]
 
-ghost use Rattle.std.specs.Prelude.{◌≡◌, ◌⊎◌, ◌<◌, ◌≤◌, ℕ, Bool, List, length, map, ◌≢◌, IfOk, OnErr, if◌then◌else◌};
+ghost use Rattle.std.specs.Prelude.{◌≡◌, ◌⊎◌, ◌<◌, ◌≤◌, ℕ, Bool, List, Option, length, map, true, ◌≢◌, IfOk, OnErr, if◌then◌else◌};
 ghost use Rattle.sha2.specs.Sha256.{sha256};
 ghost use Rattle.journal_core.specs.declared.entry.Entry.{Entry};
 ghost use Rattle.journal_core.specs.Journal.{terms_of};
@@ -14,22 +14,25 @@ ghost use Rattle.sqlite_wal.specs.Files.{image_at};
 ghost use Rattle.sqlite.specs.Files.{file_state, over_files};
 ghost use Rattle.sqlite.specs.State.{HasCleanDisk};
 ghost use Rattle.reserve_core.specs.NextRun.{IsFound};
+ghost use Rattle.sealer_core.specs.Piping.{HasSealedStream};
 ghost use Rattle.sealer_core.specs.Sealing.{FoldsFiles, HasSealed, IsWritten, ReservesFilesOnce};
 
 use clap::{ArgMatches, Error};
-use command_line::{command, open_request, seal_request};
+use command_line::{UsageFault, command, open_request, pipe_request, seal_request};
 use container_core::Key;
-use ledger_core::{FromRead, Sink, ToWrite};
+use ledger_core::{FromRead, Sink, Source, ToWrite};
 use sealer_core::{
-    Folder, KeyFault, LedgerFile, MAX_BYTES, MAX_LANES, MAX_WINDOW, MAX_WORKERS, OpenOptions, Outs,
-    SealOptions, open_all, read_key, run_audit, seal_all, verify_all,
+    Folder, KeyFault, LedgerFile, MAX_BYTES, MAX_DEPTH, MAX_LANES, MAX_WINDOW, MAX_WORKERS,
+    OpenOptions, Outs, PipeOptions, SealOptions, open_all, pipe_all, read_key, run_audit, seal_all,
+    verify_all,
 };
 use sqlite::{FileFrom, FileStore, Start, Wary};
 use std::alloc::Global;
 use std::fmt::Display;
-use std::io::{Read, Write};
+use std::io::{IsTerminal, Read, Write, sink};
 use std::process::ExitCode;
 use std::rt::{Env, Files};
+use std::sync::Wait;
 use std::thread::Threads;
 use system_files::{
     LedgerFault, LedgerPath, SystemFiles, close_ledger, may_open, new_journal, open_ledger,
@@ -45,7 +48,18 @@ fn main(rt: HostRuntime) -> ExitCode {
         return ExitCode::from(FAULT);
     };
     let status = match parse(rt.alloc(), words.as_slice()) {
-        Ok(matches) => run(&rt, &rt, &matches, rt.stdin(), rt.stdout(), rt.stderr()),
+        Ok(matches) => {
+            let terminal = rt.stdout().is_terminal();
+            run(
+                &rt,
+                &rt,
+                &matches,
+                rt.stdin(),
+                rt.stdout(),
+                rt.stderr(),
+                terminal,
+            )
+        }
         Err(error) => told(&rt, &error),
     };
     ExitCode::from(status)
@@ -86,15 +100,25 @@ fn complain<R: Eprint, F: Display + Drop>(rt: &R, subject: &str, fault: F) -> u8
     FAULT
 }
 
-/// Runs the command that was asked for. `host` is the runtime too: a ledger file is opened by it alone.
+/// Runs the command that was asked for. `host` is the runtime too: a ledger file is opened by it alone. `terminal` tells whether
+/// the output is one.
 fn run<
-    R: Files + AllocGlobal + Eprint + Threads + Sync,
+    R: Files + AllocGlobal + Eprint + Threads + Wait + Sync,
     I: Read + Drop,
     O: Write + Drop,
     E: Write + Drop,
->(rt: &R, host: &HostRuntime, matches: &ArgMatches<'_>, input: I, output: O, errors: E) -> u8 {
+>(
+    rt: &R,
+    host: &HostRuntime,
+    matches: &ArgMatches<'_>,
+    input: I,
+    output: O,
+    errors: E,
+    terminal: bool,
+) -> u8 {
     match matches.subcommand() {
         Some(("seal", asked)) => seal(rt, host, asked, output, errors),
+        Some(("pipe", asked)) => pipe(rt, host, asked, input, output, errors, terminal),
         Some(("open", asked)) => over_files(rt, asked, output, errors, false),
         Some(("verify", asked)) => over_files(rt, asked, output, errors, true),
         Some(("audit", _)) => audit_input(rt, rt.alloc(), input, output),
@@ -102,8 +126,29 @@ fn run<
     }
 }
 
-/// Seals the files, once the key file was read, it was looked whether there is a ledger file, the journal was created and the ledger
-/// file opened, in this order.
+/// What a run that seals begins with, in this order: the key file is read, it is looked whether there is a ledger file, and the
+/// journal is created. A fault is printed, and its status answered.
+fn begin<R: Files + AllocGlobal + Eprint>(
+    rt: &R,
+    folder: &mut SystemFiles<R>,
+    key: &str,
+    ledger: &LedgerPath<'_>,
+    journal: Option<&str>,
+) -> Result<(Key, Option<ToWrite<R::File>>), u8> {
+    let key = match key_of(rt, key) {
+        Ok(key) => key,
+        Err(fault) => return Err(complain(rt, "key", fault)),
+    };
+    if let Err(fault) = may_open(rt, ledger) {
+        return Err(complain(rt, "ledger", fault));
+    }
+    match new_journal(folder, journal, ledger.path) {
+        Ok(journal) => Ok((key, journal)),
+        Err(fault) => Err(complain(rt, "journal", fault)),
+    }
+}
+
+/// Seals the files.
 fn seal<R: Files + AllocGlobal + Eprint + Threads + Sync, O: Write + Drop, E: Write + Drop>(
     rt: &R,
     host: &HostRuntime,
@@ -115,21 +160,14 @@ fn seal<R: Files + AllocGlobal + Eprint + Threads + Sync, O: Write + Drop, E: Wr
         Ok(request) => request,
         Err(fault) => return complain(rt, "usage", fault),
     };
-    let key = match key_of(rt, request.key) {
-        Ok(key) => key,
-        Err(fault) => return complain(rt, "key", fault),
-    };
     let ledger = LedgerPath {
         path: request.ledger,
         may_make: request.may_make,
     };
-    if let Err(fault) = may_open(rt, &ledger) {
-        return complain(rt, "ledger", fault);
-    }
     let mut folder = SystemFiles(rt);
-    let journal = match new_journal(&mut folder, request.journal, request.ledger) {
-        Ok(journal) => journal,
-        Err(fault) => return complain(rt, "journal", fault),
+    let (key, journal) = match begin(rt, &mut folder, request.key, &ledger, request.journal) {
+        Ok(begun) => begun,
+        Err(status) => return status,
     };
     let options = SealOptions {
         device: request.device,
@@ -152,6 +190,68 @@ fn seal<R: Files + AllocGlobal + Eprint + Threads + Sync, O: Write + Drop, E: Wr
         &ledger,
         Wary,
         &mut folder,
+        &options,
+        &mut out,
+    ) {
+        Ok((status, file)) => {
+            close_ledger(file);
+            status
+        }
+        Err(fault) => complain(rt, "ledger", fault),
+    }
+}
+
+/// Seals the input, and writes the container to the output, unless that is a terminal and this wasn't asked for.
+fn pipe<
+    R: Files + AllocGlobal + Eprint + Threads + Wait + Sync,
+    I: Read + Drop,
+    O: Write + Drop,
+    E: Write + Drop,
+>(
+    rt: &R,
+    host: &HostRuntime,
+    matches: &ArgMatches<'_>,
+    input: I,
+    output: O,
+    errors: E,
+    terminal: bool,
+) -> u8 {
+    let request = match pipe_request(matches) {
+        Ok(request) => request,
+        Err(fault) => return complain(rt, "usage", fault),
+    };
+    if terminal && !request.to_terminal {
+        return complain(rt, "usage", UsageFault::Terminal);
+    }
+    let ledger = LedgerPath {
+        path: request.ledger,
+        may_make: request.may_make,
+    };
+    let mut folder = SystemFiles(rt);
+    let (key, journal) = match begin(rt, &mut folder, request.key, &ledger, request.journal) {
+        Ok(begun) => begun,
+        Err(status) => return status,
+    };
+    let options = PipeOptions {
+        device: request.device,
+        workers: request.workers,
+        depth: request.depth,
+        max_chunks: request.max_chunks,
+        shape: &request.shape,
+    };
+    let mut out = Outs {
+        lines: ToWrite(sink()),
+        faults: ToWrite(errors),
+        journal,
+    };
+    match pipe_from(
+        rt,
+        host,
+        &key,
+        &ledger,
+        Wary,
+        &mut FromRead(input),
+        &mut ToWrite(output),
         &options,
         &mut out,
     ) {
@@ -212,6 +312,57 @@ fn seal_from<
 {
     let mut file = open_ledger(host, ledger, start)?;
     let status = seal_all(rt, rt.alloc(), key, &mut file, folder, options, out);
+    Ok((status, file))
+}
+
+/// Opens this ledger file, and seals a stream under a range of one number that is reserved there. The answer is the status, with
+/// the ledger file. `S` stands for what the ledger file and its log hold.
+fn pipe_from<
+    T: AllocGlobal + Threads + Wait + Sync,
+    S: Start,
+    R: Source,
+    W: Sink,
+    L: Sink + Drop,
+    E: Sink + Drop,
+    J: Sink + Drop,
+>(
+    rt: &T,
+    host: &HostRuntime,
+    key: &Key,
+    ledger: &LedgerPath<'_>,
+    start: S,
+    reader: &mut R,
+    writer: &mut W,
+    options: &PipeOptions,
+    out: &mut Outs<L, E, J>,
+) -> Result<(u8, LedgerFile<FileStore<FileFrom<S>>>), LedgerFault>
+    requires workers { (0 < options.now.workers) × (options.now.workers ≤ MAX_WORKERS) }
+    requires depth { (0 < options.now.depth) × (options.now.depth ≤ MAX_DEPTH) }
+    requires most { 0 < options.now.max_chunks }
+    ensures status { IfOk result (λ r. r.0 ≤ 2) }
+    // The ledger file was opened as it was found, and at most one range appended to it. Then nothing was read or written; or
+    // the stream was sealed over a range of one number that was reserved there and that the file has without its log, with one
+    // legal history, which the journal tells.
+    ensures run { IfOk result (λ r. (keeper : _)
+        × (HasCleanDisk (file_state keeper) → IsFound over_files (image_at S.Start) keeper)
+        × ReservesFilesOnce LedgerFile.Kept LedgerFile.Folded (sha256 key.now) options.now.device 1
+        (LedgerFile.Kept keeper) r.1
+        × (((r.0 ≡ 2) × (reader.new ≡ reader.old) × (writer.new ≡ writer.old) × (out.new.journal ≡ out.old.journal))
+        ⊎ ((range : Numbers) × (history : List Entry) × (told : ℕ) × (written : Bool) × (lines : Option (List ℕ))
+        × (failures : Option ℕ)
+        × FoldsFiles LedgerFile.Kept LedgerFile.Folded (sha256 key.now) options.now.device 1 (LedgerFile.Kept keeper)
+        r.1 range
+        × HasSealedStream key.now options.now.shape.now (terms_of range 1) history (R.left reader.old)
+        (W.taken writer.old) (W.taken writer.new) told (E.taken out.old.faults) lines (E.failures out.old.faults)
+        failures
+        × IsWritten J.taken (journal_text (terms_of range 1) history) written out.old.journal out.new.journal
+        × (r.0 ≡ (if written then told else 2))
+        × (written ≡ true → (E.taken out.new.faults ≡ lines) × (E.failures out.new.faults ≡ failures))))) }
+    // The ledger file can't be used: nothing was read or written, no line and no journal.
+    ensures unopened { OnErr result ((reader.new ≡ reader.old) × (writer.new ≡ writer.old) × (out.new ≡ out.old)) }
+{
+    let mut file = open_ledger(host, ledger, start)?;
+    let status = pipe_all(rt, rt.alloc(), key, &mut file, reader, writer, options, out);
     Ok((status, file))
 }
 

@@ -2,3 +2,4 @@ mod Apart
 pub mod Groups
 pub mod Numbering
 pub mod Sealings
+pub mod Streams

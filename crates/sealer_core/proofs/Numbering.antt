@@ -119,7 +119,7 @@ module _ (lines : List FileLine) (before : List Entry) (seat : ℕ) (name : List
 
 -- the same of a seat
 
-mine_of : (old new : SeatView) (event : Event) → Extends old event new → new.mine ≡ old.mine ++ entry old.number event ∷ []
+pub mine_of : (old new : SeatView) (event : Event) → Extends old event new → new.mine ≡ old.mine ++ entry old.number event ∷ []
 mine_of old new event (between, is) = ap (λ (v : SeatView). v.mine) is
 
 number_of : (old new : SeatView) (event : Event) → Extends old event new → new.number ≡ old.number

@@ -32,8 +32,8 @@ pub(crate) fn fault_of(fault: IssueFault) -> FileFault
     }
 }
 
-// Grants the next number to a file.
-fn issue_to_file(ledger: &Ledger, seat: &mut Seat) -> Result<Grant, FileFault>
+/// Grants the next number to a file.
+pub(crate) fn issue_to_file(ledger: &Ledger, seat: &mut Seat) -> Result<Grant, FileFault>
     requires ours { seat.old.ledger ≡ ledger.now.ledger }
     ensures granted { IfOk result (λ grant. Extends seat.old (Granted grant.number) seat.new
         × (grant.device ≡ seat.old.terms.range.device)) }

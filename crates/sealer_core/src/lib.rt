@@ -1,26 +1,28 @@
 //! The sealer as a library: what each command does, over any reader and any writer.
 //!
-//! `seal_all` is here. The engines are those of `engine_core`, `open_all`, `verify_all` and the folders and lines of
+//! `seal_all` and `pipe_all` are here. The engines are those of `engine_core`, `open_all`, `verify_all` and the folders and lines of
 //! all commands those of `command_core`, and the laws on the life of a ledger file those of `life_core`.
 #![tactic(auto)]
 
 mod ending;
 mod group;
 mod lane;
+pub mod piping;
 mod prepare;
 pub mod runs;
 pub mod sealing;
 mod trouble;
 
+pub use crate::piping::{PipeOptions, pipe_all};
 pub use crate::sealing::{SealOptions, seal_all};
 pub use command_core::{
     Facts, FileFault, FileOutcome, Folder, FolderFault, KeyFault, Line, MAX_BYTES, OpenOptions,
     Outs, open_all, read_key, verify_all,
 };
-pub use crew_core::{MAX_LANES, MAX_WINDOW, MAX_WORKERS};
+pub use crew_core::{MAX_DEPTH, MAX_LANES, MAX_WINDOW, MAX_WORKERS};
 pub use engine_core::{
-    open_one, run_audit, run_open, run_open_by, run_plain, run_plain_by, run_seal, run_seal_by,
-    run_verify, run_verify_by, seal_one, verify_one,
+    open_one, run_audit, run_open, run_open_by, run_pipe, run_plain, run_plain_by, run_seal,
+    run_seal_by, run_verify, run_verify_by, seal_one, verify_one,
 };
 pub use life_core as laws;
 pub use reserve_core::LedgerFile;

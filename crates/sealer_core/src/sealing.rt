@@ -97,8 +97,8 @@ fn reserve_for<S: Fold>(
     }
 }
 
-// Opens a ledger over a new range, with a seat for each lane.
-fn open_ledger<S: Fold>(
+/// Opens a ledger over a new range, with a seat for each lane.
+pub(crate) fn open_ledger<S: Fold>(
     alloc: Global,
     key: &Key,
     file: &mut LedgerFile<S>,

@@ -1,0 +1,7 @@
+use Rattle.sealer.proofs.pipe_from.Goals as goal
+
+pub returns-clause-run : goal.returns-clause-run
+returns-clause-run g c =
+    let found = c.in_ok-file.ensures.found in
+    let sealed = c.pipe_all-status.ensures in
+    (found.0, λ clean. (found.2 clean).0, rw (← found.1) sealed.once, rw (← found.1) sealed.run)

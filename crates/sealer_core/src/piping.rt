@@ -1,0 +1,241 @@
+//! The command that seals a stream: one number is reserved, and what a reader gives is sealed under it as it comes.
+ghost use Rattle.std.specs.Prelude.{◌≡◌, ◌≢◌, ◌⊎◌, ℕ, Bool, Option, List, [], ◌<◌, ◌≤◌, IfOk, IfErr, is_ok, Ok};
+ghost use Rattle.std.specs.Prelude.{if◌then◌else◌, true};
+ghost use Rattle.sha2.specs.Sha256.{sha256};
+ghost use Rattle.sqlite.specs.Held.{Held};
+ghost use Rattle.journal_core.specs.declared.entry.Entry.{Entry};
+ghost use Rattle.journal_core.specs.Journal.{terms_of};
+ghost use Rattle.journal_core.specs.Range.{Numbers};
+ghost use Rattle.journal_core.specs.Text.{journal_text};
+ghost use Rattle.ledger_core.specs.Closing.{AreAllSeats};
+ghost use Rattle.ledger_core.specs.Shared.{fresh_seats, IsSameSeat};
+ghost use Rattle.sealer_core.specs.Piping.{HasSealedStream, IsPiped};
+ghost use Rattle.sealer_core.specs.Sealing.{FoldsARange, IsWritten, ReservesOnce, operations_of};
+
+use crate::ending::end_ledger;
+use crate::lane::{issue_to_file, settle_of_file};
+use crate::sealing::open_ledger;
+use crate::trouble::{RunFault, complain};
+use command_core::{FileFault, FileOutcome, Outs, tell};
+use container_core::{Key, Shape};
+use crew_core::{Free, MAX_DEPTH, MAX_WORKERS};
+use engine_core::run_pipe;
+use ledger_core::{Device, Ledger, Seat, Sink, Source};
+use reserve_core::{Fold, LedgerFile};
+use std::alloc::Global;
+use std::sync::Wait;
+use std::thread::Threads;
+
+/// The exit status where the stream wasn't touched, or the line or the journal couldn't be written whole.
+const TROUBLE: u8 = 2;
+
+/// What the line of a stream calls it.
+const STREAM: &str = "-";
+
+/// What `pipe_all` works by.
+#[derive(Clone, Copy)]
+pub struct PipeOptions<'a> {
+    /// The device under whose number the stream is sealed. No two machines that share a key share one.
+    pub device: Device,
+    /// The number of workers: 1 to 16. The caller's thread is one of them, and does all reading and writing.
+    pub workers: u32,
+    /// How many chunks are read and not yet written, at most: 1 to 64.
+    pub depth: u32,
+    /// How many chunks the stream may have: at least 1.
+    pub max_chunks: u32,
+    /// The container's version, the size of its chunks, and its label.
+    pub shape: &'a Shape,
+}
+
+// Seals what a reader gives under the next number of the ledger, and settles that number.
+fn pipe_next<T: Threads + Wait + Sync, R: Source, W: Sink>(
+    rt: &T,
+    alloc: Global,
+    key: &Key,
+    ledger: &Ledger,
+    seat: &mut Seat,
+    reader: &mut R,
+    writer: &mut W,
+    options: &PipeOptions,
+) -> FileOutcome
+    requires ours { seat.old.ledger ≡ ledger.now.ledger }
+    requires fresh { seat.old.mine ≡ [] }
+    requires workers { (0 < options.now.workers) × (options.now.workers ≤ MAX_WORKERS) }
+    requires depth { (0 < options.now.depth) × (options.now.depth ≤ MAX_DEPTH) }
+    requires most { 0 < options.now.max_chunks }
+    ensures same { IsSameSeat seat.old seat.new }
+    ensures piped { IsPiped key.now options.now.shape.now seat.old.terms.range.device seat.new.mine
+        (R.left reader.old) (W.taken writer.old) (W.taken writer.new) result }
+{
+    let grant = match issue_to_file(ledger, seat) {
+        Ok(grant) => grant,
+        Err(fault) => return FileOutcome::Failed(fault),
+    };
+    let number = grant.number();
+    let (sealed, spent) = run_pipe(
+        rt,
+        alloc,
+        key,
+        options.shape,
+        grant,
+        reader,
+        writer,
+        options.max_chunks,
+        options.workers,
+        options.depth,
+        &Free,
+    );
+    settle_of_file(ledger, seat, spent);
+    match sealed {
+        Ok(bytes) => FileOutcome::Sealed { number, bytes },
+        Err(fault) => FileOutcome::Failed(FileFault::Unsealed(fault)),
+    }
+}
+
+// Seals what a reader gives by the one seat of a new ledger.
+fn pipe_alone<T: Threads + Wait + Sync, R: Source, W: Sink>(
+    rt: &T,
+    alloc: Global,
+    key: &Key,
+    ledger: &Ledger,
+    seats: &mut [Seat],
+    reader: &mut R,
+    writer: &mut W,
+    options: &PipeOptions,
+) -> FileOutcome
+    requires all { AreAllSeats ledger.now seats.old }
+    requires one { ledger.now.terms.seats ≡ 1 }
+    requires fresh { seats.old ≡ fresh_seats ledger.now.ledger ledger.now.terms 1 }
+    requires workers { (0 < options.now.workers) × (options.now.workers ≤ MAX_WORKERS) }
+    requires depth { (0 < options.now.depth) × (options.now.depth ≤ MAX_DEPTH) }
+    requires most { 0 < options.now.max_chunks }
+    ensures all { AreAllSeats ledger.now seats.new }
+    ensures piped { IsPiped key.now options.now.shape.now ledger.now.terms.range.device (operations_of seats.new)
+        (R.left reader.old) (W.taken writer.old) (W.taken writer.new) result }
+{
+    let seat = &mut seats[0];
+    pipe_next(rt, alloc, key, ledger, seat, reader, writer, options)
+}
+
+// Seals what a reader gives over a new ledger, tells its line, and ends the ledger. The answer is the status of the line,
+// and how the ledger ended.
+fn pipe_over<T: Threads + Wait + Sync, R: Source, W: Sink, E: Sink, J: Sink>(
+    rt: &T,
+    alloc: Global,
+    key: &Key,
+    ledger: Ledger,
+    mut seats: Vec<Seat>,
+    reader: &mut R,
+    writer: &mut W,
+    options: &PipeOptions,
+    lines: &mut E,
+    journal: &mut Option<J>,
+) -> (u8, Result<(), RunFault>)
+    requires all { AreAllSeats ledger seats.items }
+    requires one { ledger.terms.seats ≡ 1 }
+    requires fresh { seats.items ≡ fresh_seats ledger.ledger ledger.terms 1 }
+    requires workers { (0 < options.now.workers) × (options.now.workers ≤ MAX_WORKERS) }
+    requires depth { (0 < options.now.depth) × (options.now.depth ≤ MAX_DEPTH) }
+    requires most { 0 < options.now.max_chunks }
+    ensures { (history : List Entry)
+        × HasSealedStream key.now options.now.shape.now ledger.terms history (R.left reader.old) (W.taken writer.old)
+        (W.taken writer.new) result.0 (E.taken lines.old) (E.taken lines.new) (E.failures lines.old)
+        (E.failures lines.new)
+        × IsWritten J.taken (journal_text ledger.terms history) (is_ok result.1) journal.old journal.new }
+{
+    let outcome = pipe_alone(
+        rt,
+        alloc,
+        key,
+        &ledger,
+        seats.as_mut_slice(),
+        reader,
+        writer,
+        options,
+    );
+    let told = tell(alloc, lines, 0, STREAM, outcome);
+    (told, end_ledger(alloc, ledger, seats, journal))
+}
+
+/// Seals what a reader gives, to its end and as it comes, and writes its container, in the options' shape and under a
+/// number of its own. Its line, `sealed - file NUMBER bytes N` or `failed -: FAULT`, goes to `out.faults`, since standard
+/// output is the container's. The answer is the exit status: 0 where the stream was sealed, 1 where that failed, 2 where
+/// no range was reserved, the ledger file not folded or no ledger opened (then nothing was read or written), where the
+/// line couldn't be written, or where the journal couldn't be written whole. Each of these but the line has a text on
+/// standard error.
+///
+/// At a fault what was written begins the stream's container: whoever reads it must have the status, or open it. One range
+/// of one number is reserved, for good, and in the ledger file itself before the stream is read; nobody else may write the
+/// ledger file, and no ledger file that was copied or restored may be used again with the same key and device.
+pub fn pipe_all<
+    T: Threads + Wait + Sync,
+    S: Fold,
+    R: Source,
+    W: Sink,
+    L: Sink + Drop,
+    E: Sink + Drop,
+    J: Sink + Drop,
+>(
+    rt: &T,
+    alloc: Global,
+    key: &Key,
+    file: &mut LedgerFile<S>,
+    reader: &mut R,
+    writer: &mut W,
+    options: &PipeOptions,
+    out: &mut Outs<L, E, J>,
+) -> u8
+    requires workers { (0 < options.now.workers) × (options.now.workers ≤ MAX_WORKERS) }
+    requires depth { (0 < options.now.depth) × (options.now.depth ≤ MAX_DEPTH) }
+    requires most { 0 < options.now.max_chunks }
+    ensures status { result ≤ 2 }
+    // Nothing was read or written; or the stream was sealed over a range of one number that was reserved, in a ledger
+    // file that has it without its log, with one legal history, which the journal tells. Behind the line there is at most
+    // the journal's fault.
+    ensures run { ((result ≡ 2) × (reader.new ≡ reader.old) × (writer.new ≡ writer.old)
+        × (out.new.journal ≡ out.old.journal))
+        ⊎ ((range : Numbers) × (history : List Entry) × (told : ℕ) × (written : Bool) × (lines : Option (List ℕ))
+        × (failures : Option ℕ)
+        × FoldsARange S.Store LedgerFile.Kept LedgerFile.Folded S.is_folded (sha256 key.now) options.now.device 1
+        file.old file.new range
+        × HasSealedStream key.now options.now.shape.now (terms_of range 1) history (R.left reader.old)
+        (W.taken writer.old) (W.taken writer.new) told (E.taken out.old.faults) lines (E.failures out.old.faults)
+        failures
+        × IsWritten J.taken (journal_text (terms_of range 1) history) written out.old.journal out.new.journal
+        × (result ≡ (if written then told else 2))
+        × (written ≡ true → (E.taken out.new.faults ≡ lines) × (E.failures out.new.faults ≡ failures))) }
+    ensures output { out.new.lines ≡ out.old.lines }
+    // At most one range is appended, and a crash leaves the lists from before or those with it.
+    ensures once { ReservesOnce S.Store LedgerFile.Kept LedgerFile.Folded S.is_left (sha256 key.now)
+        options.now.device 1 file.old file.new }
+    // A ledger file that has no keeper stays as it is.
+    ensures other { ((k : Held S) → file.old ≢ LedgerFile.Kept k) → file.new ≡ file.old }
+{
+    let opened = open_ledger(alloc, key, file, options.device, 1, 1);
+    let (ledger, seats) = match opened {
+        Ok(opened) => opened,
+        Err(fault) => {
+            complain(alloc, &mut out.faults, fault);
+            return TROUBLE;
+        }
+    };
+    let (told, ended) = pipe_over(
+        rt,
+        alloc,
+        key,
+        ledger,
+        seats,
+        reader,
+        writer,
+        options,
+        &mut out.faults,
+        &mut out.journal,
+    );
+    match ended {
+        Ok(()) => told,
+        Err(fault) => {
+            complain(alloc, &mut out.faults, fault);
+            TROUBLE
+        }
+    }
+}
