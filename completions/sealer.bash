@@ -21,19 +21,24 @@ _sealer() {
             --key | --ledger | --journal) _sealer_files "$current"; return ;;
             --workers | --lanes) mapfile -t COMPREPLY < <(compgen -W '1 2 4 8 16' -- "$current"); return ;;
             --exponent) mapfile -t COMPREPLY < <(compgen -W '12 13 14 15 16 17 18 19 20' -- "$current"); return ;;
-            --device | --window | --max-bytes | --label) return ;;
+            --depth) mapfile -t COMPREPLY < <(compgen -W '1 2 4 8 16 32 64' -- "$current"); return ;;
+            --device | --window | --max-bytes | --max-chunks | --label) return ;;
         esac
     fi
     case $command in
-        '') words='seal open verify audit help --help -h' ;;
+        '') words='seal pipe open verify audit help --help -h' ;;
         seal)
             words='--key --ledger --no-new-ledger --device --workers --lanes --window --exponent --label --max-bytes
                 --journal --help -h'
             ;;
+        pipe)
+            words='--key --ledger --no-new-ledger --device --workers --depth --max-chunks --exponent --label --journal
+                --force-terminal --help -h'
+            ;;
         open) words='--key --label --workers --max-bytes --help -h' ;;
         verify) words='--key --label --show --workers --max-bytes --help -h' ;;
         audit) words='--help -h' ;;
-        help) words='seal open verify audit help' ;;
+        help) words='seal pipe open verify audit help' ;;
         *) return ;;
     esac
     case $only_files$current:$command in

@@ -114,7 +114,7 @@ try:
     for name in ("one.stm", "two words.stm", "plain", ".zshrc"):
         open(os.path.join(room, name), "w").close()
     names, _ = told()
-    if not {"seal", "open", "verify", "audit"} <= names:
+    if not {"seal", "pipe", "open", "verify", "audit"} <= names:
         sys.exit(f"--help tells these commands: {names}")
     for kind, start in (("bash", bash), ("zsh", zsh), ("fish", Fish)):
         if not shutil.which(kind):
@@ -128,8 +128,9 @@ try:
             # fish has those with the end first, and then the others
             asked += [("sealer open ", all_names if kind == "fish" else stm, pattern)]
             asked += [("sealer verify --key ", all_names, pattern), ("sealer seal ", all_names, pattern)]
-            asked += [("sealer audit ", set(), pattern), ("sealer seal --label ", set(), pattern)]
-            asked += [("sealer seal --exponent ", {str(it) for it in range(12, 21)}, r"\b\d\d\b")]
+            asked += [("sealer audit ", set(), pattern), ("sealer pipe ", set(), pattern), ("sealer seal --label ", set(), pattern)]
+            asked += [(f"sealer {it} --exponent ", {str(it) for it in range(12, 21)}, r"\b\d\d\b") for it in ("seal", "pipe")]
+            asked += [("sealer pipe --depth ", {str(1 << it) for it in range(7)}, r"\b\d\d?\b")]
             for line, wanted, words in asked:
                 lines += 1
                 # on a busy machine once more, with more time; that nothing is listed takes some in any case

@@ -102,7 +102,7 @@ def from_manual(text):
     """The commands of docs/MANUAL.md, and of each its synopsis."""
     sections = dict(re.findall(r"^## (.*?)\n(.*?)(?=^## |\Z)", text, re.M | re.S))
     commands, lines = {}, {}
-    for section in ("Sealing", "Opening and verifying", "Auditing"):
+    for section in ("Sealing", "Sealing a stream", "Opening and verifying", "Auditing"):
         body = sections[section]
         block = re.search(r"```text\n(.*?)```", body, re.S).group(1)
         for name, words in re.findall(r"^sealer (\w+)((?:.|\n )*)", block, re.M):

@@ -1,8 +1,9 @@
 #!/bin/bash
 # Runs of the built program: each text with its stream and its status. Prints 'N runs as they should be', or what differs.
+# The program is crates/sealer/out/sealer, or $SEALER.
 set -u
 cd "$(dirname "$0")/.."
-sealer=$PWD/crates/sealer/out/sealer
+sealer=$(realpath "${SEALER:-crates/sealer/out/sealer}")
 room=$(mktemp -d)
 trap 'umount "$room/small" 2>/dev/null; rm -rf "$room"' EXIT
 runs=0 bad=0
@@ -72,6 +73,8 @@ for help in --help help -h; do
 done
 run audit --help < /dev/null
 wants audit-help 0 'begins Audits the journal on standard input' ''
+run pipe --help < /dev/null
+wants pipe-help 0 'begins Seals standard input to standard output' ''
 run < /dev/null
 wants nothing 2 '' "begins error: 'sealer' requires a subcommand"
 run pack < /dev/null
@@ -331,6 +334,17 @@ if mount -t tmpfs -o size=300k none small 2>/dev/null; then
     run verify --key "$key" life/small.empty.stm
     wants full-disk-container 0 'good life/small.empty.stm bytes 0' ''
     rm life/small.empty.stm
+    "$sealer" pipe --key "$key" --ledger life/small --device 2 --journal small/stream.journal < numbers.plain > stream.stm 2> err
+    status=$?
+    : > out
+    wants full-disk-journal-of-a-stream 2 '' 'sealed - file 0 bytes 1492
+journal: write failed'
+    run verify --key "$key" stream.stm
+    wants full-disk-stream 0 'good stream.stm bytes 1492' ''
+    "$sealer" pipe --key "$key" --ledger life/small --device 2 < numbers.plain > small/stream.stm 2> err
+    status=$?
+    : > out
+    wants full-disk-of-a-stream 1 '' 'failed -: write failed'
     run seal --key "$key" --ledger small/ledger --device 1 life/small.empty
     wants full-disk-ledger 2 '' 'ledger: cannot open'
     is full-disk-seals-nothing no test -e life/small.empty.stm
@@ -771,6 +785,124 @@ rm life/lanes/u?.stm
 wants lanes-closed 2 '' ''
 run verify --key "$key" life/lanes/u?.stm
 wants lanes-closed-sealed 0 "$all_good" ''
+
+# Streams: the container goes to standard output, here to life/stream/out, and the line to standard error. More of them are in
+# tools/pipe_runs.py.
+mkdir life/stream
+piped() { # ARGS.., standard input as given
+    "$sealer" pipe --key "$key" --ledger life/stream/ledger --device 6 "$@" > life/stream/out 2> err
+    status=$?
+    : > out
+}
+streamed() { # NAME NUMBER FILE OPTIONS..: life/stream/out is the container of FILE under this number
+    if has cryptography; then
+        python3 "$here/tools/seal_container.py" "${@:4}" "$key" 6 "$2" "$3" theirs.stm
+        is "$1-container" cmp -s life/stream/out theirs.stm
+    fi
+}
+opens() { # NAME FILE: it opens to FILE
+    cp life/stream/out life/stream/it.stm
+    run open --key "$key" life/stream/it.stm
+    wants "$1-opens" 0 "opened life/stream/it.stm bytes $(wc -c < "$2")" ''
+    is "$1-plaintext" cmp -s life/stream/it "$2"
+    rm -f life/stream/it
+}
+journaled() { # NAME VERDICT FIRST-LINE: the run's journal, which is removed
+    is "$1-terms" test "$(head -n 1 life/stream/journal)" = "$3"
+    run audit < life/stream/journal
+    wants "$1-journal" 0 "$2" ''
+    rm -f life/stream/journal
+}
+whole='legal: 1 granted, 1 sealed, 0 void, 0 open, 0 refused'
+void='legal: 1 granted, 0 sealed, 1 void, 0 open, 0 refused'
+piped --no-new-ledger < numbers.plain
+wants stream-without-ledger 2 '' 'ledger: not there'
+is stream-without-ledger-writes-nothing test ! -s life/stream/out -a ! -e life/stream/ledger
+piped --journal life/stream/journal < numbers.plain
+wants stream 0 '' 'sealed - file 0 bytes 1492'
+streamed stream 0 numbers.plain
+opens stream numbers.plain
+journaled stream "$whole" 'range 6 0 1 1'
+# seal and pipe go on one behind the other in one ledger.
+cp numbers.plain life/stream/file
+run seal --key "$key" --ledger life/stream/ledger --device 6 life/stream/file
+wants seal-behind-a-stream 0 'sealed life/stream/file file 1 bytes 1492' ''
+piped --no-new-ledger --workers 4 --depth 2 --exponent 12 --label 'a stream' < life/more
+wants stream-behind-a-seal 0 '' "sealed - file 2 bytes $(wc -c < life/more)"
+streamed stream-behind-a-seal 2 life/more --exponent 12 --label 'a stream'
+opens stream-behind-a-seal life/more
+cp life/stream/out life/stream/shown.stm
+run verify --key "$key" --show --label 'a stream' life/stream/shown.stm
+wants stream-shown 0 "good life/stream/shown.stm bytes $(wc -c < life/more)
+  version 2 chunk 4096 device 6 file 2 label \"a stream\"" ''
+piped < /dev/null
+wants no-stream 0 '' 'sealed - file 3 bytes 0'
+streamed no-stream 3 /dev/null
+# What fails: the stream, its output. The number is given up, and what was written begins a container.
+piped --journal life/stream/journal <&-
+wants stream-closed 1 '' 'failed -: read failed'
+is stream-closed-header test "$(wc -c < life/stream/out)" = 24
+journaled stream-closed "$void" 'range 6 4 1 1'
+piped < life
+wants stream-of-a-folder 1 '' 'failed -: read failed'
+piped --max-chunks 5 --workers 2 --journal life/stream/journal < life/more
+wants stream-too-long 1 '' 'failed -: too many chunks'
+journaled stream-too-long "$void" 'range 6 6 1 1'
+cp life/stream/out life/stream/cut.stm
+run verify --key "$key" life/stream/cut.stm
+is stream-cut-fails test "$status $(head -c 28 out)" = '1 failed life/stream/cut.stm: '
+"$sealer" pipe --key "$key" --ledger life/stream/ledger --device 6 --journal life/stream/journal < life/more 2> err >&-; status=$?; : > out
+wants stream-to-nothing 1 '' 'failed -: write failed'
+journaled stream-to-nothing "$void" 'range 6 7 1 1'
+"$sealer" pipe --key "$key" --ledger life/stream/ledger --device 6 --journal life/stream/journal < /dev/null 2> err > /dev/full; status=$?; : > out
+wants stream-to-a-full-disk 1 '' 'failed -: write failed'
+journaled stream-to-a-full-disk "$void" 'range 6 8 1 1'
+# What fails: its line. The container is whole, and so is the journal.
+number=9
+for untold in 'closed >&-' 'full > /dev/full'; do
+    eval "\"\$sealer\" pipe --key \"\$key\" --ledger life/stream/ledger --device 6 --journal life/stream/journal < numbers.plain > life/stream/out 2${untold#* }"
+    status=$?
+    : > out
+    : > err
+    wants "stream-line-${untold%% *}" 2 '' ''
+    streamed "stream-line-${untold%% *}" $number numbers.plain
+    journaled "stream-line-${untold%% *}" "$whole" "range 6 $number 1 1"
+    number=$((number + 1))
+done
+# What fails before anything is reserved.
+piped --key life/none < numbers.plain
+wants stream-key-twice 2 '' "begins error: the argument '--key <F>' cannot be used multiple times"
+"$sealer" pipe --key life/none --ledger life/stream/ledger --device 6 < numbers.plain > life/stream/out 2> err; status=$?
+wants stream-key 2 '' 'key: cannot open'
+: > life/stream/journal
+piped --journal life/stream/journal < numbers.plain
+wants stream-journal-exists 2 '' 'journal: output exists'
+rm life/stream/journal
+piped --journal life/stream/ledger-wal < numbers.plain
+wants stream-journal-at-the-log 2 '' 'journal: cannot create'
+piped --journal life/no/journal < numbers.plain
+wants stream-journal-nowhere 2 '' 'journal: cannot create'
+"$sealer" pipe --key "$key" --ledger life/text --device 6 < numbers.plain > life/stream/out 2> err; status=$?
+wants stream-no-database 2 '' 'ledger: cannot open'
+is stream-no-database-writes-nothing test ! -s life/stream/out
+run pipe --key "$key" --ledger life/stream/ledger < numbers.plain
+wants stream-no-device 2 '' 'begins error: the following required arguments were not provided:
+  --device <N>'
+piped life/numbers < numbers.plain
+wants stream-of-a-file 2 '' "begins error: unexpected argument 'life/numbers' found"
+piped --max-bytes 9 < numbers.plain
+wants stream-max-bytes 2 '' "begins error: unexpected argument '--max-bytes' found"
+piped --force-terminal < numbers.plain
+wants stream-next 0 '' "sealed - file $number bytes 1492"
+if has sqlite3; then
+    cp life/stream/ledger life/stream/spent
+    sqlite3 life/stream/spent "DELETE FROM taken; DELETE FROM mark; INSERT INTO mark VALUES (X'$key_id', 6, 4294967295); INSERT INTO taken VALUES (X'$key_id', 6, 0, 4294967295)"
+    for want in "0:sealed - file 4294967295 bytes 1492" '2:ledger: 0 numbers left'; do
+        "$sealer" pipe --key "$key" --ledger life/stream/spent --device 6 < numbers.plain > life/stream/out 2> err; status=$?
+        wants "stream-spent-${want%%:*}" "${want%%:*}" '' "${want#*:}"
+    done
+    is stream-spent-writes-nothing test ! -s life/stream/out
+fi
 
 # Two runs on one ledger at once: the second is refused. The first waits for its input, a pipe, with its range reserved; it is then
 # killed, and the next run goes on behind that range.

@@ -3,10 +3,10 @@
 writes that move few bytes (tools/refuse.c).
 
 Of each kind of run below the 1st, 2nd, .. allocation is refused alone, and in other runs that one and all after it, until a run meets no
-refusal. Of a sealing each second is refused with all after it, and over a log each fourth both ways; EVERY is a number by which these distances
-are multiplied, or 0 for all. And of each read and write what is beyond 1, 2, 4, 8, .. bytes. The kinds are worked side by side over the processors. Whatever is refused: the run ends by itself
+refusal. Of a sealing each second is refused with all after it, over a log each fourth both ways, and of a stream by two workers the last ones, behind
+the ledger's; EVERY is a number by which these distances are multiplied, or 0 for all. And of each read and write what is beyond 1, 2, 4, 8, .. bytes. The kinds are worked side by side over the processors. Whatever is refused: the run ends by itself
 with a status and a text of docs/MANUAL.md, and both fit its lines; an output is there whole or not at all, and not where its line says that it
-failed; a journal that was written is legal; no other file is left; and the next run on the ledger succeeds, under a number that no
+failed, but of a stream what was written begins its container; a journal that was written is legal; no other file is left; and the next run on the ledger succeeds, under a number that no
 output has, nor a journal.
 
 Prints what each kind had and 'N refusals as they should be', or what differs. Where no C compiler is there it says so and ends well, and
@@ -39,7 +39,7 @@ FAULT = re.compile(r"failed (\S+): (out of memory|cannot open|cannot create)")
 DONE = re.compile(r"sealed (\S+) file ([0-9]+) bytes ([0-9]+)|(?:opened|good) (\S+) bytes ([0-9]+)|legal: .*")
 # What some run has to say.
 WANTED = (
-    "failed a: out of memory", "failed long.stm: out of memory", "ledger: out of memory", "journal: out of memory", "audit: out of memory",
+    "failed a: out of memory", "failed -: out of memory", "failed long.stm: out of memory", "ledger: out of memory", "journal: out of memory", "audit: out of memory",
     "error: out of memory", "usage: an argument is no text", "ledger: store failed", "ledger: cannot open",
 )
 
@@ -70,6 +70,7 @@ class Kind:
     each: dict = dataclasses.field(default_factory=dict)  # the distance of the allocations that are refused, where it isn't 1
     refused: bool = False  # the ledger is refused whatever is given to it
     threads: bool = False  # some allocation is another thread's; workers make none
+    last: int = 0  # only so many of the last allocations are refused, where it isn't 0
 
 
 def read(name):
@@ -92,6 +93,10 @@ def started(words, **more):
 
 def sealing(*words):
     return ["seal", "--key", key, "--ledger", "ledger", "--device", "1", *words]
+
+
+def piping(*words):
+    return ["pipe", "--key", key, "--ledger", "ledger", "--device", "1", "--journal", "journal", *words]
 
 
 class Checker:
@@ -118,12 +123,20 @@ class Checker:
             return True
         told = ran.stderr.decode(errors="replace").splitlines()
         self.err = [line for line in told if not line.startswith("refused ")]
-        self.out, self.status = ran.stdout.decode(errors="replace").splitlines(), ran.returncode
+        if kind.words[0] == "pipe":
+            # The line of a stream is on standard error.
+            self.out = [line for line in self.err if FAULT.fullmatch(line) or DONE.fullmatch(line)]
+            self.err = [line for line in self.err if line not in self.out]
+        else:
+            self.out = ran.stdout.decode(errors="replace").splitlines()
+        self.status = ran.returncode
         met = [line for line in told if line.startswith("refused ")]
         self.seen.update(self.out, self.err, met)
         self.answer(kind, which, bool(met))
         if kind.words[0] == "seal":
             self.sealed(kind)
+        elif kind.words[0] == "pipe":
+            self.streamed(kind, ran.stdout)
         else:
             self.opened(kind)
         self.count += bool(met)
@@ -152,7 +165,7 @@ class Checker:
     def outputs(self, kind, name_of, wanted):
         """Each output is whole or isn't there, as its line says, and no other file is left. The answer is which are there."""
         left = set(os.listdir(".")) - set(kind.given)
-        if kind.words[0] == "seal":
+        if kind.words[0] in ("seal", "pipe"):
             left -= {"ledger", "ledger-wal", "journal"}
         for name in kind.made if wanted else ():
             output = name_of(name)
@@ -196,12 +209,35 @@ class Checker:
         for name, number, length in (DONE.fullmatch(line).groups()[:3] for line in self.out if line.startswith("sealed ")):
             if numbers.get(name) != int(number) or len(FILES[name]) != int(length):
                 self.differs(f"{name} has number {numbers.get(name)}")
+        self.followed(kind, there)
+
+    def streamed(self, kind, written):
+        """What was written is the stream's container, where its line says so, and else a beginning of it."""
+        self.outputs(kind, lambda name: None, None)
+        whole = self.made["long", kind.first]
+        if self.out == [f"sealed - file {kind.first} bytes {len(kind.input)}"]:
+            if written != whole:
+                self.differs("another container")
+        elif any(line.startswith("sealed ") for line in self.out):
+            self.differs("another line")
+        elif not whole.startswith(written) or self.out and written == whole:
+            self.differs(f"{len(written)} bytes that aren't the container's")
+        self.followed(kind, {"-"} if written else set())
+
+    def followed(self, kind, there):
+        """The journal, where one was written, and the next run; `there` is what was written."""
+        size = len(kind.made)
         journal = read("journal") if os.path.exists("journal") else b""
         if journal and not self.err:
             verdict = started(["audit"], input=journal, stdin=None)
             found = re.fullmatch(rb"legal: ([0-9]+) granted, ([0-9]+) sealed, ([0-9]+) void, ([0-9]+) open, 0 refused\n", verdict.stdout)
             if verdict.returncode != 0 or not found:
                 self.differs(f"the journal is {verdict.stdout}")
+            elif kind.words[0] == "pipe":
+                granted, sealed, _, is_open = map(int, found.groups())
+                # A number stays open only where its settlement found no memory.
+                if granted < len(there) or self.out and not is_open and sealed != self.out[0].startswith("sealed "):
+                    self.differs(f"the journal is {verdict.stdout}")
             elif int(found[2]) < len(there) - int(found[4]) or int(found[1]) < len(there):
                 self.differs(f"{len(there)} outputs, and the journal is {verdict.stdout}")
         # The range was reserved or it wasn't; and it was where something was done with it.
@@ -273,6 +309,9 @@ def kinds(made):
         yield Kind("seal over another log", sealing("--journal", "journal", "small"), ["small"], given, 100, refused=True, each=quarter)
     elif os.environ.get("CI"):
         sys.exit("refusal_runs: no run left a log")
+    stream = FILES["long"]
+    yield Kind("pipe", piping(), ["-"], some(), input=stream, each=half)
+    yield Kind("pipe by two workers", piping("--workers", "2", "--depth", "3"), ["-"], some(**ledger), input=stream, first=1, last=150)
     opened, good = (f"{word} long.stm bytes {len(FILES['long'])}" for word in ("opened", "good"))
     for workers in ("1", "2"):
         by = ["--key", key, "--workers", workers]
@@ -285,6 +324,16 @@ def kinds(made):
     yield Kind("seal, threads refused", sealing("--workers", "4", "long"), ["long"], some("long"), 3, by)
     yield Kind("open, threads refused", ["open", "--key", key, "--workers", "4", "long.stm"], ["long.stm"], {"long.stm": long_stm}, 3, by, line=opened)
     yield Kind("lanes, threads refused", sealing("--lanes", "4", *LANES), LANES, some(*LANES), 2, by)
+    yield Kind("pipe, threads refused", piping("--workers", "4"), ["-"], some(), 3, by, stream)
+
+
+def allocations(checker, kind):
+    """How many a run makes: the last that can be refused."""
+    least, most = 0, 1 << 14
+    while most - least > 1:
+        n = (least + most) // 2
+        least, most = (n, most) if checker.refused(kind, "REFUSE", n) else (least, n)
+    return least
 
 
 def part(asked):
@@ -294,6 +343,8 @@ def part(asked):
         os.chdir(folder)
         checker = Checker(made, shared)
         n = first
+        if kind.last and every and which not in HARMLESS:
+            n += max(0, allocations(checker, kind) - kind.last)
         while checker.refused(kind, which, n) and len(checker.bad) < ENOUGH:
             if which in HARMLESS and checker.status != (2 if kind.refused else 0):
                 checker.differs("another answer")

@@ -1,10 +1,11 @@
 #!/usr/bin/env python3
 """stop_runs.py [NIGHTS [NIGHT]]: stops the built program at its system calls, by strace, and looks at what the next run does.
 
-Over one ledger file that lives on, by one lane, two lanes and two workers, the program is killed at each of its system calls, and each
-of its calls on files and memory is made to fail (EIO, ENOSPC, EINTR, ENOMEM). After a kill no number may be given out that a container
+Over one ledger file that lives on, by one lane, two lanes and two workers, and of a stream by one worker and two, the program is killed at each
+of its system calls, and each of its calls on files and memory is made to fail (EIO, ENOSPC, EINTR, ENOMEM). After a kill no number may be given out that a container
 already has, and the run after must succeed. After an error the run must end by itself, with a status and a text of docs/MANUAL.md, and an output
-that is there is whole, its line doesn't say that it failed, and a journal without a fault is legal and has nothing open. All stops are tried, side by side over the processors, each process over a
+that is there is whole, its line doesn't say that it failed, and a journal without a fault is legal and has nothing open; of a stream what was written
+begins its container, and is all of it where its line says so. All stops are tried, side by side over the processors, each process over a
 ledger of its own; with NIGHTS each NIGHTS-th, from the NIGHT-th on (0).
 
 Then it is killed as it makes a ledger, at each of its calls on files: the next run succeeds. And it is killed right behind its first finished
@@ -12,7 +13,8 @@ output, and of the ledger's two files the log is deleted, cut at 20 lengths, has
 pages and with them: the next run gives a number that no run had, or ends with `ledger: cannot open` and leaves the file as it was; the latter where the
 file is lost or emptied.
 
-Prints 'N stops as they should be', or what differs. Needs strace; where it isn't there it says so and ends well, and under CI it fails.
+Prints 'N stops as they should be', or what differs. Needs strace, and Python's package `cryptography`; where one isn't there it says so and ends
+well, and under CI it fails.
 """
 import multiprocessing
 import os
@@ -24,9 +26,19 @@ import tempfile
 import time
 from collections import Counter
 
+sys.dont_write_bytecode = True
+try:
+    import cryptography.hazmat.primitives.ciphers.aead
+except ImportError:
+    print("stop_runs: skipped, Python's package cryptography isn't there")
+    sys.exit(1 if os.environ.get("CI") else 0)
+from seal_container import sealed
+
 top = os.path.abspath(os.path.join(os.path.dirname(__file__), ".."))
 sealer = os.environ.get("SEALER", f"{top}/crates/sealer/out/sealer")
 key = f"{top}/examples/key"
+with open(key, encoding="ascii") as digits:
+    KEY = bytes.fromhex(digits.read())
 nights = int(sys.argv[1]) if len(sys.argv) > 1 else 1
 night = int(sys.argv[2]) if len(sys.argv) > 2 else 0
 
@@ -44,7 +56,10 @@ OTHERS = "execve access arch_prctl set_tid_address set_robust_list rseq prlimit6
 FAULTS = {**{call: ("error=EIO", "error=ENOSPC", "error=EINTR") for call in ON_FILES}, **{call: ("error=ENOMEM",) for call in ON_MEMORY}}
 # It answers the end of the heap, and never an error: one that is not higher says that memory was refused.
 FAULTS["brk"] = ("retval=0",)
+# How often these are called is open, and they do nothing.
+PASSED_OVER = ["sched_yield"]
 WAYS = {"one lane": [], "two lanes": ["--lanes", "2"], "two workers": ["--workers", "2"]}
+STREAMS = {"a stream": ["--depth", "2"], "a stream by two workers": ["--workers", "2", "--depth", "2"]}
 
 if not shutil.which("strace"):
     print("stop_runs: skipped, strace is not there")
@@ -61,7 +76,20 @@ def differs(what):
 
 
 def command(way, files):
-    return [sealer, "seal", "--key", key, "--ledger", "ledger", "--device", "1", "--journal", "journal", *WAYS[way], *files]
+    begin = ["--key", key, "--ledger", "ledger", "--device", "1", "--journal", "journal"]
+    return [sealer, "pipe", *begin, *STREAMS[way]] if way in STREAMS else [sealer, "seal", *begin, *WAYS[way], *files]
+
+
+def ran(way, strace, **more):
+    """A run of the files a and b, or of a stream as long as a, whose container is written to a.stm. Its lines are on standard output."""
+    if way not in STREAMS:
+        return subprocess.run([*strace, *command(way, ["a", "b"])], capture_output=True, text=True, **more)
+    with open("a", "rb") as source, open("a.stm", "wb") as container:
+        run = subprocess.run([*strace, *command(way, [])], stdin=source, stdout=container, stderr=subprocess.PIPE, text=True, **more)
+    lines = run.stderr.splitlines(keepends=True)
+    run.stdout = "".join(line for line in lines if " -" in line)
+    run.stderr = "".join(line for line in lines if " -" not in line)
+    return run
 
 
 def clear():
@@ -85,7 +113,7 @@ def take(what):
 
 def calls(way):
     """How often each thread makes each call, at most, behind the opening of the key file and in all."""
-    subprocess.run(["strace", "-f", "-o", "trace", *command(way, ["a", "b"])], stdout=subprocess.DEVNULL, check=True)
+    ran(way, ["strace", "-f", "-o", "trace"], check=True)
     own, late = Counter(), Counter()
     begun = False
     with open("trace", encoding="utf-8", errors="replace") as file:
@@ -111,7 +139,7 @@ def stopped(way, call, n, how):
     what = f"{way}, {call} {n}, {how}"
     words = ["strace", "-f", "-qq", "-o", "/dev/null", "-e", f"trace={call}", "-e", f"inject={call}:{how}:when={n}"]
     try:
-        run = subprocess.run([*words, *command(way, ["a", "b"])], capture_output=True, text=True, timeout=60)
+        run = ran(way, words, timeout=60)
     except subprocess.TimeoutExpired:
         differs(f"{what}: hangs")
         return
@@ -128,7 +156,9 @@ def stopped(way, call, n, how):
             differs(f"{what}: status {run.returncode} with '{run.stderr.strip()}'")
         if (run.returncode == 1) != ("failed " in run.stdout) and call != "write":
             differs(f"{what}: status {run.returncode} with '{run.stdout.strip()}'")
-        for name in ("a", "b"):
+        if way in STREAMS:
+            streamed(what, run)
+        for name in ("a", "b") if way in WAYS else ():
             if os.path.exists(f"{name}.stm"):
                 check = subprocess.run([sealer, "verify", "--key", key, f"{name}.stm"], capture_output=True, text=True, timeout=60)
                 if check.returncode != 0 or f"failed {name}:" in run.stdout:
@@ -146,6 +176,17 @@ def stopped(way, call, n, how):
     if after.returncode != 0 or not after.stdout.startswith("sealed c file "):
         differs(f"{what}: the run after has status {after.returncode}, prints {after.stdout}{after.stderr}")
     take(f"the run after {what}")
+
+
+def streamed(what, run):
+    """What a stream's run wrote is its container, where its line says so, and else a beginning of it."""
+    with open("a.stm", "rb") as file:
+        written = file.read()
+    # Before its number was written there is nothing to hold it against.
+    whole = sealed(KEY, 1, int.from_bytes(written[13:17], "big"), b"a" * 200_000)
+    says, fails = (run.stdout.startswith(word) for word in ("sealed - ", "failed -: "))
+    if not whole.startswith(written) and len(written) >= 17 or says and written != whole or fails and written == whole:
+        differs(f"{what}: {len(written)} bytes were written, with '{run.stdout.strip()}'")
 
 
 def number_in(name):
@@ -287,9 +328,11 @@ def in_a_folder(work):
 
 def all_stops():
     found = []
-    for way in WAYS:
+    for way in (*WAYS, *STREAMS):
         most, late = calls(way)
         for call, count in sorted(most.items()):
+            if call in PASSED_OVER:
+                continue
             if call not in FAULTS and call not in OTHERS:
                 differs(f"{way}: nothing is known of the call {call}")
             hows = [("signal=KILL", 1)] + [(fault, late[call] + 1) for fault in FAULTS.get(call, ())]

@@ -24,17 +24,18 @@ head -c 524289 /dev/zero > long
 "$sealer" seal --key "$key" --ledger "$room/ledger" --device 1 long > "$room/lines" && mv long plain || exit 1
 cp long.stm damaged.stm && printf x | dd of=damaged.stm bs=1 seek=70000 conv=notrunc 2>/dev/null
 
-# under NAME TOOL STATUS ARGS..: a run under the tool, and one without it, each in a folder that has the given files
+# under NAME TOOL STATUS ARGS..: a run under the tool, and one without it, each in a folder that has the given files, with the journal as its
+# input, or what $input names
 under() {
-    local name=$1 tool=$2 wanted=$3 folder=$room/$1 found='' run
+    local name=$1 tool=$2 wanted=$3 folder=$room/$1 found='' run from=${input:-$journal}
     local options=(--tool="$tool" --error-exitcode=99 --num-callers=30 --fair-sched=yes --log-file="$room/$1/log")
     if [ "$tool" = memcheck ]; then
         options+=(--leak-check=full '--show-leak-kinds=all' '--errors-for-leak-kinds=all')
     fi
     shift 3
     mkdir "$folder" && cp -r "$room/given" "$folder/plain" && cp -r "$room/given" "$folder/tool"
-    (cd "$folder/plain" && "$sealer" "$@" < "$journal" > ../plain.out 2> ../plain.err; echo $? > ../plain.status)
-    (cd "$folder/tool" && valgrind "${options[@]}" "$sealer" "$@" < "$journal" > ../tool.out 2> ../tool.err; echo $? > ../tool.status)
+    (cd "$folder/plain" && "$sealer" "$@" < "$from" > ../plain.out 2> ../plain.err; echo $? > ../plain.status)
+    (cd "$folder/tool" && valgrind "${options[@]}" "$sealer" "$@" < "$from" > ../tool.out 2> ../tool.err; echo $? > ../tool.status)
     # by lanes which file gets which number is open
     sed -i 's/ file [0-9]* / /' "$folder/plain.out" "$folder/tool.out"
     for run in plain tool; do
@@ -66,7 +67,12 @@ limited help memcheck 0 --help
 limited seal memcheck 1 "${sealing[@]}" --exponent 12 --label ab small a none
 limited verify memcheck 1 verify --key "$key" --show long.stm damaged.stm none numbers.stm
 limited open memcheck 1 open --key "$key" long.stm damaged.stm numbers.stm small
+piping=(pipe --key "$key" --ledger ledger --device 1 --journal journal --exponent 12)
+input=$room/given/a limited pipe memcheck 0 "${piping[@]}"
+input=$room/given/a limited pipe-of-too-many-chunks memcheck 1 "${piping[@]}" --depth 2 --max-chunks 9
+input=$room/given limited pipe-of-a-folder memcheck 1 "${piping[@]}" --workers 2
 for tool in memcheck helgrind drd; do
+    input=$room/given/plain limited pipe-by-workers-$tool $tool 0 "${piping[@]}" --workers 2 --depth 3
     limited seal-by-workers-$tool $tool 0 "${sealing[@]}" --workers 2 --window 2 plain small
     limited seal-by-lanes-$tool $tool 1 "${sealing[@]}" --lanes 2 a none b c
     limited open-by-workers-$tool $tool 1 open --key "$key" --workers 2 long.stm damaged.stm

@@ -3,22 +3,27 @@ from fuzz.container import MOST, USUAL, Parts, shown
 from fuzz.run import Ask
 
 KEY, PLAIN = bytes(range(32)), bytes(range(200)) * 100
-# The least and the greatest value of the options that take a number: of each command, of `seal`, and for version 2.
+# The least and the greatest value of the options that take a number: of `open` and `verify`, of `seal`, of `pipe`, and for version 2.
 BOUNDS = {"--workers": (1, 16), "--max-bytes": (0, 2**52 - 2**20)}
-SEAL_BOUNDS = {"--max-bytes": (0, MOST), "--device": (0, 2**24 - 1), "--lanes": (1, 16), "--window": (1, 256)}
+SEAL_BOUNDS = {"--workers": (1, 16), "--max-bytes": (0, MOST), "--device": (0, 2**24 - 1), "--lanes": (1, 16), "--window": (1, 256)}
+PIPE_BOUNDS = {"--workers": (1, 16), "--device": (0, 2**24 - 1), "--depth": (1, 64), "--max-chunks": (1, 2**32 - 1)}
 SECOND_BOUNDS = {"--exponent": (12, 20)}
 LABELS = ("", "a", "two words", "\u00e4" * 127 + "b", "x" * 255, "\n")
 NO_NUMBERS = ("", " ", "x", "1x", "1.0", "0x1", "1e1", "1,0", "--", "99999999999999999999", "\uff11", "one", "1 1")
+# Options of other commands.
+NOT_OF_PIPE = ("--lanes=2", "--window=2", "--max-bytes=1", "--show", "--max-chunk=1")
 UNKNOWN = ("--worker", "--Workers", "--keys", "--key-file=key", "-k", "-w1", "--dry-run", "--max_bytes=1", "-1")
+# The commands that seal; `pipe` takes no file.
+SEALS = ("seal", "pipe")
 # What no command stands in, or more than `audit` takes.
 NO_COMMANDS = ([], ["--key", "key"], ["audit", "a"], ["audit", "--key", "key"], ["audit", "audit"], ["audit", "-1"])
 
 
 def bounds_of(command, first_only):
     """The options of a command that take a number, with their bounds."""
-    if command != "seal":
+    if command not in SEALS:
         return BOUNDS
-    return {**BOUNDS, **SEAL_BOUNDS, **({} if first_only else SECOND_BOUNDS)}
+    return {**(SEAL_BOUNDS if command == "seal" else PIPE_BOUNDS), **({} if first_only else SECOND_BOUNDS)}
 
 
 def lawful_options(rng, command, first_only):
@@ -27,14 +32,19 @@ def lawful_options(rng, command, first_only):
     for option, (least, most) in bounds_of(command, first_only).items():
         if option == "--device" or rng.random() < 0.3:
             given[option] = rng.choice((least, most, rng.randint(least, most), least + 1))
-    if rng.random() < 0.3:
+    if command != "pipe" and rng.random() < 0.3:
         given["--max-bytes"] = len(PLAIN) + rng.choice((-1, 0, 1))
-    if command == "seal":
+    if command in SEALS:
         given["--ledger"] = "ledger"
         if rng.random() < 0.1:
             given["--no-new-ledger"] = None
-    if not first_only and rng.random() < (0.4 if command == "seal" else 0.1):
+    if not first_only and rng.random() < (0.4 if command in SEALS else 0.1):
         given["--label"] = rng.choice(LABELS)
+    if command == "pipe" and rng.random() < 0.3:
+        given["--max-chunks"] = max(1, chunks(given) + rng.choice((-1, 0, 1)))
+    if command == "pipe" and rng.random() < 0.1:
+        # It is no terminal.
+        given["--force-terminal"] = None
     if not first_only and command == "verify" and rng.random() < 0.2:
         given["--show"] = None
     return given
@@ -53,69 +63,78 @@ def words_of(rng, options):
     return words
 
 
+def chunks(given):
+    """How many chunks PLAIN has, by these options."""
+    return -(-len(PLAIN) // (1 << given.get("--exponent", 16)))
+
+
 def sealed(given):
-    """The container of PLAIN as these options of `seal` ask for it, under the first number of a new ledger."""
+    """The container of PLAIN as these options of `seal` or `pipe` ask for it, under the first number of a new ledger."""
     prefix = given["--device"].to_bytes(3, "big") + bytes(4)
     is_second = "--exponent" in given or "--label" in given
     label = given.get("--label", "").encode() if is_second else None
     return Parts(KEY, prefix, PLAIN, given.get("--exponent", 16), label).data()
 
 
-# --- What is wrong with a command line. Each gives its words, before the file's name and from there on. ---
+# --- What is wrong with a command line. Each gives its words, before the file's name, where one is taken, and from there on. ---
 
 
-def number_past_a_bound(rng, command, given, name, first_only):
+def number_past_a_bound(rng, command, given, names, first_only):
     option, (least, most) = rng.choice(list(bounds_of(command, first_only).items()))
     given[option] = rng.choice((least - 1, most + 1, most + 1, -most - 1, most + 2**32, 2**64 + least))
-    return [command, *words_of(rng, list(given.items()))], [name]
+    return [command, *words_of(rng, list(given.items()))], names
 
 
-def no_number(rng, command, given, name, first_only):
+def no_number(rng, command, given, names, first_only):
     given[rng.choice(list(bounds_of(command, first_only)))] = rng.choice(NO_NUMBERS)
-    return [command, *words_of(rng, list(given.items()))], [name]
+    return [command, *words_of(rng, list(given.items()))], names
 
 
-def option_twice(rng, command, given, name, _):
+def option_twice(rng, command, given, names, _):
     options = list(given.items())
-    return [command, *words_of(rng, options + [rng.choice(options)])], [name]
+    return [command, *words_of(rng, options + [rng.choice(options)])], names
 
 
-def unknown_option(rng, command, given, name, _):
+def unknown_option(rng, command, given, names, _):
     words = words_of(rng, list(given.items()))
-    words.insert(rng.randrange(len(words) + 1), rng.choice(UNKNOWN))
-    return [command, *words], [name]
+    words.insert(rng.randrange(len(words) + 1), rng.choice(UNKNOWN + NOT_OF_PIPE * (command == "pipe")))
+    return [command, *words], names
 
 
-def something_left_out(rng, command, given, name, _):
-    required = rng.choice(["name", "--key"] + ["--ledger", "--device"] * (command == "seal"))
+def something_left_out(rng, command, given, names, _):
+    required = rng.choice(["name"] * len(names) + ["--key"] + ["--ledger", "--device"] * (command in SEALS))
     given.pop(required, None)
-    return [command, *words_of(rng, list(given.items()))], [] if required == "name" else [name]
+    return [command, *words_of(rng, list(given.items()))], [] if required == "name" else names
 
 
-def value_left_out(rng, command, given, name, first_only):
+def value_left_out(rng, command, given, names, first_only):
     option = rng.choice(["--key", *bounds_of(command, first_only)])
     given.pop(option, None)
-    return [command, *words_of(rng, list(given.items())), name], [option]
+    return [command, *words_of(rng, list(given.items())), *names], [option]
 
 
-def another_command(rng, command, given, name, _):
+def another_command(rng, command, given, names, _):
     other = rng.choice((command.upper(), command + "s", command[:-1], "", "-", "--", "-v", "unseal"))
-    return [other, *words_of(rng, list(given.items()))], [name]
+    return [other, *words_of(rng, list(given.items()))], names
 
 
-def value_of_a_flag(rng, command, given, name, _):
-    flag = "--no-new-ledger" if command == "seal" else "--show"
+def value_of_a_flag(rng, command, given, names, _):
+    flag = rng.choice(("--no-new-ledger", "--force-terminal")[: 1 + (command == "pipe")]) if command in SEALS else "--show"
     given.pop(flag, None)
-    return [command, *words_of(rng, list(given.items())), f"{flag}=yes"], [name]
+    return [command, *words_of(rng, list(given.items())), f"{flag}=yes"], names
 
 
-def label_too_long(rng, command, given, name, _):
+def label_too_long(rng, command, given, names, _):
     given["--label"] = rng.choice(("x" * 256, "\u00e4" * 128))
-    return [command, *words_of(rng, list(given.items()))], [name]
+    return [command, *words_of(rng, list(given.items()))], names
 
 
-def no_text(rng, command, given, name, _):
-    return [command, *words_of(rng, list(given.items()))], [name, "\udcff"]
+def no_text(rng, command, given, names, _):
+    return [command, *words_of(rng, list(given.items()))], [*names, "\udcff"]
+
+
+def file_of_a_pipe(rng, command, given, names, _):
+    return [command, *words_of(rng, list(given.items()))], ["a"]
 
 
 WRONGS = [
@@ -124,6 +143,8 @@ WRONGS = [
 ]
 # Not wrong where there are no labels.
 LABEL_WRONGS = [label_too_long]
+# Not wrong of the other commands.
+PIPE_WRONGS = [file_of_a_pipe]
 
 
 # --- The cases ---
@@ -137,8 +158,12 @@ def wanted_of(ask, command, given):
         ask.status, ask.faults = 2, "ledger: not there\n"
     elif len(PLAIN) > given.get("--max-bytes", USUAL):
         ask.status, ask.out = 1, [f"failed {ask.names[-1]}: too long"]
-    elif command != "seal" and "--label" in given:
+    elif command not in SEALS and "--label" in given:
         ask.status, ask.out = 1, [f"failed {ask.names[-1]}: another label"]
+    elif command == "pipe":
+        ask.container, ask.is_cut = sealed(given), chunks(given) > given.get("--max-chunks", 1 << 14)
+        ask.status = int(ask.is_cut)
+        ask.faults = "failed -: too many chunks\n" if ask.is_cut else f"sealed - file 0 bytes {len(PLAIN)}\n"
     elif command == "verify":
         ask.out = [f"good a.stm bytes {len(PLAIN)}"]
         ask.out += [shown(ask.files["a.stm"])] if "--show" in given else []
@@ -146,7 +171,7 @@ def wanted_of(ask, command, given):
         ask.out, ask.left = [f"opened a.stm bytes {len(PLAIN)}"], {"a": PLAIN}
     else:
         ask.out, ask.left = [f"sealed a file 0 bytes {len(PLAIN)}"], {"a.stm": sealed(given)}
-    if command == "seal" and ask.status != 2:
+    if command in SEALS and ask.status != 2:
         ask.may_leave = ("ledger", "ledger-wal", "ledger-shm")
 
 
@@ -154,15 +179,16 @@ def ask(rng, case, first_only):
     """One command line."""
     if rng.random() < 0.05:
         return Ask(case, rng.choice(NO_COMMANDS), [], {}, 2, [], None)
-    command = rng.choice(("verify", "open", "seal", "seal"))
+    command = rng.choice(("verify", "open", "seal", "seal", "pipe", "pipe"))
     given = lawful_options(rng, command, first_only)
-    name = "a" if command == "seal" else "a.stm"
-    data = PLAIN if command == "seal" else Parts(KEY, bytes(7), PLAIN).data()
-    files = {"key": KEY.hex().encode(), name: data}
+    files, names = {"key": KEY.hex().encode()}, []
+    if command != "pipe":
+        names = ["a" if command == "seal" else "a.stm"]
+        files[names[0]] = PLAIN if command == "seal" else Parts(KEY, bytes(7), PLAIN).data()
     if rng.random() < 0.75:
-        wrong = rng.choice(WRONGS + LABEL_WRONGS * (not first_only))
-        words, names = wrong(rng, command, given, name, first_only)
-        return Ask(case, words, names, files, 2, [], None)
-    asked = Ask(case, [command, *words_of(rng, list(given.items()))], ["--"] * rng.randrange(2) + [name], files, 0, [])
+        wrong = rng.choice(WRONGS + LABEL_WRONGS * (not first_only) + PIPE_WRONGS * (command == "pipe"))
+        words, names = wrong(rng, command, given, names, first_only)
+        return Ask(case, words, names, files, 2, [], None, PLAIN)
+    asked = Ask(case, [command, *words_of(rng, list(given.items()))], ["--"] * rng.randrange(2) + names, files, 0, [], input=PLAIN)
     wanted_of(asked, command, given)
     return asked

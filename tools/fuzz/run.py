@@ -24,6 +24,8 @@ class Ask:
     out: list  # the lines on standard output
     faults: object = ""  # what stands on standard error; None is anything but nothing
     input: bytes = b""
+    container: object = None  # the bytes on standard output, in the place of lines
+    is_cut: bool = False  # they are a beginning of these, and not all
     left: dict = dataclasses.field(default_factory=dict)  # the files that are there afterwards besides
     may_leave: tuple = ()  # files that may be there too
 
@@ -58,6 +60,11 @@ def wrong_files(folder, ask):
     return None
 
 
+def is_written(out, ask):
+    """Whether these bytes are the container that is wanted, or a beginning of it where it is cut."""
+    return out != ask.container and ask.container.startswith(out) if ask.is_cut else out == ask.container
+
+
 def differs(ask):
     """Runs the program. The answer tells what isn't as it is wanted, or is None."""
     with tempfile.TemporaryDirectory() as folder:
@@ -70,9 +77,11 @@ def differs(ask):
         out, faults = ran.stdout.decode(errors="replace"), ran.stderr.decode(errors="replace")
         wanted = "".join(f"{line}\n" for line in ask.out)
         if ran.returncode != ask.status:
-            return f"status {ran.returncode}, not {ask.status}; prints '{out}{faults}', not '{wanted}'"
-        if out != wanted:
+            return f"status {ran.returncode}, not {ask.status}; prints '{out[:200]}{faults}', not '{wanted}{ask.faults or ''}'"
+        if ask.container is None and out != wanted:
             return f"prints '{out}', not '{wanted}'"
+        if ask.container is not None and not is_written(ran.stdout, ask):
+            return f"writes {len(ran.stdout)} bytes, and not the container of {len(ask.container)}{', cut' * ask.is_cut}"
         if (not faults) if ask.faults is None else faults != ask.faults:
             return f"prints '{faults}' on standard error, not '{ask.faults or 'some text'}'"
         return wrong_files(folder, ask)
