@@ -16,8 +16,8 @@ mod trouble;
 pub use crate::piping::{PipeOptions, pipe_all};
 pub use crate::sealing::{SealOptions, seal_all};
 pub use command_core::{
-    Facts, FileFault, FileOutcome, Folder, FolderFault, KeyFault, Line, MAX_BYTES, OpenOptions,
-    Outs, open_all, read_key, verify_all,
+    Facts, FileFault, FileOutcome, Folder, FolderFault, KeyFault, Line, MAX_BYTES,
+    MAX_OPENED_BYTES, OpenOptions, Outs, open_all, read_key, verify_all,
 };
 pub use crew_core::{MAX_DEPTH, MAX_LANES, MAX_WINDOW, MAX_WORKERS};
 pub use engine_core::{

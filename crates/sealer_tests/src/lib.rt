@@ -1,4 +1,4 @@
-//! Tests of the commands of `sealer_core` over folders in memory, and of its key files.
+//! Tests of the commands of `sealer_core` over folders and streams in memory, and of its key files.
 #![tactic(auto)]
 
 #[cfg(test)]
@@ -10,6 +10,8 @@ mod keys;
 #[cfg(test)]
 mod lanes;
 #[cfg(test)]
+mod pipes;
+#[cfg(test)]
 mod runs;
 #[cfg(test)]
 mod sealing;
@@ -17,3 +19,5 @@ mod sealing;
 mod shapes;
 #[cfg(test)]
 mod stops;
+#[cfg(test)]
+mod streams;

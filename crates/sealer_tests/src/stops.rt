@@ -1,17 +1,22 @@
-//! `seal_all` over the two files of a ledger: the next run goes on without the log of the first; and a disk stops, one of the two files
-//! failing from some call on. Each call in turn is the first to fail, until a run has no stop.
+//! `seal_all` over the two files of a ledger: the next run goes on without the log of the first. And a disk stops below it and below
+//! `pipe_all`, one of the two files failing from some call on: each call in turn is the first to fail, until a run has no stop.
 use crate::cases::{Case, Left, Trouble, Work, ends_over};
 use crate::runs::{COUNTING, EMPTY, MemoryOuts, folder_of, has_bytes, seal_over, steady_outs};
+use crate::streams::sealed_or_unreserved;
 use container_core::{Key, open};
 use folder_memory::MemoryFolder;
 use reserve_core::{Fold, Keeper, LedgerFile};
 use sqlite::{Connection, FileStore, Files, Options};
 use sqlite_disk::{Disk, Fuse, Memory};
 use std::alloc::Global;
+use std::sync::Wait;
 use std::thread::Threads;
 
 // The ledger over these files. Its database has little memory, which is filled each time that one is opened.
-fn ledger_over<D: Disk + Drop>(alloc: Global, files: Files<D>) -> Option<LedgerFile<FileStore<D>>> {
+pub(crate) fn ledger_over<D: Disk + Drop>(
+    alloc: Global,
+    files: Files<D>,
+) -> Option<LedgerFile<FileStore<D>>> {
     if !files.may_be_used() {
         return None;
     }
@@ -76,7 +81,7 @@ fn opens_to(alloc: Global, sealed: &[u8], plain: &[u8]) -> bool {
 }
 
 // The database file of a ledger that was folded.
-fn database_of(file: LedgerFile<FileStore<Memory>>) -> Option<Memory> {
+pub(crate) fn database_of(file: LedgerFile<FileStore<Memory>>) -> Option<Memory> {
     match file {
         LedgerFile::Kept(_kept) => None,
         LedgerFile::Folded(files) => {
@@ -136,17 +141,26 @@ fn a_second_run_without_the_log_goes_on_behind_the_numbers_of_the_first(rt: Host
 enum End {
     // The ledger file could not be opened.
     Unopened,
-    // It was open, and no number was reserved or the log not copied: no file was touched, and the text says so.
+    // It was open, and no number was reserved or the log not copied: nothing was touched, and the text says so.
     Refused,
-    // The file was sealed.
+    // The file or the stream was sealed.
     Sealed,
     Other,
 }
 
-fn end_over<R: AllocGlobal + Threads + Sync, S: Fold>(
+// The end of `seal_all` over a file, or of `pipe_all` over a stream.
+fn end_over<R: AllocGlobal + Threads + Wait + Sync, S: Fold>(
     rt: &R,
     file: &mut LedgerFile<S>,
+    pipes: bool,
 ) -> Option<End> {
+    if pipes {
+        return Some(match sealed_or_unreserved(rt, file) {
+            Some(true) => End::Sealed,
+            Some(false) => End::Refused,
+            None => End::Other,
+        });
+    }
     let mut folder = folder_of(rt.alloc(), &[("a", b"")])?;
     let mut out = steady_outs(rt.alloc())?;
     let status = seal_over(rt, file, &mut folder, &["a"], &mut out, 8, 1, 1)?;
@@ -169,27 +183,32 @@ fn end_of(status: u8, folder: &MemoryFolder, out: &MemoryOuts) -> End {
 }
 
 // The end of a run whose files fail each call after so many.
-fn end_after<R: AllocGlobal + Threads + Sync>(
+fn end_after<R: AllocGlobal + Threads + Wait + Sync>(
     rt: &R,
     log_calls: u64,
     db_calls: u64,
+    pipes: bool,
 ) -> Option<End> {
     let log = Fuse::new(Memory::new(rt.alloc()), log_calls);
     let db = Fuse::new(Memory::new(rt.alloc()), db_calls);
     match ledger_over(rt.alloc(), Files { log, db }) {
-        Some(mut file) => end_over(rt, &mut file),
+        Some(mut file) => end_over(rt, &mut file, pipes),
         None => Some(End::Unopened),
     }
 }
 
 // How many runs were refused before the first that sealed. `None` where one ended in another way.
-fn refused_before<R: AllocGlobal + Threads + Sync>(rt: &R, of_log: bool) -> Option<u32> {
+fn refused_before<R: AllocGlobal + Threads + Wait + Sync>(
+    rt: &R,
+    of_log: bool,
+    pipes: bool,
+) -> Option<u32> {
     let mut refused = 0u32;
     for calls in 0..1000u64 {
         let end = if of_log {
-            end_after(rt, calls, u64::MAX)?
+            end_after(rt, calls, u64::MAX, pipes)?
         } else {
-            end_after(rt, u64::MAX, calls)?
+            end_after(rt, u64::MAX, calls, pipes)?
         };
         match end {
             End::Unopened => {}
@@ -202,8 +221,8 @@ fn refused_before<R: AllocGlobal + Threads + Sync>(rt: &R, of_log: bool) -> Opti
 }
 
 // Whether some runs are refused, and each ends in a way that is told.
-fn are_refused<R: AllocGlobal + Threads + Sync>(rt: &R, of_log: bool) -> bool {
-    match refused_before(rt, of_log) {
+fn are_refused<R: AllocGlobal + Threads + Wait + Sync>(rt: &R, of_log: bool, pipes: bool) -> bool {
+    match refused_before(rt, of_log, pipes) {
         Some(refused) => refused > 0,
         None => false,
     }
@@ -211,6 +230,12 @@ fn are_refused<R: AllocGlobal + Threads + Sync>(rt: &R, of_log: bool) -> bool {
 
 #[test]
 fn where_the_disk_of_the_ledger_stops_no_file_is_touched(rt: HostRuntime) {
-    assert!(rt; are_refused(&rt, true));
-    assert!(rt; are_refused(&rt, false));
+    assert!(rt; are_refused(&rt, true, false));
+    assert!(rt; are_refused(&rt, false, false));
+}
+
+#[test]
+fn where_the_disk_of_the_ledger_stops_no_stream_is_read(rt: HostRuntime) {
+    assert!(rt; are_refused(&rt, true, true));
+    assert!(rt; are_refused(&rt, false, true));
 }

@@ -1,0 +1,200 @@
+//! Streams: a run of `pipe_all` over a reader and a writer in memory, what it has to tell, and what it has to write. It is
+//! under the key 00 01 .. 1f and device 1, in at most two chunks of 4 KiB under an empty label, by two workers with four
+//! chunks in hand.
+use crate::runs::{COUNTING, MemoryOuts, journal_of, ledger_after, outs};
+use container_core::{Key, Shape, seal};
+use io_memory::{FromMemory, Schedule, ToMemory};
+use ledger_core::{Device, Failed, fill};
+use reserve_core::{Fold, LedgerFile};
+use sealer_core::{PipeOptions, pipe_all};
+use sha2::{Digest, Sha256};
+use std::alloc::Global;
+use std::sync::Wait;
+use std::thread::Threads;
+
+// What is written.
+#[derive(Clone, Copy)]
+pub(crate) enum Left<'a> {
+    // Nothing, and nothing is read.
+    Untouched,
+    Is(&'a [u8]),
+    // So many bytes with this SHA-256.
+    Whole(usize, &'a [u8; 32]),
+    // So many bytes at least, and no more than these, of the stream's container under number 0, which has this SHA-256.
+    Begun(usize, usize, &'a [u8; 32]),
+}
+
+// A run, what it has to tell, where no journal is an empty one, and what it writes.
+#[derive(Clone, Copy)]
+pub(crate) struct Run<'a> {
+    // How many bytes the stream has, and how many are read and written a call.
+    pub(crate) count: usize,
+    pub(crate) step: usize,
+    pub(crate) reads: Schedule,
+    pub(crate) writes: Schedule,
+    // Of the writer of the line, and of the journal's, where one is asked for.
+    pub(crate) lines: Schedule,
+    pub(crate) journals: Option<Schedule>,
+    pub(crate) status: u8,
+    pub(crate) line: &'a [u8],
+    pub(crate) journal: &'a [u8],
+    pub(crate) left: Left<'a>,
+}
+
+// How a run ended.
+#[derive(Drop)]
+struct Ended {
+    status: u8,
+    writer: ToMemory,
+    out: MemoryOuts,
+    // How many bytes of the stream were not read, where none of the reader's calls fails any more.
+    unread: usize,
+}
+
+fn outs_of(alloc: Global, run: &Run) -> Option<MemoryOuts> {
+    let mut out = outs(
+        alloc,
+        Schedule::Never,
+        run.journals.unwrap_or(Schedule::Never),
+    )?;
+    out.faults = ToMemory::new(alloc, 64, 64, run.lines).ok()?;
+    if run.journals.is_none() {
+        out.journal = None;
+    }
+    Some(out)
+}
+
+// How many bytes a reader has left, of 10,000 at most; 0 where it fails.
+fn unread_of(alloc: Global, reader: &mut FromMemory<'_>) -> Option<usize> {
+    let mut rest = vec![in alloc; 0u8; 10_000].ok()?;
+    match fill(reader, rest.as_mut_slice()) {
+        Ok(count) => Some(count),
+        Err(Failed) => Some(0),
+    }
+}
+
+// The status of `pipe_all` over this ledger file.
+fn status_over<R: AllocGlobal + Threads + Wait + Sync, S: Fold>(
+    rt: &R,
+    file: &mut LedgerFile<S>,
+    reader: &mut FromMemory<'_>,
+    writer: &mut ToMemory,
+    out: &mut MemoryOuts,
+) -> Option<u8> {
+    let shape = Shape::two(12, b"").ok()?;
+    let options = PipeOptions {
+        device: Device::new(1)?,
+        workers: 2,
+        depth: 4,
+        max_chunks: 2,
+        shape: &shape,
+    };
+    let key = Key::new(COUNTING);
+    Some(pipe_all(rt, rt.alloc(), &key, file, reader, writer, &options, out))
+}
+
+fn end_over<R: AllocGlobal + Threads + Wait + Sync, S: Fold>(
+    rt: &R,
+    file: &mut LedgerFile<S>,
+    run: &Run,
+) -> Option<Ended> {
+    let plain = vec![in rt.alloc(); 0u8; run.count].ok()?;
+    let mut reader = FromMemory::new(plain.as_slice(), run.step, run.reads);
+    let mut writer = ToMemory::new(rt.alloc(), 64, run.step, run.writes).ok()?;
+    let mut out = outs_of(rt.alloc(), run)?;
+    let status = status_over(rt, file, &mut reader, &mut writer, &mut out)?;
+    let unread = unread_of(rt.alloc(), &mut reader)?;
+    Some(Ended {
+        status,
+        writer,
+        out,
+        unread,
+    })
+}
+
+// Whether bytes are a beginning, of a length in this range, of the container with this SHA-256 of so many zero bytes.
+fn is_begun(
+    alloc: Global,
+    bytes: &[u8],
+    count: usize,
+    least: usize,
+    most: usize,
+    digest: &[u8; 32],
+) -> Option<bool> {
+    let plain = vec![in alloc; 0u8; count].ok()?;
+    let shape = Shape::two(12, b"").ok()?;
+    // Device 1, number 0.
+    let prefix = [0, 0, 1, 0, 0, 0, 0];
+    let whole = seal(alloc, &Key::new(COUNTING), &shape, prefix, plain.as_slice()).ok()?;
+    let is_known = Sha256::digest(whole.as_slice()) == *digest;
+    let fits = least <= bytes.len() && bytes.len() <= most;
+    Some(is_known && fits && whole.as_slice().starts_with(bytes))
+}
+
+fn is_written(alloc: Global, ended: &Ended, run: &Run) -> bool {
+    let bytes = ended.writer.bytes();
+    match run.left {
+        Left::Untouched => bytes.is_empty() && ended.unread == run.count,
+        Left::Is(all) => bytes == all,
+        Left::Whole(length, digest) => bytes.len() == length && Sha256::digest(bytes) == *digest,
+        Left::Begun(least, most, digest) => {
+            is_begun(alloc, bytes, run.count, least, most, digest) == Some(true)
+        }
+    }
+}
+
+// Whether a run ended as it has to.
+fn is_as(alloc: Global, ended: &Ended, run: &Run) -> bool {
+    ended.status == run.status
+        && ended.out.faults.bytes() == run.line
+        && ended.out.lines.bytes().is_empty()
+        && journal_of(&ended.out) == run.journal
+        && is_written(alloc, ended, run)
+}
+
+pub(crate) fn ends_over<R: AllocGlobal + Threads + Wait + Sync, S: Fold>(
+    rt: &R,
+    file: &mut LedgerFile<S>,
+    run: &Run,
+) -> bool {
+    match end_over(rt, file, run) {
+        Some(ended) => is_as(rt.alloc(), &ended, run),
+        None => false,
+    }
+}
+
+// The same over a new ledger file.
+pub(crate) fn ends<R: AllocGlobal + Threads + Wait + Sync>(rt: &R, run: &Run) -> bool {
+    match ledger_after(rt.alloc(), "") {
+        Some(mut file) => ends_over(rt, &mut file, run),
+        None => false,
+    }
+}
+
+// Whether a run ended as the first or as the second has to; `None` where it ended in another way.
+pub(crate) fn sealed_or_failed<R: AllocGlobal + Threads + Wait + Sync>(
+    rt: &R,
+    sealed: &Run,
+    failed: &Run,
+) -> Option<bool> {
+    match ledger_after(rt.alloc(), "") {
+        Some(mut file) => first_or_second(rt, &mut file, sealed, failed),
+        None => None,
+    }
+}
+
+pub(crate) fn first_or_second<R: AllocGlobal + Threads + Wait + Sync, S: Fold>(
+    rt: &R,
+    file: &mut LedgerFile<S>,
+    first: &Run,
+    second: &Run,
+) -> Option<bool> {
+    let ended = end_over(rt, file, first)?;
+    if is_as(rt.alloc(), &ended, first) {
+        Some(true)
+    } else if is_as(rt.alloc(), &ended, second) {
+        Some(false)
+    } else {
+        None
+    }
+}

@@ -1,0 +1,300 @@
+//! `pipe_all` over streams of zero bytes. What is written is of Python's `cryptography` and `hashlib`, under the key
+//! 00 01 .. 1f and device 1; lines and journals are written by hand.
+use crate::pipes::{Left, Run, ends, ends_over, first_or_second, sealed_or_failed};
+use crate::runs::is_legal;
+use crate::stops::{database_of, ledger_over};
+use io_memory::Schedule;
+use reserve_core::{Fold, LedgerFile};
+use sqlite::Files;
+use sqlite_disk::Memory;
+use std::sync::Wait;
+use std::thread::Threads;
+
+// The container of no byte under number 0.
+const EMPTY: [u8; 41] = [
+    0x53, 0x54, 0x52, 0x4d, 0x53, 0x45, 0x41, 0x4c, 0x02, 0x0c, 0x00, 0x00, 0x01, 0x00, 0x00, 0x00,
+    0x00, 0x63, 0x0d, 0xcd, 0x29, 0x66, 0xc4, 0x33, 0x00, 0xc6, 0x9f, 0x37, 0x43, 0xf1, 0x49, 0x2f,
+    0x12, 0x0b, 0xda, 0xaf, 0x05, 0x62, 0x48, 0xbb, 0x14,
+];
+
+// The SHA-256 of the container of 8,192 bytes under number 0.
+const FIRST: [u8; 32] = [
+    0x11, 0x81, 0x88, 0x9c, 0x0d, 0x4d, 0x08, 0x31, 0x24, 0x17, 0x11, 0x63, 0x04, 0x21, 0x78, 0xc2,
+    0x8b, 0xa3, 0x27, 0xcd, 0xd6, 0xa8, 0x88, 0x86, 0x62, 0x34, 0x9b, 0x5c, 0x1d, 0xe2, 0x27, 0x37,
+];
+
+// That of the same bytes under number 1.
+const SECOND: [u8; 32] = [
+    0xf9, 0xb9, 0x84, 0x77, 0xfb, 0xd2, 0xb1, 0x1f, 0xa5, 0xc8, 0xeb, 0xf8, 0xf7, 0x78, 0x4d, 0x59,
+    0x9b, 0x3f, 0xa7, 0x62, 0xb8, 0xd4, 0x88, 0x18, 0x50, 0x04, 0xfe, 0xc2, 0x11, 0xdf, 0x5a, 0x5a,
+];
+
+// That of 8,193 bytes under number 0.
+const A_BYTE_MORE: [u8; 32] = [
+    0x62, 0xd8, 0xdd, 0x59, 0xef, 0x16, 0xb8, 0x2c, 0x2f, 0x56, 0x41, 0x40, 0x44, 0xea, 0x20, 0xe9,
+    0xd1, 0x98, 0x83, 0xae, 0x7a, 0x26, 0xaa, 0x29, 0xb7, 0xd0, 0x9f, 0x79, 0x0d, 0x61, 0x4a, 0x9e,
+];
+
+static TWO_CHUNKS: Run = Run {
+    count: 8_192,
+    step: 1_000,
+    reads: Schedule::Never,
+    writes: Schedule::Never,
+    lines: Schedule::Never,
+    journals: Some(Schedule::Never),
+    status: 0,
+    line: b"sealed - file 0 bytes 8192\n",
+    journal: b"range 1 0 1 1\n0 issue 0\n0 sealed 0\n",
+    left: Left::Whole(8_249, &FIRST),
+};
+
+// ---- streams that are sealed
+
+#[test]
+fn two_chunks_are_sealed_and_the_line_is_on_standard_error(rt: HostRuntime) {
+    assert!(rt; ends(&rt, &TWO_CHUNKS));
+    let line = b"legal: 1 granted, 1 sealed, 0 void, 0 open, 0 refused\n";
+    assert!(rt; is_legal(rt.alloc(), TWO_CHUNKS.journal, line) == Some(true));
+}
+
+static WITHOUT_A_JOURNAL: Run = Run {
+    count: 8_192,
+    step: usize::MAX,
+    reads: Schedule::Never,
+    writes: Schedule::Never,
+    lines: Schedule::Never,
+    journals: None,
+    status: 0,
+    line: b"sealed - file 0 bytes 8192\n",
+    journal: b"",
+    left: Left::Whole(8_249, &FIRST),
+};
+
+#[test]
+fn without_a_journal_a_stream_is_sealed(rt: HostRuntime) {
+    assert!(rt; ends(&rt, &WITHOUT_A_JOURNAL));
+}
+
+#[test]
+fn a_byte_a_call_is_the_same(rt: HostRuntime) {
+    let mut run = TWO_CHUNKS;
+    run.step = 1;
+    assert!(rt; ends(&rt, &run));
+}
+
+static NO_BYTE: Run = Run {
+    count: 0,
+    step: 1_000,
+    reads: Schedule::Never,
+    writes: Schedule::Never,
+    lines: Schedule::Never,
+    journals: Some(Schedule::Never),
+    status: 0,
+    line: b"sealed - file 0 bytes 0\n",
+    journal: b"range 1 0 1 1\n0 issue 0\n0 sealed 0\n",
+    left: Left::Is(&EMPTY),
+};
+
+#[test]
+fn no_byte_is_sealed_as_one_empty_chunk(rt: HostRuntime) {
+    assert!(rt; ends(&rt, &NO_BYTE));
+}
+
+// ---- streams that fail
+
+// The header was written before anything was read; how many chunks were is the workers' affair.
+static TOO_MANY: Run = Run {
+    count: 8_193,
+    step: 1_000,
+    reads: Schedule::Never,
+    writes: Schedule::Never,
+    lines: Schedule::Never,
+    journals: Some(Schedule::Never),
+    status: 1,
+    line: b"failed -: too many chunks\n",
+    journal: b"range 1 0 1 1\n0 issue 0\n0 void 0\n",
+    left: Left::Begun(25, 8_266, &A_BYTE_MORE),
+};
+
+#[test]
+fn a_byte_past_the_most_chunks_voids_the_number(rt: HostRuntime) {
+    assert!(rt; ends(&rt, &TOO_MANY));
+    let line = b"legal: 1 granted, 0 sealed, 1 void, 0 open, 0 refused\n";
+    assert!(rt; is_legal(rt.alloc(), TOO_MANY.journal, line) == Some(true));
+}
+
+// In the tag of chunk 0.
+static WRITE_FAILED: Run = Run {
+    count: 8_192,
+    step: 1_000,
+    reads: Schedule::Never,
+    writes: Schedule::Bytes(4_130),
+    lines: Schedule::Never,
+    journals: Some(Schedule::Never),
+    status: 1,
+    line: b"failed -: write failed\n",
+    journal: b"range 1 0 1 1\n0 issue 0\n0 void 0\n",
+    left: Left::Begun(4_130, 4_130, &FIRST),
+};
+
+#[test]
+fn a_failed_write_voids_the_number(rt: HostRuntime) {
+    assert!(rt; ends(&rt, &WRITE_FAILED));
+}
+
+// Behind 4,097 bytes chunk 0 may be sealed, and chunk 1 isn't.
+static READ_FAILED: Run = Run {
+    count: 8_192,
+    step: 1_000,
+    reads: Schedule::Bytes(8_191),
+    writes: Schedule::Never,
+    lines: Schedule::Never,
+    journals: Some(Schedule::Never),
+    status: 1,
+    line: b"failed -: read failed\n",
+    journal: b"range 1 0 1 1\n0 issue 0\n0 void 0\n",
+    left: Left::Begun(25, 4_137, &FIRST),
+};
+
+#[test]
+fn a_failed_read_voids_the_number(rt: HostRuntime) {
+    assert!(rt; ends(&rt, &READ_FAILED));
+}
+
+// How many runs fail, each at the next call of the reader or of the writer, before one that fails at none.
+fn failed_before<R: AllocGlobal + Threads + Wait + Sync>(rt: &R, of_reader: bool) -> Option<u64> {
+    for call in 0..100u64 {
+        let mut sealed = TWO_CHUNKS;
+        let mut failed = READ_FAILED;
+        failed.reads = Schedule::Never;
+        if of_reader {
+            sealed.reads = Schedule::Call(call);
+        } else {
+            sealed.writes = Schedule::Call(call);
+            failed.line = WRITE_FAILED.line;
+            failed.left = Left::Begun(0, 8_248, &FIRST);
+        }
+        match sealed_or_failed(rt, &sealed, &failed) {
+            Some(true) => return Some(call),
+            Some(false) => {}
+            None => return None,
+        }
+    }
+    None
+}
+
+// Of 1,000 bytes a call: 4,097 by five, 4,095 by five more, and the end.
+#[test]
+fn each_failed_read_is_told(rt: HostRuntime) {
+    assert!(rt; failed_before(&rt, true) == Some(11));
+}
+
+// Of 1,000 bytes a call: the header by one, and each sealed chunk, of 4,112 bytes, by five.
+#[test]
+fn each_failed_write_is_told(rt: HostRuntime) {
+    assert!(rt; failed_before(&rt, false) == Some(11));
+}
+
+// ---- the line and the journal
+
+static LINE_FAILED: Run = Run {
+    count: 8_192,
+    step: 1_000,
+    reads: Schedule::Never,
+    writes: Schedule::Never,
+    lines: Schedule::Bytes(8),
+    journals: Some(Schedule::Never),
+    status: 2,
+    line: b"sealed -",
+    journal: b"range 1 0 1 1\n0 issue 0\n0 sealed 0\n",
+    left: Left::Whole(8_249, &FIRST),
+};
+
+#[test]
+fn a_line_that_fails_is_status_2_and_the_journal_is_written(rt: HostRuntime) {
+    assert!(rt; ends(&rt, &LINE_FAILED));
+}
+
+static JOURNAL_FAILED: Run = Run {
+    count: 8_192,
+    step: 1_000,
+    reads: Schedule::Never,
+    writes: Schedule::Never,
+    lines: Schedule::Never,
+    journals: Some(Schedule::Bytes(9)),
+    status: 2,
+    line: b"sealed - file 0 bytes 8192\njournal: write failed\n",
+    journal: b"range 1 0",
+    left: Left::Whole(8_249, &FIRST),
+};
+
+#[test]
+fn a_journal_that_fails_is_status_2_and_the_line_stands(rt: HostRuntime) {
+    assert!(rt; ends(&rt, &JOURNAL_FAILED));
+}
+
+// ---- the ledger file
+
+static UNRESERVED: Run = Run {
+    count: 8_192,
+    step: 1_000,
+    reads: Schedule::Never,
+    writes: Schedule::Never,
+    lines: Schedule::Never,
+    journals: Some(Schedule::Never),
+    status: 2,
+    line: b"ledger: store failed\n",
+    journal: b"",
+    left: Left::Untouched,
+};
+
+// Whether two chunks are sealed by a run over this ledger file; `Some(false)` where no range is reserved, and nothing
+// read or written. `None` where it ends in another way.
+pub(crate) fn sealed_or_unreserved<R: AllocGlobal + Threads + Wait + Sync, S: Fold>(
+    rt: &R,
+    file: &mut LedgerFile<S>,
+) -> Option<bool> {
+    first_or_second(rt, file, &TWO_CHUNKS, &UNRESERVED)
+}
+
+static UNDER_NUMBER_1: Run = Run {
+    count: 8_192,
+    step: 1_000,
+    reads: Schedule::Never,
+    writes: Schedule::Never,
+    lines: Schedule::Never,
+    journals: Some(Schedule::Never),
+    status: 0,
+    line: b"sealed - file 1 bytes 8192\n",
+    journal: b"range 1 1 1 1\n0 issue 1\n0 sealed 1\n",
+    left: Left::Whole(8_249, &SECOND),
+};
+
+// The database file that a run over this one and an empty log leaves, where it ends as it has to.
+fn database_after<R: AllocGlobal + Threads + Wait + Sync>(
+    rt: &R,
+    db: Memory,
+    run: &Run,
+) -> Option<Memory> {
+    let log = Memory::new(rt.alloc());
+    let mut file = ledger_over(rt.alloc(), Files { log, db })?;
+    if ends_over(rt, &mut file, run) {
+        database_of(file)
+    } else {
+        None
+    }
+}
+
+// Whether one run and then another, over what the first one leaves, end as they have to.
+fn both_end<R: AllocGlobal + Threads + Wait + Sync>(rt: &R, first: &Run, second: &Run) -> bool {
+    match database_after(rt, Memory::new(rt.alloc()), first) {
+        Some(db) => database_after(rt, db, second).is_some(),
+        None => false,
+    }
+}
+
+#[test]
+fn the_next_run_has_the_next_number(rt: HostRuntime) {
+    assert!(rt; both_end(&rt, &TWO_CHUNKS, &UNDER_NUMBER_1));
+    assert!(rt; both_end(&rt, &WRITE_FAILED, &UNDER_NUMBER_1));
+}
