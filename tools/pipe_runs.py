@@ -5,7 +5,8 @@ What has to be written is computed by tools/seal_container.py, which knows docs/
 
 - Streams of each length around the bounds of a chunk, at three sizes of chunks, by several workers and depths, and the greatest and least values of
   each option; a stream of one byte more than --max-chunks has.
-- A stream of GIGABYTES (8) of zeros from `head`, by four workers at depth 16 in 256 MiB of addresses: each chunk is opened as it comes.
+- A stream of GIGABYTES (8; the gate gives 2) of zeros from `head`, by four workers at depth 16 in 256 MiB of addresses: each chunk is opened as it
+  comes, and no more memory is taken than by an empty stream and so many chunks.
 - Readers that stall for ten seconds, and a source that does: the program takes less than a tenth of a processor second.
 - A chunk is written once a byte behind it came, at depth 1, and not before.
 - Readers that end early, and full disks: what came begins the container, the number is void, and the next run has another.
