@@ -274,7 +274,7 @@ class Stalls(threading.Thread):
 
     def __init__(self):
         super().__init__()
-        self.runs = []
+        self.runs, self.most = [], 0
         plain = NOISE[:6_000_000]
         with open("stalled", "wb") as file:
             file.write(plain)
@@ -296,6 +296,7 @@ class Stalls(threading.Thread):
         time.sleep(STALL)
         for (what, run, feed), first in zip(self.runs, before):
             took = ticks(run.pid) - first
+            self.most = max(self.most, took)
             if took >= IDLE:
                 differs(what, f"{took} processor seconds in {STALL} s")
             if run.poll() is not None:
@@ -515,6 +516,7 @@ def main():
         print(line[:1000])
     if told:
         sys.exit(f"pipe_runs: {len(told)} faults in {count} streams (seed {seed})")
+    print(f"pipe_runs: {stalls.most:.2f} processor seconds at most in a stall of {STALL}")
     print(f"pipe_runs: {cut} of 50 runs were killed (seed {seed}); {'a' if mounted else 'left out: a'} file system of 1 MiB")
     print(f"{count} streams as they should be, in {time.monotonic() - begun:.0f} s")
 
