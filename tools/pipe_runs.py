@@ -5,7 +5,8 @@ What has to be written is computed by tools/seal_container.py, which knows docs/
 
 - Streams of each length around the bounds of a chunk, at three sizes of chunks, by several workers and depths, and the greatest and least values of
   each option; a stream of one byte more than --max-chunks has.
-- A stream of GIGABYTES (8) of zeros from `head`, by four workers at depth 16 in 256 MiB of addresses: each chunk is opened as it comes.
+- A stream of GIGABYTES (8; the gate gives 2) of zeros from `head`, by four workers at depth 16 in 256 MiB of addresses: each chunk is opened as it
+  comes, and no more memory is taken than by an empty stream and so many chunks.
 - Readers that stall for ten seconds, and a source that does: the program takes less than a tenth of a processor second.
 - A chunk is written once a byte behind it came, at depth 1, and not before.
 - Readers that end early, and full disks: what came begins the container, the number is void, and the next run has another.
@@ -208,10 +209,28 @@ def too_many():
             differs("too many chunks", "the next number")
 
 
+def resident(pid):
+    """The greatest resident memory of a process so far, in bytes."""
+    with open(f"/proc/{pid}/status", encoding="ascii") as status:
+        return int(re.search(r"VmHWM:\s*([0-9]+) kB", status.read())[1]) << 10
+
+
+def of_an_empty_stream():
+    """The greatest resident memory of a run that reads nothing."""
+    run = subprocess.Popen(words_of("--workers", "4"), stdin=subprocess.PIPE, stdout=subprocess.PIPE, stderr=subprocess.DEVNULL)
+    run.stdout.read(HEADER)
+    time.sleep(0.2)
+    peak = resident(run.pid)
+    run.communicate()
+    return peak
+
+
 def long_stream():
-    """Gigabytes of zeros in 256 MiB of addresses: each chunk is opened as it comes, and is zeros."""
+    """Gigabytes of zeros in 256 MiB of addresses: each chunk is opened as it comes, and is zeros. No more memory than an empty stream's and so many
+    chunks is taken."""
     global count
     count += 1
+    least = of_an_empty_stream()
     begun, chunks = time.monotonic(), gigabytes << 14
     options = ["--workers", "4", "--depth", "16", "--max-chunks", str(chunks)]
     head = subprocess.Popen(["head", "-c", str(gigabytes << 30), "/dev/zero"], stdout=subprocess.PIPE)
@@ -229,9 +248,7 @@ def long_stream():
                 break
             at += 1
             if at == chunks // 2:
-                # resident at most, in bytes, so far
-                with open(f"/proc/{run.pid}/status", encoding="ascii") as status:
-                    peak = int(re.search(r"VmHWM:\s*([0-9]+) kB", status.read())[1]) << 10
+                peak = resident(run.pid)
     except InvalidTag:
         differs("the long stream", f"chunk {at} does not check")
     run.stdout.close()
@@ -240,9 +257,9 @@ def long_stream():
     head.wait()
     if (status, err, at) != (0, f"sealed - file {number} bytes {gigabytes << 30}\n", chunks):
         differs("the long stream", f"{at} chunks, status {status}", err)
-    if peak > (8 << 20) + 20 * CHUNK:
-        differs("the long stream", f"{peak} bytes of memory")
-    print(f"pipe_runs: {gigabytes} GiB in {time.monotonic() - begun:.1f} s, {peak >> 10} KiB of memory at most")
+    if peak > least + (16 + 4) * CHUNK:
+        differs("the long stream", f"{peak} bytes of memory, where an empty stream takes {least}")
+    print(f"pipe_runs: {gigabytes} GiB in {time.monotonic() - begun:.1f} s, {peak >> 10} KiB of memory at most, and {least >> 10} of an empty stream")
 
 
 def ticks(pid):
@@ -257,7 +274,7 @@ class Stalls(threading.Thread):
 
     def __init__(self):
         super().__init__()
-        self.runs = []
+        self.runs, self.most = [], 0
         plain = NOISE[:6_000_000]
         with open("stalled", "wb") as file:
             file.write(plain)
@@ -279,6 +296,7 @@ class Stalls(threading.Thread):
         time.sleep(STALL)
         for (what, run, feed), first in zip(self.runs, before):
             took = ticks(run.pid) - first
+            self.most = max(self.most, took)
             if took >= IDLE:
                 differs(what, f"{took} processor seconds in {STALL} s")
             if run.poll() is not None:
@@ -446,8 +464,7 @@ def on_a_terminal(*options):
         words_of("--journal", "journal", *options, ledger="terminal"), stdin=subprocess.PIPE, stdout=terminal, stderr=subprocess.PIPE
     )
     os.close(terminal)
-    run.stdin.write(b"seen")
-    run.stdin.close()
+    fed(run.stdin, b"seen")
     got = b""
     try:
         while more := os.read(master, 1 << 16):
@@ -499,6 +516,7 @@ def main():
         print(line[:1000])
     if told:
         sys.exit(f"pipe_runs: {len(told)} faults in {count} streams (seed {seed})")
+    print(f"pipe_runs: {stalls.most:.2f} processor seconds at most in a stall of {STALL}")
     print(f"pipe_runs: {cut} of 50 runs were killed (seed {seed}); {'a' if mounted else 'left out: a'} file system of 1 MiB")
     print(f"{count} streams as they should be, in {time.monotonic() - begun:.0f} s")
 

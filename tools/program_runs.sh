@@ -878,6 +878,7 @@ wants stream-key 2 '' 'key: cannot open'
 piped --journal life/stream/journal < numbers.plain
 wants stream-journal-exists 2 '' 'journal: output exists'
 rm life/stream/journal
+rm -f life/stream/ledger-wal
 piped --journal life/stream/ledger-wal < numbers.plain
 wants stream-journal-at-the-log 2 '' 'journal: cannot create'
 piped --journal life/no/journal < numbers.plain

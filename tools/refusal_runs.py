@@ -3,11 +3,12 @@
 writes that move few bytes (tools/refuse.c).
 
 Of each kind of run below the 1st, 2nd, .. allocation is refused alone, and in other runs that one and all after it, until a run meets no
-refusal. Of a sealing each second is refused with all after it, over a log each fourth both ways, and of a stream by two workers the last ones, behind
-the ledger's; EVERY is a number by which these distances are multiplied, or 0 for all. And of each read and write what is beyond 1, 2, 4, 8, .. bytes. The kinds are worked side by side over the processors. Whatever is refused: the run ends by itself
-with a status and a text of docs/MANUAL.md, and both fit its lines; an output is there whole or not at all, and not where its line says that it
-failed, but of a stream what was written begins its container; a journal that was written is legal; no other file is left; and the next run on the ledger succeeds, under a number that no
-output has, nor a journal.
+refusal. Of a sealing each second is refused with all after it, over a log each fourth both ways, and of a stream the last ones, behind the
+ledger's, and each fourth and eighth of all; EVERY is a number by which these distances are multiplied, or 0 for all. And of each read and write
+what is beyond 1, 2, 4, 8, .. bytes. The kinds are worked side by side over the processors. Whatever is refused: the run ends by itself with a
+status and a text of docs/MANUAL.md, and both fit its lines; an output is there whole or not at all, and not where its line says that it failed,
+but of a stream what was written begins its container; a journal that was written is legal; no other file is left; and the next run on the ledger
+succeeds, under a number that no output has, nor a journal.
 
 Prints what each kind had and 'N refusals as they should be', or what differs. Where no C compiler is there it says so and ends well, and
 under CI it fails. The program is crates/sealer/out/sealer, or $SEALER.
@@ -310,8 +311,11 @@ def kinds(made):
     elif os.environ.get("CI"):
         sys.exit("refusal_runs: no run left a log")
     stream = FILES["long"]
-    yield Kind("pipe", piping(), ["-"], some(), input=stream, each=half)
+    # What they do behind the ledger, and at a distance all.
+    yield Kind("pipe", piping(), ["-"], some(), input=stream, last=150)
     yield Kind("pipe by two workers", piping("--workers", "2", "--depth", "3"), ["-"], some(**ledger), input=stream, first=1, last=150)
+    both, wide = ("REFUSE", "REFUSE_FROM"), {"REFUSE": 4, "REFUSE_FROM": 8}
+    yield Kind("pipe, all of it", piping(), ["-"], some(), which=both, input=stream, each=wide)
     opened, good = (f"{word} long.stm bytes {len(FILES['long'])}" for word in ("opened", "good"))
     for workers in ("1", "2"):
         by = ["--key", key, "--workers", workers]
