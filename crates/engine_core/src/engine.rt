@@ -40,6 +40,7 @@ pub fn seal_one<R: Source, W: Sink>(
     ensures reads { HasReadPlain max_bytes (R.left reader.old) (R.left reader.new)
         (R.failures reader.old) (R.failures reader.new) result }
     ensures all_read { result ≡ Err SealFault.Write → IsAtEnd (R.left reader.new) }
+    ensures by_bytes { result ≢ Err SealFault.TooManyChunks }
     ensures writes { HasWrittenContainer key.now one prefix max_bytes (R.left reader.old)
         (W.taken writer.old) (W.taken writer.new) (W.failures writer.old) (W.failures writer.new) result }
 {

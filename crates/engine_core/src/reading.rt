@@ -19,6 +19,7 @@ pub fn read_plain<R: Source>(
     ensures plain { IfOk result (λ plain. Consumes (R.left reader.old) (R.left reader.new) plain.items) }
     ensures within { IfOk result (λ plain. vec_len plain ≤ max_bytes) }
     ensures no_write { result ≢ Err SealFault.Write }
+    ensures by_bytes { result ≢ Err SealFault.TooManyChunks }
     ensures reads { HasReadPlain max_bytes (R.left reader.old) (R.left reader.new)
         (R.failures reader.old) (R.failures reader.new) result }
 {

@@ -49,6 +49,8 @@ pub fn run_seal_by<T: Threads + Sync, R: Source, W: Sink, G: Gate + Sync>(
     ensures writes { HasWrittenRounds key.now shape.now (prefix_of grant.device grant.number) max_bytes window
         (R.left reader.old) (R.left reader.new) (W.taken writer.old) (W.taken writer.new)
         (W.failures writer.old) (W.failures writer.new) result.0 }
+    // A file is bounded by bytes.
+    ensures by_bytes { result.0 ≢ Err SealFault.TooManyChunks }
 
     // The grant is spent.
     ensures sealed { OnOk result.0 (result.1 ≡ spent_as grant Sealed) }
@@ -83,6 +85,7 @@ pub fn run_seal<T: Threads + Sync, R: Source, W: Sink, G: Gate + Sync>(
     ensures writes { HasWrittenRounds key.now shape.now (prefix_of grant.device grant.number) max_bytes DEFAULT_WINDOW
         (R.left reader.old) (R.left reader.new) (W.taken writer.old) (W.taken writer.new)
         (W.failures writer.old) (W.failures writer.new) result.0 }
+    ensures by_bytes { result.0 ≢ Err SealFault.TooManyChunks }
     ensures sealed { OnOk result.0 (result.1 ≡ spent_as grant Sealed) }
     ensures void { OnErr result.0 (result.1 ≡ spent_as grant Void) }
 {

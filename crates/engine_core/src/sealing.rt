@@ -291,6 +291,7 @@ pub(crate) fn seal_rounds<T: Threads + Sync, R: Source, W: Sink, G: Gate + Sync>
         (R.failures reader.old) (R.failures reader.new) result }
     ensures writes { HasWrittenRounds key.now shape.now prefix max_bytes window (R.left reader.old) (R.left reader.new)
         (W.taken writer.old) (W.taken writer.new) (W.failures writer.old) (W.failures writer.new) result }
+    ensures by_bytes { result ≢ Err SealFault.TooManyChunks }
 {
     // Rounds one behind the other are STREAM, and the pieces of a round its part of it.
     rounds_of_a_stream();

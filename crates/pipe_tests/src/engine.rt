@@ -1,25 +1,23 @@
 //! The engine over a stream, under a grant of device 1 and file 0: what is written, and how the grant ends.
 ghost use Rattle.std.specs.Prelude.{◌<◌};
 
-use crate::pipes::pattern;
-use container_core::{Key, SealFault, Shape, seal};
+use crate::containers::{A_BYTE_MORE, EMPTY, LENGTHS, TWO_CHUNKS, ZEROS};
+use crate::pipes::{known, pattern, small, zeros};
+use container_core::{Key, SealFault, Shape};
 use crew_tests::{COUNTING, grant_of};
 use engine_core::run_pipe;
 use io_memory::{FromMemory, Schedule, ToMemory};
 use ledger_core::Way;
 use std::alloc::Global;
 use std::sync::Wait;
-use std::test::Fail;
 use std::thread::Threads;
 use worker_core::Free;
 
-// Device 1, file 0.
-const PREFIX: [u8; 7] = [0, 0, 1, 0, 0, 0, 0];
-
-// Seals a stream in chunks of 64 KiB by two workers, with two chunks read and not written.
+// Seals a stream by two workers, with four chunks read and not written.
 fn pipe_from<T: Threads + Wait + Sync>(
     rt: &T,
     alloc: Global,
+    shape: &Shape,
     mut reader: FromMemory,
     writer: &mut ToMemory,
     max_chunks: u32,
@@ -32,13 +30,13 @@ fn pipe_from<T: Threads + Wait + Sync>(
         rt,
         alloc,
         &key,
-        &Shape::one(),
+        shape,
         grant,
         &mut reader,
         writer,
         max_chunks,
         2,
-        2,
+        4,
         &Free,
     );
     if spent.number() != 0 {
@@ -52,26 +50,70 @@ fn plain(alloc: Global) -> Option<Vec<u8>> {
     pattern(alloc, 65_537).ok()
 }
 
-// Whether the stream gives its container, byte for byte, and the grant is sealed.
-fn is_sealed<T: Threads + Wait + Sync>(rt: &T, alloc: Global) -> Option<bool> {
-    let plain = plain(alloc)?;
-    let whole = seal(
-        alloc,
-        &Key::new(COUNTING),
-        &Shape::one(),
-        PREFIX,
-        plain.as_slice(),
-    )
-    .ok()?;
-    let reader = FromMemory::new(plain.as_slice(), 1000, Schedule::Never);
+// The container of that plaintext, which Python's `cryptography` makes too.
+fn container(alloc: Global, plain: &[u8]) -> Option<Vec<u8>> {
+    known(alloc, &Shape::one(), plain, &LENGTHS[4].2)
+}
+
+// Whether a stream gives just this container of at most two chunks, and the grant is sealed.
+fn is_sealed<T: Threads + Wait + Sync>(
+    rt: &T,
+    alloc: Global,
+    shape: &Shape,
+    plain: &[u8],
+    whole: &[u8],
+) -> Option<bool> {
+    let reader = FromMemory::new(plain, 1000, Schedule::Never);
     let mut writer = ToMemory::new(alloc, 70_000, 5000, Schedule::Never).ok()?;
-    let (result, way) = pipe_from(rt, alloc, reader, &mut writer, 2)?;
-    Some(result == Ok(65_537) && way == Way::Sealed && writer.bytes() == whole.as_slice())
+    let (result, way) = pipe_from(rt, alloc, shape, reader, &mut writer, 2)?;
+    Some(result == Ok(plain.len() as u64) && way == Way::Sealed && writer.bytes() == whole)
+}
+
+// Whether zero bytes give the container with this SHA-256.
+fn are_sealed<T: Threads + Wait + Sync>(
+    rt: &T,
+    alloc: Global,
+    shape: &Shape,
+    count: usize,
+    digest: &[u8; 32],
+) -> Option<bool> {
+    let plain = zeros(alloc, count).ok()?;
+    let whole = known(alloc, shape, plain.as_slice(), digest)?;
+    is_sealed(rt, alloc, shape, plain.as_slice(), whole.as_slice())
 }
 
 #[test]
 fn two_chunks_under_a_grant(rt: HostRuntime) {
-    assert!(rt; is_sealed(&rt, rt.alloc()) == Some(true));
+    assert!(rt; are_sealed(&rt, rt.alloc(), &Shape::one(), 65_537, &ZEROS) == Some(true));
+}
+
+// Whether the same holds of small chunks: two full ones, and no byte.
+fn small_are_sealed<T: Threads + Wait + Sync>(rt: &T, alloc: Global) -> Option<bool> {
+    let shape = small()?;
+    let none = is_sealed(rt, alloc, &shape, &[], &EMPTY)?;
+    Some(none && are_sealed(rt, alloc, &shape, 8_192, &TWO_CHUNKS)?)
+}
+
+#[test]
+fn small_chunks_under_a_grant(rt: HostRuntime) {
+    assert!(rt; small_are_sealed(&rt, rt.alloc()) == Some(true));
+}
+
+// Whether a byte behind two small chunks voids the grant, and what was written begins the container of all.
+fn is_one_too_many<T: Threads + Wait + Sync>(rt: &T, alloc: Global) -> Option<bool> {
+    let shape = small()?;
+    let plain = zeros(alloc, 8_193).ok()?;
+    let whole = known(alloc, &shape, plain.as_slice(), &A_BYTE_MORE)?;
+    let reader = FromMemory::new(plain.as_slice(), 1000, Schedule::Never);
+    let mut writer = ToMemory::new(alloc, 70_000, 5000, Schedule::Never).ok()?;
+    let (result, way) = pipe_from(rt, alloc, &shape, reader, &mut writer, 2)?;
+    let is_begun = whole.as_slice().starts_with(writer.bytes());
+    Some(result == Err(SealFault::TooManyChunks) && way == Way::Void && is_begun)
+}
+
+#[test]
+fn a_byte_behind_two_small_chunks_voids_the_grant(rt: HostRuntime) {
+    assert!(rt; is_one_too_many(&rt, rt.alloc()) == Some(true));
 }
 
 // Whether a pipe ends with this fault, its grant void, and what was written, so many bytes at least, begins the container.
@@ -87,17 +129,10 @@ fn is_void<T: Threads + Wait + Sync>(
     requires { 0 < max_chunks }
 {
     let plain = plain(alloc)?;
-    let whole = seal(
-        alloc,
-        &Key::new(COUNTING),
-        &Shape::one(),
-        PREFIX,
-        plain.as_slice(),
-    )
-    .ok()?;
+    let whole = container(alloc, plain.as_slice())?;
     let reader = FromMemory::new(plain.as_slice(), 1000, read);
     let mut writer = ToMemory::new(alloc, 70_000, 5000, write).ok()?;
-    let (result, way) = pipe_from(rt, alloc, reader, &mut writer, max_chunks)?;
+    let (result, way) = pipe_from(rt, alloc, &Shape::one(), reader, &mut writer, max_chunks)?;
     let is_begun = writer.bytes().len() >= least && whole.as_slice().starts_with(writer.bytes());
     Some(result == Err(fault) && way == Way::Void && is_begun)
 }

@@ -62,6 +62,53 @@ fn each_failed_read_is_the_answer(rt: HostRuntime) {
     assert!(rt; are_calls_seen(&rt, rt.alloc(), 2) == Some(true));
 }
 
+// Whether a reader that fails behind so many bytes of three chunks is seen, and no chunk is written behind which it gave no byte.
+fn fails_behind<T: Threads + Wait + Sync>(
+    rt: &T,
+    alloc: Global,
+    plain: &[u8],
+    container: &[u8],
+    given: usize,
+    workers: u32,
+) -> Option<bool> {
+    let mut reader = FromMemory::new(plain, 1_000, Schedule::Bytes(given as u64));
+    let mut writer = ToMemory::new(alloc, 64, usize::MAX, Schedule::Never).ok()?;
+    let asked = Asked {
+        max_chunks: 3,
+        workers,
+        depth: 4,
+    };
+    let shape = Shape::one();
+    let answered = piped(rt, alloc, &shape, &mut reader, &mut writer, asked, &Free)?;
+    let written = writer.bytes();
+    let is_few = written.len() == 24 || given > 65_536 && written.len() == 65_576;
+    Some(answered == Err(SealFault::Read) && is_few && container.starts_with(written))
+}
+
+// In chunk 0, at its end, behind it, and in chunk 1.
+static GIVEN: [usize; 11] = [
+    0, 1, 23, 24, 25, 65_535, 65_536, 65_537, 65_575, 65_576, 65_592,
+];
+
+fn are_reads_seen<T: Threads + Wait + Sync>(rt: &T, alloc: Global, workers: u32) -> Option<bool> {
+    let (count, _, digest) = &LENGTHS[6];
+    let plain = pattern(alloc, *count).ok()?;
+    let plain = plain.as_slice();
+    let container = known(alloc, &Shape::one(), plain, digest)?;
+    for given in &GIVEN {
+        if !fails_behind(rt, alloc, plain, container.as_slice(), *given, workers)? {
+            return Some(false);
+        }
+    }
+    Some(true)
+}
+
+#[test]
+fn a_read_that_fails_behind_some_bytes_is_the_answer(rt: HostRuntime) {
+    assert!(rt; are_reads_seen(&rt, rt.alloc(), 1) == Some(true));
+    assert!(rt; are_reads_seen(&rt, rt.alloc(), 2) == Some(true));
+}
+
 // What is answered, and what was written, where the writer has room for so many bytes.
 fn ends_at<T: Threads + Wait + Sync>(
     rt: &T,
