@@ -67,7 +67,7 @@ pub(crate) static KEY_ROWS: [Row; 2] = [
 ];
 
 /// What every command over files takes besides.
-pub(crate) static FILE_ROWS: [Row; 2] = [Row {
+pub(crate) static FILE_ROWS: [Row; 1] = [Row {
     name: "FILE",
     takes: Takes::Files,
     help: "The files, whose lines stand in this order",
