@@ -26,7 +26,7 @@ _sealer() {
         esac
     fi
     case $command in
-        '') words='seal pipe open verify audit help --help -h' ;;
+        '') words='seal pipe open verify audit help --help -h --version -V' ;;
         seal)
             words='--key --ledger --no-new-ledger --device --workers --lanes --window --exponent --label --max-bytes
                 --journal --help -h'

@@ -13,6 +13,7 @@ complete -c sealer -n "not __fish_seen_subcommand_from $commands" -a audit -d 'A
 complete -c sealer -n "not __fish_seen_subcommand_from $commands" -a help -d 'Print help'
 complete -c sealer -n '__fish_seen_subcommand_from help' -a 'seal open verify audit help'
 complete -c sealer -s h -l help -d 'Print help'
+complete -c sealer -n "not __fish_seen_subcommand_from $commands" -s V -l version -d 'Print the version'
 
 complete -c sealer -n $keyed -l key -rF -d 'The key file'
 complete -c sealer -n $keyed -l workers -x -a '1 2 4 8 16' -d 'Workers on one file or stream, 1 to 16'

@@ -113,7 +113,7 @@ room, wrong, lines = tempfile.mkdtemp(prefix="sealer-completions-"), [], 0
 try:
     for name in ("one.stm", "two words.stm", "plain", ".zshrc"):
         open(os.path.join(room, name), "w").close()
-    names, _ = told()
+    names, options = told()
     if not {"seal", "pipe", "open", "verify", "audit"} <= names:
         sys.exit(f"--help tells these commands: {names}")
     for kind, start in (("bash", bash), ("zsh", zsh), ("fish", Fish)):
@@ -122,6 +122,7 @@ try:
         shell = start(room)
         try:
             asked = [("sealer ", names, r"(?<![\w.-])(?:{})(?![\w.-])".format("|".join([*names, "plain"])))]
+            asked += [("sealer --", options, r"(?<![\w-])--[a-z][\w-]*")]
             asked += [(f"sealer {it} --", told(it)[1], r"(?<![\w-])--[a-z][\w-]*") for it in sorted(names - {"help"})]
             stm, all_names = {"one.stm", "words.stm"}, {"one.stm", "words.stm", "plain"}
             pattern = r"(?:one\.stm|words\.stm|plain)\b"

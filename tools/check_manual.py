@@ -62,7 +62,9 @@ def from_help(program):
     """The commands with their options, and which words of help there are."""
     top = help_of(program)
     names = [entry.split()[0] for entry in part_of_help(top, "Commands:")]
-    words = {f"--{HELP}", *(it for it in names if it == HELP)}
+    words = {it for it in names if it == HELP}
+    for entry in part_of_help(top, "Options:"):
+        words.update(re.match(r"(-\w), (--[\w-]+)", entry).groups())
     commands = {}
     for name in [it for it in names if it != HELP]:
         text = help_of(program, name)
@@ -223,7 +225,7 @@ def main():
                 same = (ours.value, ours.required, ours.default) == (theirs.value, theirs.required, theirs.default)
                 if not same or not set(ours.ranges) <= set(theirs.ranges) or not ours.ranges and theirs.ranges:
                     wrong.append(f"{name} --{long}: --help has '{ours}', {where} '{theirs}'")
-        told = text if where.endswith(".md") else re.sub(r"^\.Fl h$", ".-h", text.replace("Fl Fl ", "--"), flags=re.M)
+        told = text if where.endswith(".md") else re.sub(r"^\.Fl (\w)$", r".-\1", text.replace("Fl Fl ", "--"), flags=re.M)
         for word in words:
             if not re.search(rf"(?<![\w-]){re.escape(word)}\b", told):
                 wrong.append(f"{word}: not in {where}")

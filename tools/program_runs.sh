@@ -71,6 +71,21 @@ for help in --help help -h; do
     run $help < /dev/null
     wants "$help" 0 'begins Seals, opens and verifies many files' ''
 done
+# The version names the toolchain that is here.
+version=$(sed -n 's/^pub const VERSION: &str = "\(.*\)";$/\1/p' crates/command_line/src/version.rt)
+for option in --version -V; do
+    run $option < /dev/null
+    wants "$option" 0 "sealer $version" ''
+done
+toolchain=$(rt version 2>/dev/null) || missing="$missing rt"
+case $version in
+    [0-9]*.[0-9]*.[0-9]*" ($toolchain)") ;;
+    *) has rt && { bad=1; echo "version: '$version' isn't that of '$toolchain'"; } ;;
+esac
+run seal --version < /dev/null
+wants no-version-of-a-command 2 '' "begins error: unexpected argument '--version' found"
+"$sealer" --version > /dev/full 2> "$room/err"; status=$?; : > "$room/out"
+wants full-version 2 '' ''
 run audit --help < /dev/null
 wants audit-help 0 'begins Audits the journal on standard input' ''
 run pipe --help < /dev/null

@@ -3,6 +3,7 @@ use crate::options::{
     FILE_ROWS, KEY_ROWS, LEDGER_ROWS, OPEN_ROWS, PIPE_ROWS, SEAL_ROWS, SHAPE_ROWS, SHOW_ROWS,
     with_rows,
 };
+use crate::version::VERSION;
 use clap::{Command, Error};
 use std::alloc::Global;
 
@@ -54,6 +55,7 @@ pub fn command<'a>(alloc: Global) -> Result<Command<'a>, Error> {
         .about("Audits the journal on standard input and prints the verdict")
         .after_help(AUDIT_HELP);
     let sealer = Command::new(alloc, "sealer")
+        .version(VERSION)
         .about("Seals, opens and verifies many files under one key, each under a number of its own")
         .after_help(SEALER_HELP)
         .subcommand_required(true)

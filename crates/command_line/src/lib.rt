@@ -7,9 +7,11 @@
 pub mod arguments;
 mod options;
 pub mod requests;
+pub mod version;
 
 pub use crate::arguments::command;
 pub use crate::requests::{
     DEFAULT_EXPONENT, DEFAULT_MAX_BYTES, OpenRequest, PipeRequest, SealRequest, UsageFault,
     open_request, pipe_request, seal_request,
 };
+pub use crate::version::VERSION;
