@@ -1,12 +1,12 @@
 # Completions of sealer(1) for bash. tools/check_completions.sh holds them against --help.
 
 _sealer() {
-    local current=${COMP_WORDS[COMP_CWORD]} before=${COMP_WORDS[COMP_CWORD - 1]} command='' at only_files='' words=''
+    local current=${COMP_WORDS[COMP_CWORD]} before=${COMP_WORDS[COMP_CWORD - 1]} command='' at only_files='' words='' cut=''
     # bash cuts words at '='
     if [ "$current" = = ]; then
-        current=''
+        current='' cut=1
     elif [ "$before" = = ] && [ "$COMP_CWORD" -ge 2 ]; then
-        before=${COMP_WORDS[COMP_CWORD - 2]}
+        before=${COMP_WORDS[COMP_CWORD - 2]} cut=1
     fi
     for ((at = 1; at < COMP_CWORD; at++)); do
         case ${COMP_WORDS[at]} in
@@ -17,8 +17,12 @@ _sealer() {
     done
     COMPREPLY=()
     if [ -z "$only_files" ] && [ -n "$command" ]; then
+        case $before$cut in
+            --progress1) mapfile -t COMPREPLY < <(compgen -W 'terminal always' -- "$current"); return ;;
+        esac
         case $before in
-            --key | --ledger | --journal) _sealer_files "$current"; return ;;
+            --key | --ledger | --journal | --files-from) _sealer_files "$current"; return ;;
+            --into) mapfile -t COMPREPLY < <(compgen -d -- "$current"); compopt -o filenames 2>/dev/null; return ;;
             --workers | --lanes) mapfile -t COMPREPLY < <(compgen -W '1 2 4 8 16' -- "$current"); return ;;
             --exponent) mapfile -t COMPREPLY < <(compgen -W '12 13 14 15 16 17 18 19 20' -- "$current"); return ;;
             --depth) mapfile -t COMPREPLY < <(compgen -W '1 2 4 8 16 32 64' -- "$current"); return ;;
@@ -26,19 +30,20 @@ _sealer() {
         esac
     fi
     case $command in
-        '') words='seal pipe open verify audit help --help -h --version -V' ;;
+        '') words='seal pipe open verify audit ledger help --help -h --version -V' ;;
         seal)
             words='--key --ledger --no-new-ledger --device --workers --lanes --window --exponent --label --max-bytes
-                --journal --help -h'
+                --journal --into --sync --files-from --null --progress --help -h'
             ;;
         pipe)
             words='--key --ledger --no-new-ledger --device --workers --depth --max-chunks --exponent --label --journal
                 --force-terminal --help -h'
             ;;
-        open) words='--key --label --workers --max-bytes --help -h' ;;
-        verify) words='--key --label --show --workers --max-bytes --help -h' ;;
+        open) words='--key --label --workers --max-bytes --into --sync --files-from --null --progress --help -h' ;;
+        verify) words='--key --label --show --workers --max-bytes --files-from --null --progress --help -h' ;;
         audit) words='--help -h' ;;
-        help) words='seal pipe open verify audit help' ;;
+        ledger) words='--ledger --help -h' ;;
+        help) words='seal pipe open verify audit ledger help' ;;
         *) return ;;
     esac
     case $only_files$current:$command in

@@ -1,8 +1,8 @@
 # Completions of sealer(1) for fish. tools/check_completions.sh holds them against --help.
 
-set -l commands seal pipe open verify audit help
-set -l keyed '__fish_seen_subcommand_from seal pipe open verify; and not __fish_seen_subcommand_from audit help'
-set -l over_files '__fish_seen_subcommand_from seal open verify; and not __fish_seen_subcommand_from audit help'
+set -l commands seal pipe open verify audit ledger help
+set -l keyed '__fish_seen_subcommand_from seal pipe open verify; and not __fish_seen_subcommand_from audit ledger help'
+set -l over_files '__fish_seen_subcommand_from seal open verify; and not __fish_seen_subcommand_from audit ledger help'
 
 complete -c sealer -f
 complete -c sealer -n "not __fish_seen_subcommand_from $commands" -a seal -d 'Seal each FILE to FILE.stm'
@@ -10,8 +10,9 @@ complete -c sealer -n "not __fish_seen_subcommand_from $commands" -a pipe -d 'Se
 complete -c sealer -n "not __fish_seen_subcommand_from $commands" -a open -d 'Check each FILE, then write its plaintext'
 complete -c sealer -n "not __fish_seen_subcommand_from $commands" -a verify -d 'Check each FILE and write no file'
 complete -c sealer -n "not __fish_seen_subcommand_from $commands" -a audit -d 'Audit the journal on standard input'
+complete -c sealer -n "not __fish_seen_subcommand_from $commands" -a ledger -d 'Tell what a ledger file holds'
 complete -c sealer -n "not __fish_seen_subcommand_from $commands" -a help -d 'Print help'
-complete -c sealer -n '__fish_seen_subcommand_from help' -a 'seal open verify audit help'
+complete -c sealer -n '__fish_seen_subcommand_from help' -a 'seal pipe open verify audit ledger help'
 complete -c sealer -s h -l help -d 'Print help'
 complete -c sealer -n "not __fish_seen_subcommand_from $commands" -s V -l version -d 'Print the version'
 
@@ -19,8 +20,14 @@ complete -c sealer -n $keyed -l key -rF -d 'The key file'
 complete -c sealer -n $keyed -l workers -x -a '1 2 4 8 16' -d 'Workers on one file or stream, 1 to 16'
 complete -c sealer -n $over_files -l max-bytes -x -d 'A FILE of more plaintext bytes is refused'
 complete -c sealer -n $keyed -l label -x -d 'The label, which is not secret'
+complete -c sealer -n $over_files -l files-from -rF -d 'A list of further FILEs, one a line'
+complete -c sealer -n $over_files -l null -d 'In that list a NUL byte stands behind each FILE'
+complete -c sealer -n $over_files -l progress -a 'terminal always' -d 'Tell how far the run is'
 complete -c sealer -n '__fish_seen_subcommand_from seal verify' -F
 complete -c sealer -n '__fish_seen_subcommand_from open' -k -xa '(__fish_complete_suffix .stm)'
+
+complete -c sealer -n '__fish_seen_subcommand_from seal open' -l sync -d 'Tell a line only once its output is on the disk'
+complete -c sealer -n '__fish_seen_subcommand_from seal open' -l into -xa '(__fish_complete_directories)' -d 'Put the outputs into this folder'
 
 complete -c sealer -n '__fish_seen_subcommand_from verify' -l show -d 'Print what the header says'
 
@@ -35,3 +42,5 @@ complete -c sealer -n '__fish_seen_subcommand_from seal pipe' -l journal -rF -d 
 complete -c sealer -n '__fish_seen_subcommand_from pipe' -l depth -x -a '1 2 4 8 16 32 64' -d 'Chunks read and not yet written, 1 to 64'
 complete -c sealer -n '__fish_seen_subcommand_from pipe' -l max-chunks -x -d 'A stream of more chunks is refused'
 complete -c sealer -n '__fish_seen_subcommand_from pipe' -l force-terminal -d 'Write the container to a terminal too'
+
+complete -c sealer -n '__fish_seen_subcommand_from ledger' -l ledger -rF -d 'The ledger file'

@@ -131,6 +131,7 @@ try:
             asked += [("sealer verify --key ", all_names, pattern), ("sealer seal ", all_names, pattern)]
             asked += [("sealer audit ", set(), pattern), ("sealer pipe ", set(), pattern), ("sealer seal --label ", set(), pattern)]
             asked += [(f"sealer {it} --exponent ", {str(it) for it in range(12, 21)}, r"\b\d\d\b") for it in ("seal", "pipe")]
+            asked += [("sealer seal --progress=", {"terminal", "always"}, r"\b(?:terminal|always)\b")]
             asked += [("sealer pipe --depth ", {str(1 << it) for it in range(7)}, r"\b\d\d?\b")]
             for line, wanted, words in asked:
                 lines += 1

@@ -15,7 +15,7 @@ says() { grep -qF -- "$1" "$room/out"; }
 # a tree of its own, whose builds can be exchanged
 tree="$room/a tree"
 mkdir -p "$tree/tools" "$tree/crates/sealer/out" "$tree/crates/sealer/src"
-cp -r man completions "$tree"
+cp -r man completions docs "$tree"
 cp "$script" "$tree/tools/install.sh"
 touch -d '2001-01-01' "$tree/crates/sealer/src/main.rt"
 cp crates/sealer/out/sealer "$tree/crates/sealer/out/sealer"
@@ -33,7 +33,8 @@ done
 is bash cmp -s completions/sealer.bash "$prefix/share/bash-completion/completions/sealer"
 is zsh cmp -s completions/_sealer "$prefix/share/zsh/site-functions/_sealer"
 is fish cmp -s completions/sealer.fish "$prefix/share/fish/vendor_completions.d/sealer.fish"
-is says-what test "$(grep -c '^installed ' "$room/out")" = 7
+is manual cmp -s docs/MANUAL.md "$prefix/share/doc/sealer/MANUAL.md"
+is says-what test "$(grep -c '^installed ' "$room/out")" = 8
 is says-which says "the program is $tree/crates/sealer/out/sealer"
 find "$prefix" -type f | sort > "$room/files"
 

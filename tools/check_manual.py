@@ -72,7 +72,7 @@ def from_help(program):
         required = set(re.findall(r"--([\w-]+)", re.sub(r"\[[^]]*\]", "", usage)))
         options = {}
         for entry in part_of_help(text, "Options:"):
-            found = re.match(r"(?:(-\w), )?--([\w-]+)(?:[ =]<(\w+)>)?\s*(.*)", entry)
+            found = re.match(r"(?:(-\w), )?--([\w-]+)(?:(?:[ =]|\[=)<(\w+)>\]?)?\s*(.*)", entry)
             if not found:
                 sys.exit(f"{name} --help: what is '{entry}'?")
             short, long, value, about = found.groups()
@@ -88,7 +88,7 @@ def from_help(program):
 def synopsis(text):
     """The options of a synopsis: each with the word for its value, and whether it has to be given."""
     found = {}
-    for bracket, long, value in re.findall(r"(\[)?--([\w-]+)(?: ([A-Z]+))?", text):
+    for bracket, long, value in re.findall(r"(\[)?--([\w-]+)(?:(?: |\[=)([A-Z]+))?", text):
         found[long] = (value or None, not bracket)
     return found
 
@@ -104,14 +104,14 @@ def from_manual(text):
     """The commands of docs/MANUAL.md, and of each its synopsis."""
     sections = dict(re.findall(r"^## (.*?)\n(.*?)(?=^## |\Z)", text, re.M | re.S))
     commands, lines = {}, {}
-    for section in ("Sealing", "Sealing a stream", "Opening and verifying", "Auditing"):
+    for section in ("Sealing", "Sealing a stream", "Opening and verifying", "Auditing", "What a ledger holds"):
         body = sections[section]
         block = re.search(r"```text\n(.*?)```", body, re.S).group(1)
         for name, words in re.findall(r"^sealer (\w+)((?:.|\n )*)", block, re.M):
             lines[name] = synopsis(words)
             commands[name] = {}
             for cells in rows_below(body):
-                option = re.match(r"`--([\w-]+)(?: ([A-Z]+))?`$", cells[0])
+                option = re.match(r"`--([\w-]+)(?:(?: |\[=)([A-Z]+)\]?)?`$", cells[0])
                 if not option:
                     continue
                 only = re.match(r"`(\w+)`: ", cells[1])
@@ -130,7 +130,7 @@ def from_manual(text):
 def plain(text):
     """A line of mdoc without its macros."""
     text = re.sub(r"^\.", "", text)
-    text = re.sub(r"\bFl Fl ", "--", text)
+    text = re.sub(r"\bFl Fl ", "--", text).replace(" Ns Op = Ns Ar ", "[=")
     return re.sub(r"\s+", " ", re.sub(r"\b(Ar|Cm|Ns|No|Nm|Op)\b ?", "", text).replace("\\&", "")).strip()
 
 
@@ -146,7 +146,7 @@ def from_page(text):
             continue
         commands[name] = {}
         for long, value, about in re.findall(
-            r"^\.It Fl Fl ([\w-]+)(?: Ar (\w+))?\n(.*?)(?=^\.It |^\.El)", body, re.M | re.S
+            r"^\.It Fl Fl ([\w-]+)(?:(?: Ns Op = Ns)? Ar (\w+))?\n(.*?)(?=^\.It |^\.El)", body, re.M | re.S
         ):
             about = re.sub(r"\s+", " ", about)
             default = re.search(r"The default is ([\d,]+)\.", about)

@@ -1,5 +1,5 @@
 #!/bin/bash
-# Puts the built program, its manual pages and its completions for bash, zsh and fish below PREFIX, /usr/local where none is given, and
+# Puts the built program, its manual pages, its manual and its completions for bash, zsh and fish below PREFIX, /usr/local where none is given, and
 # prints what it did; with --uninstall it takes away what it put there.
 # usage: tools/install.sh [PREFIX] [--uninstall]
 #
@@ -39,7 +39,7 @@ if [ -n "$uninstall" ]; then
         elif ours "$name"; then
             drop "$name" || kept=1
         else
-            echo "$prefix/$name was changed since, and stays" >&2
+            echo "$prefix/$name was changed since, and stays: it can be removed by hand" >&2
             kept=1
         fi
     done < <(recorded)
@@ -78,13 +78,14 @@ plan="755 $program bin/sealer
 $pages
 644 $top/completions/sealer.bash share/bash-completion/completions/sealer
 644 $top/completions/_sealer share/zsh/site-functions/_sealer
-644 $top/completions/sealer.fish share/fish/vendor_completions.d/sealer.fish"
+644 $top/completions/sealer.fish share/fish/vendor_completions.d/sealer.fish
+644 $top/docs/MANUAL.md share/doc/sealer/MANUAL.md"
 each() { while IFS= read -r row; do mode=${row%% *} name=${row##* } file=${row#* }; file=${file% *}; "$@" || return; done <<< "$plan"; }
 
 refuses() { # what stands in the way
     there "$name" || return 0
     ours "$name" && return 0
-    echo "$prefix/$name is there, and wasn't put there by this script, or was changed since" >&2
+    echo "$prefix/$name is there, and wasn't put there by this script, or was changed since: move it away" >&2
     return 1
 }
 each refuses || { echo "nothing was installed" >&2; exit 1; }

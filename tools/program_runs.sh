@@ -184,6 +184,151 @@ wait
 is one-wins-the-race test "$(cat race.* | sort | uniq -c | tr -s ' ' | tr '\n' ';')" = \
     ' 5 failed files/numbers.stm: output exists; 1 opened files/numbers.stm bytes 1492;'
 
+# Outputs in a folder, under the last name of each FILE.
+fresh
+mkdir files/d files/into
+cp files/numbers.stm files/d/other.stm
+run open --key "$key" --into files/into files/numbers.stm files/d/other.stm
+wants open-into 0 'opened files/numbers.stm bytes 1492
+opened files/d/other.stm bytes 1492' ''
+is into-has-the-first cmp -s files/into/numbers numbers.plain
+is into-has-the-second cmp -s files/into/other numbers.plain
+is nothing-beside-them test "$(ls -R files | grep -c 'numbers$\|other$')" = 2
+run open --key "$key" --into files/into/ files/numbers.stm
+wants open-into-again 1 'failed files/numbers.stm: output exists' ''
+(trap '' XFSZ; ulimit -f 1; exec "$sealer" open --key "$key" --into files/d files/numbers.stm) > out 2> err
+status=$?
+wants write-into-fails 1 'failed files/numbers.stm: write failed' ''
+is the-part-in-a-folder-is-removed no test -e files/d/numbers
+cp files/numbers.stm files/d/numbers.stm
+cp files/numbers.stm files/d/.stm
+cp files/numbers.stm files/...stm
+for same in files/d/numbers.stm files/numbers.stm ./files//numbers.stm; do
+    run open --key none --into files/into files/numbers.stm $same
+    wants "open-into-one-name $same" 2 '' 'usage: two FILEs have one last name'
+done
+for name in files/ files/d/. files/d/.. . .. '' /; do
+    run open --key none --into files/into files/numbers.stm "$name"
+    wants "open-into-no-name '$name'" 2 '' 'usage: a FILE has no last name'
+done
+run open --key "$key" --into files/into files/d/.stm files/...stm files/d
+wants open-into-names-of-outputs 1 'failed files/d/.stm: cannot create
+failed files/...stm: cannot create
+failed files/d: name does not end in .stm' ''
+for folder in files/none files/numbers.stm ''; do
+    run open --key "$key" "--into=$folder" files/numbers.stm
+    wants "open-into '$folder'" 1 'failed files/numbers.stm: cannot create' ''
+done
+is nothing-at-the-root no test -e /numbers
+run verify --key "$key" --into files/into files/numbers.stm
+wants verify-has-no-into 2 '' "begins error: unexpected argument '--into' found"
+
+# Outputs on the disk: the calls, in their order, and what a failing one leaves.
+fresh
+if command -v strace >/dev/null; then
+    synced() { strace -f -y -e trace=openat,fsync,write -o calls "$@" > out 2> err; status=$?; }
+    mkdir files/to files/into
+    synced "$sealer" open --key "$key" --sync --into files/to files/numbers.stm
+    wants sync-open 0 'opened files/numbers.stm bytes 1492' ''
+    is sync-comes-before-the-line test "$(sed -n 's/.*openat([^,]*, "files\/to\/numbers".*/created/p; s/.*fsync([0-9]*<.*\/files\/\([^>]*\)>) *= 0/\1/p; s/.*write(1<.*/told/p' calls | tr '\n' ' ')" = 'created to/numbers to told '
+    synced "$sealer" open --key "$key" --into files/into files/numbers.stm
+    is no-sync-unasked test "$(grep -c fsync calls)" = 0
+    for which in 1 2; do
+        strace -f -e trace=fsync -e inject=fsync:error=EIO:when=$which -o calls "$sealer" open --key "$key" --sync files/numbers.stm > out 2> err
+        status=$?
+        wants "sync-fails at $which" 1 'failed files/numbers.stm: write failed' ''
+        is "what-isn't-on-the-disk-is-removed at $which" no test -e files/numbers
+    done
+    for lanes in 1 2; do
+        cp numbers.plain files/a
+        cp numbers.plain files/b
+        strace -f -P "$PWD/files/a.stm" -e trace=fsync -e inject=fsync:error=EIO -o calls "$sealer" seal --key "$key" --ledger files/new$lanes \
+            --device 1 --lanes $lanes --sync --journal files/journal$lanes files/a files/b > out 2> err
+        status=$?
+        wants "sync-fails-of-seal by $lanes" 1 'failed files/a: write failed
+sealed files/b file 1 bytes 1492' ''
+        is "what-isn't-on-the-disk-is-void by $lanes" test "$(grep -c ' void 0$' files/journal$lanes) $(grep -c ' sealed 1$' files/journal$lanes)" = '1 1'
+        is "no-container-is-left by $lanes" no test -e files/a.stm
+        rm files/b.stm
+    done
+elif [ -n "${CI:-}" ]; then
+    bad=1
+    echo 'strace is missing'
+fi
+for lanes in 1 2; do
+    cp numbers.plain files/a
+    cp numbers.plain files/b
+    run seal --key "$key" --ledger files/ledger --device $lanes --lanes $lanes --sync files/a files/b
+    unnumbered
+    wants "sync-seal by $lanes" 0 'sealed files/a bytes 1492
+sealed files/b bytes 1492' ''
+    rm files/a.stm files/b.stm
+done
+run verify --key "$key" --sync files/numbers.stm
+wants verify-has-no-sync 2 '' "begins error: unexpected argument '--sync' found"
+
+# How far a run is: one line on standard error, which is gone at the end. What stands in the pipe comes slowly, and has no size.
+fresh
+cp files/numbers.stm files/second.stm
+mkfifo files/slow.stm
+slowly() { head -c 100 files/numbers.stm; for at in 101 201 301 401 501; do sleep 0.25; tail -c +$at files/numbers.stm | head -c 100; done
+    sleep 0.25; tail -c +601 files/numbers.stm; }
+slowly > files/slow.stm & run verify --key "$key" --progress=always files/slow.stm files/second.stm
+wait
+wants progress 0 'good files/slow.stm bytes 1492
+good files/second.stm bytes 1492' "begins $(printf '\r0 of 2 files, 0 MiB, 0.0 MiB/s\033[K')"
+drawn=$(tr '\r' '\n' < err | grep -c ' of 2 files, ')
+is progress-is-redrawn test "$drawn" -ge 2 -a "$drawn" -le 6
+is progress-is-gone test "$(tail -c 4 err | od -An -c | tr -d ' ')" = '\r033[K'
+is progress-has-no-line-end test "$(wc -l < err)" = 0
+for option in --progress --progress=terminal; do
+    slowly > files/slow.stm & run verify --key "$key" $option files/slow.stm
+    wait
+    wants "$option, no terminal" 0 'good files/slow.stm bytes 1492' ''
+done
+run verify --key "$key" --progress=never files/numbers.stm
+wants progress-never 2 '' "begins error: invalid value 'never' for '--progress[=<WHEN>]'"
+run verify --key "$key" --progress files/numbers.stm
+wants progress-takes-no-file 0 'good files/numbers.stm bytes 1492' ''
+# Of files of known sizes, whose reads are held up: how far it is of all, and from the first second on how long it still takes.
+if command -v strace >/dev/null; then
+    head -c 6000000 /dev/zero > files/large
+    cp numbers.plain files/small
+    strace -f -P "$PWD/files/large" -e trace=read -e inject=read:delay_exit=30000 -o calls "$sealer" seal --key "$key" --ledger files/progress \
+        --device 1 --progress=always files/large files/small > out 2> err
+    status=$?
+    tr '\r' '\n' < err > drawn
+    is progress-of-a-sealing test "$status $(tail -n 1 out)" = '0 sealed files/small file 1 bytes 1492'
+    is progress-of-known-sizes test "$(grep -c '^0 of 2 files, [0-5] of 5 MiB, [0-9]*\.[0-9] MiB/s' drawn)" -ge 3
+    is progress-has-no-time-at-first test "$(sed -n 2p drawn | grep -c left)" = 0
+    is progress-tells-the-time-left grep -q ' of 5 MiB, [0-9.]* MiB/s, [0-9]* s left' drawn
+fi
+# on a terminal, and where both streams are one
+cat > terminal.py <<'END'
+import os, pty, subprocess, sys, threading, time
+data = open("files/numbers.stm", "rb").read()
+def slowly():
+    with open("files/slow.stm", "wb", buffering=0) as pipe:
+        for at in range(0, len(data), 300):
+            pipe.write(data[at:at + 300])
+            time.sleep(0.25)
+main, other = pty.openpty()
+threading.Thread(target=slowly).start()
+run = subprocess.Popen([*sys.argv[1:], "files/slow.stm", "files/none"], stdout=other, stderr=other)
+run.wait()
+os.close(other)
+text = b""
+try:
+    while more := os.read(main, 65536):
+        text += more
+except OSError:
+    pass
+# what a terminal shows: a line is written over from its beginning, and erased behind that
+shown = [part.split(b"\x1b[K")[-1] for part in text.replace(b"\r\n", b"\n").split(b"\n")]
+sys.stdout.write(f"{run.returncode} {1 <= text.count(b' of 2 files') <= 6} {shown}\n")
+END
+is progress-on-a-terminal test "$(python3 terminal.py "$sealer" verify --key "$key" --progress)" = "1 True [b'good files/slow.stm bytes 1492', b'failed files/none: cannot open', b'']"
+
 # Key files.
 digits=$(cat "$key")
 fresh
@@ -217,6 +362,72 @@ wants no-key 2 '' 'begins error: the following required arguments were not provi
 run verify --key "$key"
 wants no-file 2 '' 'begins error: the following required arguments were not provided:
   <FILE>...'
+
+# Lists of names: they stand behind the FILEs of the command line. The last line needs no end.
+fresh
+cp files/numbers.stm 'files/two words.stm'
+cp files/numbers.stm 'files/c
+d.stm'
+printf 'files/two words.stm\nfiles/none.stm' > list
+run verify --key "$key" --files-from list files/numbers.stm
+wants listed 1 'good files/numbers.stm bytes 1492
+good files/two words.stm bytes 1492
+failed files/none.stm: cannot open' ''
+run verify --key "$key" --files-from - < list
+wants listed-on-standard-input 1 'good files/two words.stm bytes 1492
+failed files/none.stm: cannot open' ''
+printf 'files/c\nd.stm\0files/numbers.stm\0' > list
+run open --key "$key" --null --files-from list
+wants listed-by-null 0 'opened files/c
+d.stm bytes 1492
+opened files/numbers.stm bytes 1492' ''
+is opened-as-listed cmp -s 'files/c
+d' numbers.plain
+printf 'files/c\nd.stm\n' > list
+run verify --key "$key" --files-from list
+wants lines-end-names 1 'failed files/c: cannot open
+failed d.stm: cannot open' ''
+printf ' files/numbers.stm\n-\n--key\nfiles/numbers.stm\r\n' > list
+run verify --key "$key" --files-from list
+wants names-as-they-stand 1 'failed  files/numbers.stm: cannot open
+failed -: cannot open
+failed --key: cannot open
+failed files/numbers.stm'$'\r'': cannot open' ''
+: > list
+rm files/numbers
+for command in open verify; do
+    run $command --key none --files-from list
+    wants "$command-of-an-empty-list" 2 '' 'usage: no files'
+    run $command --key "$key" --files-from list files/numbers.stm
+    wants "$command-of-an-empty-list-and-a-file" 0 "$(test $command = open && echo opened || echo good) files/numbers.stm bytes 1492" ''
+    rm -f files/numbers
+    for content in '\n' 'a\n\nb' '\na' 'a\n\n'; do
+        printf "$content" > bad-list
+        run $command --key none --files-from bad-list files/numbers.stm
+        wants "$command-of-a-list-$content" 2 '' 'usage: a name in the list is empty'
+    done
+    for name in none files; do
+        run $command --key none --files-from $name files/numbers.stm
+        wants "$command-of-a-list-at-$name" 2 '' 'usage: cannot read the list'
+    done
+    run $command --key none --files-from /proc/self/mem
+    wants "$command-of-an-unreadable-list" 2 '' 'usage: cannot read the list'
+    printf 'files/numbers.stm\n\377\n' > bad-list
+    run $command --key none --files-from bad-list
+    wants "$command-of-a-list-that-is-no-text" 2 '' 'usage: the list is no text'
+    run $command --key none --null files/numbers.stm
+    wants "$command-null-without-a-list" 2 '' 'begins error: the following required arguments were not provided:
+  --files-from <F>'
+done
+run verify --key "$key" --files-from - <&-
+wants listed-on-closed-standard-input 2 '' 'usage: cannot read the list'
+printf 'a\0\0b' > bad-list
+run verify --key none --null --files-from bad-list
+wants empty-between-nulls 2 '' 'usage: a name in the list is empty'
+printf '\n' > bad-list
+run verify --key "$key" --null --files-from bad-list
+wants a-line-feed-is-a-name-by-null 1 'failed 
+: cannot open' ''
 for value in 0 17 -1 one; do
     run open --key "$key" "--workers=$value" files/numbers.stm
     wants "workers $value" 2 '' "begins error: invalid value '$value' for '--workers <N>'"
@@ -590,6 +801,149 @@ failed life/none: cannot open' ''
 fi
 seals $(printf 'w %.0s' $(seq 1 65536))
 wants too-many 2 '' 'ledger: too many files'
+printf 'w\n%.0s' $(seq 1 65535) > list
+seals --files-from list w
+wants too-many-of-a-list 2 '' 'ledger: too many files'
+seals --files-from - < list > out
+is as-many-as-a-run-may-have test "$status $(sort -u out | tr '\n' ' ') $(wc -l < out)" = '1 failed w: cannot open  65535'
+# A list is read before the key, and before anything is reserved.
+: > list
+before=$(marks)
+seals --files-from list
+wants seal-of-an-empty-list 2 '' 'usage: no files'
+printf '\n' > list
+run seal --key none --ledger life/new --device 1 --files-from list life/waits
+wants seal-of-an-empty-name 2 '' 'usage: a name in the list is empty'
+run seal --key none --ledger life/new --device 1 --files-from none life/waits
+wants seal-of-no-list 2 '' 'usage: cannot read the list'
+printf '\377' > list
+run seal --key none --ledger life/new --device 1 --files-from list life/waits
+wants seal-of-a-list-that-is-no-text 2 '' 'usage: the list is no text'
+is a-list-reserves-nothing test "$(marks)" = "$before"
+mkdir life/listed
+for name in a b c; do cp life/numbers "life/listed/$name"; done
+find life/listed -type f -print0 | sort -z > list
+run seal --key "$key" --ledger life/listed.ledger --device 1 --null --files-from list life/none
+wants seal-listed 1 'failed life/none: cannot open
+sealed life/listed/a file 0 bytes 1492
+sealed life/listed/b file 1 bytes 1492
+sealed life/listed/c file 2 bytes 1492' ''
+rm list
+
+# Outputs in a folder. Names are told apart before the key is read, and nothing is reserved.
+mkdir life/into life/from
+cp life/numbers life/from/a
+cp life/numbers life/from/b
+cp life/numbers life/b
+for lanes in 1 2; do
+    run seal --key "$key" --ledger life/into.ledger --device $lanes --lanes $lanes --into life/into --journal life/from/journal$lanes life/from/a life/b
+    unnumbered
+    wants "seal-into by $lanes" 0 'sealed life/from/a bytes 1492
+sealed life/b bytes 1492' ''
+    is "into-has-both by $lanes" test "$(ls life/into | tr '\n' ' ')" = 'a.stm b.stm '
+    is "the-journal-stays-where-it-was-asked-for by $lanes" test -s life/from/journal$lanes
+    rm life/into/*
+done
+is nothing-beside-what-was-sealed test "$(ls life/from life/*.stm | grep -c '^a.stm\|b.stm')" = 0
+for same in life/from/b ./life/b life//b; do
+    run seal --key none --ledger life/new --device 1 --into life/into life/b $same
+    wants "seal-into-one-name $same" 2 '' 'usage: two FILEs have one last name'
+done
+run seal --key none --ledger life/new --device 1 --into life/into life/b life/from/
+wants seal-into-no-name 2 '' 'usage: a FILE has no last name'
+run seal --key "$key" --ledger life/into.ledger --device 1 --into life/none life/b
+wants seal-into-no-folder 1 'failed life/b: cannot create' ''
+
+# What a ledger holds. Nothing is changed, and what seal refuses is refused.
+holds() { run ledger --ledger "$1"; }
+hint=$(python3 -c 'import hashlib, sys; print(hashlib.sha256(bytes.fromhex(open(sys.argv[1]).read().strip())).hexdigest()[:14])' "$key")
+other=$(printf '00%.0s' $(seq 32) | tee other-key | python3 -c 'import hashlib, sys; print(hashlib.sha256(bytes.fromhex(sys.stdin.read())).hexdigest()[:14])')
+mkdir life/held
+run seal --key "$key" --ledger life/held/l --device 300 life/none life/none
+run seal --key "$key" --ledger life/held/l --device 7 life/none
+run seal --key "$key" --ledger life/held/l --device 7 life/none life/none life/none
+run seal --key other-key --ledger life/held/l --device 7 life/none
+cp -p life/held/l life/held/l-wal life/
+holds life/held/l
+# in the order of the keys' ids, and then of the devices as numbers
+wants held 0 "$(printf '%s\n' "key $hint device 300 ranges 1 given 2 left 4294967294" "key $hint device 7 ranges 2 given 4 left 4294967292" "key $other device 7 ranges 1 given 1 left 4294967295" | sort -k 2,2 -k 4,4n)" ''
+is held-is-not-changed cmp -s life/held/l life/l
+is its-log-is-not-changed cmp -s life/held/l-wal life/l-wal
+is nothing-is-beside-it test "$(ls life/held | tr '\n' ' ')" = 'l l-wal '
+chmod 444 life/held/l life/held/l-wal
+holds life/held/l
+is held-may-be-read-only test "$status $(wc -l < out)" = '0 3'
+chmod 644 life/held/l life/held/l-wal
+rm life/held/l-wal
+holds life/held/l
+is held-without-its-log test "$status $(wc -l < out)" = '0 3'
+is no-log-was-made no test -e life/held/l-wal
+"$sealer" ledger --ledger life/held/l > /dev/full 2> err; status=$?; : > out
+wants held-is-not-told 2 '' 'ledger: write failed'
+for name in life/held/none '' :memory:; do
+    holds "$name"
+    wants "held by '$name'" 2 '' 'ledger: not there'
+done
+is no-ledger-was-made-to-be-read no test -e life/held/none
+: > life/held/empty
+holds life/held/empty
+wants held-by-an-empty-file 2 '' 'ledger: not there'
+for name in life/held life/more; do
+    holds "$name"
+    wants "held by '$name'" 2 '' 'ledger: cannot open'
+done
+ln life/held/l life/held/second
+holds life/held/l
+wants held-with-two-names 2 '' 'ledger: cannot open'
+rm life/held/second
+ln -s l life/held/link
+holds life/held/link
+is held-by-a-link test "$status $(wc -l < out)" = '0 3'
+printf x > life/held/l-journal
+holds life/held/l
+wants held-with-a-journal 2 '' 'ledger: cannot open'
+: > life/held/l-journal
+holds life/held/l
+is held-with-an-empty-journal test "$status" = 0
+head -c 57 /dev/zero > life/held/none-wal
+holds life/held/none
+wants held-by-a-log-alone 2 '' 'ledger: cannot open'
+if has sqlite3; then
+    cp life/ledger life/more-index
+    sqlite3 life/more-index 'CREATE INDEX more ON taken (lo)'
+    for name in other more-index gap bare; do
+        cp life/$name life/held/$name
+        run seal --key "$key" --ledger life/held/$name --no-new-ledger --device 1 life/none
+        cp err seals-err
+        cp life/$name life/held/$name
+        rm -f life/held/$name-wal
+        holds life/held/$name
+        wants "held by $name" 2 '' "$(cat seals-err)"
+        is "as it was: $name" cmp -s life/$name life/held/$name
+    done
+    holds life/spent
+    wants held-spent 0 "key $hint device 1 ranges 2 given 4294967296 left 0" ''
+fi
+# also while a run holds it, which waits for its input
+mkdir life/use
+cp life/l life/use/l
+mkfifo life/slow
+"$sealer" seal --key "$key" --ledger life/use/l --device 8 life/slow > in-use 2>&1 &
+for _ in $(seq 100); do
+    holds life/use/l
+    [ "$(wc -l < out)" = 4 ] && break
+    sleep 0.1
+done
+is held-in-use test "$status $(grep -c ' device 8 ranges 1 given 1 ' out)" = '0 1'
+timeout 20 sh -c 'printf 12345 > life/slow'
+wait
+is held-run-goes-on test "$(cat in-use)" = 'sealed life/slow file 0 bytes 5'
+rm life/slow
+run ledger
+wants ledger-of-none 2 '' 'begins error: the following required arguments were not provided:
+  --ledger <F>'
+run ledger --help
+wants ledger-help 0 'begins Tells what a ledger file holds' ''
 
 # Keys and usage of seal.
 run seal --key none --ledger life/new --device 1 life/waits

@@ -3,17 +3,19 @@
 writes that move few bytes (tools/refuse.c).
 
 Of each kind of run below the 1st, 2nd, .. allocation is refused alone, and in other runs that one and all after it, until a run meets no
-refusal. Of a sealing each second is refused with all after it, over a log each fourth both ways, and of a stream the last ones, behind the
-ledger's, and each fourth and eighth of all; EVERY is a number by which these distances are multiplied, or 0 for all. And of each read and write
-what is beyond 1, 2, 4, 8, .. bytes. The kinds are worked side by side over the processors. Whatever is refused: the run ends by itself with a
-status and a text of docs/MANUAL.md, and both fit its lines; an output is there whole or not at all, and not where its line says that it failed,
-but of a stream what was written begins its container; a journal that was written is legal; no other file is left; and the next run on the ledger
-succeeds, under a number that no output has, nor a journal.
+refusal. Of a sealing each second is refused with all after it, over a log each fourth with all after it, and of a stream and of outputs
+in a folder the last ones, behind the ledger's, and of a stream each fourth and eighth of all; EVERY is a number by which these distances
+are multiplied, or 0 for all. And of each read and write what is beyond 1, 2, 4, 8, .. bytes. The kinds are worked side by side over the
+processors. Whatever is refused: the run ends by itself with a status and a text of docs/MANUAL.md, and both fit its lines; an output is
+there whole or not at all, and not where its line says that it failed, but of a stream what was written begins its container; a journal
+that was written is legal; no other file is left; and the next run on the ledger succeeds, under a number that no output has, nor a
+journal.
 
 Prints what each kind had and 'N refusals as they should be', or what differs. Where no C compiler is there it says so and ends well, and
 under CI it fails. The program is crates/sealer/out/sealer, or $SEALER.
 """
 import dataclasses
+import hashlib
 import multiprocessing
 import os
 import re
@@ -33,11 +35,11 @@ HANG, ENOUGH = 60, 5
 HARMLESS = ("REFUSE_THREADS", "REFUSE_BEYOND")
 
 TEXTS = re.compile(
-    r"usage: (an argument is no text|out of memory)|error: out of memory|key: cannot open|journal: (cannot create|out of memory)"
+    r"usage: (an argument is no text|out of memory|cannot read the list)|error: out of memory|key: cannot open|journal: (cannot create|out of memory)"
     r"|ledger: (cannot open|store failed|out of memory)|audit: out of memory"
 )
 FAULT = re.compile(r"failed (\S+): (out of memory|cannot open|cannot create)")
-DONE = re.compile(r"sealed (\S+) file ([0-9]+) bytes ([0-9]+)|(?:opened|good) (\S+) bytes ([0-9]+)|legal: .*")
+DONE = re.compile(r"sealed (\S+) file ([0-9]+) bytes ([0-9]+)|(?:opened|good) (\S+) bytes ([0-9]+)|legal: .*|key [0-9a-f]{14} device .*")
 # What some run has to say.
 WANTED = (
     "failed a: out of memory", "failed -: out of memory", "failed long.stm: out of memory", "ledger: out of memory", "journal: out of memory", "audit: out of memory",
@@ -63,7 +65,7 @@ class Kind:
     words: list
     made: list
     given: dict = dataclasses.field(default_factory=dict)
-    least: int = 1000  # a run has at least so many allocations
+    least: int = 800  # a run has at least so many allocations
     which: tuple = ("REFUSE", "REFUSE_FROM", "REFUSE_BEYOND")
     input: bytes = b""
     line: str = ""  # what is said where nothing is refused
@@ -181,7 +183,7 @@ class Checker:
         if left - {name_of(name) for name in kind.made}:
             self.differs(f"leaves {sorted(left)}")
         for name, data in kind.given.items():
-            if not name.startswith("ledger") and read(name) != data:
+            if (kind.words[0] == "ledger" or not name.startswith("ledger")) and read(name) != data:
                 self.differs(f"alters {name}")
         return left
 
@@ -298,12 +300,16 @@ def kinds(made):
     numbers, long_stm = read(f"{top}/examples/numbers.stm"), made["long", 0]
     history = read(f"{top}/examples/journal.txt")
     verdict = "legal: 2 granted, 1 sealed, 1 void, 0 open, 1 refused"
-    half, quarter = {"REFUSE_FROM": 2}, {"REFUSE": 4, "REFUSE_FROM": 4}
+    half, quarter = {"REFUSE_FROM": 2}, {"REFUSE_FROM": 4}
     yield Kind("seal", sealing("--journal", "journal", "small"), ["small"], some("small"), each=half)
     yield Kind("seal by two workers", sealing("--workers", "2", "--journal", "journal", "long"), ["long"], some("long"), each=half)
     yield Kind("seal three by two lanes", sealing("--lanes", "2", "--journal", "journal", *LANES), LANES, some(*LANES), threads=True, each=half)
     yield Kind("seal three", sealing("--journal", "journal", *THREE), THREE, some(*THREE), each=half)
     yield Kind("seal over a ledger", sealing("--journal", "journal", "small"), ["small"], some("small", **ledger), first=1, each=half)
+    # What they do behind the ledger.
+    placed = ["--into", ".", "--journal", "journal"]
+    yield Kind("seal into a folder", sealing(*placed, "--sync", *THREE), THREE, some(*THREE), last=150)
+    yield Kind("lanes into a folder", sealing(*placed, "--lanes", "2", *LANES), LANES, some(*LANES), threads=True, last=150)
     if cut:
         yield Kind("seal over a log", sealing("--journal", "journal", "small"), ["small"], some("small", **cut), first=2, each=quarter)
         given = some("small", **back)
@@ -322,6 +328,12 @@ def kinds(made):
         yield Kind(f"open by {workers}", ["open", *by, "long.stm"], ["long.stm"], {"long.stm": long_stm}, 50, line=opened)
         yield Kind(f"verify by {workers}", ["verify", *by, "long.stm"], ["long.stm"], {"long.stm": long_stm}, 40, line=good)
     yield Kind("open a small one", ["open", "--key", key, "small.stm"], ["small.stm"], {"small.stm": numbers}, 40, line="opened small.stm bytes 1492")
+    into = ["--key", key, "--into", ".", "long.stm"]
+    yield Kind("open into a folder", ["open", *into], ["long.stm"], {"long.stm": long_stm}, 40, line=opened)
+    listed = {"long.stm": long_stm, "list": b"long.stm\n"}
+    yield Kind("verify a list", ["verify", "--key", key, "--files-from", "list"], ["long.stm"], listed, 40, line=good)
+    holding = f"key {hashlib.sha256(bytes.fromhex(read(key).decode().strip())).hexdigest()[:14]} device 1 ranges 1 given 1 left 4294967295"
+    yield Kind("ledger", ["ledger", "--ledger", "ledger"], [], ledger, 100, line=holding)
     yield Kind("audit", ["audit"], [], least=10, input=history, line=verdict)
     # Of four workers or lanes three are threads: what can't be started is worked on the others, with the same answer.
     by = ("REFUSE_THREADS",)

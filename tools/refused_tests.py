@@ -22,6 +22,16 @@ HANG, ENOUGH = 60, 5
 # A crate, a test of it, and how many allocations it makes at least.
 TESTS = (
     ("journal_tests", "tests::a_refused_growth_changes_nothing", 5),
+    ("ledger_tests", "tests::two_seats_share_a_range", 10),
+    ("ledger_tests", "tests::a_settlement_grows_the_log", 8),
+    ("crew_tests", "sealed::a_refused_growth_is_out_of_memory", 10),
+    ("crew_tests", "seats::a_refused_growth_leaves_the_next_number", 10),
+    ("batch_tests", "tests::a_refused_growth_loses_no_number", 10),
+    ("engine_tests", "two_chunks::a_refused_growth_seals_nothing_or_all", 10),
+    ("engine_tests", "two_chunks::a_refused_growth_opens_nothing_or_all", 10),
+    ("engine_tests", "two_chunks::a_refused_growth_is_no_other_fault", 7),
+    ("pipe_tests", "refused::a_refused_growth_seals_a_beginning_or_all", 10),
+    ("sealer_tests", "refused::a_refused_growth_leaves_a_legal_journal", 500),
 )
 
 

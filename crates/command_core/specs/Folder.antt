@@ -1,9 +1,10 @@
 -- What a folder's contract cites.
 use Rattle.std.specs.Prelude.{ℕ, List, ◌++◌, Option, None, Some}
 
--- a step on a folder's outputs: one was created, or its removal was tried
+-- a step on a folder's outputs: one was created, one was finished, or its removal was tried
 pub data Step : Type 0 where
   Created : List ℕ → Step
+  Finished : List ℕ → Step
   Removing : List ℕ → Step
 
 -- the steps so far and these, where they are known

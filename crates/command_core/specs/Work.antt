@@ -9,7 +9,7 @@ use Rattle.command_core.specs.declared.line.FileFault.TheVariants.{CannotOpen, O
 use Rattle.command_core.specs.declared.line.FileFault.TheVariants.{AnotherLabel, Unsealed}
 use Rattle.command_core.specs.declared.line.FileOutcome.{FileOutcome}
 use Rattle.command_core.specs.declared.line.FileOutcome.TheVariants.{Opened, Good, Shown, Failed}
-use Rattle.command_core.specs.Folder.{Step, Created, Removing, stepped}
+use Rattle.command_core.specs.Folder.{Step, Created, Finished, Removing, stepped}
 use Rattle.command_core.specs.Lines.{FileLine, lines_text, status_of_lines}
 
 -- the name without its last four bytes, which are `.stm`
@@ -36,10 +36,10 @@ IsOfVerifying show (Failed (Unopened Write)) = ⊥
 IsOfVerifying show (Failed (Unopened fault)) = ⊤
 IsOfVerifying show _ = ⊥
 
--- the steps on outputs that opening a file makes: its output is created where the whole container was checked, and
--- where the writing then fails its removal is tried
+-- the steps on outputs that opening a file makes: its output is created where the whole container was checked, and then
+-- finished, or its removal is tried where the writing or the finishing fails
 abbrev pub output_steps : List ℕ → FileOutcome → List Step
-output_steps output (Opened bytes) = Created output ∷ []
+output_steps output (Opened bytes) = Created output ∷ Finished output ∷ []
 output_steps output (Failed (Unopened Write)) = Created output ∷ Removing output ∷ []
 output_steps output _ = []
 

@@ -15,7 +15,7 @@ ghost use Rattle.command_core.specs.Work.{output_of, IsOfOpening, IsOfVerifying,
 ghost use Rattle.command_core.specs.Work.{output_steps, steps_of, AreTold, AreWorked};
 
 use crate::facts::Facts;
-use crate::folder::{Folder, FolderFault};
+use crate::folder::{Folder, FolderFault, write_output};
 use crate::label::is_labelled;
 use crate::line::{FileFault, FileOutcome, Line};
 use container_core::{Key, MAX_OPENED, MAX_PLAIN, OpenFault};
@@ -147,7 +147,7 @@ fn check_labelled<T: Threads + Sync, R: Source>(
     }
 }
 
-// Checks the whole container of one file, then creates its output and writes the plaintext.
+// Checks the whole container of one file, then creates its output, writes the plaintext and finishes the output.
 fn open_file<T: Threads + Sync, F: Folder>(
     rt: &T,
     alloc: Global,
@@ -186,7 +186,7 @@ fn open_file<T: Threads + Sync, F: Folder>(
         Err(FolderFault::Exists) => return FileOutcome::Failed(FileFault::OutputExists),
         Err(FolderFault::Failed) => return FileOutcome::Failed(FileFault::CannotCreate),
     };
-    match write_all(&mut writer, plain.as_slice()) {
+    match write_output(folder, output, &mut writer, plain.as_slice()) {
         Ok(()) => FileOutcome::Opened(plain.len() as u64),
         Err(Failed) => {
             let _ = folder.remove(output);
@@ -319,7 +319,7 @@ fn work_all<T: Threads + Sync, F: Folder, W: Sink>(
 /// Opens each file: reads its container, checks all of it, and then writes the plaintext to the name without `.stm`,
 /// which must not be there yet. Where a label is asked for, a container that has another one fails once it was checked,
 /// and its output isn't created. The answer is the exit status: 0 where every file was opened, 1 where one failed, 2
-/// where a line couldn't be written. An output that couldn't be written whole is removed.
+/// where a line couldn't be written. An output that couldn't be written whole, or finished, is removed.
 pub fn open_all<T: Threads + Sync, F: Folder, L: Sink + Drop, E: Sink + Drop, J: Sink + Drop>(
     rt: &T,
     alloc: Global,

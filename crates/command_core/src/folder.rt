@@ -1,8 +1,9 @@
 //! Folders: what the commands read files from and create outputs in.
-ghost use Rattle.std.specs.Prelude.{◌≡◌, ◌≢◌, List, [], ◌∷◌, Option, None, Err, is_ok, if◌then◌else◌};
-ghost use Rattle.command_core.specs.Folder.{Step, Created, Removing, stepped};
+ghost use Rattle.std.specs.Prelude.{◌≡◌, ◌≢◌, List, [], ◌∷◌, Option, None, Err, OnOk, OnErr, is_ok, if◌then◌else◌};
+ghost use Rattle.io_core.specs.Streams.{Appends, AppendsFront};
+ghost use Rattle.command_core.specs.Folder.{Step, Created, Finished, Removing, stepped};
 
-use ledger_core::{Sink, Source};
+use ledger_core::{Failed, Sink, Source, write_all};
 use thiserror::Error;
 
 /// Why a folder refused a call.
@@ -21,7 +22,7 @@ pub trait Folder {
     /// What reads a file of this folder.
     type Reader: Source + Drop;
 
-    /// What writes an output into this folder. Letting it go closes the output.
+    /// What writes an output into this folder. Where it is let go, without `finish`, no fault at closing is told.
     type Writer: Sink + Drop;
 
     // The steps on outputs so far, where they are known.
@@ -38,8 +39,35 @@ pub trait Folder {
         ensures steps { steps self.new ≡ stepped (steps self.old)
             (if is_ok result then Created name.now ∷ [] else []) };
 
+    /// Nothing more is written to the output of this name: a folder over real files puts it on the disk where that was
+    /// asked for. Its only fault is `Failed`. What was written stays as it is.
+    fn finish(&mut self, name: &str, output: &mut Self::Writer) -> Result<(), FolderFault>
+        ensures fault { result ≢ Err FolderFault.Exists }
+        ensures steps { steps self.new ≡ stepped (steps self.old)
+            (if is_ok result then Finished name.now ∷ [] else []) }
+        ensures kept { Self.Writer.taken output.new ≡ Self.Writer.taken output.old };
+
     /// Removes a file. Its only fault is `Failed`.
     fn remove(&mut self, name: &str) -> Result<(), FolderFault>
         ensures fault { result ≢ Err FolderFault.Exists }
         ensures steps { steps self.new ≡ stepped (steps self.old) (Removing name.now ∷ []) };
+}
+
+/// Writes all of the output of this name, and finishes it. It fails where a write fails, or the finishing.
+pub fn write_output<F: Folder>(
+    folder: &mut F,
+    name: &str,
+    output: &mut F::Writer,
+    bytes: &[u8],
+) -> Result<(), Failed>
+    ensures ok { OnOk result (Appends (F.Writer.taken output.old) (F.Writer.taken output.new) bytes.now) }
+    ensures err { OnErr result (AppendsFront (F.Writer.taken output.old) (F.Writer.taken output.new) bytes.now) }
+    ensures finished { OnOk result (F.steps folder.new ≡ stepped (F.steps folder.old) (Finished name.now ∷ [])) }
+    ensures unfinished { OnErr result (F.steps folder.new ≡ F.steps folder.old) }
+{
+    write_all(output, bytes)?;
+    match folder.finish(name, output) {
+        Ok(()) => Ok(()),
+        Err(_) => Err(Failed),
+    }
 }

@@ -1,7 +1,7 @@
 //! The commands, with the texts of their help.
 use crate::options::{
-    FILE_ROWS, KEY_ROWS, LEDGER_ROWS, OPEN_ROWS, PIPE_ROWS, SEAL_ROWS, SHAPE_ROWS, SHOW_ROWS,
-    with_rows,
+    FILE_ROWS, HOLDINGS_ROWS, KEY_ROWS, LEDGER_ROWS, OPEN_ROWS, OUTPUT_ROWS, PIPE_ROWS, SEAL_ROWS,
+    SHAPE_ROWS, SHOW_ROWS, with_rows,
 };
 use crate::version::VERSION;
 use clap::{Command, Error};
@@ -40,7 +40,12 @@ const AUDIT_HELP: &str =
     "Exit status: 0 where the journal is legal, 1 where it is not, 2 where it could not be read or the verdict not be
 written.";
 
-/// The program's command: `seal`, `pipe`, `open`, `verify` and `audit`.
+/// What stands at the end of the help of `ledger`.
+const LEDGER_HELP: &str =
+    "A line on standard output tells of each key, by the beginning of its SHA-256, and device: ranges, numbers given, numbers left.
+Exit status: 0 where all were told, 2 where standard error tells why not.";
+
+/// The program's command: `seal`, `pipe`, `open`, `verify`, `audit` and `ledger`.
 pub fn command<'a>(alloc: Global) -> Result<Command<'a>, Error> {
     let seal = seal_command(alloc)?;
     let pipe = pipe_command(alloc)?;
@@ -49,11 +54,16 @@ pub fn command<'a>(alloc: Global) -> Result<Command<'a>, Error> {
         "open",
         "Checks each FILE whole, then writes its plaintext to the name without .stm",
     )?;
+    let open = with_rows(alloc, open, &OUTPUT_ROWS)?;
     let verify = open_command(alloc, "verify", "Checks each FILE whole and writes no file")?;
     let verify = with_rows(alloc, verify, &SHOW_ROWS)?;
     let audit = Command::new(alloc, "audit")
         .about("Audits the journal on standard input and prints the verdict")
         .after_help(AUDIT_HELP);
+    let ledger = Command::new(alloc, "ledger")
+        .about("Tells what a ledger file holds, and changes nothing")
+        .after_help(LEDGER_HELP);
+    let ledger = with_rows(alloc, ledger, &HOLDINGS_ROWS)?;
     let sealer = Command::new(alloc, "sealer")
         .version(VERSION)
         .about("Seals, opens and verifies many files under one key, each under a number of its own")
@@ -63,7 +73,8 @@ pub fn command<'a>(alloc: Global) -> Result<Command<'a>, Error> {
         .subcommand(pipe)?
         .subcommand(open)?
         .subcommand(verify)?
-        .subcommand(audit)?;
+        .subcommand(audit)?
+        .subcommand(ledger)?;
     Ok(sealer)
 }
 
@@ -91,6 +102,7 @@ fn seal_command<'a>(alloc: Global) -> Result<Command<'a>, Error> {
     )?;
     let command = with_rows(alloc, command.after_help(SEAL_HELP), &LEDGER_ROWS)?;
     let command = with_rows(alloc, command, &SEAL_ROWS)?;
+    let command = with_rows(alloc, command, &OUTPUT_ROWS)?;
     with_rows(alloc, command, &SHAPE_ROWS)
 }
 

@@ -12,6 +12,8 @@ enum Takes {
     Path {
         is_required: bool,
     },
+    // The path of a folder, which need not be given.
+    Folder,
     // A text, which need not be given.
     Text,
     // A number in a range, and what stands where none is given.
@@ -25,10 +27,17 @@ enum Takes {
         most: i64,
         default: &'static str,
     },
+    // Nothing, or behind `=` one of these words, and the one that stands where nothing is given there.
+    Words {
+        words: &'static [&'static str],
+        absent: &'static str,
+    },
     // Nothing: it is given or not.
     Nothing,
-    // The files of a command, one at least. Its name is no option's.
-    Files,
+    // Nothing, and it is given only with this other option.
+    NothingWithout(&'static str),
+    // The files of a command, one at least unless this option is given. Its name is no option's.
+    FilesUnless(&'static str),
 }
 
 // What stands where a number isn't given.
@@ -67,11 +76,45 @@ pub(crate) static KEY_ROWS: [Row; 2] = [
 ];
 
 /// What every command over files takes besides.
-pub(crate) static FILE_ROWS: [Row; 1] = [Row {
-    name: "FILE",
-    takes: Takes::Files,
-    help: "The files, whose lines stand in this order",
-}];
+pub(crate) static FILE_ROWS: [Row; 4] = [
+    Row {
+        name: "FILE",
+        takes: Takes::FilesUnless("files-from"),
+        help: "The files, whose lines stand in this order",
+    },
+    Row {
+        name: "files-from",
+        takes: Takes::Path { is_required: false },
+        help: "A list of further FILEs, one a line, behind those of the command line; - is standard input",
+    },
+    Row {
+        name: "null",
+        takes: Takes::NothingWithout("files-from"),
+        help: "In the list of --files-from a NUL byte stands behind each FILE, not a line feed",
+    },
+    Row {
+        name: "progress",
+        takes: Takes::Words {
+            words: &["terminal", "always"],
+            absent: "terminal",
+        },
+        help: "Tell on standard error how far the run is, where that is a terminal, or always",
+    },
+];
+
+/// What `seal` and `open` take besides: of their outputs.
+pub(crate) static OUTPUT_ROWS: [Row; 2] = [
+    Row {
+        name: "into",
+        takes: Takes::Folder,
+        help: "Put the outputs into this folder, each under the last name of its FILE; no two may be the same",
+    },
+    Row {
+        name: "sync",
+        takes: Takes::Nothing,
+        help: "Tell the line of a FILE only once its output and the name of that are on the disk",
+    },
+];
 
 /// What `open` and `verify` take besides.
 pub(crate) static OPEN_ROWS: [Row; 2] = [
@@ -95,6 +138,13 @@ pub(crate) static SHOW_ROWS: [Row; 1] = [Row {
     name: "show",
     takes: Takes::Nothing,
     help: "Behind the line of a good FILE print its version, bytes of a chunk, device, number and label",
+}];
+
+/// What the command takes that tells what a ledger file holds.
+pub(crate) static HOLDINGS_ROWS: [Row; 1] = [Row {
+    name: "ledger",
+    takes: Takes::Path { is_required: true },
+    help: "The ledger file, which is read and not changed",
 }];
 
 /// What a command that seals takes besides: its numbers.
@@ -214,12 +264,27 @@ fn number<'a>(arg: Arg<'a>, least: u32, most: u32, absent: &Absent) -> Arg<'a> {
 }
 
 // The argument of a row.
-fn arg_of<'a>(alloc: Global, row: &Row) -> Arg<'a> {
+fn arg_of<'a>(alloc: Global, row: &Row) -> Result<Arg<'a>, Error> {
     let arg = Arg::new(alloc, row.name).help(row.help);
-    match &row.takes {
-        Takes::Files => arg.required(true).num_args(1..).action(ArgAction::Append),
+    let arg = match &row.takes {
+        Takes::FilesUnless(list) => arg
+            .num_args(1..)
+            .action(ArgAction::Append)
+            .required_unless_present(list)?,
         Takes::Nothing => arg.long(row.name).action(ArgAction::SetTrue),
+        Takes::NothingWithout(other) => arg
+            .long(row.name)
+            .action(ArgAction::SetTrue)
+            .requires_arg(other)?,
         Takes::Path { is_required } => arg.long(row.name).value_name("F").required(*is_required),
+        Takes::Words { words, absent } => arg
+            .long(row.name)
+            .value_name("WHEN")
+            .num_args(0..=1)
+            .require_equals(true)
+            .value_parser(*words)
+            .default_missing_value(absent),
+        Takes::Folder => arg.long(row.name).value_name("DIR"),
         Takes::Text => arg.long(row.name).value_name("TEXT"),
         Takes::Number {
             least,
@@ -231,7 +296,8 @@ fn arg_of<'a>(alloc: Global, row: &Row) -> Arg<'a> {
             .value_name("N")
             .value_parser(value_parser!(u64).range(0..=*most))
             .default_value(default),
-    }
+    };
+    Ok(arg)
 }
 
 /// The command with what the rows say.
@@ -242,7 +308,7 @@ pub(crate) fn with_rows<'a>(
 ) -> Result<Command<'a>, Error> {
     let mut command = command;
     for row in rows {
-        let longer = command.arg(arg_of(alloc, row))?;
+        let longer = command.arg(arg_of(alloc, row)?)?;
         command = longer;
     }
     Ok(command)

@@ -28,9 +28,50 @@ pub enum UsageFault {
     /// A label of more than 255 bytes.
     #[error("label too long")]
     LabelTooLong,
+    /// There are no files: none stands on the command line, and the list has none.
+    #[error("no files")]
+    NoFiles,
+    /// A name in the list of files is empty.
+    #[error("a name in the list is empty")]
+    EmptyName,
+    /// The list of files isn't UTF-8.
+    #[error("the list is no text")]
+    ListNoText,
+    /// The list of files can't be read. The program tells it; no request does.
+    #[error("cannot read the list")]
+    CannotReadList,
+    /// Memory was refused for the names.
+    #[error("out of memory")]
+    OutOfMemory,
     /// A container would be written to a terminal, and that wasn't asked for. The program tells it; no request does.
     #[error("standard output is a terminal")]
     Terminal,
+}
+
+/// When a run tells on standard error how far it is.
+#[derive(Clone, Copy, PartialEq, Eq, Debug)]
+pub enum Showing {
+    /// It doesn't.
+    Never,
+    /// Where standard error is a terminal.
+    OnTerminal,
+    /// It does.
+    Always,
+}
+
+/// When a run over files is asked to tell how far it is.
+pub fn showing_asked(matches: &ArgMatches<'_>) -> Showing
+    ensures never { first_value (found_of matches.now) (codes "progress") ≡ None → result ≡ Showing.Never }
+    ensures always { first_value (found_of matches.now) (codes "progress") ≡ Some (codes "always")
+        → result ≡ Showing.Always }
+    ensures terminal { first_value (found_of matches.now) (codes "progress") ≡ Some (codes "terminal")
+        → result ≡ Showing.OnTerminal }
+{
+    match matches.get_str("progress") {
+        None => Showing::Never,
+        Some("always") => Showing::Always,
+        Some(_) => Showing::OnTerminal,
+    }
 }
 
 /// What `seal` is asked for.
@@ -41,7 +82,7 @@ pub struct SealRequest<'m, 'a> {
     /// Whether a ledger file is made where there is none.
     pub may_make: bool,
     pub device: Device,
-    pub files: &'m [&'a str],
+    pub files: &'m [&'m str],
     pub workers: u32,
     pub lanes: u32,
     /// Chunks that are sealed at a time.
@@ -51,17 +92,34 @@ pub struct SealRequest<'m, 'a> {
     pub journal: Option<&'a str>,
     /// The shape of the containers: version, size of chunks, label.
     pub shape: Shape,
+    /// The folder into which the outputs go, where one is asked for.
+    pub into: Option<&'a str>,
+    /// Whether a line comes only once its output and the name of that are on the disk.
+    pub sync: bool,
 }
 
-/// What `seal` is asked for. `LanesAndWorkers` where both are above 1, and then `LabelTooLong` where the label has more
-/// than 255 bytes.
-pub fn seal_request<'m, 'a>(matches: &'m ArgMatches<'a>) -> Result<SealRequest<'m, 'a>, UsageFault>
-    ensures files { IfOk result (λ request. 0 < length request.files.now) }
+/// What `seal` is asked for, of these files. `NoFiles` where there are none, then `LanesAndWorkers` where both are above 1, and
+/// then `LabelTooLong` where the label has more than 255 bytes.
+pub fn seal_request<'m, 'a>(
+    matches: &ArgMatches<'a>,
+    files: &'m [&'m str],
+) -> Result<SealRequest<'m, 'a>, UsageFault>
+    ensures key { IfOk result (λ request. Some request.key.now ≡ first_value (found_of matches.now) (codes "key")) }
+    ensures ledger { IfOk result (λ request. Some request.ledger.now ≡ first_value (found_of matches.now) (codes "ledger")) }
+    ensures journal { IfOk result (λ request. option_map (λ journal. journal.now) request.journal
+        ≡ first_value (found_of matches.now) (codes "journal")) }
+    ensures files { IfOk result (λ request. (request.files.now ≡ files.now) × (0 < length request.files.now)) }
     ensures workers { IfOk result (λ request. (0 < request.workers) × (request.workers ≤ MAX_WORKERS)) }
     ensures lanes { IfOk result (λ request. (0 < request.lanes) × (request.lanes ≤ MAX_LANES)) }
     ensures apart { IfOk result (λ request. (request.workers ≤ 1) ⊎ (request.lanes ≤ 1)) }
     ensures window { IfOk result (λ request. (0 < request.window) × (request.window ≤ MAX_WINDOW)) }
     ensures max_bytes { IfOk result (λ request. request.max_bytes ≤ MAX_PLAIN) }
+    ensures into { IfOk result (λ request. option_map (λ into. into.now) request.into
+        ≡ first_value (found_of matches.now) (codes "into")) }
+    ensures synced { IfOk result (λ request. one_text (found_of matches.now) (codes "sync") ≡ Some (codes "true")
+        → request.sync ≡ true) }
+    ensures unsynced { IfOk result (λ request. one_text (found_of matches.now) (codes "sync") ≡ Some (codes "false")
+        → request.sync ≡ false) }
 
     // The label is the one that was given. Without it, and without an exponent, the containers are of version 1.
     ensures shape { IfOk result (λ request. (exponent : Option ℕ)
@@ -75,15 +133,14 @@ pub fn seal_request<'m, 'a>(matches: &'m ArgMatches<'a>) -> Result<SealRequest<'
     let (Some(key), Some(ledger)) = (matches.get_str("key"), matches.get_str("ledger")) else {
         return Err(UsageFault::Missing);
     };
-    let (Some(number), Some(files)) = (matches.get_one::<u32>("device"), matches.get_strs("FILE"))
-    else {
+    let Some(number) = matches.get_one::<u32>("device") else {
         return Err(UsageFault::Missing);
     };
     let Some(device) = Device::new(number) else {
         return Err(UsageFault::Missing);
     };
     if files.is_empty() {
-        return Err(UsageFault::Missing);
+        return Err(UsageFault::NoFiles);
     }
     let workers = workers(matches);
     let lanes = lanes(matches);
@@ -106,6 +163,8 @@ pub fn seal_request<'m, 'a>(matches: &'m ArgMatches<'a>) -> Result<SealRequest<'
         max_bytes: max_bytes(matches, MAX_PLAIN),
         journal: matches.get_str("journal"),
         shape,
+        into: matches.get_str("into"),
+        sync: matches.get_flag("sync"),
     })
 }
 
@@ -131,6 +190,10 @@ pub struct PipeRequest<'a> {
 
 /// What `pipe` is asked for. `LabelTooLong` where the label has more than 255 bytes.
 pub fn pipe_request<'a>(matches: &ArgMatches<'a>) -> Result<PipeRequest<'a>, UsageFault>
+    ensures key { IfOk result (λ request. Some request.key.now ≡ first_value (found_of matches.now) (codes "key")) }
+    ensures ledger { IfOk result (λ request. Some request.ledger.now ≡ first_value (found_of matches.now) (codes "ledger")) }
+    ensures journal { IfOk result (λ request. option_map (λ journal. journal.now) request.journal
+        ≡ first_value (found_of matches.now) (codes "journal")) }
     ensures workers { IfOk result (λ request. (0 < request.workers) × (request.workers ≤ MAX_WORKERS)) }
     ensures depth { IfOk result (λ request. (0 < request.depth) × (request.depth ≤ MAX_DEPTH)) }
     ensures most { IfOk result (λ request. 0 < request.max_chunks) }
@@ -141,8 +204,12 @@ pub fn pipe_request<'a>(matches: &ArgMatches<'a>) -> Result<PipeRequest<'a>, Usa
         × (request.shape ≡ shape_asked exponent (first_value (found_of matches.now) (codes "label")))) }
     ensures lawful { IfOk result (λ request. IsShape request.shape) }
     ensures short { IfOk result (λ request. IsShort request.shape.label) }
+    ensures forced { IfOk result (λ request. one_text (found_of matches.now) (codes "force-terminal")
+        ≡ Some (codes "true") → request.to_terminal ≡ true) }
     ensures hidden { IfOk result (λ request. one_text (found_of matches.now) (codes "force-terminal")
         ≡ Some (codes "false") → request.to_terminal ≡ false) }
+    ensures without { IfOk result (λ request. one_text (found_of matches.now) (codes "force-terminal") ≡ None
+        → request.to_terminal ≡ false) }
     ensures too_long { result ≡ Err UsageFault.LabelTooLong
         → IfSome (first_value (found_of matches.now) (codes "label")) (λ label. MAX_LABEL < length label) }
 {
@@ -177,7 +244,7 @@ pub fn pipe_request<'a>(matches: &ArgMatches<'a>) -> Result<PipeRequest<'a>, Usa
 #[derive(Clone, Copy)]
 pub struct OpenRequest<'m, 'a> {
     pub key: &'a str,
-    pub files: &'m [&'a str],
+    pub files: &'m [&'m str],
     pub workers: u32,
     /// Plaintext bytes of a file at most.
     pub max_bytes: u64,
@@ -185,11 +252,20 @@ pub struct OpenRequest<'m, 'a> {
     pub label: Option<&'a [u8]>,
     /// Whether the facts of each container that is good are printed. `open` has no such option.
     pub show: bool,
+    /// The folder into which the outputs go, where one is asked for. `verify` has no such option.
+    pub into: Option<&'a str>,
+    /// Whether a line comes only once its output and the name of that are on the disk. `verify` has no such option.
+    pub sync: bool,
 }
 
-/// What `open` or `verify` is asked for. `LabelTooLong` where the label has more than 255 bytes: no container has it.
-pub fn open_request<'m, 'a>(matches: &'m ArgMatches<'a>) -> Result<OpenRequest<'m, 'a>, UsageFault>
-    ensures files { IfOk result (λ request. 0 < length request.files.now) }
+/// What `open` or `verify` is asked for, of these files. `NoFiles` where there are none, then `LabelTooLong` where the label has
+/// more than 255 bytes: no container has it.
+pub fn open_request<'m, 'a>(
+    matches: &ArgMatches<'a>,
+    files: &'m [&'m str],
+) -> Result<OpenRequest<'m, 'a>, UsageFault>
+    ensures key { IfOk result (λ request. Some request.key.now ≡ first_value (found_of matches.now) (codes "key")) }
+    ensures files { IfOk result (λ request. (request.files.now ≡ files.now) × (0 < length request.files.now)) }
     ensures workers { IfOk result (λ request. (0 < request.workers) × (request.workers ≤ MAX_WORKERS)) }
     ensures max_bytes { IfOk result (λ request. request.max_bytes ≤ MAX_OPENED) }
     ensures label { IfOk result (λ request. option_map (λ label. label.now) request.label
@@ -201,14 +277,20 @@ pub fn open_request<'m, 'a>(matches: &'m ArgMatches<'a>) -> Result<OpenRequest<'
         → request.show ≡ false) }
     ensures without { IfOk result (λ request. one_text (found_of matches.now) (codes "show") ≡ None
         → request.show ≡ false) }
+    ensures into { IfOk result (λ request. option_map (λ into. into.now) request.into
+        ≡ first_value (found_of matches.now) (codes "into")) }
+    ensures synced { IfOk result (λ request. one_text (found_of matches.now) (codes "sync") ≡ Some (codes "true")
+        → request.sync ≡ true) }
+    ensures unsynced { IfOk result (λ request. one_text (found_of matches.now) (codes "sync") ≡ Some (codes "false")
+        → request.sync ≡ false) }
     ensures too_long { result ≡ Err UsageFault.LabelTooLong
         → IfSome (first_value (found_of matches.now) (codes "label")) (λ label. MAX_LABEL < length label) }
 {
-    let (Some(key), Some(files)) = (matches.get_str("key"), matches.get_strs("FILE")) else {
+    let Some(key) = matches.get_str("key") else {
         return Err(UsageFault::Missing);
     };
     if files.is_empty() {
-        return Err(UsageFault::Missing);
+        return Err(UsageFault::NoFiles);
     }
     let label = match label_of(matches.get_str("label")) {
         Ok(label) => label,
@@ -221,6 +303,8 @@ pub fn open_request<'m, 'a>(matches: &'m ArgMatches<'a>) -> Result<OpenRequest<'
         max_bytes: max_bytes(matches, MAX_OPENED),
         label,
         show: matches.get_flag("show"),
+        into: matches.get_str("into"),
+        sync: matches.get_flag("sync"),
     })
 }
 

@@ -5,9 +5,20 @@ use crate::COUNTING;
 use crate::sealed::{ZERO_BYTES, ZEROS, is_digest, is_spent};
 use container_core::{Key, Shape};
 use crew_core::{Free, seal_whole};
-use ledger_core::{Device, IssueFault, Ledger, Range, Seat, Way};
+use ledger_core::{Device, Grant, IssueFault, Ledger, Range, Seat, Way};
 use std::alloc::{AllocError, Global};
 use std::thread::Threads;
+
+// The seat's next grant. An issue whose memory was refused is made again.
+fn next_grant(ledger: &Ledger, seat: &mut Seat) -> Option<Grant>
+    requires { seat.old.ledger ≡ ledger.now.ledger }
+    ensures { seat.new.ledger ≡ seat.old.ledger }
+{
+    match ledger.issue(seat) {
+        Err(IssueFault::OutOfMemory) => ledger.issue(seat).ok(),
+        issued => issued.ok(),
+    }
+}
 
 // Whether the number 0, issued at a seat, is sealed with the container of 65,537 zeros by two workers, or void without
 // it.
@@ -20,7 +31,7 @@ fn is_spent_by_its_result<R: Threads + Sync>(
     requires { seat.old.ledger ≡ ledger.now.ledger }
     ensures { seat.new.ledger ≡ seat.old.ledger }
 {
-    let grant = ledger.issue(seat).ok()?;
+    let grant = next_grant(ledger, seat)?;
     let key = Key::new(COUNTING);
     let (result, spent) = seal_whole(rt, alloc, &key, &Shape::one(), grant, &ZERO_BYTES, 2, &Free);
     match result {
@@ -31,25 +42,17 @@ fn is_spent_by_its_result<R: Threads + Sync>(
     }
 }
 
-// The number that a seat is granted next; an issue whose memory was refused is tried again.
-fn next_number(ledger: &Ledger, seat: &mut Seat) -> Option<u32>
-    requires { seat.old.ledger ≡ ledger.now.ledger }
-{
-    let grant = match ledger.issue(seat) {
-        Err(IssueFault::OutOfMemory) => ledger.issue(seat).ok()?,
-        issued => issued.ok()?,
-    };
-    Some(grant.number())
-}
-
 // Whether the seat of a ledger of two numbers spends number 0 on a sealing, whether or not that was refused memory, and
-// is granted number 1 next.
+// is granted number 1 next. Where memory is refused for the ledger it is opened again.
 fn goes_on<R: Threads + Sync>(rt: &R, alloc: Global) -> Option<bool> {
     let range = Range::new(Device::new(1)?, 0, 2).ok()?;
-    let (ledger, mut seats) = Ledger::open(alloc, range, 1).ok()?;
+    let (ledger, mut seats) = match Ledger::open(alloc, range, 1) {
+        Err(_) => Ledger::open(alloc, range, 1).ok()?,
+        Ok(opened) => opened,
+    };
     let seat = &mut seats[0];
     let spent = is_spent_by_its_result(rt, alloc, &ledger, seat)?;
-    Some(spent && next_number(&ledger, seat) == Some(1))
+    Some(spent && next_grant(&ledger, seat)?.number() == 1)
 }
 
 #[test]

@@ -7,7 +7,7 @@ use std::test::Fail;
 
 const JOURNAL: &str = "range 1 7 2 2\n0 issue 7\n1 issue 8\n0 issue none\n1 sealed 8\n0 void 7\n";
 
-static AUDITS: [(&str, &str); 34] = [
+static AUDITS: [(&str, &str); 37] = [
     (
         JOURNAL,
         "legal: 2 granted, 1 sealed, 1 void, 0 open, 1 refused\n",
@@ -79,6 +79,19 @@ static AUDITS: [(&str, &str); 34] = [
     (
         "range 1 7 2 2\n0 issue 7\n1 issue 8\n0 issue none\n1 sealed 8\n0 void 9\n",
         "illegal line 6\n",
+    ),
+    // The longest line that there is, a byte more, and 64 more.
+    (
+        "range 16777215 4294901760 65535 64\n",
+        "legal: 0 granted, 0 sealed, 0 void, 0 open, 0 refused\n",
+    ),
+    (
+        "range 16777215 4294901760 65535 640\n",
+        "malformed line 1\n",
+    ),
+    (
+        "range 16777215 4294901760 65535 64                                                                \n",
+        "malformed line 1\n",
     ),
     // The first fault is named, whatever follows.
     ("range 1 7 2 2\n0 issue 8\nnonsense\n", "illegal line 2\n"),

@@ -24,4 +24,6 @@ mod shapes;
 #[cfg(test)]
 mod tables;
 #[cfg(test)]
+mod two_chunks;
+#[cfg(test)]
 mod windows;

@@ -221,6 +221,14 @@ impl Folder for MemoryFolder {
         Ok(MemoryWriter { content })
     }
 
+    fn finish(&mut self, _name: &str, _output: &mut MemoryWriter) -> Result<(), FolderFault> {
+        if self.is_refused() {
+            Err(FolderFault::Failed)
+        } else {
+            Ok(())
+        }
+    }
+
     fn remove(&mut self, name: &str) -> Result<(), FolderFault> {
         if self.is_refused() {
             return Err(FolderFault::Failed);

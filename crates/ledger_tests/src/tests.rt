@@ -83,6 +83,42 @@ fn two_seats_share_a_range(rt: HostRuntime) {
     assert!(rt; audits_as(rt.alloc(), text.as_str(), line));
 }
 
+// Seat 0 issues 0 to 3, which fills the room that a log begins with.
+fn fill_a_log(run: &mut Run) -> Option<Grant>
+    requires { 0 < run.old.terms.seats }
+    ensures { run.new ≡ run.old }
+{
+    let zero = issue(run, 0).ok()?;
+    let filled = issue(run, 0).is_ok() && issue(run, 0).is_ok() && issue(run, 0).is_ok();
+    if filled { Some(zero) } else { None }
+}
+
+// Whether the settlement behind that is made, and counted.
+fn settles_behind_four(run: &mut Run) -> bool
+    requires { 0 < run.old.terms.seats }
+    ensures { run.new ≡ run.old }
+{
+    let Some(zero) = fill_a_log(run) else {
+        return false;
+    };
+    let counted = Tally {
+        granted: 4,
+        refused: 0,
+        sealed: 1,
+        void: 0,
+    };
+    settles(run, 0, zero.used()) && run.tally(0) == counted
+}
+
+// Run it with each allocation refused in turn: the settlement is the one that is refused where a log grows.
+#[test]
+fn a_settlement_grows_the_log(rt: HostRuntime) {
+    let mut run = open_twice(rt.alloc(), 0, 4, 1).expect(&rt, "a ledger");
+    assert!(rt; settles_behind_four(&mut run));
+    let lines = "range 1 0 4 1\n0 issue 0\n0 issue 1\n0 issue 2\n0 issue 3\n0 sealed 0\n";
+    assert!(rt; closes_as(rt.alloc(), run, lines));
+}
+
 #[test]
 fn four_threads_spend_a_range(rt: HostRuntime) {
     let mut run = open(rt.alloc(), 4_294_966_296, 1_000, 4).expect(&rt, "a ledger");

@@ -16,4 +16,6 @@ mod passes;
 #[cfg(test)]
 mod pipes;
 #[cfg(test)]
+mod refused;
+#[cfg(test)]
 mod whole;

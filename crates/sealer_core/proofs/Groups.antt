@@ -30,7 +30,7 @@ use Rattle.command_core.specs.Work.{AreTold}
 use Rattle.sealer_core.specs.Group.{holds, HasEnded, IsHeld, AreHeld, IsCounted, IsEnding, AreEnded, AreEnding, IsGroup, refused_lines, name_of, IsPrepared, made_for, read_of}
 use Rattle.sealer_core.specs.declared.prepare.Prepared.{Prepared}
 use Rattle.command_core.specs.declared.line.FileFault.TheVariants.{OutOfMemory}
-use Rattle.sealer_core.specs.Sealing.{Accounts, AreSealed, IsOfSealing, creations_of, removals_of, line_of, operations_of, created_as, removed_as, sealed_name, seals, voids, tells_of, times_sealed, times_voided}
+use Rattle.sealer_core.specs.Sealing.{Accounts, AreSealed, IsOfSealing, creations_of, endings_of, line_of, operations_of, created_as, ended_as, sealed_name, seals, voids, tells_of, times_sealed, times_voided}
 use Rattle.sealer_core.proofs.Numbering.{adds_failure, told_push, sum_below_zeros, sum_below_first}
 use Rattle.command_core.proofs.Telling.{stepped-nil, stepped-stepped}
 use Rattle.sealer_core.proofs.Sealings.{sealed_more}
@@ -283,7 +283,7 @@ nothing_ended outcomes operations status taken failures steps = record {
   named = refl;
   fitting = All-nil (λ (l : FileLine). IsOfSealing l.outcome);
   created = refl;
-  removed = stepped-nil steps;
+  stepwise = stepped-nil steps;
   told = λ before first count t. subst (λ (l : List FileLine). AreTold status l first taken count failures) (sym (append-nil before)) t;
   accounts = λ before a. subst (λ (l : List FileLine). AreHeld l outcomes operations) (sym (append-nil before)) a;
 }
@@ -292,17 +292,17 @@ nothing_ended outcomes operations status taken failures steps = record {
 pub ended_more : (names : List (List ℕ)) (made made' : List Step) (line : FileLine) (outcomes outcomes' outcomes'' : List Outcome) (operations operations' operations'' : List Entry)
     (status status' status'' : ℕ) (old mid new : Option (List ℕ)) (failures failures' failures'' : Option ℕ) (steps steps' steps'' : Option (List Step))
     → AreEnded names made outcomes outcomes' operations operations' status status' old mid failures failures' steps steps'
-    → IsOfSealing line.outcome → creations_of line ≡ made' → steps'' ≡ stepped steps' (removals_of line)
+    → IsOfSealing line.outcome → creations_of line ≡ made' → steps'' ≡ stepped steps' (endings_of line)
     → ((told : List FileLine) (first : Option (List ℕ)) (count : Option ℕ) → AreTold status' told first mid count failures' → AreTold status'' (told ++ line ∷ []) first new count failures'')
     → ((lines : List FileLine) → AreHeld lines outcomes' operations' → AreHeld (lines ++ line ∷ []) outcomes'' operations'')
     → AreEnded (names ++ line.name ∷ []) (made ++ made') outcomes outcomes'' operations operations'' status status'' old new failures failures'' steps steps''
-ended_more names made made' line outcomes outcomes' outcomes'' operations operations' operations'' status status' status'' old mid new failures failures' failures'' steps steps' steps'' e fit made_is removed told accounts = record {
+ended_more names made made' line outcomes outcomes' outcomes'' operations operations' operations'' status status' status'' old mid new failures failures' failures'' steps steps' steps'' e fit made_is stepwise told accounts = record {
   lines = e.lines ++ line ∷ [];
   named = map-append (λ (l : FileLine). l.name) e.lines (line ∷ []) ∙ ap (λ l. l ++ line.name ∷ []) e.named;
   fitting = All-push (λ (l : FileLine). IsOfSealing l.outcome) e.lines line e.fitting fit;
   created = flat_map-append creations_of e.lines (line ∷ []) ∙ ap (λ l. flat_map creations_of e.lines ++ l) (append-nil (creations_of line) ∙ made_is) ∙ ap (λ l. l ++ made') e.created;
-  removed = removed ∙ ap (λ s. stepped s (removals_of line)) e.removed ∙ stepped-stepped steps (flat_map removals_of e.lines) (removals_of line)
-      ∙ ap (stepped steps) (ap (λ l. flat_map removals_of e.lines ++ l) (sym (append-nil (removals_of line))) ∙ sym (flat_map-append removals_of e.lines (line ∷ [])));
+  stepwise = stepwise ∙ ap (λ s. stepped s (endings_of line)) e.stepwise ∙ stepped-stepped steps (flat_map endings_of e.lines) (endings_of line)
+      ∙ ap (stepped steps) (ap (λ l. flat_map endings_of e.lines ++ l) (sym (append-nil (endings_of line))) ∙ sym (flat_map-append endings_of e.lines (line ∷ [])));
   told = λ before first count t. subst (λ (l : List FileLine). AreTold status'' l first new count failures'') (append_assoc before e.lines (line ∷ []))
       (told (before ++ e.lines) first count (e.told before first count t));
   accounts = λ before a. subst (λ (l : List FileLine). AreHeld l outcomes'' operations'') (append_assoc before e.lines (line ∷ []))
@@ -319,7 +319,7 @@ group_of names names' made outcomes outcomes' operations operations' operations'
   lines = e.lines;
   named = e.named ∙ same;
   fitting = e.fitting;
-  stepwise = e.removed ∙ ap (λ s. stepped s (flat_map removals_of e.lines)) (stepping ∙ ap (stepped steps) (sym e.created)) ∙ stepped-stepped steps (flat_map creations_of e.lines) (flat_map removals_of e.lines);
+  stepwise = e.stepwise ∙ ap (λ s. stepped s (flat_map endings_of e.lines)) (stepping ∙ ap (stepped steps) (sym e.created)) ∙ stepped-stepped steps (flat_map creations_of e.lines) (flat_map endings_of e.lines);
   told = e.told;
   accounts = λ before a. let_go (before ++ e.lines) outcomes' operations'' (e.accounts before (held before a));
 }
@@ -360,18 +360,18 @@ pub ending_more : {W : Type 0} (files items left : List (Prepared W)) (file : Pr
     (operations operations' operations'' : List Entry) (status status' status'' : ℕ) (old mid new : Option (List ℕ)) (failures failures' failures'' : Option ℕ)
     (steps steps' steps'' : Option (List Step)) → items ≡ file ∷ left → name ≡ name_of file
     → AreEnding files items outcomes outcomes' operations operations' status status' old mid failures failures' steps steps'
-    → IsOfSealing outcome → created_as (sealed_name (name_of file)) outcome ≡ made_for file → steps'' ≡ stepped steps' (removed_as (sealed_name (name_of file)) outcome)
+    → IsOfSealing outcome → created_as (sealed_name (name_of file)) outcome ≡ made_for file → steps'' ≡ stepped steps' (ended_as (sealed_name (name_of file)) outcome)
     → ((told : List FileLine) (first : Option (List ℕ)) (count : Option ℕ) → AreTold status' told first mid count failures'
     → AreTold status'' (told ++ line_of name outcome ∷ []) first new count failures'')
     → ((lines : List FileLine) → AreHeld lines outcomes' operations' → AreHeld (lines ++ line_of (name_of file) outcome ∷ []) outcomes'' operations'')
     → AreEnding files left outcomes outcomes'' operations operations'' status status'' old new failures failures'' steps steps''
-ending_more files items left file name outcome outcomes outcomes' outcomes'' operations operations' operations'' status status' status'' old mid new failures failures' failures'' steps steps' steps'' is its e fit created removed told accounts = record {
+ending_more files items left file name outcome outcomes outcomes' outcomes'' operations operations' operations'' status status' status'' old mid new failures failures' failures'' steps steps' steps'' is its e fit created stepwise told accounts = record {
   names = e.names ++ name_of file ∷ [];
   made = e.made ++ made_for file;
   named = append_assoc e.names (name_of file ∷ []) (map name_of left) ∙ ap (λ l. e.names ++ map name_of l) (sym is) ∙ e.named;
   created = append_assoc e.made (made_for file) (flat_map made_for left) ∙ ap (λ l. e.made ++ flat_map made_for l) (sym is) ∙ e.created;
   ended = ended_more e.names e.made (made_for file) (line_of (name_of file) outcome) outcomes outcomes' outcomes'' operations operations' operations'' status status' status'' old mid new
-      failures failures' failures'' steps steps' steps'' e.ended fit created removed
+      failures failures' failures'' steps steps' steps'' e.ended fit created stepwise
       (λ before first count t. subst (λ (n : List ℕ). AreTold status'' (before ++ line_of n outcome ∷ []) first new count failures'') its (told before first count t)) accounts;
 }
 
@@ -399,9 +399,9 @@ none_created : (names : List (List ℕ)) → flat_map creations_of (refused_line
 none_created [] = refl
 none_created (name ∷ names) = none_created names
 
-none_removed : (names : List (List ℕ)) → flat_map removals_of (refused_lines names) ≡ []
-none_removed [] = refl
-none_removed (name ∷ names) = none_removed names
+none_ended : (names : List (List ℕ)) → flat_map endings_of (refused_lines names) ≡ []
+none_ended [] = refl
+none_ended (name ∷ names) = none_ended names
 
 refused_accounts : (names : List (List ℕ)) (before : List FileLine) (operations : List Entry) → Accounts before operations → Accounts (before ++ refused_lines names) operations
 refused_accounts [] before operations a = subst (λ (l : List FileLine). Accounts l operations) (sym (append-nil before)) a
@@ -424,7 +424,7 @@ refused_group names operations status status' old new failures failures' steps s
   lines = refused_lines names;
   named = refused_named names;
   fitting = refused_fitting names;
-  stepwise = same ∙ stepped-nil steps ∙ ap (stepped steps) (sym (ap (λ l. l ++ flat_map removals_of (refused_lines names)) (none_created names) ∙ none_removed names));
+  stepwise = same ∙ stepped-nil steps ∙ ap (stepped steps) (sym (ap (λ l. l ++ flat_map endings_of (refused_lines names)) (none_created names) ∙ none_ended names));
   told = told;
   accounts = λ before a. refused_accounts names before operations a;
 }

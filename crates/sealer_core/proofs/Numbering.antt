@@ -8,6 +8,7 @@ use Rattle.std.proofs.lemmas.List.Sums.{sum_by_push, sum_by-cons, sum_by-append}
 use Rattle.journal_core.specs.declared.entry.Event.{Event}
 use Rattle.journal_core.specs.declared.entry.Event.TheVariants.{Granted, Exhausted, Settled}
 use Rattle.journal_core.specs.declared.entry.Entry.{Entry}
+use Rattle.journal_core.specs.declared.entry.Way.{Way}
 use Rattle.journal_core.specs.declared.entry.Way.TheVariants as ended
 use Rattle.journal_core.specs.declared.terms.Terms.{Terms}
 use Rattle.journal_core.specs.History.{Legal, entry, is_granted, granted, grants, times_granted, calls_of}
@@ -165,6 +166,16 @@ after_spoiling lines old mid new name k fault one how a = ⊎_elim
     subst (Accounts (lines ++ line_of name (Failed fault) ∷ [])) (sym (ap (λ (v : SeatView). v.mine) same ∙ mine_of old mid (Granted k) one)) (adds_open lines old.mine old.number name a k fault))
     how
 
+-- the same, of what is left to be settled
+pub after_end : (lines : List FileLine) (old mid new : SeatView) (name : List ℕ) (spent : SpentView) (number bytes : ℕ)
+    → Extends old (Granted spent.number) mid → spent.way ≡ ended.Sealed → number ≡ spent.number
+    → Extends mid (Settled spent.number spent.way) new ⊎ (new ≡ mid)
+    → Accounts lines old.mine → Accounts (lines ++ line_of name (Sealed number bytes) ∷ []) new.mine
+after_end lines old mid new name spent number bytes one is same how a =
+    subst (λ (n : ℕ). Accounts (lines ++ line_of name (Sealed n bytes) ∷ []) new.mine) (sym same)
+    (after_sealing lines old mid new name spent.number bytes one
+    (subst (λ (w : Way). Extends mid (Settled spent.number w) new ⊎ (new ≡ mid)) is how) a)
+
 -- the same, of what a sealing gave back
 pub after_run : (lines : List FileLine) (old mid new : SeatView) (name : List ℕ) (grant : GrantView) (spent : SpentView) (number bytes : ℕ)
     → Extends old (Granted grant.number) mid → spent ≡ spent_as grant ended.Sealed → number ≡ grant.number
@@ -174,6 +185,10 @@ after_run lines old mid new name grant spent number bytes one is same how a =
     subst (λ (n : ℕ). Accounts (lines ++ line_of name (Sealed n bytes) ∷ []) new.mine) (sym same)
     (after_sealing lines old mid new name grant.number bytes one
     (subst (λ (s : SpentView). Extends mid (Settled s.number s.way) new ⊎ (new ≡ mid)) is how) a)
+
+pub granted_as : (old mid : SeatView) (grant : GrantView) (spent : SpentView) (way : Way) → spent ≡ spent_as grant way
+    → Extends old (Granted grant.number) mid → Extends old (Granted spent.number) mid
+granted_as old mid grant spent way is one = subst (λ (s : SpentView). Extends old (Granted s.number) mid) (sym is) one
 
 pub after_fault : (lines : List FileLine) (old mid new : SeatView) (name : List ℕ) (grant : GrantView) (spent : SpentView) (fault : FileFault)
     → Extends old (Granted grant.number) mid → spent ≡ spent_as grant ended.Void

@@ -5,7 +5,7 @@ use Rattle.std.proofs.lemmas.List.{map-append, length-append}
 use Rattle.command_core.specs.Lines.{FileLine}
 use Rattle.command_core.specs.Folder.{Step, stepped}
 use Rattle.journal_core.specs.declared.entry.Entry.{Entry}
-use Rattle.sealer_core.specs.Sealing.{Accounts, AreSealed, IsOfSealing, creations_of, removals_of, group_steps}
+use Rattle.sealer_core.specs.Sealing.{Accounts, AreSealed, IsOfSealing, creations_of, endings_of, group_steps}
 use Rattle.command_core.specs.Work.{AreTold}
 use Rattle.std.proofs.lemmas.Grind.{flat_map-append}
 use Rattle.std.proofs.lemmas.List.Elements.{All-push, All-append, All-cons, All-nil}
@@ -46,15 +46,15 @@ sealed_more lanes names more names' group operations operations' status status' 
 )
 
 -- the steps of a group of one
-alone : (line : FileLine) → creations_of line ++ removals_of line ≡ group_steps (line ∷ [])
-alone line = ap (λ l. l ++ removals_of line) (sym (append-nil (creations_of line)))
-    ∙ ap (λ l. (creations_of line ++ []) ++ l) (sym (append-nil (removals_of line)))
+alone : (line : FileLine) → creations_of line ++ endings_of line ≡ group_steps (line ∷ [])
+alone line = ap (λ l. l ++ endings_of line) (sym (append-nil (creations_of line)))
+    ∙ ap (λ l. (creations_of line ++ []) ++ l) (sym (append-nil (endings_of line)))
 
 -- one file more was sealed by one lane
 pub sealed_one : (names names' : List (List ℕ)) (line : FileLine) (operations operations' : List Entry) (status status' : ℕ)
     (old mid new : Option (List ℕ)) (failures failures' failures'' : Option ℕ) (steps steps' steps'' : Option (List Step))
     → (s : AreSealed 1 names operations status old mid failures failures' steps steps') → All (λ (g : List FileLine). length g ≡ 1) s.worked.groups → IsOfSealing line.outcome
-    → steps'' ≡ stepped steps' (creations_of line ++ removals_of line) → AreTold status' (s.worked.lines ++ line ∷ []) old new failures failures''
+    → steps'' ≡ stepped steps' (creations_of line ++ endings_of line) → AreTold status' (s.worked.lines ++ line ∷ []) old new failures failures''
     → names ++ line.name ∷ [] ≡ names' → Accounts (s.worked.lines ++ line ∷ []) operations'
     → (t : AreSealed 1 names' operations' status' old new failures failures'' steps steps'') × All (λ (g : List FileLine). length g ≡ 1) t.worked.groups
 sealed_one names names' line operations operations' status status' old mid new failures failures' failures'' steps steps' steps'' s full fit stepping told longer accounts =

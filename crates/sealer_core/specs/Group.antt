@@ -20,7 +20,7 @@ use Rattle.command_core.specs.declared.line.FileFault.TheVariants.{CannotOpen, O
 use Rattle.command_core.specs.declared.line.FileFault.TheVariants.{Unsealed}
 use Rattle.command_core.specs.Folder.{Step, Created, stepped}
 use Rattle.command_core.specs.Lines.{FileLine}
-use Rattle.sealer_core.specs.Sealing.{IsOfSealing, Accounts, unissued_as, creations_of, removals_of, group_steps}
+use Rattle.sealer_core.specs.Sealing.{IsOfSealing, Accounts, unissued_as, creations_of, endings_of, group_steps}
 use Rattle.sealer_core.specs.Sealing.{line_of, sealed_name, times_sealed, times_voided, times_told}
 use Rattle.command_core.specs.Work.{AreTold}
 
@@ -93,8 +93,8 @@ IsEnding number old new _ = IsCounted old new (Settled number ended.Void)
 
 -- ---- how a file ends
 
--- An output gets this container: whole, and then the line tells this number and so many bytes; or cut short, and then
--- the file failed.
+-- An output gets this container: whole, and then the line tells this number and so many bytes; or cut short, or whole where it
+-- couldn't be finished, and then the file failed.
 abbrev pub IsPut : List ℕ → ℕ → ℕ → Option (List ℕ) → Option (List ℕ) → FileOutcome → Type 0
 IsPut container number bytes old new (Sealed n m) = (n ≡ number) × (m ≡ bytes) × Appends old new container
 IsPut container number bytes old new end = (end ≡ Failed (Unsealed sealing_fault.Write))
@@ -140,7 +140,7 @@ pub record AreEnded (names : List (List ℕ)) (made : List Step) (outcomes outco
   pub named : map (λ line. line.name) lines ≡ names
   pub fitting : All (λ line. IsOfSealing line.outcome) lines
   pub created : flat_map creations_of lines ≡ made
-  pub removed : steps' ≡ stepped steps (flat_map removals_of lines)
+  pub stepwise : steps' ≡ stepped steps (flat_map endings_of lines)
   pub told : (before : List FileLine) (first : Option (List ℕ)) (count : Option ℕ)
       → AreTold status before first old count failures
       → AreTold status' (before ++ lines) first new count failures'

@@ -1,8 +1,7 @@
 -- What `pipe_all` does with a stream, and how its line stands to the operations of the ledger.
-use Rattle.std.specs.Prelude.{◌≡◌, ◌⊎◌, ℕ, ◌<◌, List, [], ◌∷◌, length, codes, Option, IfSome}
-use Rattle.container_core.specs.Container.{container}
+use Rattle.std.specs.Prelude.{◌≡◌, ◌⊎◌, ℕ, ◌<◌, List, [], ◌∷◌, codes, Option, Ok, Err}
 use Rattle.container_core.specs.Shape.{ShapeView}
-use Rattle.io_core.specs.Streams.{Appends, AppendsFront, Keeps}
+use Rattle.engine_core.specs.Piped.{HasPipedContainer}
 use Rattle.journal_core.specs.declared.entry.Entry.{Entry}
 use Rattle.journal_core.specs.declared.terms.Terms.{Terms}
 use Rattle.journal_core.specs.History.{Legal, times_granted}
@@ -13,39 +12,52 @@ use Rattle.command_core.specs.declared.line.FileOutcome.TheVariants.{Sealed, Fai
 use Rattle.command_core.specs.Work.{AreTold}
 use Rattle.sealer_core.specs.Sealing.{Accounts, AreNumbered, line_of}
 
--- a beginning of the stream's container was written, under a number of the device that was granted
-abbrev pub BeginsStream : List ℕ → ShapeView → ℕ → List Entry → Option (List ℕ) → Option (List ℕ) → Option (List ℕ) → Type 0
-BeginsStream key shape device operations left taken taken' =
-    (number : ℕ) × (0 < times_granted number operations)
-    × IfSome left (λ input. AppendsFront taken taken' (container key shape (prefix_of device number) input))
+-- ---- what was read and written
 
--- What was written. With `sealed` it is the container of the whole stream under the number in the line, whose length is in the
--- line; with a fault of the sealing nothing, or a beginning of the stream's container; without a number nothing.
-abbrev pub WritesStream : List ℕ → ShapeView → ℕ → List Entry → Option (List ℕ) → Option (List ℕ) → Option (List ℕ)
-    → FileOutcome → Type 0
-WritesStream key shape device operations left taken taken' (Sealed number bytes) =
-    IfSome left (λ input. (bytes ≡ length input) × Appends taken taken' (container key shape (prefix_of device number) input))
-WritesStream key shape device operations left taken taken' (Failed (Unsealed fault)) =
-    Keeps taken taken' ⊎ BeginsStream key shape device operations left taken taken'
-WritesStream key shape device operations left taken taken' (Failed NoNumber) = Keeps taken taken'
-WritesStream key shape device operations left taken taken' _ = ⊥
+-- The reader had `left` to be read, and has `left'` now; the writer had taken `taken`, and has `taken'` now. Of failed reads there
+-- were `failures`, and are `failures'`; of failed writes `refusals` and `refusals'`. There may be `most` chunks.
+module _ (key : List ℕ) (shape : ShapeView) (most : ℕ) (left left' : Option (List ℕ)) (failures failures' : Option ℕ)
+    (taken taken' : Option (List ℕ)) (refusals refusals' : Option ℕ) where
+  -- nothing was read or written
+  pub record IsUntouched : Type 0 where
+    pub read : (left' ≡ left) × (failures' ≡ failures)
+    pub written : (taken' ≡ taken) × (refusals' ≡ refusals)
+
+  -- With `sealed` the engine sealed the whole stream under the number in the line, and its length is in the line; with a fault of
+  -- the sealing nothing was touched, or the engine ended with this fault under a number that was granted; without a number nothing
+  -- was touched.
+  abbrev pub WorksStream : ℕ → List Entry → FileOutcome → Type 0
+  WorksStream device operations (Sealed number bytes) =
+      HasPipedContainer key shape (prefix_of device number) most left left' failures failures' taken taken' refusals refusals'
+      (Ok bytes)
+  WorksStream device operations (Failed (Unsealed fault)) =
+      IsUntouched ⊎ ((number : ℕ) × (0 < times_granted number operations)
+      × HasPipedContainer key shape (prefix_of device number) most left left' failures failures' taken taken' refusals refusals'
+      (Err fault))
+  WorksStream device operations (Failed NoNumber) = IsUntouched
+  WorksStream device operations _ = ⊥
+
+-- ---- the line and the numbers
 
 -- what the line of a stream calls it
 abbrev pub stream_name : List ℕ
 stream_name = codes "-"
 
 -- A stream was worked, and these operations of a ledger go with its line.
-pub record IsPiped (key : List ℕ) (shape : ShapeView) (device : ℕ) (operations : List Entry)
-    (left taken taken' : Option (List ℕ)) (outcome : FileOutcome) : Type 0 where
-  pub writes : WritesStream key shape device operations left taken taken' outcome
+pub record IsPiped (key : List ℕ) (shape : ShapeView) (most : ℕ) (left left' : Option (List ℕ)) (failures failures' : Option ℕ)
+    (taken taken' : Option (List ℕ)) (refusals refusals' : Option ℕ) (device : ℕ) (operations : List Entry)
+    (outcome : FileOutcome) : Type 0 where
+  pub works : WorksStream key shape most left left' failures failures' taken taken' refusals refusals' device operations outcome
   pub accounts : Accounts (line_of stream_name outcome ∷ []) operations
 
--- So it was, over one legal history, with a number of the range; and its line was told.
-pub record HasSealedStream (key : List ℕ) (shape : ShapeView) (terms : Terms) (history : List Entry)
-    (left taken taken' : Option (List ℕ)) (status : ℕ) (old new : Option (List ℕ)) (failures failures' : Option ℕ)
-    : Type 0 where
+-- So it was, over one legal history, with a number of the range; and its line was told, by a writer that had taken `old` and has
+-- `new` now, with so many failures.
+pub record HasSealedStream (key : List ℕ) (shape : ShapeView) (most : ℕ) (left left' : Option (List ℕ))
+    (failures failures' : Option ℕ) (taken taken' : Option (List ℕ)) (refusals refusals' : Option ℕ) (terms : Terms)
+    (history : List Entry) (status : ℕ) (old new : Option (List ℕ)) (faults faults' : Option ℕ) : Type 0 where
   pub outcome : FileOutcome
-  pub piped : IsPiped key shape terms.range.device history left taken taken' outcome
-  pub told : AreTold status (line_of stream_name outcome ∷ []) old new failures failures'
+  pub piped : IsPiped key shape most left left' failures failures' taken taken' refusals refusals' terms.range.device history
+      outcome
+  pub told : AreTold status (line_of stream_name outcome ∷ []) old new faults faults'
   pub numbered : AreNumbered terms.range (line_of stream_name outcome ∷ [])
   pub legal : Legal terms history

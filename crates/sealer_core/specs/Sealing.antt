@@ -31,7 +31,7 @@ use Rattle.command_core.specs.declared.line.FileFault.TheVariants.{CannotOpen, O
 use Rattle.command_core.specs.declared.line.FileFault.TheVariants.{NoNumber, Unsealed}
 use Rattle.command_core.specs.declared.line.FileOutcome.{FileOutcome}
 use Rattle.command_core.specs.declared.line.FileOutcome.TheVariants.{Sealed, Opened, Good, Shown, Failed}
-use Rattle.command_core.specs.Folder.{Step, Created, Removing, stepped}
+use Rattle.command_core.specs.Folder.{Step, Created, Finished, Removing, stepped}
 use Rattle.command_core.specs.Lines.{FileLine}
 use Rattle.command_core.specs.Work.{AreTold}
 
@@ -65,29 +65,35 @@ unissued_as issue_fault.Exhausted = NoNumber
 unissued_as issue_fault.SeatClosed = NoNumber
 unissued_as issue_fault.OutOfMemory = Unsealed sealing_fault.OutOfMemory
 
--- the steps on outputs that sealing a file makes: its output is created where the input was opened, and where the file
--- then fails its removal is tried
+-- the steps on outputs that sealing a file makes: its output is created where the input was opened; then it is finished
+-- where the file is sealed, and where the file fails its removal is tried
 abbrev pub created_as : List ℕ → FileOutcome → List Step
 created_as output (Sealed number bytes) = Created output ∷ []
 created_as output (Failed NoNumber) = Created output ∷ []
 created_as output (Failed (Unsealed fault)) = Created output ∷ []
 created_as output _ = []
 
-abbrev pub removed_as : List ℕ → FileOutcome → List Step
-removed_as output (Failed NoNumber) = Removing output ∷ []
-removed_as output (Failed (Unsealed fault)) = Removing output ∷ []
-removed_as output _ = []
+abbrev pub ended_as : List ℕ → FileOutcome → List Step
+ended_as output (Sealed number bytes) = Finished output ∷ []
+ended_as output (Failed NoNumber) = Removing output ∷ []
+ended_as output (Failed (Unsealed fault)) = Removing output ∷ []
+ended_as output _ = []
 
 abbrev pub creations_of : FileLine → List Step
 creations_of line = created_as (sealed_name line.name) line.outcome
 
-abbrev pub removals_of : FileLine → List Step
-removals_of line = removed_as (sealed_name line.name) line.outcome
+abbrev pub endings_of : FileLine → List Step
+endings_of line = ended_as (sealed_name line.name) line.outcome
 
 -- the steps of files that are sealed side by side: all outputs are created, in order, before the first of them is
--- removed
+-- finished or removed
 abbrev pub group_steps : List FileLine → List Step
-group_steps group = flat_map creations_of group ++ flat_map removals_of group
+group_steps group = flat_map creations_of group ++ flat_map endings_of group
+
+-- the steps so far, and that the output of this name was finished where its file was sealed
+abbrev pub finished_after : Option (List Step) → List ℕ → FileOutcome → Option (List Step)
+finished_after steps output (Sealed number bytes) = stepped steps (Finished output ∷ [])
+finished_after steps output _ = steps
 
 -- a fact of a file that was sealed
 abbrev pub IfSealed : FileOutcome → (ℕ → ℕ → Type 0) → Type 0

@@ -1,5 +1,5 @@
 //! Files sealed in groups, by several lanes of a ledger. Of a group each file in turn is prepared; those that were read
-//! are sealed side by side; then each container in turn is written, and its number settled.
+//! are sealed side by side; then each container in turn is written, its output finished, and its number settled.
 ghost use Rattle.std.specs.Prelude.{◌≡◌, ◌⊎◌, ℕ, Option, ◌<◌, ◌≤◌, List, [], ◌∷◌, ◌++◌, length, drop, map, All};
 ghost use Rattle.std.specs.Prelude.{flat_map};
 ghost use Rattle.journal_core.specs.declared.entry.Event.TheVariants.{Settled};
@@ -13,15 +13,15 @@ ghost use Rattle.command_core.specs.Work.{AreTold};
 ghost use Rattle.crew_core.specs.Batch.{AreOutcomes};
 ghost use Rattle.crew_core.specs.declared.outcome.Outcome.{Outcome};
 ghost use Rattle.sealer_core.specs.Sealing.{Accounts, AreSealed, IsOfNumber, IsOfSealing, line_of, operations_of};
-ghost use Rattle.sealer_core.specs.Sealing.{created_as, removed_as, sealed_name};
+ghost use Rattle.sealer_core.specs.Sealing.{created_as, ended_as, finished_after, sealed_name};
 
 use crate::lane::{fault_of, settle_of_file};
 use crate::prepare::{Prepared, prepare_group};
 use crate::sealing::SealOptions;
-use command_core::{FileFault, FileOutcome, Folder, MAX_BYTES, tell};
+use command_core::{FileFault, FileOutcome, Folder, MAX_BYTES, tell, write_output};
 use container_core::{Key, SealFault, Shape};
 use crew_core::{Free, MAX_LANES, Outcome, seal_batch};
-use ledger_core::{Failed, Ledger, Seat, Sink, Spent, write_all};
+use ledger_core::{Failed, Ledger, Seat, Sink, Spent};
 use std::alloc::Global;
 use std::collections::VecDeque;
 use std::thread::Threads;
@@ -38,13 +38,15 @@ fn settle_at(ledger: &Ledger, seats: &mut [Seat], place: u32, spent: Spent)
     settle_of_file(ledger, seat, spent);
 }
 
-// Ends a file that was read, by the outcome of its job: where it was sealed its container is written, and its number is
-// settled.
-fn end_job<W: Sink>(
+// Ends a file that was read, by the outcome of its job: where it was sealed its container is written, its output is
+// finished, and its number settled.
+fn end_job<F: Folder>(
     ledger: &Ledger,
     seats: &mut [Seat],
+    folder: &mut F,
     outcome: Outcome,
-    writer: &mut W,
+    output: &str,
+    writer: &mut F::Writer,
     bytes: u64,
 ) -> FileOutcome
     requires all { AreAllSeats ledger.now seats.old }
@@ -52,7 +54,8 @@ fn end_job<W: Sink>(
     ensures all { AreAllSeats ledger.now seats.new }
     ensures count { length seats.new ≡ length seats.old }
     ensures outcome { IsOfNumber result }
-    ensures end { IsEndOf bytes (W.taken writer.old) (W.taken writer.new) outcome result }
+    ensures end { IsEndOf bytes (F.Writer.taken writer.old) (F.Writer.taken writer.new) outcome result }
+    ensures steps { F.steps folder.new ≡ finished_after (F.steps folder.old) output.now result }
     ensures accounts { (name : List ℕ) (lines : List FileLine) (others : List Outcome)
         → AreHeld lines (outcome ∷ others) (operations_of seats.old)
         → AreHeld (lines ++ line_of name result ∷ []) others (operations_of seats.new) }
@@ -70,9 +73,11 @@ fn end_job<W: Sink>(
         } => write_container(
             ledger,
             seats,
+            folder,
             seat,
             container.as_slice(),
             spent,
+            output,
             writer,
             bytes,
         ),
@@ -80,11 +85,13 @@ fn end_job<W: Sink>(
 }
 
 // The same with the next of the outcomes. Where there is none, memory for them was refused.
-fn end_next<W: Sink>(
+fn end_next<F: Folder>(
     ledger: &Ledger,
     seats: &mut [Seat],
+    folder: &mut F,
     outcomes: &mut VecDeque<Outcome>,
-    writer: &mut W,
+    output: &str,
+    writer: &mut F::Writer,
     bytes: u64,
 ) -> FileOutcome
     requires all { AreAllSeats ledger.now seats.old }
@@ -94,25 +101,28 @@ fn end_next<W: Sink>(
     ensures held { All (IsHeld (length seats.old)) outcomes.new.items }
     ensures outcome { IsOfNumber result }
     ensures next { outcomes.new.items ≡ drop 1 outcomes.old.items }
-    ensures end { IsEndBy bytes (W.taken writer.old) (W.taken writer.new) outcomes.old.items result }
+    ensures end { IsEndBy bytes (F.Writer.taken writer.old) (F.Writer.taken writer.new) outcomes.old.items result }
+    ensures steps { F.steps folder.new ≡ finished_after (F.steps folder.old) output.now result }
     ensures accounts { (name : List ℕ) (lines : List FileLine)
         → AreHeld lines outcomes.old.items (operations_of seats.old)
         → AreHeld (lines ++ line_of name result ∷ []) outcomes.new.items (operations_of seats.new) }
 {
     match outcomes.pop_front() {
-        Some(outcome) => end_job(ledger, seats, outcome, writer, bytes),
+        Some(outcome) => end_job(ledger, seats, folder, outcome, output, writer, bytes),
         None => FileOutcome::Failed(FileFault::Unsealed(SealFault::OutOfMemory)),
     }
 }
 
-// Writes a container, and settles its number.
-fn write_container<W: Sink>(
+// Writes a container, finishes its output, and settles its number: as void where either fails.
+fn write_container<F: Folder>(
     ledger: &Ledger,
     seats: &mut [Seat],
+    folder: &mut F,
     place: u32,
     container: &[u8],
     spent: Spent,
-    writer: &mut W,
+    output: &str,
+    writer: &mut F::Writer,
     bytes: u64,
 ) -> FileOutcome
     requires all { AreAllSeats ledger.now seats.old }
@@ -121,11 +131,12 @@ fn write_container<W: Sink>(
     ensures all { AreAllSeats ledger.now seats.new }
     ensures count { length seats.new ≡ length seats.old }
     ensures outcome { IsOfNumber result }
-    ensures written { IsPut container.now spent.number bytes (W.taken writer.old) (W.taken writer.new) result }
+    ensures written { IsPut container.now spent.number bytes (F.Writer.taken writer.old) (F.Writer.taken writer.new) result }
+    ensures steps { F.steps folder.new ≡ finished_after (F.steps folder.old) output.now result }
     ensures accounts { IsEnding spent.number (operations_of seats.old) (operations_of seats.new) result }
 {
     let number = spent.number();
-    match write_all(writer, container) {
+    match write_output(folder, output, writer, container) {
         Ok(()) => {
             settle_at(ledger, seats, place, spent);
             FileOutcome::Sealed { number, bytes }
@@ -155,8 +166,8 @@ fn end_file<F: Folder>(
     ensures next { outcomes.new.items ≡ left_by file.entry outcomes.old.items }
     ensures end { IsEndIn outcomes.old.items file.entry result }
     ensures created { created_as (sealed_name (name_of file.entry)) result ≡ made_for file.entry }
-    ensures removed { F.steps folder.new ≡ stepped (F.steps folder.old)
-        (removed_as (sealed_name (name_of file.entry)) result) }
+    ensures stepwise { F.steps folder.new ≡ stepped (F.steps folder.old)
+        (ended_as (sealed_name (name_of file.entry)) result) }
     ensures accounts { (lines : List FileLine) → AreHeld lines outcomes.old.items (operations_of seats.old)
         → AreHeld (lines ++ line_of (name_of file.entry) result ∷ []) outcomes.new.items (operations_of seats.new) }
 {
@@ -172,7 +183,15 @@ fn end_file<F: Folder>(
             bytes,
             ..
         } => {
-            let outcome = end_next(ledger, seats, outcomes, &mut writer, bytes);
+            let outcome = end_next(
+                ledger,
+                seats,
+                folder,
+                outcomes,
+                output.as_str(),
+                &mut writer,
+                bytes,
+            );
             if let FileOutcome::Failed(_) = outcome {
                 let _ = folder.remove(output.as_str());
             }

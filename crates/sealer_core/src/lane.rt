@@ -1,16 +1,18 @@
-//! Files sealed one after another by one seat of a ledger, each by as many workers as are asked for.
+//! Files sealed one after another by one seat of a ledger, each by as many workers as are asked for. An output is
+//! finished before its number is settled, so that the number of one that can't be is void.
 ghost use Rattle.std.specs.Prelude.{◌≡◌, ◌⊎◌, ℕ, ◌<◌, ◌≤◌, List, [], ◌∷◌, ◌++◌, length, map, IfOk, IfErr, IfSome, Err};
 ghost use Rattle.std.specs.Prelude.{Ok};
 ghost use Rattle.container_core.specs.Container.{container};
 ghost use Rattle.journal_core.specs.declared.entry.Event.TheVariants.{Granted, Exhausted, Settled};
+ghost use Rattle.journal_core.specs.declared.entry.Way.TheVariants.{Sealed};
 ghost use Rattle.journal_core.specs.Range.{prefix_of};
 ghost use Rattle.io_core.specs.Streams.{Appends};
-ghost use Rattle.ledger_core.specs.Shared.{Extends, IsSameSeat};
+ghost use Rattle.ledger_core.specs.Shared.{Extends, IsSameSeat, SeatView};
 ghost use Rattle.command_core.specs.Folder.{stepped};
 ghost use Rattle.command_core.specs.Lines.{FileLine};
 ghost use Rattle.command_core.specs.declared.line.FileOutcome.TheVariants.{Failed};
 ghost use Rattle.sealer_core.specs.Sealing.{Accounts, AreSealed, IfSealed, IsOfNumber, IsOfSealing, unissued_as};
-ghost use Rattle.sealer_core.specs.Sealing.{line_of, creations_of, removals_of};
+ghost use Rattle.sealer_core.specs.Sealing.{line_of, creations_of, endings_of, finished_after};
 
 use crate::sealing::SealOptions;
 use command_core::{FileFault, FileOutcome, Folder, FolderFault, MAX_BYTES, tell};
@@ -56,15 +58,51 @@ pub(crate) fn settle_of_file(ledger: &Ledger, seat: &mut Seat, spent: Spent)
     let _ = ledger.settle(seat, spent);
 }
 
-// Seals what a reader gives under the next number of the ledger, and settles that number.
-fn seal_next<T: Threads + Sync, R: Source, W: Sink>(
+// Finishes an output that was sealed whole, and settles its number: as void where the finishing fails.
+fn end_sealed<F: Folder>(
+    ledger: &Ledger,
+    seat: &mut Seat,
+    folder: &mut F,
+    output: &str,
+    writer: &mut F::Writer,
+    spent: Spent,
+    bytes: u64,
+) -> FileOutcome
+    requires ours { seat.old.ledger ≡ ledger.now.ledger }
+    requires sealed { spent.way ≡ Sealed }
+    ensures outcome { IsOfNumber result }
+    ensures sealed { IfSealed result (λ number count. (number ≡ spent.number) × (count ≡ bytes)) }
+    ensures kept { F.Writer.taken writer.new ≡ F.Writer.taken writer.old }
+    ensures steps { F.steps folder.new ≡ finished_after (F.steps folder.old) output.now result }
+    ensures same { IsSameSeat seat.old seat.new }
+    ensures accounts { (granted : SeatView) → Extends granted (Granted spent.number) seat.old
+        → (name : List ℕ) (lines : List FileLine) → Accounts lines granted.mine
+        → Accounts (lines ++ line_of name result ∷ []) seat.new.mine }
+{
+    let number = spent.number();
+    match folder.finish(output, writer) {
+        Ok(()) => {
+            settle_of_file(ledger, seat, spent);
+            FileOutcome::Sealed { number, bytes }
+        }
+        Err(_) => {
+            settle_of_file(ledger, seat, spent.spoil());
+            FileOutcome::Failed(FileFault::Unsealed(SealFault::Write))
+        }
+    }
+}
+
+// Seals what a reader gives under the next number of the ledger, finishes the output, and settles that number.
+fn seal_next<T: Threads + Sync, R: Source, F: Folder>(
     rt: &T,
     alloc: Global,
     key: &Key,
     ledger: &Ledger,
     seat: &mut Seat,
+    folder: &mut F,
     reader: &mut R,
-    writer: &mut W,
+    output: &str,
+    writer: &mut F::Writer,
     max_bytes: u64,
     workers: u32,
     window: u32,
@@ -76,8 +114,9 @@ fn seal_next<T: Threads + Sync, R: Source, W: Sink>(
     requires window { (0 < window) × (window ≤ MAX_WINDOW) }
     ensures outcome { IsOfNumber result }
     ensures sealed { IfSealed result (λ number bytes. IfSome (R.left reader.old) (λ input. (bytes ≡ length input)
-        × Appends (W.taken writer.old) (W.taken writer.new)
+        × Appends (F.Writer.taken writer.old) (F.Writer.taken writer.new)
         (container key.now shape.now (prefix_of seat.old.terms.range.device number) input))) }
+    ensures steps { F.steps folder.new ≡ finished_after (F.steps folder.old) output.now result }
     ensures same { IsSameSeat seat.old seat.new }
     ensures accounts { (name : List ℕ) (lines : List FileLine) → Accounts lines seat.old.mine
         → Accounts (lines ++ line_of name result ∷ []) seat.new.mine }
@@ -86,14 +125,15 @@ fn seal_next<T: Threads + Sync, R: Source, W: Sink>(
         Ok(grant) => grant,
         Err(fault) => return FileOutcome::Failed(fault),
     };
-    let number = grant.number();
     let (sealed, spent) = run_seal_by(
         rt, alloc, key, shape, grant, reader, writer, max_bytes, workers, window, &Free,
     );
-    settle_of_file(ledger, seat, spent);
     match sealed {
-        Ok(bytes) => FileOutcome::Sealed { number, bytes },
-        Err(fault) => FileOutcome::Failed(FileFault::Unsealed(fault)),
+        Ok(bytes) => end_sealed(ledger, seat, folder, output, writer, spent, bytes),
+        Err(fault) => {
+            settle_of_file(ledger, seat, spent);
+            FileOutcome::Failed(FileFault::Unsealed(fault))
+        }
     }
 }
 
@@ -118,7 +158,7 @@ fn seal_file<T: Threads + Sync, F: Folder>(
     requires window { (0 < window) × (window ≤ MAX_WINDOW) }
     ensures outcome { IsOfSealing result }
     ensures steps { F.steps folder.new ≡ stepped (F.steps folder.old)
-        (creations_of (line_of name.now result) ++ removals_of (line_of name.now result)) }
+        (creations_of (line_of name.now result) ++ endings_of (line_of name.now result)) }
     ensures same { IsSameSeat seat.old seat.new }
     ensures accounts { (lines : List FileLine) → Accounts lines seat.old.mine
         → Accounts (lines ++ line_of name.now result ∷ []) seat.new.mine }
@@ -140,7 +180,9 @@ fn seal_file<T: Threads + Sync, F: Folder>(
         key,
         ledger,
         seat,
+        folder,
         &mut reader,
+        output.as_str(),
         &mut writer,
         max_bytes,
         workers,

@@ -64,8 +64,10 @@ fn pipe_next<T: Threads + Wait + Sync, R: Source, W: Sink>(
     requires depth { (0 < options.now.depth) × (options.now.depth ≤ MAX_DEPTH) }
     requires most { 0 < options.now.max_chunks }
     ensures same { IsSameSeat seat.old seat.new }
-    ensures piped { IsPiped key.now options.now.shape.now seat.old.terms.range.device seat.new.mine
-        (R.left reader.old) (W.taken writer.old) (W.taken writer.new) result }
+    ensures piped { IsPiped key.now options.now.shape.now options.now.max_chunks
+        (R.left reader.old) (R.left reader.new) (R.failures reader.old) (R.failures reader.new)
+        (W.taken writer.old) (W.taken writer.new) (W.failures writer.old) (W.failures writer.new)
+        seat.old.terms.range.device seat.new.mine result }
 {
     let grant = match issue_to_file(ledger, seat) {
         Ok(grant) => grant,
@@ -110,8 +112,10 @@ fn pipe_alone<T: Threads + Wait + Sync, R: Source, W: Sink>(
     requires depth { (0 < options.now.depth) × (options.now.depth ≤ MAX_DEPTH) }
     requires most { 0 < options.now.max_chunks }
     ensures all { AreAllSeats ledger.now seats.new }
-    ensures piped { IsPiped key.now options.now.shape.now ledger.now.terms.range.device (operations_of seats.new)
-        (R.left reader.old) (W.taken writer.old) (W.taken writer.new) result }
+    ensures piped { IsPiped key.now options.now.shape.now options.now.max_chunks
+        (R.left reader.old) (R.left reader.new) (R.failures reader.old) (R.failures reader.new)
+        (W.taken writer.old) (W.taken writer.new) (W.failures writer.old) (W.failures writer.new)
+        ledger.now.terms.range.device (operations_of seats.new) result }
 {
     let seat = &mut seats[0];
     pipe_next(rt, alloc, key, ledger, seat, reader, writer, options)
@@ -138,8 +142,10 @@ fn pipe_over<T: Threads + Wait + Sync, R: Source, W: Sink, E: Sink, J: Sink>(
     requires depth { (0 < options.now.depth) × (options.now.depth ≤ MAX_DEPTH) }
     requires most { 0 < options.now.max_chunks }
     ensures { (history : List Entry)
-        × HasSealedStream key.now options.now.shape.now ledger.terms history (R.left reader.old) (W.taken writer.old)
-        (W.taken writer.new) result.0 (E.taken lines.old) (E.taken lines.new) (E.failures lines.old)
+        × HasSealedStream key.now options.now.shape.now options.now.max_chunks
+        (R.left reader.old) (R.left reader.new) (R.failures reader.old) (R.failures reader.new)
+        (W.taken writer.old) (W.taken writer.new) (W.failures writer.old) (W.failures writer.new)
+        ledger.terms history result.0 (E.taken lines.old) (E.taken lines.new) (E.failures lines.old)
         (E.failures lines.new)
         × IsWritten J.taken (journal_text ledger.terms history) (is_ok result.1) journal.old journal.new }
 {
@@ -198,9 +204,10 @@ pub fn pipe_all<
         × (failures : Option ℕ)
         × FoldsARange S.Store LedgerFile.Kept LedgerFile.Folded S.is_folded (sha256 key.now) options.now.device 1
         file.old file.new range
-        × HasSealedStream key.now options.now.shape.now (terms_of range 1) history (R.left reader.old)
-        (W.taken writer.old) (W.taken writer.new) told (E.taken out.old.faults) lines (E.failures out.old.faults)
-        failures
+        × HasSealedStream key.now options.now.shape.now options.now.max_chunks
+        (R.left reader.old) (R.left reader.new) (R.failures reader.old) (R.failures reader.new)
+        (W.taken writer.old) (W.taken writer.new) (W.failures writer.old) (W.failures writer.new)
+        (terms_of range 1) history told (E.taken out.old.faults) lines (E.failures out.old.faults) failures
         × IsWritten J.taken (journal_text (terms_of range 1) history) written out.old.journal out.new.journal
         × (result ≡ (if written then told else 2))
         × (written ≡ true → (E.taken out.new.faults ≡ lines) × (E.failures out.new.faults ≡ failures))) }

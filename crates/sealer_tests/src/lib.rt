@@ -2,7 +2,13 @@
 #![tactic(auto)]
 
 #[cfg(test)]
+mod calls;
+#[cfg(test)]
 mod cases;
+#[cfg(test)]
+mod each_call;
+#[cfg(test)]
+mod failing;
 #[cfg(test)]
 mod files;
 #[cfg(test)]
@@ -11,6 +17,8 @@ mod keys;
 mod lanes;
 #[cfg(test)]
 mod pipes;
+#[cfg(test)]
+mod refused;
 #[cfg(test)]
 mod runs;
 #[cfg(test)]

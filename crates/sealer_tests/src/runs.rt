@@ -5,7 +5,7 @@ use folder_memory::MemoryFolder;
 use io_memory::{FromMemory, Schedule, ToMemory};
 use ledger_core::Device;
 use reserve_core::{Fold, Keeper, LedgerFile};
-use sealer_core::{Outs, SealOptions, run_audit, seal_all};
+use sealer_core::{Folder, Outs, SealOptions, run_audit, seal_all};
 use sqlite::{Connection, MemStore};
 use std::alloc::Global;
 use std::thread::Threads;
@@ -155,10 +155,10 @@ fn opens_to(alloc: Global, sealed: &[u8], number: u8, plain: &[u8]) -> bool {
 
 // The status of `seal_all` under the key of the constant above and device 1, where it may be asked for that, with containers
 // of version 1.
-pub(crate) fn seal_over<R: AllocGlobal + Threads + Sync, S: Fold>(
+pub(crate) fn seal_over<R: AllocGlobal + Threads + Sync, S: Fold, F: Folder>(
     rt: &R,
     file: &mut LedgerFile<S>,
-    folder: &mut MemoryFolder,
+    folder: &mut F,
     files: &[&str],
     out: &mut MemoryOuts,
     max_bytes: u64,
@@ -172,10 +172,10 @@ pub(crate) fn seal_over<R: AllocGlobal + Threads + Sync, S: Fold>(
 }
 
 // `seal_over`, with containers of this shape.
-pub(crate) fn seal_shaped<R: AllocGlobal + Threads + Sync, S: Fold>(
+pub(crate) fn seal_shaped<R: AllocGlobal + Threads + Sync, S: Fold, F: Folder>(
     rt: &R,
     file: &mut LedgerFile<S>,
-    folder: &mut MemoryFolder,
+    folder: &mut F,
     files: &[&str],
     out: &mut MemoryOuts,
     max_bytes: u64,

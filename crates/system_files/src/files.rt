@@ -1,11 +1,15 @@
 //! The file system as a folder.
+ghost use Rattle.std.specs.Prelude.{◌≢◌, Err};
+
 use crate::ledger::{is_beside, is_of_ledger};
+use crate::places::put_below;
+use crate::progress::{Counted, Progress};
 use command_core::{Folder, FolderFault};
 use ledger_core::{FromRead, ToWrite};
-use std::fs;
 use std::fs::{File, OpenFile};
-use std::io::{BufReader, ErrorKind};
-use std::rt::Files;
+use std::io::{BufReader, ErrorKind, Read, Write};
+use std::rt::{Clock, Files};
+use std::{fs, io};
 use thiserror::Error;
 
 /// Bytes of the buffer through which a file is read.
@@ -13,7 +17,19 @@ const BUFFER: usize = 1 << 16;
 
 /// The files of the system, by their paths. A path that isn't absolute begins at the current directory.
 #[derive(Drop)]
-pub struct SystemFiles<'r, R: Files + AllocGlobal>(pub &'r R);
+pub struct SystemFiles<'p, 'r, R: Files + AllocGlobal + Clock + Eprint> {
+    /// What opens them.
+    pub rt: &'r R,
+    /// The folder into which outputs go, each under the last name of its path, where one is asked for; else they go where their path
+    /// says.
+    pub into: Option<&'r str>,
+    /// Whether an output and its name are on the disk once it is finished.
+    pub sync: bool,
+    /// Room for the paths of outputs in that folder. It is taken as one is created, so that its removal takes no memory.
+    pub room: String,
+    /// What counts the bytes that are read of files, where that is asked for.
+    pub progress: Option<&'p Progress<'r, R>>,
+}
 
 /// Why the journal file isn't there. The texts are those that the program prints.
 #[derive(Clone, Copy, PartialEq, Eq, Debug, Error)]
@@ -29,7 +45,7 @@ pub enum JournalFault {
 /// A new journal file, where one is asked for. It may not be the ledger file or a file beside it, by whatever path: the ledger would
 /// write there, or its next opening would take the journal for what a database left undone.
 pub fn new_journal<R: Files + AllocGlobal>(
-    folder: &mut SystemFiles<R>,
+    rt: &R,
     path: Option<&str>,
     ledger: &str,
 ) -> Result<Option<ToWrite<R::File>>, JournalFault> {
@@ -37,21 +53,95 @@ pub fn new_journal<R: Files + AllocGlobal>(
         return Ok(None);
     };
     if is_beside(path, ledger) {
-        return match fs::metadata(folder.0, path) {
+        return match fs::metadata(rt, path) {
             Ok(_) => Err(JournalFault::Exists),
             Err(_) => Err(JournalFault::CannotCreate),
         };
     }
-    let journal = match folder.create(path) {
+    let journal = match create_new(rt, path) {
         Ok(journal) => journal,
         Err(FolderFault::Exists) => return Err(JournalFault::Exists),
         Err(FolderFault::Failed) => return Err(JournalFault::CannotCreate),
     };
     // It stays, empty: another run may have taken it for its ledger by now.
-    if is_of_ledger(folder.0, &journal.0, ledger) {
+    if is_of_ledger(rt, &journal, ledger) {
         return Err(JournalFault::CannotCreate);
     }
-    Ok(Some(journal))
+    Ok(Some(ToWrite(journal)))
+}
+
+// Creates a file. The system makes it only where there is none of the name, so no other program's file is ever replaced.
+fn create_new<R: Files>(rt: &R, path: &str) -> Result<R::File, FolderFault> {
+    match File::create_new(rt, path) {
+        Ok(file) => Ok(file),
+        Err(error) if error.kind() == ErrorKind::AlreadyExists => Err(FolderFault::Exists),
+        Err(_) => Err(FolderFault::Failed),
+    }
+}
+
+/// An output that is written: its file, and the folder that has its name, where both are to be put on the disk.
+#[derive(Drop)]
+pub struct Output<F: Read + Write + Drop> {
+    file: F,
+    folder: Option<F>,
+}
+
+impl<F: Read + Write + Drop> Write for Output<F> {
+    fn write(&mut self, buf: &[u8]) -> io::Result<usize> {
+        self.file.write(buf)
+    }
+
+    fn flush(&mut self) -> io::Result<()> {
+        self.file.flush()
+    }
+}
+
+// Creates an output. The folder is opened first, so that an output whose name can't be put on the disk isn't made.
+fn output_at<R: Files>(
+    rt: &R,
+    path: &str,
+    sync: bool,
+) -> Result<ToWrite<Output<R::File>>, FolderFault> {
+    let folder = if sync {
+        match File::open(rt, folder_of(path)) {
+            Ok(folder) => Some(folder),
+            Err(_) => return Err(FolderFault::Failed),
+        }
+    } else {
+        None
+    };
+    match create_new(rt, path) {
+        Ok(file) => Ok(ToWrite(Output { file, folder })),
+        Err(fault) => Err(fault),
+    }
+}
+
+// The folder that has the name of this path.
+fn folder_of(path: &str) -> &str {
+    match path.rsplit_once('/') {
+        None => ".",
+        Some(("", _)) => "/",
+        Some((folder, _)) => folder,
+    }
+}
+
+// Puts an output on the disk, and then its name, where the folder is there.
+fn put_on_disk<F: OpenFile>(file: &F, folder: &Option<F>) -> io::Result<()> {
+    if let Some(folder) = folder {
+        file.sync_all()?;
+        folder.sync_all()?;
+    }
+    Ok(())
+}
+
+// Removes a file. Its only fault is `Failed`.
+fn remove_at<R: Files>(rt: &R, path: &str) -> Result<(), FolderFault>
+    ensures fault { result ≢ Err FolderFault.Exists }
+{
+    match fs::remove_file(rt, path) {
+        Ok(()) => Ok(()),
+        Err(_) => Err(FolderFault::Failed),
+    }
 }
 
 /// What stands in for standard streams that are closed, so that no file that is opened later takes the number of one and gets what
@@ -78,35 +168,50 @@ pub fn open_unbuffered<R: Files>(rt: &R, name: &str) -> Result<R::File, FolderFa
     Ok(file)
 }
 
-impl<R: Files + AllocGlobal> Folder for SystemFiles<'_, R> {
-    type Reader = FromRead<BufReader<R::File>>;
+impl<'p, 'r, R: Files + AllocGlobal + Clock + Eprint> Folder for SystemFiles<'p, 'r, R> {
+    type Reader = FromRead<Counted<'p, 'r, R, BufReader<R::File>>>;
 
     // No buffer is wanted: who writes an output hands over a whole plaintext, or many chunks of it, in one call.
-    type Writer = ToWrite<R::File>;
+    type Writer = ToWrite<Output<R::File>>;
 
     fn open(&mut self, name: &str) -> Result<Self::Reader, FolderFault> {
-        let Ok(file) = open_unbuffered(self.0, name) else {
+        let Ok(file) = open_unbuffered(self.rt, name) else {
             return Err(FolderFault::Failed);
         };
-        match BufReader::with_capacity(self.0.alloc(), BUFFER, file) {
-            Ok(reader) => Ok(FromRead(reader)),
+        match BufReader::with_capacity(self.rt.alloc(), BUFFER, file) {
+            Ok(reader) => Ok(FromRead(Counted {
+                reader,
+                progress: self.progress,
+            })),
             Err(_) => Err(FolderFault::Failed),
         }
     }
 
-    // The system makes the file only where there is none of the name, so no other program's file is ever replaced.
     fn create(&mut self, name: &str) -> Result<Self::Writer, FolderFault> {
-        match File::create_new(self.0, name) {
-            Ok(file) => Ok(ToWrite(file)),
-            Err(error) if error.kind() == ErrorKind::AlreadyExists => Err(FolderFault::Exists),
+        let Some(folder) = self.into else {
+            return output_at(self.rt, name, self.sync);
+        };
+        if !put_below(&mut self.room, folder, name) {
+            return Err(FolderFault::Failed);
+        }
+        output_at(self.rt, self.room.as_str(), self.sync)
+    }
+
+    // Without `sync` the file is closed where its writer is let go, and the disk has it when the system writes it.
+    fn finish(&mut self, _name: &str, output: &mut Self::Writer) -> Result<(), FolderFault> {
+        match put_on_disk(&output.0.file, &output.0.folder) {
+            Ok(()) => Ok(()),
             Err(_) => Err(FolderFault::Failed),
         }
     }
 
     fn remove(&mut self, name: &str) -> Result<(), FolderFault> {
-        match fs::remove_file(self.0, name) {
-            Ok(()) => Ok(()),
-            Err(_) => Err(FolderFault::Failed),
+        let Some(folder) = self.into else {
+            return remove_at(self.rt, name);
+        };
+        if !put_below(&mut self.room, folder, name) {
+            return Err(FolderFault::Failed);
         }
+        remove_at(self.rt, self.room.as_str())
     }
 }

@@ -1,7 +1,8 @@
 //! The ledger file.
 ghost use Rattle.std.specs.Prelude.{◌≡◌, ◌≢◌, false, [], IfOk};
 ghost use Rattle.sqlite_wal.specs.Files.{image_at};
-ghost use Rattle.sqlite.specs.Files.{file_state, over_files};
+ghost use Rattle.sqlite.specs.Files.{file_state, over_files, IsOpened};
+ghost use Rattle.sqlite.specs.Start.{FindsIn};
 ghost use Rattle.sqlite.specs.Held.{state};
 ghost use Rattle.sqlite.specs.State.{HasCleanDisk, Survives};
 ghost use Rattle.reserve_core.specs.Lasting.{LeavesOnlyThis};
@@ -10,10 +11,11 @@ ghost use Rattle.reserve_core.specs.NextRun.{IsFound};
 
 use crate::log::{log_adds, log_beside, log_is_begun};
 use reserve_core::{Keeper, LedgerFile, ReserveFault};
-use sqlite::{Alter, Connection, FileFrom, FileStore, Start};
+use sqlite::{Alter, Connection, FileFrom, FileStore, Options, Start};
 use sqlite_disk::Disk;
 use std::fs;
 use std::fs::OpenFile;
+use std::hash::{BuildHasher, RandomState};
 use std::io::{self, ErrorKind};
 use std::os::unix::fs::MetadataExt;
 use std::rt::Files;
@@ -102,15 +104,50 @@ pub fn open_ledger<S: Start>(
         × (HasCleanDisk (file_state keeper) → (it : IsFound over_files (image_at S.Start) keeper)
         × (ledger.now.may_make ≡ false → (file_state it.connection).now.schema.tables ≢ []))) }
 {
-    let Ok(connection) = Connection::open_from(rt, ledger.path, false, start) else {
-        return Err(LedgerFault::CannotOpen);
-    };
+    let connection = connect(rt, ledger.path, start)?;
     let keeper = keeper_over(connection, ledger.may_make)?;
     Ok(LedgerFile::Kept(keeper))
 }
 
+// The database at a path, as `Connection::open_from` has it, but that it keeps few pages in memory.
+fn connect<S: Start>(
+    rt: &HostRuntime,
+    path: &str,
+    start: S,
+) -> Result<Connection<FileStore<FileFrom<S>>>, LedgerFault>
+    ensures opened { IfOk result (λ c. HasCleanDisk (file_state c) → IsOpened c) }
+    ensures found { IfOk result (λ c. HasCleanDisk (file_state c) → FindsIn (image_at S.Start) (file_state c)) }
+{
+    if path == ":memory:" || path.starts_with("file:") {
+        return Err(LedgerFault::CannotOpen);
+    }
+    let Ok(files) = sqlite_std_file::open(rt, path, start) else {
+        return Err(LedgerFault::CannotOpen);
+    };
+    let Some(options) = few_pages(rt) else {
+        return Err(LedgerFault::CannotOpen);
+    };
+    match Connection::open_files_with(rt.alloc(), files, options, false) {
+        Ok(connection) => Ok(connection),
+        Err(_) => Err(LedgerFault::CannotOpen),
+    }
+}
+
+// How many pages of those read, and of those written, the database keeps in memory: a run comes to few of them again, and the
+// 2,000 that it keeps else are filled as it opens.
+const CACHED_PAGES: usize = 128;
+
+// The salts of a new log are drawn at random. `None` is that the system gives no random bytes.
+fn few_pages(rt: &HostRuntime) -> Option<Options> {
+    let seed = RandomState::new(rt).ok()?.hash_one(&0u8);
+    let mut options = Options::new(seed);
+    options.cache_pages = CACHED_PAGES;
+    options.spill_pages = CACHED_PAGES;
+    Some(options)
+}
+
 // The keeper of a ledger that was opened. A database without tables is `NotThere` where none may be made.
-fn keeper_over<S: Alter + Drop>(
+pub(crate) fn keeper_over<S: Alter + Drop>(
     connection: Connection<S>,
     may_make: bool,
 ) -> Result<Keeper<S>, LedgerFault>

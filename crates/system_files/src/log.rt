@@ -76,7 +76,7 @@ fn is_kept_by<S: Alter + Drop>(
 }
 
 // A database of these bytes, in memory, where they are one.
-fn opened(
+pub(crate) fn opened(
     alloc: Global,
     log: &[u8],
     db: &[u8],

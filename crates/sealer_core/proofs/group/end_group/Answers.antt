@@ -14,5 +14,5 @@ loop-file-preserved g c =
       count = e.count ∙ i.count;
       prepared = rest_all IsPrepared _ _ c.in-Some.file c.in-Some.ensures.items i.prepared;
       held = held_at _ _ _ i.count e.held;
-      ending = ending_more _ _ _ c.in-Some.file _ _ _ _ _ _ _ _ _ _ _ _ _ _ _ _ _ _ _ _ c.in-Some.ensures.items c.name-name.ensures i.ending e.outcome e.created e.removed c.tell-status.ensures e.accounts;
+      ending = ending_more _ _ _ c.in-Some.file _ _ _ _ _ _ _ _ _ _ _ _ _ _ _ _ _ _ _ _ c.in-Some.ensures.items c.name-name.ensures i.ending e.outcome e.created e.stepwise c.tell-status.ensures e.accounts;
     }

@@ -1,5 +1,6 @@
 use Rattle.std.proofs.Common.{rules}
-use Rattle.sealer_core.proofs.Numbering.{after_failure, after_fault, after_run}
+use Rattle.journal_core.specs.declared.entry.Way.TheVariants.{Sealed}
+use Rattle.sealer_core.proofs.Numbering.{after_failure, after_fault, granted_as}
 use Rattle.sealer_core.proofs.lane.seal_next.Goals as goal
 
 pub returns-in-Err-clause-accounts : goal.returns-in-Err-clause-accounts
@@ -7,8 +8,7 @@ returns-in-Err-clause-accounts g c = λ name lines a. after_failure lines _ _ na
 
 pub returns-in-Ok-sealed-clause-accounts : goal.returns-in-Ok-sealed-clause-accounts
 returns-in-Ok-sealed-clause-accounts g c = λ name lines a.
-    after_run lines c.args.seat.now _ _ name c.in-Ok.grant c.run_seal_by-sealed.result.1 _ _ c.in-Ok.ensures.granted.0 (search rules) (search rules)
-    c.settle_of_file.ensures.settled a
+    c.end_sealed.ensures.accounts c.args.seat.now (granted_as _ _ c.in-Ok.grant c.run_seal_by-sealed.result.1 Sealed (search rules) c.in-Ok.ensures.granted.0) name lines a
 
 pub returns-in-Err-sealed-clause-accounts : goal.returns-in-Err-sealed-clause-accounts
 returns-in-Err-sealed-clause-accounts g c = λ name lines a.

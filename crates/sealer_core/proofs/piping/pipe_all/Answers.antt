@@ -14,8 +14,10 @@ returns-in-Ok-ended-clause-run g c =
     let (history, sealed, written) = c.pipe_over-told.ensures in
     let terms : ledger.terms ≡ terms_of range 1 = ap (terms_of range) c.in-Ok.ensures.opened.0 in
     let Written : Terms → Bool → Type 0 = λ t ok. IsWritten g.J.Sink.taken (journal_text t history) ok c.args.out.now.journal c.pipe_over-told.new.journal in
-    let Sealed : Terms → Type 0 = λ t. HasSealedStream c.args.key.now c.args.options.now.shape.now t history
-    (g.R.Source.left c.args.reader.now) (g.W.Sink.taken c.args.writer.now) (g.W.Sink.taken c.pipe_over-told.new.writer) told
+    let Sealed : Terms → Type 0 = λ t. HasSealedStream c.args.key.now c.args.options.now.shape.now c.args.options.now.max_chunks
+    (g.R.Source.left c.args.reader.now) (g.R.Source.left c.pipe_over-told.new.reader) (g.R.Source.failures c.args.reader.now) (g.R.Source.failures c.pipe_over-told.new.reader)
+    (g.W.Sink.taken c.args.writer.now) (g.W.Sink.taken c.pipe_over-told.new.writer) (g.W.Sink.failures c.args.writer.now) (g.W.Sink.failures c.pipe_over-told.new.writer)
+    t history told
     (g.E.Sink.taken c.args.out.now.faults) (g.E.Sink.taken c.pipe_over-told.new.lines)
     (g.E.Sink.failures c.args.out.now.faults) (g.E.Sink.failures c.pipe_over-told.new.lines) in
     let ok : is_ok c.pipe_over-told.result.1 ≡ true = ap is_ok c.in-Ok-ended.is in
@@ -41,8 +43,10 @@ returns-in-Err-ended-clause-run g c =
     let (history, sealed, written) = c.pipe_over-told.ensures in
     let terms : ledger.terms ≡ terms_of range 1 = ap (terms_of range) c.in-Ok.ensures.opened.0 in
     let Written : Terms → Bool → Type 0 = λ t ok. IsWritten g.J.Sink.taken (journal_text t history) ok c.args.out.now.journal c.pipe_over-told.new.journal in
-    let Sealed : Terms → Type 0 = λ t. HasSealedStream c.args.key.now c.args.options.now.shape.now t history
-    (g.R.Source.left c.args.reader.now) (g.W.Sink.taken c.args.writer.now) (g.W.Sink.taken c.pipe_over-told.new.writer) told
+    let Sealed : Terms → Type 0 = λ t. HasSealedStream c.args.key.now c.args.options.now.shape.now c.args.options.now.max_chunks
+    (g.R.Source.left c.args.reader.now) (g.R.Source.left c.pipe_over-told.new.reader) (g.R.Source.failures c.args.reader.now) (g.R.Source.failures c.pipe_over-told.new.reader)
+    (g.W.Sink.taken c.args.writer.now) (g.W.Sink.taken c.pipe_over-told.new.writer) (g.W.Sink.failures c.args.writer.now) (g.W.Sink.failures c.pipe_over-told.new.writer)
+    t history told
     (g.E.Sink.taken c.args.out.now.faults) (g.E.Sink.taken c.pipe_over-told.new.lines)
     (g.E.Sink.failures c.args.out.now.faults) (g.E.Sink.failures c.pipe_over-told.new.lines) in
     let ok : is_ok c.pipe_over-told.result.1 ≡ false = ap is_ok c.in-Err-ended.is in

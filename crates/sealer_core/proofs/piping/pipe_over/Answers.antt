@@ -12,7 +12,7 @@ returns g c =
     let back : take c.args.seats.len (seats ++ drop (length seats) c.args.seats.items) ≡ seats = written_back c.args.seats.len seats _ (omega arith) in
     let (history, whole, written) = c.end_ledger.ensures in (
       history,
-      has_stream _ _ c.args.ledger seats history _ _ _ c.pipe_alone-outcome.result _ _ _ _ _ c.pipe_alone-outcome.ensures.all
+      has_stream _ _ _ _ _ _ _ _ _ _ _ c.args.ledger seats history c.pipe_alone-outcome.result _ _ _ _ _ c.pipe_alone-outcome.ensures.all
           (subst (λ (s : List SeatView). IsWhole c.args.ledger.terms s history) back whole) c.pipe_alone-outcome.ensures.piped
           (c.tell-told.ensures _ _ _ (nothing_told _ _)),
       written,

@@ -3,7 +3,7 @@ use Rattle.system_files.proofs.ledger.open_ledger.Goals as goal
 
 pub returns : goal.returns
 returns g c =
-    let opening = c.in-Ok.ensures in
+    let opening = c.in_ok-connection.ensures in
     let keeper = c.in_ok-keeper.ensures in
     record {
       found = (
@@ -11,7 +11,7 @@ returns g c =
         refl,
         λ clean. (
           record {
-            connection = c.in-Ok.connection;
+            connection = c.in_ok-connection.connection;
             finds = opening.found (omega (arith, keeper.crash.clean, clean));
             opens = (opening.opened (omega (arith, keeper.crash.clean, clean))).0;
             live = (opening.opened (omega (arith, keeper.crash.clean, clean))).1;

@@ -1,4 +1,4 @@
-use Rattle.sealer.proofs.pipe_from.Goals as goal
+use Rattle.sealer.proofs.sealing.pipe_from.Goals as goal
 
 pub returns-clause-run : goal.returns-clause-run
 returns-clause-run g c =

@@ -1,0 +1,22 @@
+-- What a list of names is.
+use Rattle.std.specs.Prelude.{◌≡◌, ◌≢◌, ◌⊎◌, ℕ, List, [], ◌∷◌, ◌++◌, Option, None, Some}
+use Rattle.std.specs.List.{All}
+
+-- names one behind the other, each with the separator behind it
+abbrev pub ended : ℕ → List (List ℕ) → List ℕ
+ended separator [] = []
+ended separator (name ∷ names) = name ++ separator ∷ ended separator names
+
+-- a name that a list can have: it isn't empty, and the separator isn't in it
+abbrev pub IsName : ℕ → List ℕ → Type 0
+IsName separator name = (name ≢ []) × All (λ byte. byte ≢ separator) name
+
+-- what a text lists: each name with the separator behind it, which may be missing behind the last one
+abbrev pub IsListOf : ℕ → List ℕ → List (List ℕ) → Type 0
+IsListOf separator text names = All (IsName separator) names
+    × ((text ≡ ended separator names) ⊎ (text ++ separator ∷ [] ≡ ended separator names))
+
+-- what a list has, where there is one
+abbrev pub IsListed : ℕ → Option (List ℕ) → List (List ℕ) → Type 0
+IsListed separator None names = names ≡ []
+IsListed separator (Some text) names = IsListOf separator text names

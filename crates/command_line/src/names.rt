@@ -1,0 +1,117 @@
+//! The names of the files of a command: those of the command line, and those of a list, a text with a name a line, or with a byte 0
+//! behind each.
+ghost use Rattle.std.specs.Prelude.{◌≡◌, ◌≢◌, ◌<◌, ◌++◌, ◌∷◌, ℕ, List, [], IfOk, IfSome, None, Some, codes, length, map};
+ghost use Rattle.std.specs.Prelude.{option_map, true, false};
+ghost use Rattle.clap.specs.Matches.{first_value, found_of, one_text};
+ghost use Rattle.std.specs.List.{All};
+ghost use Rattle.command_line.specs.Names.{IsListOf, IsListed};
+
+use crate::requests::UsageFault;
+use clap::ArgMatches;
+use std::alloc::Global;
+
+/// The list of names that is asked for.
+#[derive(Clone, Copy, Debug)]
+pub struct ListRequest<'a> {
+    /// Its path, or `-` for standard input.
+    pub path: &'a str,
+    /// What stands behind each name.
+    pub separator: char,
+}
+
+/// Which list of names a command asks for, where it asks for one.
+pub fn list_request<'a>(matches: &ArgMatches<'a>) -> Option<ListRequest<'a>>
+    ensures ascii { IfSome result (λ list. list.separator < 128) }
+    ensures path { option_map (λ list. list.path.now) result ≡ first_value (found_of matches.now) (codes "files-from") }
+    ensures bytes { IfSome result (λ list. one_text (found_of matches.now) (codes "null") ≡ Some (codes "true")
+        → list.separator ≡ 0) }
+    ensures lines { IfSome result (λ list. one_text (found_of matches.now) (codes "null") ≡ Some (codes "false")
+        → list.separator ≡ 10) }
+    ensures without { IfSome result (λ list. one_text (found_of matches.now) (codes "null") ≡ None
+        → list.separator ≡ 10) }
+{
+    match matches.get_str("files-from") {
+        None => None,
+        Some(path) if matches.get_flag("null") => Some(ListRequest {
+            path,
+            separator: '\0',
+        }),
+        Some(path) => Some(ListRequest {
+            path,
+            separator: '\n',
+        }),
+    }
+}
+
+/// The names of the command line, and behind them those of the list, where there is one. `ListNoText` where the list isn't UTF-8,
+/// `EmptyName` where a name in it is empty.
+pub fn files_of<'n>(
+    alloc: Global,
+    given: &[&'n str],
+    list: Option<&'n [u8]>,
+    separator: char,
+) -> Result<Vec<&'n str>, UsageFault>
+    requires ascii { separator < 128 }
+    ensures files { IfOk result (λ files. (listed : List (List ℕ))
+        × IsListed separator (option_map (λ text. text.now) list.entry) listed
+        × (map (λ name. name.now) files.items ≡ map (λ name. name.now) given.now ++ listed)) }
+{
+    let mut files = Vec::new(alloc);
+    if files.extend_from_slice(given).is_err() {
+        return Err(UsageFault::OutOfMemory);
+    }
+    let Some(list) = list else {
+        return Ok(files);
+    };
+    let Ok(text) = std::str::from_utf8(list) else {
+        return Err(UsageFault::ListNoText);
+    };
+    let listed = match names_in(alloc, text, separator) {
+        Ok(listed) => listed,
+        Err(fault) => return Err(fault),
+    };
+    match files.extend_from_slice(listed.as_slice()) {
+        Ok(()) => Ok(files),
+        Err(_) => Err(UsageFault::OutOfMemory),
+    }
+}
+
+/// The names that a text lists, in its order, each with the separator behind it; the last one may stand without. `EmptyName` where
+/// one is empty.
+pub fn names_in(alloc: Global, text: &str, separator: char) -> Result<Vec<&str>, UsageFault>
+    requires ascii { separator < 128 }
+    ensures names { IfOk result (λ names. IsListOf separator text.now (map (λ name. name.now) names.items)) }
+{
+    let mut names = Vec::new(alloc);
+    let mut rest = text;
+    'names: while let Some((name, more)) = cut(rest, separator) {
+        if name.is_empty() {
+            return Err(UsageFault::EmptyName);
+        }
+        match names.push(name) {
+            Ok(()) => rest = more,
+            Err(_) => return Err(UsageFault::OutOfMemory),
+        }
+    }
+    if rest.is_empty() {
+        return Ok(names);
+    }
+    match names.push(rest) {
+        Ok(()) => Ok(names),
+        Err(_) => Err(UsageFault::OutOfMemory),
+    }
+}
+
+// What stands before the first separator, and what stands behind it.
+fn cut(text: &str, separator: char) -> Option<(&str, &str)>
+    requires { separator < 128 }
+    ensures whole { IfSome result (λ parts. text.now ≡ parts.0.now ++ separator ∷ parts.1.now) }
+    ensures apart { IfSome result (λ parts. All (λ byte. byte ≢ separator) parts.0.now) }
+    ensures shorter { IfSome result (λ parts. length parts.1.now < length text.now) }
+    ensures none { result ≡ None → All (λ byte. byte ≢ separator) text.now }
+{
+    match text.split_once(separator) {
+        Some((before, after)) => Some((before, after)),
+        None => None,
+    }
+}

@@ -1,0 +1,281 @@
+//! 65,537 zero bytes, two chunks, by two workers in windows of one chunk: readers and writers that move a byte a call,
+//! writers that fail after so many bytes, and a growth that is refused. The container's digest is that of Python's
+//! `cryptography` and `hashlib`.
+use container_core::{Key, OpenFault, SealFault, Shape, seal};
+use crew_core::Free;
+use crew_tests::{COUNTING, grant_of};
+use engine_core::{run_open_by, run_seal_by, run_verify_by};
+use io_memory::{FromMemory, Schedule, ToMemory};
+use ledger_core::Way;
+use sha2::{Digest, Sha256};
+use std::alloc::{AllocError, Global};
+use std::thread::Threads;
+
+static ZEROS: [u8; 65_537] = [0; 65_537];
+
+const BYTES: u64 = 65_537;
+
+// Bytes of the container.
+const SEALED_BYTES: usize = 65_593;
+
+static DIGEST: [u8; 32] = [
+    0x09, 0x45, 0xc8, 0xfb, 0xab, 0xf2, 0x3b, 0x7b, 0xdb, 0x61, 0xd4, 0x5d, 0x8e, 0x2b, 0x69, 0x57,
+    0x92, 0x3e, 0x22, 0x49, 0x9b, 0xda, 0x51, 0xae, 0x09, 0xa1, 0xfa, 0x7c, 0xb8, 0x36, 0xbf, 0x66,
+];
+
+// The window, in chunks.
+const WINDOW: u32 = 1;
+
+const MOST: usize = usize::MAX;
+
+// A refusal that was asked for is met once, so the same call finds memory at once.
+
+fn sealed_once(alloc: Global) -> Option<Vec<u8>> {
+    let prefix = [0, 0, 1, 0, 0, 0, 0];
+    seal(alloc, &Key::new(COUNTING), &Shape::one(), prefix, &ZEROS).ok()
+}
+
+fn container(alloc: Global) -> Option<Vec<u8>> {
+    let bytes = match sealed_once(alloc) {
+        None => sealed_once(alloc)?,
+        Some(bytes) => bytes,
+    };
+    if is_container(bytes.as_slice()) {
+        Some(bytes)
+    } else {
+        None
+    }
+}
+
+fn is_container(bytes: &[u8]) -> bool {
+    bytes.len() == SEALED_BYTES && Sha256::digest(bytes) == DIGEST
+}
+
+// A writer with room for all, which takes so many bytes a call and fails by a schedule.
+fn writer_of(alloc: Global, step: usize, schedule: Schedule) -> Option<ToMemory> {
+    match ToMemory::new(alloc, SEALED_BYTES, step, schedule) {
+        Err(AllocError) => ToMemory::new(alloc, SEALED_BYTES, step, schedule).ok(),
+        writer => writer.ok(),
+    }
+}
+
+// Seals the zeros, of which so many are read a call, under a grant of file 0. Answers what the engine does, and how the
+// grant ended.
+fn seal_zeros<R: Threads + Sync>(
+    rt: &R,
+    alloc: Global,
+    step: usize,
+    writer: &mut ToMemory,
+) -> Option<(Result<u64, SealFault>, Way)> {
+    let grant = grant_of(alloc, 0)?;
+    let mut reader = FromMemory::new(&ZEROS, step, Schedule::Never);
+    let (key, shape) = (Key::new(COUNTING), Shape::one());
+    let (result, spent) = run_seal_by(
+        rt,
+        alloc,
+        &key,
+        &shape,
+        grant,
+        &mut reader,
+        writer,
+        BYTES,
+        2,
+        WINDOW,
+        &Free,
+    );
+    Some((result, spent.way()))
+}
+
+fn open_bytes<R: Threads + Sync>(
+    rt: &R,
+    alloc: Global,
+    bytes: &[u8],
+    step: usize,
+    writer: &mut ToMemory,
+) -> Result<u64, OpenFault> {
+    let key = Key::new(COUNTING);
+    let mut reader = FromMemory::new(bytes, step, Schedule::Never);
+    run_open_by(
+        rt,
+        alloc,
+        &key,
+        &mut reader,
+        writer,
+        BYTES,
+        2,
+        WINDOW,
+        &Free,
+    )
+}
+
+fn verify_bytes<R: Threads + Sync>(
+    rt: &R,
+    alloc: Global,
+    bytes: &[u8],
+    step: usize,
+) -> Result<u64, OpenFault> {
+    let key = Key::new(COUNTING);
+    let mut reader = FromMemory::new(bytes, step, Schedule::Never);
+    run_verify_by(rt, alloc, &key, &mut reader, BYTES, 2, WINDOW, &Free)
+}
+
+// ---- so many bytes a call
+
+fn is_sealed_by_steps<R: Threads + Sync>(rt: &R, alloc: Global, step: usize) -> Option<bool> {
+    let mut writer = writer_of(alloc, step, Schedule::Never)?;
+    let answer = seal_zeros(rt, alloc, step, &mut writer)?;
+    Some(answer == (Ok(BYTES), Way::Sealed) && is_container(writer.bytes()))
+}
+
+fn is_opened_by_steps<R: Threads + Sync>(rt: &R, alloc: Global, step: usize) -> Option<bool> {
+    let bytes = container(alloc)?;
+    let mut writer = writer_of(alloc, step, Schedule::Never)?;
+    let opened = open_bytes(rt, alloc, bytes.as_slice(), step, &mut writer);
+    let verified = verify_bytes(rt, alloc, bytes.as_slice(), step);
+    Some(opened == Ok(BYTES) && verified == Ok(BYTES) && writer.bytes() == ZEROS.as_slice())
+}
+
+#[test]
+fn a_byte_a_call_changes_no_answer(rt: HostRuntime) {
+    assert!(rt; is_sealed_by_steps(&rt, rt.alloc(), 1) == Some(true));
+    assert!(rt; is_opened_by_steps(&rt, rt.alloc(), 1) == Some(true));
+}
+
+// ---- writers that fail after so many bytes
+
+// In the header, at its end and behind it; in the tag of chunk 0, at its end and behind it; and before the last byte.
+static ROOMS: [usize; 10] = [0, 1, 23, 24, 25, 65_535, 65_575, 65_576, 65_592, 65_593];
+
+// Whether a sealing into this room ends with `Write`, unless it is room for all, and has written just so much.
+fn is_sealed_into<R: Threads + Sync>(
+    rt: &R,
+    alloc: Global,
+    whole: &[u8],
+    room: usize,
+) -> Option<bool> {
+    let mut writer = writer_of(alloc, MOST, Schedule::Bytes(room as u64))?;
+    let answer = seal_zeros(rt, alloc, MOST, &mut writer)?;
+    let wanted = if room < whole.len() {
+        (Err(SealFault::Write), Way::Void)
+    } else {
+        (Ok(BYTES), Way::Sealed)
+    };
+    Some(answer == wanted && writer.bytes() == whole.get(..room)?)
+}
+
+fn are_sealed_into<R: Threads + Sync>(rt: &R, alloc: Global) -> Option<bool> {
+    let whole = container(alloc)?;
+    for room in &ROOMS {
+        if is_sealed_into(rt, alloc, whole.as_slice(), *room) != Some(true) {
+            return None;
+        }
+    }
+    Some(true)
+}
+
+#[test]
+fn a_sealing_writes_what_there_is_room_for(rt: HostRuntime) {
+    assert!(rt; are_sealed_into(&rt, rt.alloc()) == Some(true));
+}
+
+// The same of an opening, which writes fewer bytes.
+fn is_opened_into<R: Threads + Sync>(
+    rt: &R,
+    alloc: Global,
+    whole: &[u8],
+    room: usize,
+) -> Option<bool> {
+    let mut writer = writer_of(alloc, MOST, Schedule::Bytes(room as u64))?;
+    let answer = open_bytes(rt, alloc, whole, MOST, &mut writer);
+    let taken = room.min(ZEROS.len());
+    let wanted = if taken < ZEROS.len() {
+        Err(OpenFault::Write)
+    } else {
+        Ok(BYTES)
+    };
+    Some(answer == wanted && writer.bytes() == ZEROS.get(..taken)?)
+}
+
+fn are_opened_into<R: Threads + Sync>(rt: &R, alloc: Global) -> Option<bool> {
+    let whole = container(alloc)?;
+    for room in &ROOMS {
+        if is_opened_into(rt, alloc, whole.as_slice(), *room) != Some(true) {
+            return None;
+        }
+    }
+    Some(true)
+}
+
+#[test]
+fn an_opening_writes_what_there_is_room_for(rt: HostRuntime) {
+    assert!(rt; are_opened_into(&rt, rt.alloc()) == Some(true));
+}
+
+// ---- a growth that is refused. Run these with each allocation refused in turn (`tools/refused_tests.py`).
+
+// Whether a sealing gives the container and a sealed number, or a void one without memory and nothing written. `None` is
+// that memory was refused.
+fn is_sealed_or_refused<R: Threads + Sync>(rt: &R, alloc: Global) -> Option<Option<bool>> {
+    let mut writer = writer_of(alloc, MOST, Schedule::Never)?;
+    Some(match seal_zeros(rt, alloc, MOST, &mut writer)? {
+        (Err(SealFault::OutOfMemory), way) => {
+            if way == Way::Void && writer.bytes().is_empty() {
+                None
+            } else {
+                Some(false)
+            }
+        }
+        answer => Some(answer == (Ok(BYTES), Way::Sealed) && is_container(writer.bytes())),
+    })
+}
+
+fn seals_again<R: Threads + Sync>(rt: &R, alloc: Global) -> Option<bool> {
+    match is_sealed_or_refused(rt, alloc)? {
+        None => is_sealed_or_refused(rt, alloc)?,
+        sealed => sealed,
+    }
+}
+
+#[test]
+fn a_refused_growth_seals_nothing_or_all(rt: HostRuntime) {
+    assert!(rt; seals_again(&rt, rt.alloc()) == Some(true));
+}
+
+fn is_opened_or_refused<R: Threads + Sync>(
+    rt: &R,
+    alloc: Global,
+    bytes: &[u8],
+) -> Option<Option<bool>> {
+    let mut writer = writer_of(alloc, MOST, Schedule::Never)?;
+    Some(match open_bytes(rt, alloc, bytes, MOST, &mut writer) {
+        Err(OpenFault::OutOfMemory) if writer.bytes().is_empty() => None,
+        answer => Some(answer == Ok(BYTES) && writer.bytes() == ZEROS.as_slice()),
+    })
+}
+
+fn opens_again<R: Threads + Sync>(rt: &R, alloc: Global) -> Option<bool> {
+    let bytes = container(alloc)?;
+    match is_opened_or_refused(rt, alloc, bytes.as_slice())? {
+        None => is_opened_or_refused(rt, alloc, bytes.as_slice())?,
+        opened => opened,
+    }
+}
+
+#[test]
+fn a_refused_growth_opens_nothing_or_all(rt: HostRuntime) {
+    assert!(rt; opens_again(&rt, rt.alloc()) == Some(true));
+}
+
+fn verifies_again<R: Threads + Sync>(rt: &R, alloc: Global) -> Option<bool> {
+    let bytes = container(alloc)?;
+    let verified = match verify_bytes(rt, alloc, bytes.as_slice(), MOST) {
+        Err(OpenFault::OutOfMemory) => verify_bytes(rt, alloc, bytes.as_slice(), MOST),
+        verified => verified,
+    };
+    Some(verified == Ok(BYTES))
+}
+
+#[test]
+fn a_refused_growth_is_no_other_fault(rt: HostRuntime) {
+    assert!(rt; verifies_again(&rt, rt.alloc()) == Some(true));
+}

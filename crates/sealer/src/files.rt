@@ -1,0 +1,117 @@
+//! What a run needs before its files: the key, the list of their names, and where their outputs go.
+ghost use Rattle.std.specs.Prelude.{◌<◌, IfOk, IfSome};
+
+use clap::ArgMatches;
+use command_line::{ListRequest, Showing, UsageFault, files_of, list_request, showing_asked};
+use container_core::Key;
+use ledger_core::FromRead;
+use sealer_core::{KeyFault, read_key};
+use std::alloc::Global;
+use std::io::{ErrorKind, Read};
+use std::rt::{Clock, Files};
+use system_files::{PlaceFault, Progress, SystemFiles, are_apart, open_unbuffered};
+
+/// The key in the file of this path.
+pub(crate) fn key_of<R: Files + AllocGlobal>(rt: &R, path: &str) -> Result<Key, KeyFault> {
+    match open_unbuffered(rt, path) {
+        Ok(file) => read_key(&mut FromRead(file)),
+        Err(_) => Err(KeyFault::CannotOpen),
+    }
+}
+
+/// A list of names that was read.
+#[derive(Drop)]
+pub(crate) struct List {
+    text: Vec<u8>,
+    separator: char,
+}
+
+/// Reads the list of names, where one is asked for. `-` is the input.
+pub(crate) fn read_list<R: Files + AllocGlobal, I: Read + Drop>(
+    rt: &R,
+    matches: &ArgMatches<'_>,
+    input: I,
+) -> Result<Option<List>, UsageFault>
+    ensures ascii { IfOk result (λ list. IfSome list (λ one. one.separator < 128)) }
+{
+    let Some(ListRequest { path, separator }) = list_request(matches) else {
+        return Ok(None);
+    };
+    let text = if path == "-" {
+        read_whole(rt.alloc(), input)?
+    } else {
+        match open_unbuffered(rt, path) {
+            Ok(file) => read_whole(rt.alloc(), file)?,
+            Err(_) => return Err(UsageFault::CannotReadList),
+        }
+    };
+    Ok(Some(List { text, separator }))
+}
+
+// All that an input has.
+fn read_whole<I: Read + Drop>(alloc: Global, input: I) -> Result<Vec<u8>, UsageFault> {
+    let mut input = input;
+    let mut text = Vec::new(alloc);
+    match input.read_to_end(&mut text) {
+        Ok(_) => Ok(text),
+        Err(error) if error.kind() == ErrorKind::OutOfMemory => Err(UsageFault::OutOfMemory),
+        Err(_) => Err(UsageFault::CannotReadList),
+    }
+}
+
+/// The names of the command line, and behind them those of the list.
+pub(crate) fn names_of<'n>(
+    alloc: Global,
+    matches: &'n ArgMatches<'_>,
+    list: &'n Option<List>,
+) -> Result<Vec<&'n str>, UsageFault>
+    requires ascii { IfSome list.now (λ one. one.separator < 128) }
+{
+    let given = matches.get_strs("FILE").unwrap_or(&[]);
+    match list {
+        Some(list) => files_of(alloc, given, Some(list.text.as_slice()), list.separator),
+        None => files_of(alloc, given, None, '\n'),
+    }
+}
+
+/// The folder of a run whose outputs go into another one, where one is asked for. Then no two of the files may have one last name.
+pub(crate) fn outputs_of<'p, 'r, R: Files + AllocGlobal + Clock + Eprint>(
+    rt: &'r R,
+    into: Option<&'r str>,
+    files: &[&str],
+    sync: bool,
+    progress: Option<&'p Progress<'r, R>>,
+) -> Result<SystemFiles<'p, 'r, R>, PlaceFault> {
+    if into.is_some() {
+        are_apart(rt.alloc(), files)?;
+    }
+    Ok(SystemFiles {
+        rt,
+        into,
+        sync,
+        room: String::new(rt.alloc()),
+        progress,
+    })
+}
+
+/// Takes away what was told of how far the run is.
+pub(crate) fn clear<R: Clock + Eprint>(progress: Option<&Progress<'_, R>>) {
+    if let Some(progress) = progress {
+        progress.clear();
+    }
+}
+
+/// What tells on standard error how far a run over these files is, where that is asked for. `terminal` tells whether standard error
+/// is one.
+pub(crate) fn progress_of<'r, R: Files + Clock + Eprint>(
+    rt: &'r R,
+    matches: &ArgMatches<'_>,
+    files: &[&str],
+    terminal: bool,
+) -> Option<Progress<'r, R>> {
+    match showing_asked(matches) {
+        Showing::Always => Progress::of(rt, files),
+        Showing::OnTerminal if terminal => Progress::of(rt, files),
+        Showing::OnTerminal | Showing::Never => None,
+    }
+}

@@ -1,0 +1,51 @@
+//! The command that tells what a ledger file holds.
+
+use crate::complain;
+use clap::ArgMatches;
+use ledger_core::{Sink, ToWrite, write_all};
+use std::alloc::Global;
+use std::io::Write;
+use std::rt::Files;
+use system_files::{Holding, read_holdings};
+use thiserror::Error;
+
+/// Why what a ledger file holds wasn't told whole.
+#[derive(Clone, Copy, PartialEq, Eq, Debug, Error)]
+enum TellFault {
+    /// Memory was refused.
+    #[error("out of memory")]
+    OutOfMemory,
+    /// A line couldn't be written.
+    #[error("write failed")]
+    WriteFailed,
+}
+
+/// Tells what a ledger file holds: a line for each key and device. It changes no byte.
+pub(crate) fn tell_ledger<R: Files + AllocGlobal + Eprint, O: Write + Drop>(
+    rt: &R,
+    matches: &ArgMatches<'_>,
+    output: O,
+) -> u8 {
+    let path = matches.get_str("ledger").unwrap_or("");
+    let held = match read_holdings(rt, path) {
+        Ok(held) => held,
+        Err(fault) => return complain(rt, "ledger", fault),
+    };
+    match tell_all(rt.alloc(), held.as_slice(), &mut ToWrite(output)) {
+        Ok(()) => 0,
+        Err(fault) => complain(rt, "ledger", fault),
+    }
+}
+
+// Writes the lines.
+fn tell_all<W: Sink>(alloc: Global, held: &[Holding], output: &mut W) -> Result<(), TellFault> {
+    for holding in held {
+        let Ok(line) = format!(in alloc; "{holding}\n") else {
+            return Err(TellFault::OutOfMemory);
+        };
+        if write_all(output, line.as_bytes()).is_err() {
+            return Err(TellFault::WriteFailed);
+        }
+    }
+    Ok(())
+}

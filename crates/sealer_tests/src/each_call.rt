@@ -1,0 +1,396 @@
+//! Each call of a folder, of its readers and of its writers fails once in turn, while files are sealed, opened and
+//! verified. Each file has its line, and at most one more fails than where no call does; an output whose line says that
+//! it was made is whole, one whose line says that it failed isn't there, and the journal is legal with nothing open.
+use crate::failing::{Calls, Failing};
+use crate::runs::{
+    COUNTING, CUT, EMPTY, MemoryOuts, SECRET, folder_of, has_bytes, holds, is_legal, journal_of,
+    ledger_after, seal_over, steady_outs,
+};
+use container_core::Key;
+use folder_memory::{MemoryFolder, Pace};
+use io_memory::Schedule;
+use sealer_core::{OpenOptions, open_all, verify_all};
+use std::alloc::{AllocError, Global};
+use std::thread::Threads;
+
+#[derive(Clone, Copy, PartialEq, Eq)]
+enum Work {
+    Seal { lanes: u32 },
+    Open { workers: u32 },
+    Verify { workers: u32 },
+}
+
+// What is worked. `results` has for each of the files the name of its output, and the plaintext.
+#[derive(Clone, Copy)]
+struct Run<'a> {
+    work: Work,
+    folder: &'a [(&'a str, &'a [u8])],
+    files: &'a [&'a str],
+    results: &'a [(&'a str, &'a [u8])],
+    max_bytes: u64,
+    // Bytes of a call of a reader or a writer.
+    step: usize,
+    // How many files fail where no call does.
+    faulty: usize,
+}
+
+// What a run left and told.
+#[derive(Drop)]
+struct Ended {
+    folder: MemoryFolder,
+    out: MemoryOuts,
+    status: u8,
+    has_failed: bool,
+    is_unremoved: bool,
+}
+
+// The status of `open_all` or `verify_all` over a folder one of whose calls fails.
+fn status_of_opening<R: AllocGlobal + Threads + Sync>(
+    rt: &R,
+    folder: &mut Failing,
+    run: &Run,
+    out: &mut MemoryOuts,
+    workers: u32,
+    verifies: bool,
+) -> Option<u8> {
+    let files = run.files;
+    let max_bytes = run.max_bytes;
+    if files.is_empty() || max_bytes > 1 << 40 || workers == 0 || workers > 16 {
+        return None;
+    }
+    let options = OpenOptions {
+        files,
+        workers,
+        max_bytes,
+        label: None,
+        show: false,
+    };
+    let key = Key::new(COUNTING);
+    if verifies {
+        Some(verify_all(rt, rt.alloc(), &key, folder, &options, out))
+    } else {
+        Some(open_all(rt, rt.alloc(), &key, folder, &options, out))
+    }
+}
+
+fn status_of<R: AllocGlobal + Threads + Sync>(
+    rt: &R,
+    folder: &mut Failing,
+    run: &Run,
+    out: &mut MemoryOuts,
+) -> Option<u8> {
+    match run.work {
+        Work::Seal { lanes } => {
+            let mut file = ledger_after(rt.alloc(), "")?;
+            seal_over(
+                rt,
+                &mut file,
+                folder,
+                run.files,
+                out,
+                run.max_bytes,
+                1,
+                lanes,
+            )
+        }
+        Work::Open { workers } => status_of_opening(rt, folder, run, out, workers, false),
+        Work::Verify { workers } => status_of_opening(rt, folder, run, out, workers, true),
+    }
+}
+
+// The run where the call of this number fails.
+fn run_failing<R: AllocGlobal + Threads + Sync>(rt: &R, run: &Run, number: u64) -> Option<Ended> {
+    let mut folder = folder_of(rt.alloc(), run.folder)?;
+    let pace = Pace {
+        most: run.step,
+        schedule: Schedule::Never,
+    };
+    folder.pace_readers(pace);
+    folder.pace_writers(pace);
+    let mut out = steady_outs(rt.alloc())?;
+    let calls = Calls::new(number);
+    let mut failing = Failing {
+        folder,
+        calls: &calls,
+    };
+    let status = status_of(rt, &mut failing, run, &mut out)?;
+    let Failing { folder, .. } = failing;
+    Some(Ended {
+        folder,
+        out,
+        status,
+        has_failed: calls.has_failed(),
+        is_unremoved: calls.has_failed_to_remove(),
+    })
+}
+
+// Whether a line says that this file failed.
+fn is_failed(line: &str, name: &str) -> bool {
+    match line.strip_prefix("failed ") {
+        Some(rest) => match rest.strip_prefix(name) {
+            Some(fault) => fault.starts_with(": "),
+            None => false,
+        },
+        None => false,
+    }
+}
+
+fn is_text(line: &str, text: Result<String, AllocError>) -> bool {
+    match text {
+        Ok(text) => text.as_str() == line,
+        Err(AllocError) => false,
+    }
+}
+
+// The number under which a line says that a file was sealed: one of the first ten.
+fn number_in(alloc: Global, line: &str, name: &str, bytes: usize) -> Option<u8> {
+    for number in 0..10u8 {
+        if is_text(
+            line,
+            format!(in alloc; "sealed {name} file {number} bytes {bytes}"),
+        ) {
+            return Some(number);
+        }
+    }
+    None
+}
+
+// Whether a line says that a file was worked, and its output is whole.
+fn is_worked(
+    alloc: Global,
+    work: Work,
+    folder: &MemoryFolder,
+    line: &str,
+    name: &str,
+    output: &str,
+    plain: &[u8],
+) -> bool {
+    let bytes = plain.len();
+    match work {
+        Work::Seal { lanes: _ } => match number_in(alloc, line, name, bytes) {
+            Some(number) => holds(alloc, folder, output, number, plain),
+            None => false,
+        },
+        Work::Open { workers: _ } => {
+            is_text(line, format!(in alloc; "opened {name} bytes {bytes}"))
+                && has_bytes(folder, output, plain)
+        }
+        Work::Verify { workers: _ } => {
+            is_text(line, format!(in alloc; "good {name} bytes {bytes}")) && !folder.has(output)
+        }
+    }
+}
+
+// Whether some line says that a file of this name was worked.
+fn is_told_elsewhere(text: &str, name: &str) -> bool {
+    for line in text.lines() {
+        if line.split_whitespace().nth(1) == Some(name) {
+            return true;
+        }
+    }
+    false
+}
+
+// How many of the files failed, where each line fits what is left of its file's output.
+fn failed_in(alloc: Global, run: &Run, ended: &Ended, text: &str) -> Option<usize> {
+    let mut lines = text.lines();
+    let mut failed = 0usize;
+    for (name, (output, plain)) in run.files.iter().zip(run.results) {
+        let line = lines.next()?;
+        if is_failed(line, name) {
+            failed = failed.saturating_add(1);
+            let may_be_there = ended.is_unremoved || is_told_elsewhere(text, name);
+            if ended.folder.has(output) && !may_be_there {
+                return None;
+            }
+        } else if !is_worked(alloc, run.work, &ended.folder, line, name, output, plain) {
+            return None;
+        }
+    }
+    if lines.next().is_none() {
+        Some(failed)
+    } else {
+        None
+    }
+}
+
+// Whether the journal is legal, and so many numbers are sealed, the others void, and none open.
+fn is_closed(alloc: Global, journal: &[u8], sealed: usize) -> bool {
+    for void in 0..10usize {
+        let granted = sealed.saturating_add(void);
+        let text = format!(in alloc;
+            "legal: {granted} granted, {sealed} sealed, {void} void, 0 open, 0 refused\n"
+        );
+        let is_this = match text {
+            Ok(text) => is_legal(alloc, journal, text.as_bytes()) == Some(true),
+            Err(AllocError) => false,
+        };
+        if is_this {
+            return true;
+        }
+    }
+    false
+}
+
+fn is_journal(alloc: Global, run: &Run, journal: &[u8], failed: usize) -> bool {
+    match run.work {
+        Work::Seal { lanes: _ } => {
+            is_closed(alloc, journal, run.files.len().saturating_sub(failed))
+        }
+        _ => journal.is_empty(),
+    }
+}
+
+// Whether a run ended as it has to.
+fn is_right(alloc: Global, run: &Run, ended: &Ended) -> Option<bool> {
+    let text = std::str::from_utf8(ended.out.lines.bytes()).ok()?;
+    let failed = failed_in(alloc, run, ended, text)?;
+    let most = run.faulty.saturating_add(usize::from(ended.has_failed));
+    Some(
+        failed <= most
+            && (ended.has_failed || failed == run.faulty)
+            && ended.status == u8::from(failed > 0)
+            && ended.out.faults.bytes().is_empty()
+            && is_journal(alloc, run, journal_of(&ended.out), failed),
+    )
+}
+
+// How many calls there are, where the run ends as it has to whichever of them fails.
+fn calls_of<R: AllocGlobal + Threads + Sync>(rt: &R, run: &Run) -> Option<u64> {
+    for number in 0..1_000u64 {
+        let ended = run_failing(rt, run, number)?;
+        if is_right(rt.alloc(), run, &ended) != Some(true) {
+            return None;
+        }
+        if !ended.has_failed {
+            return Some(number);
+        }
+    }
+    None
+}
+
+// Whether there are at least so many calls, and the run ends as it has to whichever of them fails.
+fn holds_at_each_call<R: AllocGlobal + Threads + Sync>(rt: &R, run: &Run, least: u64) -> bool {
+    match calls_of(rt, run) {
+        Some(calls) => calls >= least,
+        None => false,
+    }
+}
+
+static EMPTY_MISSING_AGAIN: Run = Run {
+    work: Work::Seal { lanes: 1 },
+    folder: &[("a", b"")],
+    files: &["a", "m", "a"],
+    results: &[("a.stm", b""), ("m.stm", b""), ("a.stm", b"")],
+    max_bytes: 1 << 30,
+    step: 16,
+    faulty: 2,
+};
+
+static LONG_AND_OTHERS: Run = Run {
+    work: Work::Seal { lanes: 1 },
+    folder: &[("a", b""), ("long", b"twelve bytes"), ("b", b"eleven byte")],
+    files: &["a", "long", "m", "b", "a"],
+    results: &[
+        ("a.stm", b""),
+        ("long.stm", b"twelve bytes"),
+        ("m.stm", b""),
+        ("b.stm", b"eleven byte"),
+        ("a.stm", b""),
+    ],
+    max_bytes: 11,
+    step: 4,
+    faulty: 3,
+};
+
+#[test]
+fn each_call_fails_while_one_lane_seals(rt: HostRuntime) {
+    assert!(rt; holds_at_each_call(&rt, &EMPTY_MISSING_AGAIN, 9));
+    assert!(rt; holds_at_each_call(&rt, &LONG_AND_OTHERS, 40));
+}
+
+// So long that each is worth a lane.
+static ONES: [u8; 40_000] = [1; 40_000];
+
+static TWOS: [u8; 40_000] = [2; 40_000];
+
+static LONG: [u8; 40_001] = [3; 40_001];
+
+// Six files by two lanes, in groups of two.
+fn holds_in_groups<R: AllocGlobal + Threads + Sync>(rt: &R) -> bool {
+    let folder: [(&str, &[u8]); 4] = [("a", &ONES), ("b", &TWOS), ("c", b"333"), ("long", &LONG)];
+    let results: [(&str, &[u8]); 6] = [
+        ("a.stm", &ONES),
+        ("b.stm", &TWOS),
+        ("long.stm", b""),
+        ("c.stm", b"333"),
+        ("m.stm", b""),
+        ("a.stm", &ONES),
+    ];
+    let run = Run {
+        work: Work::Seal { lanes: 2 },
+        folder: &folder,
+        files: &["a", "b", "long", "c", "m", "a"],
+        results: &results,
+        max_bytes: 40_000,
+        step: 20_000,
+        faulty: 3,
+    };
+    holds_at_each_call(rt, &run, 30)
+}
+
+#[test]
+fn each_call_fails_while_two_lanes_seal(rt: HostRuntime) {
+    assert!(rt; holds_in_groups(&rt));
+}
+
+// Containers, one of which was cut short.
+static OPENED: Run = Run {
+    work: Work::Open { workers: 1 },
+    folder: &[("a.stm", &EMPTY), ("b.stm", &SECRET), ("cut.stm", &CUT)],
+    files: &["a.stm", "b.stm", "m.stm", "cut.stm", "b.stm"],
+    results: &[
+        ("a", b""),
+        ("b", b"a secret"),
+        ("m", b""),
+        ("cut", b""),
+        ("b", b"a secret"),
+    ],
+    max_bytes: 8,
+    step: 5,
+    faulty: 3,
+};
+
+static VERIFIED: Run = Run {
+    work: Work::Verify { workers: 1 },
+    folder: &[("a.stm", &EMPTY), ("b.stm", &SECRET), ("cut.stm", &CUT)],
+    files: &["a.stm", "b.stm", "m.stm", "cut.stm", "b.stm"],
+    results: &[
+        ("a", b""),
+        ("b", b"a secret"),
+        ("m", b""),
+        ("cut", b""),
+        ("b", b"a secret"),
+    ],
+    max_bytes: 8,
+    step: 5,
+    faulty: 2,
+};
+
+fn by_workers<'a>(run: &Run<'a>, work: Work) -> Run<'a> {
+    Run { work, ..*run }
+}
+
+#[test]
+fn each_call_fails_while_files_are_opened(rt: HostRuntime) {
+    assert!(rt; holds_at_each_call(&rt, &OPENED, 30));
+    let run = by_workers(&OPENED, Work::Open { workers: 2 });
+    assert!(rt; holds_at_each_call(&rt, &run, 30));
+}
+
+#[test]
+fn each_call_fails_while_files_are_verified(rt: HostRuntime) {
+    assert!(rt; holds_at_each_call(&rt, &VERIFIED, 30));
+    let run = by_workers(&VERIFIED, Work::Verify { workers: 2 });
+    assert!(rt; holds_at_each_call(&rt, &run, 30));
+}

@@ -1,0 +1,123 @@
+//! A folder in memory whose calls, and those of its readers and writers, are counted together: the one of a number
+//! fails.
+use folder_memory::MemoryFolder;
+use folder_memory::memory::{MemoryReader, MemoryWriter};
+use ledger_core::{Failed, Sink, Source};
+use sealer_core::{Folder, FolderFault};
+use std::sync::atomic::{AtomicU64, Ordering};
+
+/// How many calls were made, and which one fails.
+#[derive(Drop)]
+pub(crate) struct Calls {
+    failing: u64,
+    made: AtomicU64,
+    unremoved: AtomicU64,
+}
+
+impl Calls {
+    /// No call was made. The one of this number fails, counted from 0.
+    pub(crate) fn new(failing: u64) -> Calls {
+        Calls {
+            failing,
+            made: AtomicU64::new(0),
+            unremoved: AtomicU64::new(0),
+        }
+    }
+
+    /// Whether a call has failed.
+    pub(crate) fn has_failed(&self) -> bool {
+        self.made.load(Ordering::SeqCst) > self.failing
+    }
+
+    /// Whether the call that failed was to remove a file.
+    pub(crate) fn has_failed_to_remove(&self) -> bool {
+        self.unremoved.load(Ordering::SeqCst) > 0
+    }
+
+    // Whether this call fails.
+    fn fails(&self) -> bool {
+        self.made.fetch_add(1, Ordering::SeqCst) == self.failing
+    }
+}
+
+/// A folder, one of whose calls fails.
+#[derive(Drop)]
+pub(crate) struct Failing<'a> {
+    pub(crate) folder: MemoryFolder,
+    pub(crate) calls: &'a Calls,
+}
+
+/// A reader of such a folder.
+#[derive(Drop)]
+pub(crate) struct FailingReader<'a> {
+    reader: MemoryReader,
+    calls: &'a Calls,
+}
+
+/// A writer of such a folder.
+#[derive(Drop)]
+pub(crate) struct FailingWriter<'a> {
+    writer: MemoryWriter,
+    calls: &'a Calls,
+}
+
+impl<'a> Folder for Failing<'a> {
+    type Reader = FailingReader<'a>;
+
+    type Writer = FailingWriter<'a>;
+
+    fn open(&mut self, name: &str) -> Result<FailingReader<'a>, FolderFault> {
+        let calls = self.calls;
+        if calls.fails() {
+            return Err(FolderFault::Failed);
+        }
+        match self.folder.open(name) {
+            Ok(reader) => Ok(FailingReader { reader, calls }),
+            Err(_) => Err(FolderFault::Failed),
+        }
+    }
+
+    fn create(&mut self, name: &str) -> Result<FailingWriter<'a>, FolderFault> {
+        let calls = self.calls;
+        if calls.fails() {
+            return Err(FolderFault::Failed);
+        }
+        match self.folder.create(name) {
+            Ok(writer) => Ok(FailingWriter { writer, calls }),
+            Err(fault) => Err(fault),
+        }
+    }
+
+    fn finish(&mut self, name: &str, output: &mut FailingWriter<'a>) -> Result<(), FolderFault> {
+        if self.calls.fails() {
+            return Err(FolderFault::Failed);
+        }
+        self.folder.finish(name, &mut output.writer)
+    }
+
+    fn remove(&mut self, name: &str) -> Result<(), FolderFault> {
+        if self.calls.fails() {
+            self.calls.unremoved.store(1, Ordering::SeqCst);
+            return Err(FolderFault::Failed);
+        }
+        self.folder.remove(name)
+    }
+}
+
+impl Source for FailingReader<'_> {
+    fn read(&mut self, buffer: &mut [u8]) -> Result<usize, Failed> {
+        if self.calls.fails() {
+            return Err(Failed);
+        }
+        self.reader.read(buffer)
+    }
+}
+
+impl Sink for FailingWriter<'_> {
+    fn write(&mut self, bytes: &[u8]) -> Result<usize, Failed> {
+        if self.calls.fails() {
+            return Err(Failed);
+        }
+        self.writer.write(bytes)
+    }
+}

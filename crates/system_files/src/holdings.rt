@@ -1,0 +1,174 @@
+//! What a ledger file holds: read, and nothing is changed, neither the file nor the log beside it.
+
+use crate::ledger::{LedgerFault, LedgerPath, keeper_over, may_open};
+use crate::log::{log_beside, opened};
+use reserve_core::NUMBERS;
+use sqlite::{Alter, Connection, Row};
+use std::alloc::Global;
+use std::fmt::{Display, Formatter};
+use std::fs::File;
+use std::io::{ErrorKind, Read};
+use std::os::unix::fs::MetadataExt;
+use std::rt::Files;
+use std::{fmt, fs, io};
+
+/// The bytes of a key's id that are told.
+const TOLD: usize = 7;
+
+/// What a ledger file holds of one key and device.
+#[derive(Clone, Copy)]
+pub struct Holding {
+    // The first bytes of the key's id.
+    key: [u8; TOLD],
+    device: u32,
+    ranges: u64,
+    given: u64,
+}
+
+/// Its line, without an end.
+impl Display for Holding {
+    fn fmt<W: fmt::Write>(&self, f: &mut Formatter<W>) -> fmt::Result {
+        f.write_str("key ")?;
+        for byte in self.key {
+            write!(f, "{byte:02x}")?;
+        }
+        let (device, ranges, given) = (self.device, self.ranges, self.given);
+        let left = NUMBERS.saturating_sub(given);
+        write!(
+            f,
+            " device {device} ranges {ranges} given {given} left {left}"
+        )
+    }
+}
+
+/// What the ledger file at a path holds, for each key and device, in the order of their ids and numbers.
+///
+/// The files are read twice, and where they were not the same another run wrote them: `CannotOpen`. It refuses what a run of
+/// `seal` refuses that may make no ledger, but that another run may hold the ledger at this time, and that files and folder need not
+/// be writable.
+pub fn read_holdings<R: Files + AllocGlobal>(
+    rt: &R,
+    path: &str,
+) -> Result<Vec<Holding>, LedgerFault> {
+    let ledger = LedgerPath {
+        path,
+        may_make: false,
+    };
+    may_open(rt, &ledger)?;
+    let Ok(log) = log_beside(rt, path) else {
+        return Err(LedgerFault::CannotOpen);
+    };
+    let log = log.as_str();
+    if !is_alone(rt, path, log) {
+        return Err(LedgerFault::CannotOpen);
+    }
+    let Ok(log_bytes) = read_if_there(rt, log) else {
+        return Err(LedgerFault::CannotOpen);
+    };
+    // What is no database is refused before it is read whole. Where the log has pages the file's first one may be among them.
+    if log_bytes.is_empty() && !begins_as_database(rt, path) {
+        return Err(LedgerFault::CannotOpen);
+    }
+    let Ok(db_bytes) = fs::read(rt, path) else {
+        return Err(LedgerFault::CannotOpen);
+    };
+    let (Ok(db_again), Ok(log_again)) = (fs::read(rt, path), read_if_there(rt, log)) else {
+        return Err(LedgerFault::CannotOpen);
+    };
+    if db_bytes.as_slice() != db_again.as_slice() || log_bytes.as_slice() != log_again.as_slice() {
+        return Err(LedgerFault::CannotOpen);
+    }
+    match opened(rt.alloc(), log_bytes.as_slice(), db_bytes.as_slice()) {
+        Ok(Some(connection)) => held_by(rt.alloc(), connection),
+        _ => Err(LedgerFault::CannotOpen),
+    }
+}
+
+// Whether a file begins as a database does.
+fn begins_as_database<R: Files>(rt: &R, path: &str) -> bool {
+    let Ok(mut file) = File::open(rt, path) else {
+        return false;
+    };
+    let mut front = [0; 16];
+    file.read_exact(&mut front).is_ok() && front == *b"SQLite format 3\0"
+}
+
+// Whether a run could open these files: each has one name and is no folder or device, and no database left something beside it to
+// play back.
+fn is_alone<R: Files + AllocGlobal>(rt: &R, path: &str, log: &str) -> bool {
+    let Some(base) = log.strip_suffix("-wal") else {
+        return false;
+    };
+    let Ok(journal) = format!(in rt.alloc(); "{base}-journal") else {
+        return false;
+    };
+    let is_path = path != ":memory:" && !path.starts_with("file:");
+    is_path && has_one_name(rt, base) && has_one_name(rt, log) && !is_hot(rt, journal.as_str())
+}
+
+// Whether a file has one name, or isn't there.
+fn has_one_name<R: Files>(rt: &R, path: &str) -> bool {
+    match fs::symlink_metadata(rt, path) {
+        Ok(found) => found.is_file() && found.nlink() == 1,
+        Err(error) => error.kind() == ErrorKind::NotFound,
+    }
+}
+
+// Whether there is something else than an empty journal, or one that begins with a byte 0.
+fn is_hot<R: Files + AllocGlobal>(rt: &R, journal: &str) -> bool {
+    match fs::symlink_metadata(rt, journal) {
+        Ok(found) if found.is_file() => match fs::read(rt, journal) {
+            Ok(bytes) => bytes.first().is_some_and(|byte| *byte != 0),
+            Err(_) => true,
+        },
+        Ok(_) => true,
+        Err(error) => error.kind() != ErrorKind::NotFound,
+    }
+}
+
+// The bytes of a file, none where it isn't there.
+fn read_if_there<R: Files + AllocGlobal>(rt: &R, path: &str) -> io::Result<Vec<u8>> {
+    match fs::read(rt, path) {
+        Err(error) if error.kind() == ErrorKind::NotFound => Ok(Vec::new(rt.alloc())),
+        read => read,
+    }
+}
+
+// What a database holds that is a ledger.
+fn held_by<S: Alter + Drop>(
+    alloc: Global,
+    connection: Connection<S>,
+) -> Result<Vec<Holding>, LedgerFault> {
+    let keeper = keeper_over(connection, false)?;
+    let mut connection = keeper.release();
+    let rows = connection.query_all(
+        "SELECT key_id, device, count(*), sum(size) FROM taken GROUP BY key_id, device ORDER BY key_id, device",
+        &[],
+    );
+    let Ok(rows) = rows else {
+        return Err(LedgerFault::CannotOpen);
+    };
+    let mut held = Vec::new(alloc);
+    for row in &rows {
+        let Some(holding) = holding_of(row) else {
+            return Err(LedgerFault::CannotOpen);
+        };
+        if held.push(holding).is_err() {
+            return Err(LedgerFault::CannotOpen);
+        }
+    }
+    Ok(held)
+}
+
+// What a row tells. The keeper has seen that each is of a key, a device and numbers.
+fn holding_of(row: &Row) -> Option<Holding> {
+    let id = row.get::<Vec<u8>>(0).ok()?;
+    let mut key = [0; TOLD];
+    key.copy_from_slice(id.get(..TOLD)?);
+    Some(Holding {
+        key,
+        device: u32::try_from(row.get::<i64>(1).ok()?).ok()?,
+        ranges: u64::try_from(row.get::<i64>(2).ok()?).ok()?,
+        given: u64::try_from(row.get::<i64>(3).ok()?).ok()?,
+    })
+}

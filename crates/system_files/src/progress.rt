@@ -1,0 +1,193 @@
+//! The line on standard error that tells how far a run is: files done of all, bytes done, bytes a second, and the time left where the
+//! sizes of all files are known.
+//!
+//! It is redrawn at most five times a second, as bytes are read, and taken away before a line of the run is told and at the end. It
+//! changes nothing else, and where the clock fails there is none.
+ghost use Rattle.std.specs.Prelude.{◌≡◌};
+
+use std::cell::Cell;
+use std::io::{Read, Write};
+use std::rt::{Clock, Files};
+use std::time::{Duration, Instant};
+use std::{fs, io};
+
+/// Milliseconds between two drawings, at least.
+const BETWEEN: u128 = 200;
+
+/// Bytes of a MiB.
+const MIB: u64 = 1 << 20;
+
+/// What was done so far.
+#[derive(Clone, Copy)]
+struct Done {
+    files: u64,
+    bytes: u64,
+    // Since when the line may be drawn again.
+    last: Instant,
+    is_drawn: bool,
+}
+
+/// How far a run is.
+#[derive(Drop)]
+pub struct Progress<'r, R: Clock + Eprint> {
+    rt: &'r R,
+    // The files of the run, and the bytes of all, where they are known.
+    files: usize,
+    bytes: Option<u64>,
+    begun: Instant,
+    done: Cell<Done>,
+}
+
+impl<'r, R: Clock + Eprint> Progress<'r, R> {
+    /// What is told of a run over these files, of which it asks the sizes. There is none where the clock fails.
+    pub fn of(rt: &'r R, names: &[&str]) -> Option<Progress<'r, R>>
+    where
+        R: Files,
+    {
+        let begun = Instant::now(rt).ok()?;
+        Some(Progress {
+            rt,
+            files: names.len(),
+            bytes: bytes_of(rt, names),
+            begun,
+            done: Cell::new(Done {
+                files: 0,
+                bytes: 0,
+                last: begun,
+                is_drawn: false,
+            }),
+        })
+    }
+
+    /// So many bytes more were read. The line is drawn where it is time.
+    pub fn add(&self, bytes: usize) {
+        let mut done = self.done.get();
+        done.bytes = done.bytes.saturating_add(bytes as u64);
+        if let Ok(now) = Instant::now(self.rt)
+            && now.saturating_duration_since(done.last).as_millis() >= BETWEEN
+        {
+            done.last = now;
+            done.is_drawn = true;
+            self.draw(&done, now.saturating_duration_since(self.begun));
+        }
+        self.done.set(done);
+    }
+
+    /// The line of one file more was told.
+    pub fn told(&self) {
+        let mut done = self.done.get();
+        done.files = done.files.saturating_add(1);
+        self.done.set(done);
+    }
+
+    /// Takes the line away, where it is drawn.
+    pub fn clear(&self) {
+        let mut done = self.done.get();
+        if done.is_drawn {
+            let _ = eprint!(self.rt; "\r\x1b[K");
+            done.is_drawn = false;
+            self.done.set(done);
+        }
+    }
+
+    // Draws the line, after so long a time.
+    fn draw(&self, done: &Done, time: Duration) {
+        let (files, all) = (done.files, self.files);
+        let mib = done.bytes / MIB;
+        let each = per_second(done.bytes, time);
+        let tenths = each.saturating_mul(10) / MIB;
+        let (rate, tenth) = (tenths / 10, tenths % 10);
+        let _ = match self.bytes {
+            None => eprint!(self.rt;
+                "\r{files} of {all} files, {mib} MiB, {rate}.{tenth} MiB/s\x1b[K"
+            ),
+            // So early the time left would be by chance.
+            Some(bytes) if time.as_secs() == 0 => {
+                let whole = bytes / MIB;
+                eprint!(self.rt;
+                    "\r{files} of {all} files, {mib} of {whole} MiB, {rate}.{tenth} MiB/s\x1b[K"
+                )
+            }
+            Some(bytes) => {
+                let whole = bytes / MIB;
+                let left = seconds_left(bytes, done.bytes, each);
+                eprint!(self.rt;
+                    "\r{files} of {all} files, {mib} of {whole} MiB, {rate}.{tenth} MiB/s, {left} s left\x1b[K"
+                )
+            }
+        };
+    }
+}
+
+// Bytes a second.
+fn per_second(bytes: u64, time: Duration) -> u64 {
+    let millis = time.as_millis().max(1);
+    let each = u128::from(bytes) * 1000 / millis;
+    u64::try_from(each).unwrap_or(u64::MAX)
+}
+
+// The seconds until all bytes are read, at so many a second.
+fn seconds_left(all: u64, done: u64, each: u64) -> u64 {
+    all.saturating_sub(done) / each.max(1)
+}
+
+// The bytes of these files, where all that are there are files of a known size.
+fn bytes_of<R: Files>(rt: &R, names: &[&str]) -> Option<u64> {
+    let mut bytes = 0u64;
+    for name in names {
+        if let Ok(found) = fs::metadata(rt, *name) {
+            if !found.is_file() {
+                return None;
+            }
+            bytes = bytes.saturating_add(found.len());
+        }
+    }
+    Some(bytes)
+}
+
+/// A reader whose bytes are counted, where that is asked for.
+#[derive(Drop)]
+pub struct Counted<'p, 'r, R: Clock + Eprint, F: Read + Drop> {
+    pub(crate) reader: F,
+    pub(crate) progress: Option<&'p Progress<'r, R>>,
+}
+
+impl<R: Clock + Eprint, F: Read + Drop> Read for Counted<'_, '_, R, F> {
+    fn read(&mut self, buf: &mut [u8]) -> io::Result<usize> {
+        let got = self.reader.read(buf);
+        if let (Some(progress), Ok(bytes)) = (self.progress, &got) {
+            progress.add(*bytes);
+        }
+        got
+    }
+}
+
+/// A stream on which a run tells lines: the line that tells how far it is is taken away first.
+#[derive(Drop)]
+pub struct Told<'p, 'r, R: Clock + Eprint, W: Write + Drop> {
+    /// The stream.
+    pub writer: W,
+    /// What is taken away.
+    pub progress: Option<&'p Progress<'r, R>>,
+    /// Whether each line tells of a file.
+    pub of_files: bool,
+}
+
+impl<R: Clock + Eprint, W: Write + Drop> Write for Told<'_, '_, R, W> {
+    fn write(&mut self, buf: &[u8]) -> io::Result<usize> {
+        let Some(progress) = self.progress else {
+            return self.writer.write(buf);
+        };
+        progress.clear();
+        let put = self.writer.write(buf);
+        // A line is written by one call, and by further ones the rest of it.
+        if self.of_files && matches!(put, Ok(bytes) if bytes == buf.len()) {
+            progress.told();
+        }
+        put
+    }
+
+    fn flush(&mut self) -> io::Result<()> {
+        self.writer.flush()
+    }
+}
