@@ -278,7 +278,7 @@ wait
 wants progress 0 'good files/slow.stm bytes 1492
 good files/second.stm bytes 1492' "begins $(printf '\r0 of 2 files, 0 MiB, 0.0 MiB/s\033[K')"
 drawn=$(tr '\r' '\n' < err | grep -c ' of 2 files, ')
-is progress-is-redrawn test "$drawn" -ge 2 -a "$drawn" -le 6
+is progress-is-redrawn test "$drawn" -ge 2 -a "$drawn" -le 8
 is progress-is-gone test "$(tail -c 4 err | od -An -c | tr -d ' ')" = '\r033[K'
 is progress-has-no-line-end test "$(wc -l < err)" = 0
 for option in --progress --progress=terminal; do
@@ -325,7 +325,7 @@ except OSError:
     pass
 # what a terminal shows: a line is written over from its beginning, and erased behind that
 shown = [part.split(b"\x1b[K")[-1] for part in text.replace(b"\r\n", b"\n").split(b"\n")]
-sys.stdout.write(f"{run.returncode} {1 <= text.count(b' of 2 files') <= 6} {shown}\n")
+sys.stdout.write(f"{run.returncode} {1 <= text.count(b' of 2 files') <= 8} {shown}\n")
 END
 is progress-on-a-terminal test "$(python3 terminal.py "$sealer" verify --key "$key" --progress)" = "1 True [b'good files/slow.stm bytes 1492', b'failed files/none: cannot open', b'']"
 
