@@ -1,9 +1,9 @@
 -- What a step leaves in a seat's fields.
-use Rattle.std.proofs.Common.{◌≡◌, ◌≢◌, ℕ, zero, suc, ◌+◌, ◌-◌, ◌%◌, ◌<◌, ◌≤◌, not, ◌&&◌, ◌||◌, count_by, Bool, true, false, cond, nat_eq, ltb, List, [], ◌∷◌, ◌++◌, map, length, get_or, set, replicate, refl, sym, ap, ◌∙◌, subst, arith, length-append, append-nil, eq-eqb, ne_eqb, ltb-true, ltb-false, lt-ltb, add-zero, add-one}
+use Rattle.std.proofs.Common.{Option, Some, None, IfSome, ◌≡◌, ◌≢◌, ℕ, zero, suc, ◌+◌, ◌-◌, ◌%◌, ◌<◌, ◌≤◌, not, ◌&&◌, ◌||◌, count_by, Bool, true, false, cond, nat_eq, ltb, List, [], ◌∷◌, ◌++◌, map, length, get_or, set, replicate, refl, sym, ap, ◌∙◌, subst, arith, length-append, append-nil, eq-eqb, ne_eqb, ltb-true, ltb-false, lt-ltb, add-zero, add-one}
 use mathlib.Core.Logic.{dite}
 use mathlib.Core.List.{map-append}
 use native.Mathlib.Decide.{ℕ_discrete}
-use Rattle.std.proofs.lemmas.List.Sums.{length-filter, count_by-le-length}
+use Rattle.std.proofs.lemmas.List.Sums.{length-filter, count_by-le-length, sum_by-set}
 use Rattle.std.proofs.lemmas.List.{length-map, length-set, get_or-set_same, get_or-set_other}
 use Rattle.std.proofs.lemmas.Bool.{eqb-true}
 use Rattle.journal_core.specs.declared.entry.Way.{Way}
@@ -15,7 +15,7 @@ use Rattle.ledger_core.specs.declared.table.View.{View}
 use Rattle.journal_core.specs.declared.terms.Terms.{Terms}
 use Rattle.journal_core.specs.History.{IsLawful, entry, is_exhausted, grants, settles, granted, refused, times_granted, times_settled, calls_of, Legal, Begins}
 use Rattle.ledger_core.specs.Rule.{knower, other_seats, added, Finds, Adds, Issues, Settles, issue_reply, IsHeld, Mine}
-use Rattle.ledger_core.specs.Logs.{places_from, recorded, place_in, place_of_word, is_held, held_after, HasMark, IsMarked, Steps, IsSeat, from_seat}
+use Rattle.ledger_core.specs.Logs.{places_from, recorded, place_in, place_of_word, is_held, held_after, HasMark, HasRoom, IsMarked, Steps, IsSeat, event_of, from_seat}
 use Rattle.ledger_core.specs.Shared.{LedgerId, SeatView, fresh_seat, fresh_seats}
 use Rattle.journal_core.proofs.Histories.{MayReply, reply_of, calls_push, legal_none, legal_front, count_push}
 use Rattle.journal_core.proofs.Bounds.{within, few_refusals}
@@ -258,14 +258,6 @@ seat_steps k t closed log held me w n history event place s adds slots at =
     seat_grows k t closed (is_exhausted e || closed) log held (held_after k.range.lo held event) me w n history e place s adds slots refl at
     (or_more (is_exhausted e) closed (refused me.0.mine) (refused (me.0.mine ++ e ∷ [])) s.closed_is (count_push is_exhausted me.0.mine e)) now_held.0 now_held.1
 
--- a number that is granted has a mark
-pub reply_marked : (k : Terms) (n lo : ℕ) (held : List Bool) → lo ≡ k.range.lo → length held ≡ k.range.size → HasMark lo held (issue_reply k n)
-reply_marked k n lo held is all = go (ltb n k.range.size) refl
-  where
-    go : (b : Bool) → ltb n k.range.size ≡ b → HasMark lo held (cond b (Granted (k.range.lo + n)) Exhausted)
-    go true e = let few = ltb-true n k.range.size e in ((omega arith), (omega arith))
-    go false e = tt
-
 -- the word tells the reply
 told_reply : (v : View) (k : Terms) (t n : ℕ) (event : Event) (w : View) → v.terms ≡ k → v.seat ≡ t → IsLawful k → (a : Issues v n w) → event ≡ issue_reply k (n % 1048576) → Adds v n a.0 (entry t event) w
 told_reply v k t n event w terms seat lawful a is =
@@ -274,6 +266,68 @@ told_reply v k t n event w terms seat lawful a is =
     let same : entry v.seat (issue_reply v.terms (granted history)) ≡ entry t event = λ i. entry (seat i) (((ap (λ (z : Terms). issue_reply z (granted history)) terms) ∙ sym told) i) in
     subst (λ (z : Entry). Adds v n history z w) same a.1
 
+-- a number that was never granted is not held
+never_held : (k : Terms) (t n : ℕ) (history mine : List Entry) → Legal k history → calls_of t history ≡ mine → n ≡ k.range.lo + granted history → is_held n mine ≡ false
+never_held k t n history mine legal own is = dite (ℕ_discrete (times_granted n mine) 0)
+    (λ none. ap (λ m. ltb 0 m && nat_eq (times_settled n mine) 0) none)
+    (λ some. let r = in_range k history legal t n (subst (λ l. 0 < times_granted n l) (sym own) (omega arith)) in let below = r.1 in absurd (omega arith))
+
+-- a number that is granted has a mark, which is not set
+marked_by : (k : Terms) (t : ℕ) (history mine : List Entry) (held : List Bool) → Legal k history → calls_of t history ≡ mine → length held ≡ k.range.size → HeldAre k held mine
+    → (event : Event) → MayReply k history t event → ((m : ℕ) (way : Way) → event ≢ Settled m way) → HasMark k.range.lo held event
+marked_by k t history mine held legal own all are (Granted m) may never =
+    let number = may.0 in
+    let few = may.1 in
+    let at : k.range.lo + (m - k.range.lo) ≡ m = omega arith in
+    let inside : m - k.range.lo < k.range.size = omega arith in
+    ((omega arith), (omega arith), are (m - k.range.lo) inside ∙ ap (λ j. is_held j mine) at ∙ never_held k t m history mine legal own number)
+marked_by k t history mine held legal own all are Exhausted may never = tt
+marked_by k t history mine held legal own all are (Settled m way) may never = absurd (never m way refl)
+
+no_settlement : (k : Terms) (n : ℕ) (event : Event) → event ≡ issue_reply k n → (m : ℕ) (way : Way) → event ≢ Settled m way
+no_settlement k n event is m way = go (ltb n k.range.size) is
+  where
+    go : (b : Bool) → event ≡ cond b (Granted (k.range.lo + n)) Exhausted → event ≢ Settled m way
+    go true e = λ same. absurd (cc)
+    go false e = λ same. absurd (cc)
+
+pub reply_marked : (k : Terms) (t n lo : ℕ) (closed : Bool) (log : List Record) (held : List Bool) (me : Mine) (w : View) (event : Event)
+    → IsSeat k t closed log held me → Issues me.0 n w → event ≡ issue_reply k (n % 1048576) → lo ≡ k.range.lo → HasMark lo held event
+reply_marked k t n lo closed log held me w event s a is at =
+    let history : List Entry = a.0 in
+    let adds = told_reply me.0 k t n event w s.terms s.number s.lawful a is in
+    let e : Entry = entry t event in
+    let legal : Legal k (history ++ e ∷ []) = subst (λ (z : Terms). Legal z (history ++ e ∷ [])) s.terms adds.1 in
+    let own : calls_of t history ≡ me.0.mine = subst (λ (z : ℕ). calls_of z history ≡ me.0.mine) s.number adds.0.own in
+    let may = reply_of k history e (legal history e [] refl) in
+    subst (λ z. HasMark z held event) (sym at)
+    (marked_by k t history me.0.mine held (legal_front k history (e ∷ []) legal) own s.all_held s.held_is event may (no_settlement k (n % 1048576) event is))
+
+pub reply_room : (k : Terms) (n used room : ℕ) (event : Event) → event ≡ issue_reply k n → used + 2 ≤ room → HasRoom used room event
+reply_room k n used room event is enough = subst (HasRoom used room) (sym is) (go (ltb n k.range.size))
+  where
+    go : (b : Bool) → HasRoom used room (cond b (Granted (k.range.lo + n)) Exhausted)
+    go true = enough
+    go false = omega arith
+
+-- ---- the marks that are set, and the room that is owed to them
+
+owed_set : (held : List Bool) (i : ℕ) (mark : Bool) → i < length held → count_by (λ m. m) (set held i mark) + cond {A = ℕ} (get_or held i false) 1 0 ≡ count_by (λ m. m) held + cond mark 1 0
+owed_set held i mark inside = sum_by-set (λ (m : Bool). cond {A = ℕ} m 1 0) held i mark false inside
+
+pub owed_more : (held : List Bool) (i : ℕ) → i < length held → get_or held i false ≡ false → count_by (λ m. m) (set held i true) ≡ count_by (λ m. m) held + 1
+owed_more held i inside clear = let s = owed_set held i true inside in let c = ap (λ b. cond {A = ℕ} b 1 0) clear in omega arith
+
+pub owed_less : (held : List Bool) (i : ℕ) → i < length held → get_or held i false ≡ true → count_by (λ m. m) (set held i false) + 1 ≡ count_by (λ m. m) held
+owed_less held i inside marked = let s = owed_set held i false inside in let c = ap (λ b. cond {A = ℕ} b 1 0) marked in omega arith
+
+-- one record more can be kept
+pub may_keep : (lo used owed room : ℕ) (held : List Bool) (event : Event) → owed ≡ count_by (λ m. m) held → used + owed ≤ room
+    → HasRoom (used + owed) room event → HasMark lo held event → used < room
+may_keep lo used owed room held (Granted n) is within enough mark = omega arith
+may_keep lo used owed room held Exhausted is within enough mark = omega arith
+may_keep lo used owed room held (Settled n way) is within enough mark = let less = owed_less held (n - lo) mark.1 mark.2 in omega arith
+
 pub seat_issues : (k : Terms) (t : ℕ) (closed after : Bool) (log grown : List Record) (held now : List Bool) (me w : Mine) (n place : ℕ) (event : Event)
     → IsSeat k t closed log held me → Issues me.0 n w.0 → w.1 ≡ me.1 → event ≡ issue_reply k (n % 1048576) → place ≡ place_of_word n
     → after ≡ (is_exhausted (entry t event) || closed) → grown ≡ log ++ record { entry = entry t event; place = place } ∷ [] → now ≡ held_after k.range.lo held event
@@ -281,6 +335,16 @@ pub seat_issues : (k : Terms) (t : ℕ) (closed after : Bool) (log grown : List 
 seat_issues k t closed after log grown held now me w n place event s a slots is at closes more changed =
     subst (λ (z : Bool × List Record × List Bool). IsSeat k t z.0 z.1 z.2 w) (λ i. (sym closes i, sym more i, sym changed i))
     (seat_steps k t closed log held me w n a.0 event place s (told_reply me.0 k t n event w.0 s.terms s.number s.lawful a is) slots at)
+
+-- a number that was granted is held
+pub granted_held : (k : Terms) (t lo : ℕ) (closed : Bool) (log : List Record) (held now : List Bool) (me : Mine) (granted : Option ℕ) → IsSeat k t closed log now me → lo ≡ k.range.lo
+    → HasMark lo held (event_of granted) → now ≡ held_after lo held (event_of granted) → IfSome granted (λ n. IsHeld n me.0.mine)
+granted_held k t lo closed log held now me (Some n) s at mark is =
+    let inside : n - lo < length held = mark.1 in
+    let long : length now ≡ length held = ap length is ∙ length-set held (n - lo) true in
+    let set_now : get_or now (n - lo) false ≡ true = ap (λ l. get_or l (n - lo) false) is ∙ get_or-set_same held (n - lo) true false inside in
+    (marked_iff k t n closed log now me s).0 (subst (λ (z : ℕ). (z ≤ n) × (n - z < length now) × (get_or now (n - z) false ≡ true)) at (mark.0, (omega arith), set_now))
+granted_held k t lo closed log held now me None s at mark is = tt
 
 pub found_small : (k : Terms) (t : ℕ) (closed : Bool) (log : List Record) (held : List Bool) (me : Mine) (n : ℕ) (history : List Entry)
     → IsSeat k t closed log held me → Finds me.0 n history → n < 1152921504606846976

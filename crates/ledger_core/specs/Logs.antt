@@ -44,11 +44,18 @@ held_after lo held (Granted n) = slice_set held (n - lo) true
 held_after lo held Exhausted = held
 held_after lo held (Settled n way) = slice_set held (n - lo) false
 
--- the event's number, if it has one, has a mark
+-- the event's number, if it has one, has a mark, which is set where it is settled, and where it is granted not
 abbrev pub HasMark : ℕ → List Bool → Event → Type 0
-HasMark lo held (Granted n) = (lo ≤ n) × (n - lo < length held)
+HasMark lo held (Granted n) = (lo ≤ n) × (n - lo < length held) × (slice_index_or held (n - lo) false ≡ false)
 HasMark lo held Exhausted = ⊤
-HasMark lo held (Settled n way) = (lo ≤ n) × (n - lo < length held)
+HasMark lo held (Settled n way) = (lo ≤ n) × (n - lo < length held) × (slice_index_or held (n - lo) false ≡ true)
+
+-- A log can keep the event, where so many records are used or owed to settlements: a number that is granted owes one
+-- more, and one that is settled was owed its record.
+abbrev pub HasRoom : ℕ → ℕ → Event → Type 0
+HasRoom used room (Granted n) = used + 2 ≤ room
+HasRoom used room Exhausted = used + 1 ≤ room
+HasRoom used room (Settled n way) = ⊤
 
 -- the last operation in the log granted this number
 abbrev pub EndsByGranting : ℕ → List Record → Type 0

@@ -54,6 +54,10 @@ pub record SpentView : Type 0 where
   pub number : ℕ
   pub way : Way
 
+-- the grant's number, ended this way
+abbrev pub spent_as : GrantView → Way → SpentView
+spent_as grant way = record { device = grant.device; number = grant.number; way = way }
+
 -- the seat of a new ledger: it has seen nothing and done nothing
 abbrev pub fresh_seat : LedgerId → Terms → ℕ → SeatView
 fresh_seat ledger terms number = seat_view ledger terms number [] []
@@ -107,10 +111,10 @@ Unissued SeatClosed old new = IsClosedSeat old × (new ≡ old)
 Unissued NotIssued old new = ¬ (IsClosedSeat old) × (new ≡ old)
 Unissued NoNumber old new = ¬ (IsClosedSeat old) × Extends old Exhausted new
 
--- why a number was not settled
+-- why a number was not settled: the seat doesn't hold it. Memory is never refused.
 abbrev pub Unsettled : SettleFault → SeatView → SpentView → Type 0
 Unsettled NotOpen seat spent = ¬ (Holds seat spent)
-Unsettled NotSettled seat spent = Holds seat spent
+Unsettled NotSettled seat spent = ⊥
 
 -- the same seat of the same ledger
 pub record IsSameSeat (old new : SeatView) : Type 0 where

@@ -60,7 +60,7 @@ pub enum SettleFault {
     /// No number of that device is open at this seat under that number.
     #[error("number not open")]
     NotOpen,
-    /// Memory was refused.
+    /// Memory was refused. This never comes: room for the settlement is taken where the number is granted.
     #[error("out of memory")]
     OutOfMemory,
 }

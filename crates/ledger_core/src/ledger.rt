@@ -3,15 +3,16 @@
 //! An operation is one addition to one atomic word, and a tally is one load. Nobody waits: there is no lock, and no
 //! step is tried again. Whatever the schedule, the operations of all seats are one legal history, each once, and what
 //! each seat has seen is a beginning of it.
-ghost use Rattle.std.specs.Prelude.{◌≡◌, ◌<◌, ◌↔◌, ◌⊎◌, ℕ, List, [], Some, IfOk, IfErr, slice_get, replicate, false};
+ghost use Rattle.std.specs.Prelude.{◌≡◌, ◌<◌, ◌↔◌, ◌⊎◌, ℕ, List, [], Some, IsOk, IfOk, IfErr, slice_get, replicate, false};
 ghost use Rattle.journal_core.specs.declared.entry.Entry.{Entry};
 ghost use Rattle.journal_core.specs.declared.entry.Event.TheVariants.{Granted, Settled};
+ghost use Rattle.journal_core.specs.declared.entry.Way.{Way};
 ghost use Rattle.ledger_core.specs.declared.fault.IssueFault.TheVariants.{SeatClosed};
 ghost use Rattle.ledger_core.specs.Closing.{AreAllSeats, HaveMet, IsWhole};
 ghost use Rattle.journal_core.specs.History.{Begins, IsLawful, tally_of};
 ghost use Rattle.journal_core.specs.Journal.{terms_of};
 ghost use Rattle.ledger_core.specs.Shared.{Agree, Extends, Holds, IsClosedSeat, IsSameSeat, Knows, SeatView, Sees};
-ghost use Rattle.ledger_core.specs.Shared.{Unissued, Unsettled, fresh_seats};
+ghost use Rattle.ledger_core.specs.Shared.{Unissued, Unsettled, fresh_seats, spent_as};
 
 use crate::close::{operations_of, put_together, room};
 use crate::fault::{IssueFault, OpenLedgerFault, SettleFault};
@@ -68,7 +69,7 @@ impl Ledger {
         }
     }
 
-    /// Grants the next number of the range to the seat. It waits for nobody.
+    /// Grants the next number of the range to the seat, and takes room for its settlement. It waits for nobody.
     ///
     /// `SeatClosed` and `OutOfMemory` leave everything as it was. `Exhausted` is an operation, and closes the seat
     /// for issue.
@@ -76,6 +77,7 @@ impl Ledger {
         requires ours { seat.old.ledger ≡ self.now.ledger }
         ensures granted { IfOk result (λ grant. Extends seat.old (Granted grant.number) seat.new) }
         ensures device { IfOk result (λ grant. grant.device ≡ seat.old.terms.range.device) }
+        ensures held { IfOk result (λ grant. (way : Way) → Holds seat.new (spent_as grant way)) }
         ensures refused { IfErr result (λ fault. Unissued fault seat.old seat.new) }
         ensures closed { IsClosedSeat seat.old → result ≡ Err SeatClosed }
         ensures same { IsSameSeat seat.old seat.new }
@@ -84,7 +86,8 @@ impl Ledger {
         if seat.fields.own.closed {
             return Err(IssueFault::SeatClosed);
         }
-        if seat.fields.own.log.reserve(1).is_err() {
+        let owing = seat.fields.own.owing as usize;
+        if seat.fields.own.log.reserve(owing + 2).is_err() {
             return Err(IssueFault::OutOfMemory);
         }
         let number = issue_in(&self.word, &mut seat.fields);
@@ -98,12 +101,13 @@ impl Ledger {
         }
     }
 
-    /// Records how a number ended that is open at the seat. It waits for nobody. A refusal changes nothing, and hands
-    /// back what was to be settled.
+    /// Records how a number ended that is open at the seat. It waits for nobody, and takes no memory: a number that is
+    /// open is settled. A refusal changes nothing, and hands back what was to be settled.
     pub fn settle(&self, seat: &mut Seat, spent: Spent) -> Result<(), (SettleFault, Spent)>
         requires ours { seat.old.ledger ≡ self.now.ledger }
         ensures settled { IfOk result (λ _. Holds seat.old spent
             × Extends seat.old (Settled spent.number spent.way) seat.new) }
+        ensures held { Holds seat.old spent → IsOk result }
         ensures refused { IfErr result (λ f. Unsettled f.0 seat.old spent) }
         ensures unchanged { IfErr result (λ f. (f.1 ≡ spent) × (seat.new ≡ seat.old)) }
         ensures same { IsSameSeat seat.old seat.new }
@@ -111,9 +115,6 @@ impl Ledger {
     {
         if !seat.holds(&spent) {
             return Err((SettleFault::NotOpen, spent));
-        }
-        if seat.fields.own.log.reserve(1).is_err() {
-            return Err((SettleFault::OutOfMemory, spent));
         }
         settle_in(&self.word, &mut seat.fields, &spent);
         Ok(())
@@ -241,5 +242,6 @@ fn new_own(alloc: Global, opening: &Terms) -> Result<Own, AllocError>
         closed: false,
         log: Vec::new(alloc),
         held,
+        owing: 0,
     })
 }

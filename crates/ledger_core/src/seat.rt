@@ -1,7 +1,8 @@
 //! A seat of a shared ledger: what one caller has seen and done.
 //!
 //! The seat's own log has its operations in order. Record j of it has entry j of them and the place where that entry
-//! stands in what the seat has seen: the counts in the word that the step found add up to it.
+//! stands in what the seat has seen: the counts in the word that the step found add up to it. The log has room for the
+//! settlement of each number that is open, so that a settlement takes no memory.
 ghost use Rattle.std.specs.Prelude.{◌≡◌, ℕ, ◌+◌, ◌/◌, ◌%◌, ◌^◌, ◌<◌, ◌≤◌, ◌↔◌, min, false, IsTrue, length, vec_len};
 ghost use Rattle.std.specs.Prelude.{vec_capacity, [], ◌∷◌, ◌++◌, ◌||◌};
 ghost use Rattle.std.specs.List.{slice_index_or};
@@ -9,7 +10,7 @@ ghost use Rattle.std.specs.Option.{IfSome};
 ghost use Rattle.journal_core.specs.declared.entry.Event.TheVariants.{Granted, Exhausted, Settled};
 ghost use Rattle.journal_core.specs.History.{Begins, IsLawful, calls_of, entry, is_exhausted};
 ghost use Rattle.ledger_core.specs.Rule.{IsHeld, issue_reply, issues_of, knower, packed, sealed_of, void_of};
-ghost use Rattle.ledger_core.specs.Logs.{AreFields, AreSameSeat, EndsByGranting, HasMark, IsMarked, Steps};
+ghost use Rattle.ledger_core.specs.Logs.{AreFields, AreSameSeat, EndsByGranting, HasMark, HasRoom, IsMarked, Steps};
 ghost use Rattle.ledger_core.specs.Logs.{event_of, held_after, place_of_word};
 ghost use Rattle.ledger_core.specs.Shared.{Holds, IsClosedSeat, Knows, fresh_seat};
 
@@ -139,7 +140,7 @@ fn event_of(number: Option<u32>) -> Event
 
 // Keeps an operation that the seat has made.
 fn keep(own: &mut Own, lo: u32, kept: Record)
-    requires room { vec_len own.old.log < vec_capacity own.old.log }
+    requires room { HasRoom (vec_len own.old.log + own.old.owing) (vec_capacity own.old.log) kept.entry.event }
     requires mark { HasMark lo own.old.held.items kept.entry.event }
     ensures log { own.new.log.items ≡ own.old.log.items ++ kept ∷ [] }
     ensures held { own.new.held.items ≡ held_after lo own.old.held.items kept.entry.event }
@@ -147,9 +148,15 @@ fn keep(own: &mut Own, lo: u32, kept: Record)
 {
     own.log.push_reserved(kept);
     match kept.entry.event {
-        Event::Granted(number) => own.held[(number - lo) as usize] = true,
+        Event::Granted(number) => {
+            own.held[(number - lo) as usize] = true;
+            own.owing += 1;
+        }
         Event::Exhausted => own.closed = true,
-        Event::Settled(number, _) => own.held[(number - lo) as usize] = false,
+        Event::Settled(number, _) => {
+            own.held[(number - lo) as usize] = false;
+            own.owing -= 1;
+        }
     }
 }
 
@@ -159,11 +166,12 @@ pub(crate) fn issue_in(word: &Word, fields: &mut Fields) -> Option<u32>
     requires word { word.now.shared.table_id.words ≡ 1 }
     requires seat { AreFields fields.old }
     requires clear { fields.old.own.closed ≡ false }
-    requires room { vec_len fields.old.own.log < vec_capacity fields.old.own.log }
+    requires room { vec_len fields.old.own.log + fields.old.own.owing + 2 ≤ vec_capacity fields.old.own.log }
     ensures same { AreSameSeat fields.old fields.new }
     ensures seat { AreFields fields.new }
     ensures step { Steps fields.old.token.me.0 (entry fields.old.number (event_of result)) fields.new.token.me.0 }
     ensures granted { IfSome result (λ number. EndsByGranting number fields.new.own.log.items) }
+    ensures held { IfSome result (λ number. IsHeld number fields.new.token.me.0.mine) }
 {
     let found = issue_step(word, &mut fields.token);
     let granted = reply(&fields.opening, found);
@@ -186,7 +194,6 @@ pub(crate) fn settle_in(word: &Word, fields: &mut Fields, spent: &Spent)
     requires word { word.now.shared.table_id.words ≡ 1 }
     requires seat { AreFields fields.old }
     requires held { IsHeld spent.now.number fields.old.token.me.0.mine }
-    requires room { vec_len fields.old.own.log < vec_capacity fields.old.own.log }
     ensures same { AreSameSeat fields.old fields.new }
     ensures seat { AreFields fields.new }
     ensures step { Steps fields.old.token.me.0 (entry fields.old.number (Settled spent.now.number spent.now.way))

@@ -3,6 +3,8 @@
 //! The history stands in no memory. The rule says that there is one, that it is legal, that the word has its three
 //! counts, and that each seat has seen a beginning of it in which the seat's own operations are all that there is of
 //! that seat.
+ghost use Rattle.std.specs.Prelude.{◌≡◌, ◌+◌, ◌≤◌, length, vec_len, vec_capacity};
+ghost use Rattle.std.specs.List.{count_by};
 
 use atomic_table::{Join, Play, Seat, Split, Table, TableRule};
 use journal_core::{Entry, Terms};
@@ -22,10 +24,15 @@ pub struct Record {
 pub struct Own {
     /// It has met the end of the range.
     pub closed: bool,
-    /// Its operations, in order.
+    /// Its operations, in order. There is room for the settlement of each number that is open.
     pub log: Vec<Record>,
     /// For each number of the range, in order, whether it is open at this seat.
     pub held: Vec<bool>,
+    /// How many numbers are open at this seat.
+    pub owing: u32,
+    ghost counted: { owing ≡ count_by (λ mark. mark) held.items },
+    ghost room: { vec_len log + owing ≤ vec_capacity log },
+    ghost few: { length held.items ≤ 65535 },
 }
 
 /// The fields of a seat. Between a step and its record they are no seat, so they have no invariant of their own.

@@ -1,7 +1,7 @@
-use Rattle.std.proofs.Common.{ap, ◌∙◌, arith}
+use Rattle.std.proofs.Common.{ap, ◌∙◌, sym, subst}
 use Rattle.journal_core.specs.declared.entry.Event.TheVariants.{Settled}
-use Rattle.ledger_core.specs.Logs.{held_after}
-use Rattle.ledger_core.proofs.Seats.{seat_settles, found_small, held_inside}
+use Rattle.ledger_core.specs.Logs.{held_after, HasMark}
+use Rattle.ledger_core.proofs.Seats.{seat_settles, found_small, marked_iff}
 use Rattle.ledger_core.proofs.seat.settle_in.Goals as goal
 
 pub place-place-requires : goal.place-place-requires
@@ -9,13 +9,9 @@ place-place-requires c = let a = c.settle_step-found.ensures.step in found_small
 
 pub keep-requires-clause-mark : goal.keep-requires-clause-mark
 keep-requires-clause-mark c =
-    let inside = held_inside _ _ _ _ _ _ _ c.requires.seat c.requires.held in
-    let lo = c.lo.ensures in
-    let number = c.number-settled.ensures in
-    let all = c.requires.seat.all_held in
-    let least = inside.0 in
-    let most = inside.1 in
-    ((omega arith), (omega arith))
+    subst (λ z. HasMark z c.args.fields.now.own.held.items (Settled c.number-settled.result c.way-way.result)) (sym c.lo.ensures)
+    (subst (λ n. HasMark c.args.fields.now.opening.range.lo c.args.fields.now.own.held.items (Settled n c.way-way.result)) (sym c.number-settled.ensures)
+    ((marked_iff _ _ _ _ _ _ _ c.requires.seat).1 c.requires.held))
 
 pub returns-clause-seat : goal.returns-clause-seat
 returns-clause-seat c =
