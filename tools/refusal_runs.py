@@ -233,15 +233,14 @@ class Checker:
         journal = read("journal") if os.path.exists("journal") else b""
         if journal and not self.err:
             verdict = started(["audit"], input=journal, stdin=None)
-            found = re.fullmatch(rb"legal: ([0-9]+) granted, ([0-9]+) sealed, ([0-9]+) void, ([0-9]+) open, 0 refused\n", verdict.stdout)
+            found = re.fullmatch(rb"legal: ([0-9]+) granted, ([0-9]+) sealed, ([0-9]+) void, 0 open, 0 refused\n", verdict.stdout)
             if verdict.returncode != 0 or not found:
                 self.differs(f"the journal is {verdict.stdout}")
             elif kind.words[0] == "pipe":
-                granted, sealed, _, is_open = map(int, found.groups())
-                # A number stays open only where its settlement found no memory.
-                if granted < len(there) or self.out and not is_open and sealed != self.out[0].startswith("sealed "):
+                granted, sealed, _ = map(int, found.groups())
+                if granted < len(there) or self.out and sealed != self.out[0].startswith("sealed "):
                     self.differs(f"the journal is {verdict.stdout}")
-            elif int(found[2]) < len(there) - int(found[4]) or int(found[1]) < len(there):
+            elif int(found[2]) < len(there):
                 self.differs(f"{len(there)} outputs, and the journal is {verdict.stdout}")
         # The range was reserved or it wasn't; and it was where something was done with it.
         if os.path.exists("ledger") or there:

@@ -168,8 +168,7 @@ def stopped(way, call, n, how):
         if not run.stderr and os.path.exists("journal") and os.path.getsize("journal"):
             with open("journal", "rb") as journal:
                 audit = subprocess.run([sealer, "audit"], stdin=journal, capture_output=True, text=True, timeout=60)
-            # A number stays open only where its settlement found no memory.
-            if audit.returncode != 0 or call in ON_FILES and ", 0 open, " not in audit.stdout:
+            if audit.returncode != 0 or ", 0 open, " not in audit.stdout:
                 differs(f"{what}: the journal is {audit.stdout.strip()}")
     take(what)
     after = subprocess.run(command("one lane", ["c"]), capture_output=True, text=True, timeout=60)

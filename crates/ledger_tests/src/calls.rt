@@ -56,28 +56,13 @@ pub fn issue(run: &mut Run, seat: usize) -> Result<Grant, IssueFault>
     issued
 }
 
-fn settle(run: &mut Run, seat: usize, spent: Spent) -> Result<(), (SettleFault, Spent)>
-    requires { seat < run.old.terms.seats }
-    ensures { run.new ≡ run.old }
-{
-    let before = run.tally(seat);
-    match run.settle(seat, spent) {
-        Err((SettleFault::OutOfMemory, spent)) => {
-            if run.tally(seat) == before {
-                run.settle(seat, spent)
-            } else {
-                Err((SettleFault::OutOfMemory, spent))
-            }
-        }
-        other => other,
-    }
-}
+// A settlement takes no memory, so it isn't made again.
 
 pub fn settles(run: &mut Run, seat: usize, spent: Spent) -> bool
     requires { seat < run.old.terms.seats }
     ensures { run.new ≡ run.old }
 {
-    settle(run, seat, spent).is_ok()
+    run.settle(seat, spent).is_ok()
 }
 
 // The number that is refused since it is not open, and handed back.
@@ -85,7 +70,7 @@ pub fn refused(run: &mut Run, seat: usize, spent: Spent) -> Option<Spent>
     requires { seat < run.old.terms.seats }
     ensures { run.new ≡ run.old }
 {
-    match settle(run, seat, spent) {
+    match run.settle(seat, spent) {
         Err((SettleFault::NotOpen, spent)) => Some(spent),
         _ => None,
     }

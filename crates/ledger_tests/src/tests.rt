@@ -83,8 +83,8 @@ fn two_seats_share_a_range(rt: HostRuntime) {
     assert!(rt; audits_as(rt.alloc(), text.as_str(), line));
 }
 
-// Seat 0 issues 0 to 3, which fills the room that a log begins with.
-fn fill_a_log(run: &mut Run) -> Option<Grant>
+// Seat 0 issues 0 to 3.
+fn issue_four(run: &mut Run) -> Option<Grant>
     requires { 0 < run.old.terms.seats }
     ensures { run.new ≡ run.old }
 {
@@ -98,7 +98,7 @@ fn settles_behind_four(run: &mut Run) -> bool
     requires { 0 < run.old.terms.seats }
     ensures { run.new ≡ run.old }
 {
-    let Some(zero) = fill_a_log(run) else {
+    let Some(zero) = issue_four(run) else {
         return false;
     };
     let counted = Tally {
@@ -110,9 +110,9 @@ fn settles_behind_four(run: &mut Run) -> bool
     settles(run, 0, zero.used()) && run.tally(0) == counted
 }
 
-// Run it with each allocation refused in turn: the settlement is the one that is refused where a log grows.
+// Run it with each allocation refused in turn: none of them is the settlement's.
 #[test]
-fn a_settlement_grows_the_log(rt: HostRuntime) {
+fn a_settlement_takes_no_memory(rt: HostRuntime) {
     let mut run = open_twice(rt.alloc(), 0, 4, 1).expect(&rt, "a ledger");
     assert!(rt; settles_behind_four(&mut run));
     let lines = "range 1 0 4 1\n0 issue 0\n0 issue 1\n0 issue 2\n0 issue 3\n0 sealed 0\n";

@@ -1,8 +1,10 @@
 -- Files sealed in a group: its numbers are granted by the batch, and settled one by one.
-use Rattle.std.proofs.Common.{◌≡◌, ◌⊎◌, ℕ, zero, suc, ◌+◌, ◌<◌, ◌≤◌, Bool, true, false, cond, nat_eq, List, [], ◌∷◌, ◌++◌, length, count_by, refl, sym, ap, ◌∙◌, subst, inl, inr, ⊎_elim, arith, get_or, set, All, Option, map, append-nil, append_assoc, Bor, take, drop}
+use Rattle.std.proofs.Common.{◌≡◌, ◌≢◌, ◌⊎◌, ℕ, zero, suc, ◌+◌, ◌-◌, ◌<◌, ◌≤◌, Bool, true, false, cond, nat_eq, eq-eqb, ne_eqb, length-append, length-drop, Vec, Global, List, [], ◌∷◌, ◌++◌, length, count_by, refl, sym, ap, ◌∙◌, subst, ⊎_elim, arith, get_or, set, All, Option, map, append-nil, append_assoc, Bor, take, drop}
 use Rattle.std.specs.Prelude.{Some, slice_get, flat_map}
-use Rattle.std.proofs.lemmas.Option.{slice_get-get_or}
-use Rattle.std.proofs.lemmas.List.{set-get_or, map-append, length-map}
+use mathlib.Core.Logic.{dite}
+use native.Mathlib.Decide.{ℕ_discrete}
+use Rattle.std.proofs.lemmas.Option.{slice_get-get_or, slice_get_within, get_or_from_slice_get}
+use Rattle.std.proofs.lemmas.List.{map-append, length-map}
 use Rattle.std.proofs.lemmas.List.Elements.{All-nil, All-cons, All-push}
 use Rattle.std.proofs.lemmas.Grind.{flat_map-append}
 use Rattle.std.proofs.Math.Seq.{take-add}
@@ -12,26 +14,31 @@ use Rattle.journal_core.specs.declared.entry.Event.TheVariants.{Granted, Exhaust
 use Rattle.journal_core.specs.declared.entry.Entry.{Entry}
 use Rattle.journal_core.specs.declared.entry.Way.{Way}
 use Rattle.journal_core.specs.declared.entry.Way.TheVariants as ended
-use Rattle.journal_core.specs.History.{entry, grants, times_granted}
+use Rattle.journal_core.specs.declared.terms.Terms.{Terms}
+use Rattle.journal_core.specs.History.{entry, grants, settles, times_granted, times_settled}
 use Rattle.journal_core.proofs.Histories.{count_push}
 use Rattle.journal_core.proofs.Bounds.{sum_below, sum_below_more}
+use Rattle.ledger_core.specs.declared.fault.IssueFault.{IssueFault}
 use Rattle.ledger_core.specs.declared.fault.IssueFault.TheVariants.{SeatClosed, OutOfMemory as NoMemory, Exhausted as NoNumber}
-use Rattle.ledger_core.specs.Shared.{SeatView, SpentView, Extends}
+use Rattle.ledger_core.specs.Shared.{LedgerView, SeatView, SpentView, Extends}
+use Rattle.ledger_core.specs.Closing.{AreAllSeats}
+use Rattle.ledger_core.proofs.Meetings.{get-set_here, get-set_else}
 use Rattle.crew_core.specs.declared.outcome.Outcome.{Outcome}
 use Rattle.crew_core.specs.declared.outcome.Outcome.TheVariants as job
 use Rattle.container_core.specs.Shape.{ShapeView}
-use Rattle.crew_core.specs.Batch.{seat_of, of_seat, issues, AreOutcomes, AreAmong, AreIssued, IsOutcome}
+use Rattle.crew_core.specs.Batch.{seat_of, of_seat, issues, AreOutcomes, AreAmong, AreIssued, IsAt, IsOutcome}
 use Rattle.command_core.specs.declared.line.FileFault.{FileFault}
 use Rattle.command_core.specs.declared.line.FileOutcome.{FileOutcome}
 use Rattle.command_core.specs.declared.line.FileOutcome.TheVariants.{Sealed, Opened, Good, Shown, Failed}
 use Rattle.command_core.specs.Lines.{FileLine}
 use Rattle.command_core.specs.Folder.{Step, stepped}
 use Rattle.command_core.specs.Work.{AreTold}
-use Rattle.sealer_core.specs.Group.{holds, HasEnded, IsHeld, AreHeld, IsCounted, IsEnding, AreEnded, AreEnding, IsGroup, refused_lines, name_of, IsPrepared, made_for, read_of}
+use Rattle.sealer_core.specs.Group.{holds, HasEnded, IsHeld, AreHeld, AreOwed, OwesAt, IsOwed, SettledAt, IsCounted, IsEnding, AreEnded, AreEnding, IsGroup, refused_lines, name_of, IsPrepared, made_for, read_of, left_by}
 use Rattle.sealer_core.specs.declared.prepare.Prepared.{Prepared}
+use Rattle.sealer_core.specs.declared.prepare.Prepared.TheVariants.{Refused, Unread, Read}
 use Rattle.command_core.specs.declared.line.FileFault.TheVariants.{OutOfMemory}
 use Rattle.sealer_core.specs.Sealing.{Accounts, AreSealed, IsOfSealing, creations_of, endings_of, line_of, operations_of, created_as, ended_as, sealed_name, seals, voids, tells_of, times_sealed, times_voided}
-use Rattle.sealer_core.proofs.Numbering.{adds_failure, told_push, sum_below_zeros, sum_below_first}
+use Rattle.sealer_core.proofs.Numbering.{adds_failure, mine_of, told_push, sum_below_zeros, sum_below_first}
 use Rattle.command_core.proofs.Telling.{stepped-nil, stepped-stepped}
 use Rattle.sealer_core.proofs.Sealings.{sealed_more}
 
@@ -54,11 +61,19 @@ counted_by p (v ∷ seats) (suc i) d w event below more =
     omega arith
 
 pub counted_at : (seats : List SeatView) (i : ℕ) (d w : SeatView) (event : Event) → i < length seats
-    → Extends (get_or seats i d) event w ⊎ (w ≡ get_or seats i d) → IsCounted (operations_of seats) (operations_of (set seats i w)) event
-counted_at seats i d w event below how = ⊎_elim
-    (λ (more : Extends (get_or seats i d) event w). inr ((get_or seats i d).number, λ p. counted_by p seats i d w event below more))
-    (λ (same : w ≡ get_or seats i d). inl (λ p. ap (λ (l : List SeatView). count_by p (operations_of l)) (ap (set seats i) same ∙ set-get_or seats i d)))
-    how
+    → Extends (get_or seats i d) event w → IsCounted (operations_of seats) (operations_of (set seats i w)) event
+counted_at seats i d w event below more = ((get_or seats i d).number, λ p. counted_by p seats i d w event below more)
+
+pub settled_at : (seats : List SeatView) (i : ℕ) (d w : SeatView) (number : ℕ) (way : Way) → i < length seats
+    → Extends (get_or seats i d) (Settled number way) w → SettledAt i number seats (set seats i w)
+settled_at seats i d w number way below more = record {
+  here = λ before after at now.
+      let was : get_or seats i d ≡ before = get_or_from_slice_get seats i before d at in
+      let set_now = get-set_here seats i w below in
+      let is : after ≡ w = cc in
+      (way, ap (λ (v : SeatView). v.mine) is ∙ mine_of (get_or seats i d) w (Settled number way) more ∙ ap (λ (v : SeatView). v.mine ++ entry v.number (Settled number way) ∷ []) was);
+  others = λ j other. get-set_else seats i j w other;
+}
 
 -- ---- numbers that are settled one by one
 
@@ -72,37 +87,31 @@ held_failed lines os operations name fault a = record {
   granted = λ n. let t = told_push n lines (line_of name (Failed fault)) in let h = a.granted n in omega arith;
 }
 
-pub held_fewer : (lines : List FileLine) (o : Outcome) (os : List Outcome) (operations : List Entry) → AreHeld lines (o ∷ os) operations → AreHeld lines os operations
-held_fewer lines o os operations a = record {
+pub held_fewer : (lines : List FileLine) (o : Outcome) (os : List Outcome) (operations : List Entry) (seat : ℕ) (fault : IssueFault) → o ≡ job.Unissued seat fault
+    → AreHeld lines (o ∷ os) operations → AreHeld lines os operations
+held_fewer lines o os operations seat fault is a = record {
   told = a.told;
-  granted = λ n. let c = held_cons n o os in let h = a.granted n in omega arith;
+  granted = λ n.
+      let c = held_cons n o os in
+      let none : cond {A = ℕ} (holds n o) 1 0 ≡ 0 = ap (λ (x : Outcome). cond {A = ℕ} (holds n x) 1 0) is in
+      let h = a.granted n in omega arith;
 }
 
 -- how often a number was settled and granted behind a settlement
 record Settling (k n : ℕ) (old new : List Entry) (sealed voided : ℕ) : Type 0 where
-  pub seal : (times_sealed n old ≤ times_sealed n new) × (times_sealed n new ≤ times_sealed n old + sealed)
-  pub void : times_voided n new ≤ times_voided n old + voided
+  pub seal : times_sealed n new ≡ times_sealed n old + sealed
+  pub void : times_voided n new ≡ times_voided n old + voided
   pub grant : times_granted n new ≡ times_granted n old
 
 void_counts : (k n : ℕ) (old new : List Entry) → IsCounted old new (Settled k ended.Void) → Settling k n old new 0 (cond (nat_eq n k) 1 0)
-void_counts k n old new how = ⊎_elim
-    (λ (none : (p : Entry → Bool) → count_by p new ≡ count_by p old).
-    let s = none (seals n) in let v = none (voids n) in let g = none (grants n) in
-    record { seal = (omega arith, omega arith); void = omega arith; grant = g })
-    (λ (one : (seat : ℕ) × ((p : Entry → Bool) → count_by p new ≡ count_by p old + cond (p (entry seat (Settled k ended.Void))) 1 0)).
-    let s = one.1 (seals n) in let v = one.1 (voids n) in let g = one.1 (grants n) in
-    record { seal = (omega arith, omega arith); void = omega arith; grant = omega arith })
-    how
+void_counts k n old new (seat, one) =
+    let s = one (seals n) in let v = one (voids n) in let g = one (grants n) in
+    record { seal = s; void = v; grant = omega arith }
 
 seal_counts : (k n : ℕ) (old new : List Entry) → IsCounted old new (Settled k ended.Sealed) → Settling k n old new (cond (nat_eq n k) 1 0) 0
-seal_counts k n old new how = ⊎_elim
-    (λ (none : (p : Entry → Bool) → count_by p new ≡ count_by p old).
-    let s = none (seals n) in let v = none (voids n) in let g = none (grants n) in
-    record { seal = (omega arith, omega arith); void = omega arith; grant = g })
-    (λ (one : (seat : ℕ) × ((p : Entry → Bool) → count_by p new ≡ count_by p old + cond (p (entry seat (Settled k ended.Sealed))) 1 0)).
-    let s = one.1 (seals n) in let v = one.1 (voids n) in let g = one.1 (grants n) in
-    record { seal = (omega arith, omega arith); void = omega arith; grant = omega arith })
-    how
+seal_counts k n old new (seat, one) =
+    let s = one (seals n) in let v = one (voids n) in let g = one (grants n) in
+    record { seal = s; void = v; grant = omega arith }
 
 module _ (lines : List FileLine) (o : Outcome) (os : List Outcome) (k : ℕ) (old new : List Entry) (name : List ℕ) (its : (n : ℕ) → holds n o ≡ nat_eq n k) (a : AreHeld lines (o ∷ os) old) where
   held_void : (outcome : FileOutcome) → ((n : ℕ) → tells_of n outcome ≡ false) → IsCounted old new (Settled k ended.Void)
@@ -111,7 +120,7 @@ module _ (lines : List FileLine) (o : Outcome) (os : List Outcome) (k : ℕ) (ol
     told = λ n.
         let t = told_push n lines (line_of name outcome) in
         let no : cond {A = ℕ} (tells_of n outcome) 1 0 ≡ 0 = ap (λ b. cond {A = ℕ} b 1 0) (none n) in
-        let s = void_counts k n old new how in let seal = s.seal.1 in
+        let s = void_counts k n old new how in let seal = s.seal in
         let h = a.told n in omega arith;
     granted = λ n.
         let t = told_push n lines (line_of name outcome) in
@@ -126,7 +135,7 @@ module _ (lines : List FileLine) (o : Outcome) (os : List Outcome) (k : ℕ) (ol
   held_sealed bytes how = record {
     told = λ n.
         let t = told_push n lines (line_of name (Sealed k bytes)) in
-        let s = seal_counts k n old new how in let seal = s.seal.1 in
+        let s = seal_counts k n old new how in let seal = s.seal in
         let h = a.told n in omega arith;
     granted = λ n.
         let t = told_push n lines (line_of name (Sealed k bytes)) in
@@ -145,15 +154,116 @@ module _ (lines : List FileLine) (o : Outcome) (os : List Outcome) (k : ℕ) (ol
   held_ended (Failed fault) how = held_void (Failed fault) (λ n. refl) how
 
 -- the same, of an outcome without a container
-pub held_spoiled : (lines : List FileLine) (others : List Outcome) (old new : List Entry) (name : List ℕ) (fault : FileFault) (seats seat : ℕ) (spent : SpentView) (outcome : Outcome)
-    → outcome ≡ job.Spoiled seat spent → IsHeld seats outcome → IsCounted old new (Settled spent.number spent.way) → AreHeld lines (outcome ∷ others) old
+pub held_spoiled : (lines : List FileLine) (others : List Outcome) (old new : List Entry) (name : List ℕ) (fault : FileFault) (seats device seat : ℕ) (spent : SpentView) (outcome : Outcome)
+    → outcome ≡ job.Spoiled seat spent → IsHeld seats device outcome → IsCounted old new (Settled spent.number spent.way) → AreHeld lines (outcome ∷ others) old
     → AreHeld (lines ++ line_of name (Failed fault) ∷ []) others new
-held_spoiled lines others old new name fault seats seat spent outcome is held counted a =
-    let way : spent.way ≡ ended.Void = (subst (IsHeld seats) is held).1 in
+held_spoiled lines others old new name fault seats device seat spent outcome is held counted a =
+    let way : spent.way ≡ ended.Void = (subst (IsHeld seats device) is held).1.1 in
     held_ended lines (job.Spoiled seat spent) others spent.number old new name (λ n. refl)
     (subst (λ (o : Outcome). AreHeld lines (o ∷ others) old) is a) (Failed fault) (subst (λ (w : Way). IsCounted old new (Settled spent.number w)) way counted)
 
+-- ---- numbers that are owed at each seat
+
+-- the outcomes that name a seat, where one more stands before them
+of_seat-cons : (n i : ℕ) (o : Outcome) (os : List Outcome) → count_by (holds n) (of_seat i (o ∷ os)) ≡ cond (nat_eq (seat_of o) i) (cond (holds n o) 1 0) 0 + count_by (holds n) (of_seat i os)
+of_seat-cons n i o os = go (nat_eq (seat_of o) i)
+  where
+    go : (b : Bool) → count_by (holds n) (cond b (o ∷ of_seat i os) (of_seat i os)) ≡ cond b (cond (holds n o) 1 0) 0 + count_by (holds n) (of_seat i os)
+    go true = held_cons n o (of_seat i os)
+    go false = omega arith
+
+-- a number that an outcome names is settled
+pub owed_fewer : (old new : List SeatView) (o : Outcome) (os : List Outcome) (number : ℕ) → length new ≡ length old → SettledAt (seat_of o) number old new
+    → ((n : ℕ) → holds n o ≡ nat_eq n number) → AreOwed old (o ∷ os) → AreOwed new os
+owed_fewer old new o os number long s its a = record { each = λ i n w at. dite (ℕ_discrete i (seat_of o)) (here i n w at) (other i n w at) }
+  where
+    here : (i n : ℕ) (w : SeatView) → slice_get new i ≡ Some w → i ≡ seat_of o → times_settled n w.mine + count_by (holds n) (of_seat i os) ≡ times_granted n w.mine
+    here i n w at same =
+        let inside = slice_get_within new i w at in
+        let v : SeatView = get_or old i w in
+        let was : slice_get old i ≡ Some v = slice_get-get_or old i w (omega arith) in
+        let (way, mine) = s.here v w (ap (slice_get old) (sym same) ∙ was) (ap (slice_get new) (sym same) ∙ at) in
+        let settled = count_push (settles n) v.mine (entry v.number (Settled number way)) in
+        let granted = count_push (grants n) v.mine (entry v.number (Settled number way)) in
+        let settled' : times_settled n w.mine ≡ times_settled n (v.mine ++ entry v.number (Settled number way) ∷ []) = ap (times_settled n) mine in
+        let granted' : times_granted n w.mine ≡ times_granted n (v.mine ++ entry v.number (Settled number way) ∷ []) = ap (times_granted n) mine in
+        let before = a.each i n v was in
+        let front = of_seat-cons n i o os in
+        let hit : cond {A = ℕ} (nat_eq (seat_of o) i) (cond (holds n o) 1 0) 0 ≡ cond (holds n o) 1 0 = ap (λ b. cond {A = ℕ} b (cond (holds n o) 1 0) 0) (eq-eqb (seat_of o) i (sym same)) in
+        let its' : cond {A = ℕ} (holds n o) 1 0 ≡ cond {A = ℕ} (nat_eq n number) 1 0 = ap (λ b. cond {A = ℕ} b 1 0) (its n) in
+        omega arith
+
+    other : (i n : ℕ) (w : SeatView) → slice_get new i ≡ Some w → i ≢ seat_of o → times_settled n w.mine + count_by (holds n) (of_seat i os) ≡ times_granted n w.mine
+    other i n w at apart =
+        let before = a.each i n w (sym (s.others i apart) ∙ at) in
+        let front = of_seat-cons n i o os in
+        let miss : cond {A = ℕ} (nat_eq (seat_of o) i) (cond (holds n o) 1 0) 0 ≡ 0 = ap (λ b. cond {A = ℕ} b (cond (holds n o) 1 0) 0) (ne_eqb (seat_of o) i (λ is. apart (sym is))) in
+        omega arith
+
+-- an outcome has spent none
+pub owed_unissued : (seats : List SeatView) (o : Outcome) (os : List Outcome) (seat : ℕ) (fault : IssueFault) → o ≡ job.Unissued seat fault → AreOwed seats (o ∷ os) → AreOwed seats os
+owed_unissued seats o os seat fault is a = record {
+  each = λ i n v at.
+      let before = a.each i n v at in
+      let front = of_seat-cons n i o os in
+      let none : cond {A = ℕ} (nat_eq (seat_of o) i) (cond (holds n o) 1 0) 0 ≡ 0 = none_of i n in
+      omega arith;
+}
+  where
+    zero_both : (b : Bool) → cond {A = ℕ} b 0 0 ≡ 0
+    zero_both true = refl
+    zero_both false = refl
+
+    none_of : (i n : ℕ) → cond {A = ℕ} (nat_eq (seat_of o) i) (cond (holds n o) 1 0) 0 ≡ 0
+    none_of i n = ap (λ (x : Outcome). cond {A = ℕ} (nat_eq (seat_of o) i) (cond (holds n x) 1 0) 0) is ∙ zero_both (nat_eq (seat_of o) i)
+
+-- the number of the first outcome is owed
+owed_number : (seats : List SeatView) (o : Outcome) (os : List Outcome) (number : ℕ) → holds number o ≡ true → AreOwed seats (o ∷ os) → OwesAt seats (seat_of o) number
+owed_number seats o os number its a = λ v at.
+    let before = a.each (seat_of o) number v at in
+    let front = of_seat-cons number (seat_of o) o os in
+    let hit : cond {A = ℕ} (nat_eq (seat_of o) (seat_of o)) (cond (holds number o) 1 0) 0 ≡ cond (holds number o) 1 0 = ap (λ b. cond {A = ℕ} b (cond (holds number o) 1 0) 0) (eq-eqb (seat_of o) (seat_of o) refl) in
+    let one : cond {A = ℕ} (holds number o) 1 0 ≡ 1 = ap (λ b. cond {A = ℕ} b 1 0) its in
+    omega arith
+
+pub owed_first : (seats : List SeatView) (o : Outcome) (os : List Outcome) → AreOwed seats (o ∷ os) → IsOwed seats o
+owed_first seats (job.Sealed seat bytes spent) os a = owed_number seats (job.Sealed seat bytes spent) os spent.number (eq-eqb spent.number spent.number refl) a
+owed_first seats (job.Spoiled seat spent) os a = owed_number seats (job.Spoiled seat spent) os spent.number (eq-eqb spent.number spent.number refl) a
+owed_first seats (job.Unissued seat fault) os a = tt
+
+pub owed_as : (seats : List SeatView) (os os' : List Outcome) → os ≡ os' → AreOwed seats os → AreOwed seats os'
+owed_as seats os os' is a = subst (AreOwed seats) is a
+
+-- new seats owe none
+pub owed_none : (seats : List SeatView) → operations_of seats ≡ [] → AreOwed seats []
+owed_none seats none = record { each = λ i n v at. let is = mine_none seats none i v at in let s = ap (times_settled n) is in let g = ap (times_granted n) is in omega arith }
+  where
+    empty : (l : List Entry) → length l ≡ 0 → l ≡ []
+    empty [] is = refl
+    empty (e ∷ l) is = absurd (omega arith)
+
+    mine_none : (seats : List SeatView) → operations_of seats ≡ [] → (i : ℕ) (v : SeatView) → slice_get seats i ≡ Some v → v.mine ≡ []
+    mine_none [] none i v at = absurd (cc)
+    mine_none (x ∷ xs) none zero v at =
+        let same : x ≡ v = cc in
+        let long = ap length none in let both = length-append x.mine (operations_of xs) in
+        empty v.mine (let mine = ap (λ (z : SeatView). length z.mine) same in omega arith)
+    mine_none (x ∷ xs) none (suc i) v at =
+        let long = ap length none in let both = length-append x.mine (operations_of xs) in
+        mine_none xs (empty (operations_of xs) (omega arith)) i v at
+
 -- ---- numbers that a batch granted
+
+issues_settles : (n t : ℕ) (os : List Outcome) → count_by (settles n) (issues t os) ≡ 0
+issues_settles n t [] = refl
+issues_settles n t (job.Sealed seat bytes spent ∷ os) =
+    let r = issues_settles n t os in let c = sum_by-cons (λ (e : Entry). cond (settles n e) 1 0) (entry t (Granted spent.number)) (issues t os) in omega arith
+issues_settles n t (job.Spoiled seat spent ∷ os) =
+    let r = issues_settles n t os in let c = sum_by-cons (λ (e : Entry). cond (settles n e) 1 0) (entry t (Granted spent.number)) (issues t os) in omega arith
+issues_settles n t (job.Unissued seat NoNumber ∷ os) =
+    let r = issues_settles n t os in let c = sum_by-cons (λ (e : Entry). cond (settles n e) 1 0) (entry t Exhausted) (issues t os) in omega arith
+issues_settles n t (job.Unissued seat SeatClosed ∷ os) = issues_settles n t os
+issues_settles n t (job.Unissued seat NoMemory ∷ os) = issues_settles n t os
 
 issues_seals : (n t : ℕ) (os : List Outcome) → count_by (seals n) (issues t os) ≡ 0
 issues_seals n t [] = refl
@@ -242,6 +352,24 @@ after_batch old new os lines long among issued a = record {
       let h = a.granted n in omega arith;
 }
 
+-- and owed
+pub owed_batch : (old new : List SeatView) (os : List Outcome) → length new ≡ length old → AreIssued old new os → AreOwed old [] → AreOwed new os
+owed_batch old new os long issued a = record {
+  each = λ i n w at.
+      let inside = slice_get_within new i w at in
+      let v : SeatView = get_or old i w in
+      let was : slice_get old i ≡ Some v = slice_get-get_or old i w (omega arith) in
+      let mine = issued i v w was at in
+      let before = a.each i n v was in
+      let settled : times_settled n w.mine ≡ times_settled n (v.mine ++ issues v.number (of_seat i os)) = ap (times_settled n) mine in
+      let granted : times_granted n w.mine ≡ times_granted n (v.mine ++ issues v.number (of_seat i os)) = ap (times_granted n) mine in
+      let settled' = sum_by-append (λ (x : Entry). cond (settles n x) 1 0) v.mine (issues v.number (of_seat i os)) in
+      let granted' = sum_by-append (λ (x : Entry). cond (grants n x) 1 0) v.mine (issues v.number (of_seat i os)) in
+      let none = issues_settles n v.number (of_seat i os) in
+      let some = issues_grants n v.number (of_seat i os) in
+      omega arith;
+}
+
 -- the same, of an equal list
 pub held_as : (lines : List FileLine) (os os' : List Outcome) (operations : List Entry) → os ≡ os' → AreHeld lines os operations → AreHeld lines os' operations
 held_as lines os os' operations is a = subst (λ (l : List Outcome). AreHeld lines l operations) is a
@@ -255,23 +383,61 @@ among_seats lanes seats new os few among j o at = let below = (among j o at).0 i
 pub nothing_held : (lines : List FileLine) (operations : List Entry) → Accounts lines operations → AreHeld lines [] operations
 nothing_held lines operations a = record { told = a.told; granted = λ n. let h = a.granted n in omega arith }
 
--- what is still held stays open
-pub let_go : (lines : List FileLine) (os : List Outcome) (operations : List Entry) → AreHeld lines os operations → Accounts lines operations
-let_go lines os operations a = record { told = a.told; granted = λ n. let h = a.granted n in omega arith }
+-- where nothing is held any more no number is open
+pub let_go : (lines : List FileLine) (operations : List Entry) → AreHeld lines [] operations → Accounts lines operations
+let_go lines operations a = record { told = a.told; granted = λ n. let h = a.granted n in omega arith }
 
-has_ended : (key : List ℕ) (shape : ShapeView) (j : List ℕ) (o : Outcome) → IsOutcome key shape j o → HasEnded o
-has_ended key shape j (job.Sealed seat bytes spent) is = is.1
-has_ended key shape j (job.Spoiled seat spent) is = is
-has_ended key shape j (job.Unissued seat fault) is = tt
+has_ended : (key : List ℕ) (shape : ShapeView) (j : List ℕ) (o : Outcome) (device : ℕ) (seat : SeatView) → seat.terms.range.device ≡ device → IsAt seat o → IsOutcome key shape j o → HasEnded device o
+has_ended key shape j (job.Sealed place bytes spent) device seat same at is = (at.0 ∙ same, is.1)
+has_ended key shape j (job.Spoiled place spent) device seat same at is = (at.0 ∙ same, is)
+has_ended key shape j (job.Unissued place fault) device seat same at is = tt
 
-pub outcomes_held : (key : List ℕ) (shape : ShapeView) (jobs : List (List ℕ)) (lanes seats : ℕ) (new : List SeatView) (os : List Outcome) → lanes ≤ seats → AreOutcomes key shape jobs os
-    → AreAmong lanes new os → All (IsHeld seats) os
-outcomes_held key shape jobs lanes seats new os few outcomes among = λ k d below.
+pub outcomes_held : (key : List ℕ) (shape : ShapeView) (jobs : List (List ℕ)) (lanes seats : ℕ) (ledger : LedgerView) (new : List SeatView) (os : List Outcome) → lanes ≤ seats → AreOutcomes key shape jobs os
+    → AreAmong lanes new os → AreAllSeats ledger new → All (IsHeld seats ledger.terms.range.device) os
+outcomes_held key shape jobs lanes seats ledger new os few outcomes among all = λ k d below.
     let at = slice_get-get_or os k d below in
-    let less = (among k (get_or os k d) at).0 in
+    let (less, (seat, there, is_at)) = among k (get_or os k d) at in
+    let same : seat.terms ≡ ledger.terms = (all.each (seat_of (get_or os k d)) seat there).1 in
     let count = outcomes.count in
-    let inside : k < length jobs = omega arith in
-    (omega arith, has_ended key shape (get_or jobs k []) (get_or os k d) (outcomes.each k (get_or jobs k []) (get_or os k d) (slice_get-get_or jobs k [] inside) at))
+    let inside : k < length jobs = omega arith in (
+      omega arith,
+      has_ended key shape (get_or jobs k []) (get_or os k d) ledger.terms.range.device seat (ap (λ (t : Terms). t.range.device) same) is_at
+          (outcomes.each k (get_or jobs k []) (get_or os k d) (slice_get-get_or jobs k [] inside) at),
+    )
+
+-- ---- outcomes for files that were read
+
+-- as many as there are files that were read, at most
+pub few_outcomes : {W : Type 0} (key : List ℕ) (shape : ShapeView) (slice jobs : List (Vec ℕ Global)) (files : List (Prepared W)) (os : List Outcome)
+    → (os ≡ []) ⊎ AreOutcomes key shape (map (λ (job : Vec ℕ Global). job.items) slice) os → slice ≡ jobs
+    → map (λ (job : Vec ℕ Global). length job.items) jobs ≡ flat_map read_of files → length os ≤ length (flat_map read_of files)
+few_outcomes key shape slice jobs files os how same read =
+    let all = ap length read in
+    let long = ap length same in
+    let items = length-map slice (λ (job : Vec ℕ Global). job.items) in
+    let lengths = length-map jobs (λ (job : Vec ℕ Global). length job.items) in
+    ⊎_elim
+    (λ (none : os ≡ []). let no = ap length none in omega arith)
+    (λ (some : AreOutcomes key shape (map (λ (job : Vec ℕ Global). job.items) slice) os). let count = some.count in omega arith)
+    how
+
+pub few_left : {W : Type 0} (items left : List (Prepared W)) (file : Prepared W) (os os' : List Outcome) → items ≡ file ∷ left → os' ≡ left_by file os
+    → length os ≤ length (flat_map read_of items) → length os' ≤ length (flat_map read_of left)
+few_left {W = W} items left file os os' is next few =
+    let front : length (flat_map read_of items) ≡ length (read_of file ++ flat_map read_of left) = ap (λ l. length (flat_map read_of l)) is in
+    let both = length-append (read_of file) (flat_map read_of left) in
+    let fewer = by file in
+    let same = ap length next in
+    omega arith
+  where
+    by : (f : Prepared W) → length (left_by f os) ≤ length os - length (read_of f)
+    by (Refused name fault) = omega arith
+    by (Unread name output fault) = omega arith
+    by (Read name output writer bytes) = let d = length-drop 1 os in omega arith
+
+pub none_left : {W : Type 0} (files : List (Prepared W)) (os : List Outcome) → files ≡ [] → length os ≤ length (flat_map read_of files) → os ≡ []
+none_left files [] none few = refl
+none_left files (o ∷ os) none few = let no = ap (λ l. length (flat_map read_of l)) none in absurd (omega arith)
 
 -- ---- files of a group that have their lines
 
@@ -310,18 +476,18 @@ ended_more names made made' line outcomes outcomes' outcomes'' operations operat
 }
 
 -- the group was worked
-pub group_of : (names names' : List (List ℕ)) (made : List Step) (outcomes outcomes' : List Outcome) (operations operations' operations'' : List Entry)
+pub group_of : (names names' : List (List ℕ)) (made : List Step) (outcomes : List Outcome) (operations operations' operations'' : List Entry)
     (status status' : ℕ) (old new : Option (List ℕ)) (failures failures' : Option ℕ) (steps steps' steps'' : Option (List Step))
-    → AreEnded names made outcomes outcomes' operations' operations'' status status' old new failures failures' steps' steps''
+    → AreEnded names made outcomes [] operations' operations'' status status' old new failures failures' steps' steps''
     → names ≡ names' → steps' ≡ stepped steps made → ((lines : List FileLine) → Accounts lines operations → AreHeld lines outcomes operations')
     → IsGroup names' operations operations'' status status' old new failures failures' steps steps''
-group_of names names' made outcomes outcomes' operations operations' operations'' status status' old new failures failures' steps steps' steps'' e same stepping held = record {
+group_of names names' made outcomes operations operations' operations'' status status' old new failures failures' steps steps' steps'' e same stepping held = record {
   lines = e.lines;
   named = e.named ∙ same;
   fitting = e.fitting;
   stepwise = e.stepwise ∙ ap (λ s. stepped s (flat_map endings_of e.lines)) (stepping ∙ ap (stepped steps) (sym e.created)) ∙ stepped-stepped steps (flat_map creations_of e.lines) (flat_map endings_of e.lines);
   told = e.told;
-  accounts = λ before a. let_go (before ++ e.lines) outcomes' operations'' (e.accounts before (held before a));
+  accounts = λ before a. let_go (before ++ e.lines) operations'' (e.accounts before (held before a));
 }
 
 -- ---- files of a group before the sealing
@@ -376,14 +542,16 @@ ending_more files items left file name outcome outcomes outcomes' outcomes'' ope
 }
 
 pub ending_all : {W : Type 0} (files left : List (Prepared W)) (outcomes outcomes' : List Outcome) (operations operations' : List Entry) (status status' : ℕ)
-    (old new : Option (List ℕ)) (failures failures' : Option ℕ) (steps steps' : Option (List Step)) → left ≡ []
+    (old new : Option (List ℕ)) (failures failures' : Option ℕ) (steps steps' : Option (List Step)) → left ≡ [] → length outcomes' ≤ length (flat_map read_of left)
     → AreEnding files left outcomes outcomes' operations operations' status status' old new failures failures' steps steps'
-    → AreEnded (map name_of files) (flat_map made_for files) outcomes outcomes' operations operations' status status' old new failures failures' steps steps'
-ending_all files left outcomes outcomes' operations operations' status status' old new failures failures' steps steps' none e =
-    subst (λ (n : List (List ℕ)). AreEnded n (flat_map made_for files) outcomes outcomes' operations operations' status status' old new failures failures' steps steps')
+    → AreEnded (map name_of files) (flat_map made_for files) outcomes [] operations operations' status status' old new failures failures' steps steps'
+ending_all files left outcomes outcomes' operations operations' status status' old new failures failures' steps steps' none few e =
+    subst (λ (n : List (List ℕ)). AreEnded n (flat_map made_for files) outcomes [] operations operations' status status' old new failures failures' steps steps')
     (sym (append-nil e.names) ∙ ap (λ l. e.names ++ map name_of l) (sym none) ∙ e.named)
-    (subst (λ (m : List Step). AreEnded e.names m outcomes outcomes' operations operations' status status' old new failures failures' steps steps')
-    (sym (append-nil e.made) ∙ ap (λ l. e.made ++ flat_map made_for l) (sym none) ∙ e.created) e.ended)
+    (subst (λ (m : List Step). AreEnded e.names m outcomes [] operations operations' status status' old new failures failures' steps steps')
+    (sym (append-nil e.made) ∙ ap (λ l. e.made ++ flat_map made_for l) (sym none) ∙ e.created)
+    (subst (λ (os : List Outcome). AreEnded e.names e.made outcomes os operations operations' status status' old new failures failures' steps steps')
+    (none_left left outcomes' none few) e.ended))
 
 -- ---- a group for which memory was refused
 
@@ -446,8 +614,8 @@ groups_more lanes names more names' operations operations' status status' old mi
 pub rest_all : {X : Type 0} (P : X → Type 0) (xs ys : List X) (x : X) → xs ≡ x ∷ ys → All P xs → All P ys
 rest_all P xs ys x is all = λ k d below. subst (All P) is all (suc k) d (omega arith)
 
-pub held_at : (n m : ℕ) (os : List Outcome) → n ≡ m → All (IsHeld n) os → All (IsHeld m) os
-held_at n m os is held = subst (λ (k : ℕ). All (IsHeld k) os) is held
+pub held_at : (n m device : ℕ) (os : List Outcome) → n ≡ m → All (IsHeld n device) os → All (IsHeld m device) os
+held_at n m device os is held = subst (λ (k : ℕ). All (IsHeld k device) os) is held
 
 -- the names of so many files, and of the group behind them
 pub group_names : (files group : List (Bor (List ℕ))) (done more : ℕ) → group ≡ take more (drop done files) → length group ≡ more

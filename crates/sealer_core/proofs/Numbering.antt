@@ -1,5 +1,5 @@
 -- The lines and the ledger's operations: they agree file by file, and the ledger being legal no number stands in two lines.
-use Rattle.std.proofs.Common.{◌≡◌, ◌≢◌, ◌⊎◌, ℕ, zero, suc, ◌+◌, ◌<◌, ◌≤◌, Bool, cond, nat_eq, List, [], ◌∷◌, ◌++◌, length, count_by, refl, sym, ap, ◌∙◌, subst, inl, inr, ⊎_elim, arith, eq-eqb, ne_eqb, get_or, set, take, append-nil, Option}
+use Rattle.std.proofs.Common.{Result, Ok, Err, IsOk, IfOk, OnOk, OnErr, true, false, add-zero, ◌≡◌, ◌≢◌, ◌⊎◌, ℕ, zero, suc, ◌+◌, ◌<◌, ◌≤◌, Bool, cond, nat_eq, List, [], ◌∷◌, ◌++◌, length, count_by, refl, sym, ap, ◌∙◌, subst, inl, inr, ⊎_elim, arith, eq-eqb, ne_eqb, get_or, set, take, append-nil, Option}
 use mathlib.Core.Logic.{dite}
 use native.Mathlib.Decide.{ℕ_discrete}
 use Rattle.std.specs.Prelude.{Some, slice_get}
@@ -11,20 +11,22 @@ use Rattle.journal_core.specs.declared.entry.Entry.{Entry}
 use Rattle.journal_core.specs.declared.entry.Way.{Way}
 use Rattle.journal_core.specs.declared.entry.Way.TheVariants as ended
 use Rattle.journal_core.specs.declared.terms.Terms.{Terms}
-use Rattle.journal_core.specs.History.{Legal, entry, is_granted, granted, grants, times_granted, calls_of}
+use Rattle.journal_core.specs.History.{Legal, entry, is_granted, is_sealed, is_void, granted, grants, times_granted, times_settled, calls_of}
 use Rattle.journal_core.proofs.Histories.{MayReply, reply_of, count_push, count_calls, induct, legal_front, legal_none}
 use Rattle.journal_core.proofs.Bounds.{within, sum_below, sum_below_more}
+use Rattle.journal_core.proofs.Owners.{count_calls_le, in_range}
+use Rattle.container_core.specs.declared.fault.SealFault.{SealFault}
 use Rattle.ledger_core.specs.declared.fault.IssueFault.{IssueFault}
 use Rattle.ledger_core.specs.declared.fault.IssueFault.TheVariants.{SeatClosed, OutOfMemory as NotIssued, Exhausted as NoNumber}
 use Rattle.std.proofs.lemmas.Grind.{flat_map-append}
-use Rattle.ledger_core.specs.Shared.{LedgerId, LedgerView, SeatView, SpentView, GrantView, Extends, Unissued, fresh_seat, fresh_seats}
+use Rattle.ledger_core.specs.Shared.{LedgerId, LedgerView, SeatView, SpentView, GrantView, Extends, Holds, Knows, Unissued, fresh_seat, fresh_seats}
 use Rattle.ledger_core.specs.Closing.{AreAllSeats, HaveMet, IsWhole}
 use Rattle.crew_core.specs.Spending.{spent_as}
 use Rattle.command_core.specs.declared.line.FileFault.{FileFault}
 use Rattle.command_core.specs.declared.line.FileOutcome.TheVariants.{Sealed, Failed}
 use Rattle.command_core.specs.Lines.{FileLine}
 use Rattle.command_core.specs.Folder.{Step}
-use Rattle.sealer_core.specs.Sealing.{Accounts, AreNumbered, AreSealed, HasSealed, line_of, operations_of, seals, tells_of, times_told, voids}
+use Rattle.sealer_core.specs.Sealing.{Accounts, AreNumbered, AreSealed, HasSealed, IsSettled, line_of, operations_of, seals, tells_of, times_told, voids}
 
 pub told_push : (n : ℕ) (lines : List FileLine) (line : FileLine) → times_told n (lines ++ line ∷ []) ≡ times_told n lines + cond (tells_of n line.outcome) 1 0
 told_push n lines line = sum_by_push (λ (x : FileLine). cond (tells_of n x.outcome) 1 0) lines line
@@ -53,33 +55,6 @@ module _ (lines : List FileLine) (before : List Entry) (seat : ℕ) (name : List
         let t = told_push n lines (line_of name (Failed fault)) in
         let v = count_push (voids n) before (entry seat Exhausted) in
         let g = count_push (grants n) before (entry seat Exhausted) in
-        let h = a.granted n in omega arith;
-  }
-
-  -- a number was granted, and stays open
-  pub adds_open : (k : ℕ) (fault : FileFault) → Accounts (lines ++ line_of name (Failed fault) ∷ []) (before ++ entry seat (Granted k) ∷ [])
-  adds_open k fault = record {
-    told = λ n.
-        let t = told_push n lines (line_of name (Failed fault)) in
-        let s = count_push (seals n) before (entry seat (Granted k)) in
-        let h = a.told n in omega arith;
-    granted = λ n.
-        let t = told_push n lines (line_of name (Failed fault)) in
-        let v = count_push (voids n) before (entry seat (Granted k)) in
-        let g = count_push (grants n) before (entry seat (Granted k)) in
-        let h = a.granted n in omega arith;
-  }
-
-  pub adds_sealed_open : (k bytes : ℕ) → Accounts (lines ++ line_of name (Sealed k bytes) ∷ []) (before ++ entry seat (Granted k) ∷ [])
-  adds_sealed_open k bytes = record {
-    told = λ n.
-        let t = told_push n lines (line_of name (Sealed k bytes)) in
-        let s = count_push (seals n) before (entry seat (Granted k)) in
-        let h = a.told n in omega arith;
-    granted = λ n.
-        let t = told_push n lines (line_of name (Sealed k bytes)) in
-        let v = count_push (voids n) before (entry seat (Granted k)) in
-        let g = count_push (grants n) before (entry seat (Granted k)) in
         let h = a.granted n in omega arith;
   }
 
@@ -147,44 +122,36 @@ both_of old mid new k event one two =
     ∙ ap (λ (t : ℕ). (old.mine ++ entry old.number (Granted k) ∷ []) ++ entry t event ∷ []) (number_of old mid (Granted k) one)
 
 pub after_sealing : (lines : List FileLine) (old mid new : SeatView) (name : List ℕ) (k bytes : ℕ) → Extends old (Granted k) mid
-    → Extends mid (Settled k ended.Sealed) new ⊎ (new ≡ mid)
+    → Extends mid (Settled k ended.Sealed) new
     → Accounts lines old.mine → Accounts (lines ++ line_of name (Sealed k bytes) ∷ []) new.mine
-after_sealing lines old mid new name k bytes one how a = ⊎_elim
-    (λ (two : Extends mid (Settled k ended.Sealed) new).
-    subst (Accounts (lines ++ line_of name (Sealed k bytes) ∷ [])) (sym (both_of old mid new k (Settled k ended.Sealed) one two)) (adds_sealed lines old.mine old.number name a k bytes))
-    (λ (same : new ≡ mid).
-    subst (Accounts (lines ++ line_of name (Sealed k bytes) ∷ [])) (sym (ap (λ (v : SeatView). v.mine) same ∙ mine_of old mid (Granted k) one)) (adds_sealed_open lines old.mine old.number name a k bytes))
-    how
+after_sealing lines old mid new name k bytes one two a =
+    subst (Accounts (lines ++ line_of name (Sealed k bytes) ∷ [])) (sym (both_of old mid new k (Settled k ended.Sealed) one two)) (adds_sealed lines old.mine old.number name a k bytes)
 
 pub after_spoiling : (lines : List FileLine) (old mid new : SeatView) (name : List ℕ) (k : ℕ) (fault : FileFault) → Extends old (Granted k) mid
-    → Extends mid (Settled k ended.Void) new ⊎ (new ≡ mid)
+    → Extends mid (Settled k ended.Void) new
     → Accounts lines old.mine → Accounts (lines ++ line_of name (Failed fault) ∷ []) new.mine
-after_spoiling lines old mid new name k fault one how a = ⊎_elim
-    (λ (two : Extends mid (Settled k ended.Void) new).
-    subst (Accounts (lines ++ line_of name (Failed fault) ∷ [])) (sym (both_of old mid new k (Settled k ended.Void) one two)) (adds_void lines old.mine old.number name a k fault))
-    (λ (same : new ≡ mid).
-    subst (Accounts (lines ++ line_of name (Failed fault) ∷ [])) (sym (ap (λ (v : SeatView). v.mine) same ∙ mine_of old mid (Granted k) one)) (adds_open lines old.mine old.number name a k fault))
-    how
+after_spoiling lines old mid new name k fault one two a =
+    subst (Accounts (lines ++ line_of name (Failed fault) ∷ [])) (sym (both_of old mid new k (Settled k ended.Void) one two)) (adds_void lines old.mine old.number name a k fault)
 
 -- the same, of what is left to be settled
 pub after_end : (lines : List FileLine) (old mid new : SeatView) (name : List ℕ) (spent : SpentView) (number bytes : ℕ)
     → Extends old (Granted spent.number) mid → spent.way ≡ ended.Sealed → number ≡ spent.number
-    → Extends mid (Settled spent.number spent.way) new ⊎ (new ≡ mid)
+    → Extends mid (Settled spent.number spent.way) new
     → Accounts lines old.mine → Accounts (lines ++ line_of name (Sealed number bytes) ∷ []) new.mine
 after_end lines old mid new name spent number bytes one is same how a =
     subst (λ (n : ℕ). Accounts (lines ++ line_of name (Sealed n bytes) ∷ []) new.mine) (sym same)
     (after_sealing lines old mid new name spent.number bytes one
-    (subst (λ (w : Way). Extends mid (Settled spent.number w) new ⊎ (new ≡ mid)) is how) a)
+    (subst (λ (w : Way). Extends mid (Settled spent.number w) new) is how) a)
 
 -- the same, of what a sealing gave back
 pub after_run : (lines : List FileLine) (old mid new : SeatView) (name : List ℕ) (grant : GrantView) (spent : SpentView) (number bytes : ℕ)
     → Extends old (Granted grant.number) mid → spent ≡ spent_as grant ended.Sealed → number ≡ grant.number
-    → Extends mid (Settled spent.number spent.way) new ⊎ (new ≡ mid)
+    → Extends mid (Settled spent.number spent.way) new
     → Accounts lines old.mine → Accounts (lines ++ line_of name (Sealed number bytes) ∷ []) new.mine
 after_run lines old mid new name grant spent number bytes one is same how a =
     subst (λ (n : ℕ). Accounts (lines ++ line_of name (Sealed n bytes) ∷ []) new.mine) (sym same)
     (after_sealing lines old mid new name grant.number bytes one
-    (subst (λ (s : SpentView). Extends mid (Settled s.number s.way) new ⊎ (new ≡ mid)) is how) a)
+    (subst (λ (s : SpentView). Extends mid (Settled s.number s.way) new) is how) a)
 
 pub granted_as : (old mid : SeatView) (grant : GrantView) (spent : SpentView) (way : Way) → spent ≡ spent_as grant way
     → Extends old (Granted grant.number) mid → Extends old (Granted spent.number) mid
@@ -192,11 +159,24 @@ granted_as old mid grant spent way is one = subst (λ (s : SpentView). Extends o
 
 pub after_fault : (lines : List FileLine) (old mid new : SeatView) (name : List ℕ) (grant : GrantView) (spent : SpentView) (fault : FileFault)
     → Extends old (Granted grant.number) mid → spent ≡ spent_as grant ended.Void
-    → Extends mid (Settled spent.number spent.way) new ⊎ (new ≡ mid)
+    → Extends mid (Settled spent.number spent.way) new
     → Accounts lines old.mine → Accounts (lines ++ line_of name (Failed fault) ∷ []) new.mine
 after_fault lines old mid new name grant spent fault one is how a =
     after_spoiling lines old mid new name grant.number fault one
-    (subst (λ (s : SpentView). Extends mid (Settled s.number s.way) new ⊎ (new ≡ mid)) is how) a
+    (subst (λ (s : SpentView). Extends mid (Settled s.number s.way) new) is how) a
+
+-- ---- a number that is held is settled
+
+pub settled_now : {A F P : Type 0} (result : Result A F) → IsOk result → IfOk result (λ _. P) → P
+settled_now (Ok a) is so = so
+settled_now (Err e) is so = absurd (cc)
+
+-- what a sealing gave back is held where its grant was
+pub spent_held : (seat : SeatView) (result : Result ℕ SealFault) (grant : GrantView) (spent : SpentView)
+    → OnOk result (spent ≡ spent_as grant ended.Sealed) → OnErr result (spent ≡ spent_as grant ended.Void)
+    → ((way : Way) → Holds seat (spent_as grant way)) → Holds seat spent
+spent_held seat (Ok bytes) grant spent sealed void held = subst (Holds seat) (sym sealed) (held ended.Sealed)
+spent_held seat (Err fault) grant spent sealed void held = subst (Holds seat) (sym void) (held ended.Void)
 
 -- ---- the whole history has what the seats have
 
@@ -313,6 +293,97 @@ granted_once : (terms : Terms) (history : List Entry) → Legal terms history �
 granted_once terms = induct terms (GrantedOnce terms) (λ n. (omega arith, λ some. absurd (omega arith)))
     (λ history e may so. grow_once terms history e.seat e.event (reply_of terms history e may) so)
 
+-- a number that a seat was granted more often than it settled it is held there
+pub held_by : (seat : SeatView) (spent : SpentView) (terms : Terms) → Knows seat → seat.terms ≡ terms → spent.device ≡ terms.range.device
+    → times_settled spent.number seat.mine < times_granted spent.number seat.mine → Holds seat spent
+held_by seat spent terms knows is device owed =
+    let few = (granted_once seat.terms seat.seen knows.legal spent.number).0 in
+    let fewer = count_calls_le (grants spent.number) seat.number seat.seen in
+    let same = ap (times_granted spent.number) knows.own in
+    (device ∙ sym (ap (λ (t : Terms). t.range.device) is), (omega arith), (omega arith))
+
+-- ---- as many numbers are settled as were granted
+
+swap_eq : (a b : ℕ) → nat_eq a b ≡ nat_eq b a
+swap_eq a b = dite (ℕ_discrete a b)
+    (λ same. eq-eqb a b same ∙ sym (eq-eqb b a (sym same)))
+    (λ other. ne_eqb a b other ∙ sym (ne_eqb b a (λ is. other (sym is))))
+
+sum_below_as : (n : ℕ) (f g : ℕ → ℕ) → ((t : ℕ) → g t ≡ f t) → sum_below n g ≡ sum_below n f
+sum_below_as zero f g is = refl
+sum_below_as (suc n) f g is = let here = is n in let rest = sum_below_as n f g is in omega arith
+
+sum_below_both : (n : ℕ) (f g : ℕ → ℕ) → sum_below n (λ t. f t + g t) ≡ sum_below n f + sum_below n g
+sum_below_both zero f g = refl
+sum_below_both (suc n) f g = let rest = sum_below_both n f g in omega arith
+
+-- a test of entries holds as often as its tests for each number below a limit do together
+abbrev Sums : ℕ → (Entry → Bool) → (ℕ → Entry → Bool) → List Entry → Type 0
+Sums limit all each history = count_by all history ≡ sum_below limit (λ n. count_by (each n) history)
+
+sums_one : (limit m : ℕ) (all : Entry → Bool) (each : ℕ → Entry → Bool) (history : List Entry) (e : Entry) → m < limit → all e ≡ true → ((n : ℕ) → each n e ≡ nat_eq n m)
+    → Sums limit all each history → Sums limit all each (history ++ e ∷ [])
+sums_one limit m all each history e below is its so =
+    let push = count_push all history e in
+    let one : cond {A = ℕ} (all e) 1 0 ≡ 1 = ap (λ b. cond {A = ℕ} b 1 0) is in
+    let more = sum_below_more limit m 1 (λ n. count_by (each n) history) (λ n. count_by (each n) (history ++ e ∷ [])) below
+    (λ n. count_push (each n) history e ∙ ap (λ b. count_by (each n) history + cond {A = ℕ} b 1 0) (its n ∙ swap_eq n m)) in
+    omega arith
+
+sums_none : (limit : ℕ) (all : Entry → Bool) (each : ℕ → Entry → Bool) (history : List Entry) (e : Entry) → all e ≡ false → ((n : ℕ) → each n e ≡ false)
+    → Sums limit all each history → Sums limit all each (history ++ e ∷ [])
+sums_none limit all each history e is its so =
+    let push = count_push all history e in
+    let none : cond {A = ℕ} (all e) 1 0 ≡ 0 = ap (λ b. cond {A = ℕ} b 1 0) is in
+    let same = sum_below_as limit (λ n. count_by (each n) history) (λ n. count_by (each n) (history ++ e ∷ []))
+    (λ n. count_push (each n) history e ∙ ap (λ b. count_by (each n) history + cond {A = ℕ} b 1 0) (its n) ∙ add-zero (count_by (each n) history)) in
+    omega arith
+
+abbrev Summed : ℕ → List Entry → Type 0
+Summed limit history = Sums limit is_granted grants history × Sums limit is_sealed seals history × Sums limit is_void voids history
+
+summed_more : (terms : Terms) (history : List Entry) (t : ℕ) (event : Event) → MayReply terms history t event → Legal terms history
+    → Summed (terms.range.lo + terms.range.size) history → Summed (terms.range.lo + terms.range.size) (history ++ entry t event ∷ [])
+summed_more terms history t (Granted m) may legal (g, s, v) = let L = terms.range.lo + terms.range.size in let e : Entry = entry t (Granted m) in
+    let is = may.0 in let few = may.1 in (
+      sums_one L m is_granted grants history e (omega arith) refl (λ n. refl) g,
+      sums_none L is_sealed seals history e refl (λ n. refl) s,
+      sums_none L is_void voids history e refl (λ n. refl) v,
+    )
+summed_more terms history t Exhausted may legal (g, s, v) = let L = terms.range.lo + terms.range.size in let e : Entry = entry t Exhausted in (
+  sums_none L is_granted grants history e refl (λ n. refl) g,
+  sums_none L is_sealed seals history e refl (λ n. refl) s,
+  sums_none L is_void voids history e refl (λ n. refl) v,
+)
+summed_more terms history t (Settled m ended.Sealed) may legal (g, s, v) = let L = terms.range.lo + terms.range.size in let e : Entry = entry t (Settled m ended.Sealed) in
+    let below = in_range terms history legal t m may.0 in let bound = (within terms history legal).0 in let top = below.1 in (
+      sums_none L is_granted grants history e refl (λ n. refl) g,
+      sums_one L m is_sealed seals history e (omega arith) refl (λ n. refl) s,
+      sums_none L is_void voids history e refl (λ n. refl) v,
+    )
+summed_more terms history t (Settled m ended.Void) may legal (g, s, v) = let L = terms.range.lo + terms.range.size in let e : Entry = entry t (Settled m ended.Void) in
+    let below = in_range terms history legal t m may.0 in let bound = (within terms history legal).0 in let top = below.1 in (
+      sums_none L is_granted grants history e refl (λ n. refl) g,
+      sums_none L is_sealed seals history e refl (λ n. refl) s,
+      sums_one L m is_void voids history e (omega arith) refl (λ n. refl) v,
+    )
+
+summed : (terms : Terms) (history : List Entry) → Legal terms history → Legal terms history → Summed (terms.range.lo + terms.range.size) history
+summed terms = induct terms (λ (h : List Entry). Legal terms h → Summed (terms.range.lo + terms.range.size) h)
+    (λ legal. let zeros = sum_below_zeros (terms.range.lo + terms.range.size) in (sym zeros, sym zeros, sym zeros))
+    (λ history e may so legal.
+    let front = legal_front terms history (e ∷ []) legal in
+    summed_more terms history e.seat e.event (reply_of terms history e may) front (so front))
+
+pub is_settled : (terms : Terms) (history : List Entry) (lines : List FileLine) → Legal terms history → Accounts lines history → IsSettled history
+is_settled terms history lines legal a =
+    let limit = terms.range.lo + terms.range.size in
+    let (g, s, v) = summed terms history legal legal in
+    let both = sum_below_both limit (λ n. count_by (seals n) history) (λ n. count_by (voids n) history) in
+    let same = sum_below_as limit (λ n. count_by (seals n) history + count_by (voids n) history) (λ n. times_granted n history)
+    (λ n. let told = a.told n in let all = a.granted n in omega arith) in
+    g ∙ same ∙ both ∙ (λ i. sym s i + sym v i)
+
 tells_cons : (n : ℕ) (line : FileLine) (lines : List FileLine) → times_told n (line ∷ lines) ≡ cond (tells_of n line.outcome) 1 0 + times_told n lines
 tells_cons n line lines = sum_by-cons (λ (x : FileLine). cond (tells_of n x.outcome) 1 0) line lines
 
@@ -377,6 +448,7 @@ has_sealed names ledger seats history status old new failures failures' steps st
       numbered = are_numbered ledger.terms history s.worked.lines whole.legal accounts;
       legal = whole.legal;
       accounts = accounts;
+      settled = is_settled ledger.terms history s.worked.lines whole.legal accounts;
     }
 
 -- ---- new seats

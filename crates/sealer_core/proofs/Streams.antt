@@ -1,13 +1,12 @@
 -- A stream and its line.
-use Rattle.std.proofs.Common.{◌≡◌, ◌⊎◌, ℕ, ◌+◌, ◌<◌, Bool, cond, eqb, List, [], ◌∷◌, ◌++◌, Option, inl, inr, ⊎_elim, refl, sym, ap, subst, arith, eq-eqb}
+use Rattle.std.proofs.Common.{◌≡◌, ℕ, ◌<◌, Bool, cond, eqb, List, [], ◌∷◌, ◌++◌, Option, inl, inr, ⊎_elim, refl, sym, ap, subst, arith, eq-eqb}
 use Rattle.std.proofs.Common.{Result, Ok, Err}
 use Rattle.container_core.specs.declared.fault.SealFault.{SealFault}
 use Rattle.engine_core.specs.Piped.{HasPipedContainer}
 use Rattle.container_core.specs.Shape.{ShapeView}
 use Rattle.journal_core.specs.declared.entry.Entry.{Entry}
 use Rattle.journal_core.specs.declared.entry.Event.TheVariants.{Granted, Settled}
-use Rattle.journal_core.specs.declared.terms.Terms.{Terms}
-use Rattle.journal_core.specs.History.{Legal, entry, grants, times_granted}
+use Rattle.journal_core.specs.History.{entry, grants, times_granted}
 use Rattle.journal_core.proofs.Histories.{count_push}
 use Rattle.journal_core.specs.Range.{prefix_of}
 use Rattle.ledger_core.specs.Shared.{LedgerView, SeatView, SpentView, Extends}
@@ -18,8 +17,8 @@ use Rattle.command_core.specs.declared.line.FileOutcome.{FileOutcome}
 use Rattle.command_core.specs.declared.line.FileOutcome.TheVariants.{Sealed, Failed}
 use Rattle.command_core.specs.Work.{AreTold}
 use Rattle.sealer_core.specs.Piping.{HasSealedStream, IsPiped, IsUntouched, WorksStream, stream_name}
-use Rattle.sealer_core.specs.Sealing.{Accounts, IsOfNumber, line_of, operations_of}
-use Rattle.sealer_core.proofs.Numbering.{accounts_whole, are_numbered, mine_of, same_count}
+use Rattle.sealer_core.specs.Sealing.{IsOfNumber, line_of, operations_of}
+use Rattle.sealer_core.proofs.Numbering.{accounts_whole, are_numbered, is_settled, mine_of, same_count}
 
 -- nothing was touched
 pub works_failed : (key : List ℕ) (shape : ShapeView) (most : ℕ) (left : Option (List ℕ)) (failures : Option ℕ) (taken : Option (List ℕ)) (refusals : Option ℕ)
@@ -31,18 +30,14 @@ works_failed key shape most left failures taken refusals device operations why i
 
 -- a number that was granted stands in the seat's operations
 pub granted_now : (old mid new : SeatView) (number : ℕ) (spent : SpentView) → Extends old (Granted number) mid
-    → Extends mid (Settled spent.number spent.way) new ⊎ (new ≡ mid) → 0 < times_granted number new.mine
-granted_now old mid new number spent one how =
+    → Extends mid (Settled spent.number spent.way) new → 0 < times_granted number new.mine
+granted_now old mid new number spent one two =
     let pushed = count_push (grants number) old.mine (entry old.number (Granted number)) in
     let same : cond {A = ℕ} (eqb number number) 1 0 ≡ 1 = ap (λ (b : Bool). cond {A = ℕ} b 1 0) (eq-eqb number number refl) in
     let here : times_granted number mid.mine ≡ times_granted number (old.mine ++ entry old.number (Granted number) ∷ []) = ap (times_granted number) (mine_of old mid (Granted number) one) in
-    ⊎_elim
-    (λ (two : Extends mid (Settled spent.number spent.way) new).
     let then = count_push (grants number) mid.mine (entry mid.number (Settled spent.number spent.way)) in
     let there : times_granted number new.mine ≡ times_granted number (mid.mine ++ entry mid.number (Settled spent.number spent.way) ∷ []) = ap (times_granted number) (mine_of mid new (Settled spent.number spent.way) two) in
-    omega arith)
-    (λ (still : new ≡ mid). let there : times_granted number new.mine ≡ times_granted number mid.mine = ap (λ (v : SeatView). times_granted number v.mine) still in omega arith)
-    how
+    omega arith
 
 module _ (key : List ℕ) (shape : ShapeView) (most : ℕ) (left left' : Option (List ℕ)) (failures failures' : Option ℕ) (taken taken' : Option (List ℕ))
     (refusals refusals' : Option ℕ) where
@@ -86,6 +81,7 @@ module _ (key : List ℕ) (shape : ShapeView) (most : ℕ) (left left' : Option 
         told = told;
         numbered = are_numbered ledger.terms history (line ∷ []) whole.legal accounts;
         legal = whole.legal;
+        settled = is_settled ledger.terms history (line ∷ []) whole.legal accounts;
       }
 
   -- the engine's answer

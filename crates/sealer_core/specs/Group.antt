@@ -1,16 +1,18 @@
 -- Inside: files that are sealed in a group, by several lanes: before the sealing, and between it and their lines.
-use Rattle.std.specs.Prelude.{⊤, ◌≡◌, ◌⊎◌, ℕ, ◌+◌, ◌<◌, ◌≤◌, Bool, false, nat_eq, if◌then◌else◌, List, [], ◌∷◌, ◌++◌}
-use Rattle.std.specs.Prelude.{drop, map, All, count_by, flat_map, Option, string_bytes}
+use Rattle.std.specs.Prelude.{⊤, ◌≡◌, ◌≢◌, ℕ, ◌+◌, ◌<◌, Bool, false, nat_eq, if◌then◌else◌, List, [], ◌∷◌, ◌++◌}
+use Rattle.std.specs.Prelude.{drop, map, All, count_by, flat_map, slice_get, Option, Some, string_bytes}
 use Rattle.journal_core.specs.declared.entry.Entry.{Entry}
 use Rattle.journal_core.specs.declared.entry.Event.{Event}
 use Rattle.journal_core.specs.declared.entry.Event.TheVariants.{Settled}
+use Rattle.journal_core.specs.declared.entry.Way.{Way}
 use Rattle.journal_core.specs.declared.entry.Way.TheVariants as ended
-use Rattle.journal_core.specs.History.{entry, times_granted}
+use Rattle.journal_core.specs.History.{entry, times_granted, times_settled}
 use Rattle.io_core.specs.Streams.{Appends, AppendsFront}
 use Rattle.container_core.specs.declared.fault.SealFault.TheVariants as sealing_fault
 use Rattle.crew_core.specs.declared.outcome.Outcome.{Outcome}
 use Rattle.crew_core.specs.declared.outcome.Outcome.TheVariants as job
-use Rattle.crew_core.specs.Batch.{seat_of}
+use Rattle.crew_core.specs.Batch.{of_seat, seat_of}
+use Rattle.ledger_core.specs.Shared.{SeatView}
 use Rattle.sealer_core.specs.declared.prepare.Prepared.{Prepared}
 use Rattle.sealer_core.specs.declared.prepare.Prepared.TheVariants.{Refused, Unread, Read}
 use Rattle.command_core.specs.declared.line.FileOutcome.{FileOutcome}
@@ -65,28 +67,50 @@ holds number (job.Sealed seat bytes spent) = nat_eq number spent.number
 holds number (job.Spoiled seat spent) = nat_eq number spent.number
 holds number (job.Unissued seat fault) = false
 
--- its number ended as it says
-abbrev pub HasEnded : Outcome → Type 0
-HasEnded (job.Sealed seat bytes spent) = spent.way ≡ ended.Sealed
-HasEnded (job.Spoiled seat spent) = spent.way ≡ ended.Void
-HasEnded (job.Unissued seat fault) = ⊤
+-- its number is of this device, and ended as it says
+abbrev pub HasEnded : ℕ → Outcome → Type 0
+HasEnded device (job.Sealed seat bytes spent) = (spent.device ≡ device) × (spent.way ≡ ended.Sealed)
+HasEnded device (job.Spoiled seat spent) = (spent.device ≡ device) × (spent.way ≡ ended.Void)
+HasEnded device (job.Unissued seat fault) = ⊤
 
--- it names one of so many seats, and its number ended as it says
-abbrev pub IsHeld : ℕ → Outcome → Type 0
-IsHeld seats o = (seat_of o < seats) × HasEnded o
+-- it names one of so many seats, and its number is of this device, and ended as it says
+abbrev pub IsHeld : ℕ → ℕ → Outcome → Type 0
+IsHeld seats device o = (seat_of o < seats) × HasEnded device o
 
 -- Lines and operations of a ledger agree, where the numbers of these outcomes are granted and not settled yet.
 pub record AreHeld (lines : List FileLine) (outcomes : List Outcome) (operations : List Entry) : Type 0 where
-  pub told : (number : ℕ) → times_sealed number operations ≤ times_told number lines
+  pub told : (number : ℕ) → times_sealed number operations ≡ times_told number lines
   pub granted : (number : ℕ) → (times_told number lines + times_voided number operations)
-      + count_by (holds number) outcomes ≤ times_granted number operations
+      + count_by (holds number) outcomes ≡ times_granted number operations
 
--- the operations are those and this event of some seat, in whatever order; or none came
+-- Of the numbers that a seat was granted these outcomes name those that it hasn't settled yet.
+pub record AreOwed (seats : List SeatView) (outcomes : List Outcome) : Type 0 where
+  pub each : (i number : ℕ) (seat : SeatView) → slice_get seats i ≡ Some seat
+      → times_settled number seat.mine + count_by (holds number) (of_seat i outcomes) ≡ times_granted number seat.mine
+
+-- the seat at this place was granted the number, and hasn't settled it
+abbrev pub OwesAt : List SeatView → ℕ → ℕ → Type 0
+OwesAt seats place number = (seat : SeatView) → slice_get seats place ≡ Some seat
+    → times_settled number seat.mine < times_granted number seat.mine
+
+-- so of the number that an outcome has spent
+abbrev pub IsOwed : List SeatView → Outcome → Type 0
+IsOwed seats (job.Sealed seat bytes spent) = OwesAt seats seat spent.number
+IsOwed seats (job.Spoiled seat spent) = OwesAt seats seat spent.number
+IsOwed seats (job.Unissued seat fault) = ⊤
+
+-- the seat at this place settled the number, and the others did nothing
+pub record SettledAt (place number : ℕ) (old new : List SeatView) : Type 0 where
+  pub here : (before after : SeatView) → slice_get old place ≡ Some before → slice_get new place ≡ Some after
+      → (way : Way) × (after.mine ≡ before.mine ++ entry before.number (Settled number way) ∷ [])
+  pub others : (i : ℕ) → i ≢ place → slice_get new i ≡ slice_get old i
+
+-- the operations are those and this event of some seat, in whatever order
 abbrev pub IsCounted : List Entry → List Entry → Event → Type 0
-IsCounted old new event = ((p : Entry → Bool) → count_by p new ≡ count_by p old)
-    ⊎ ((seat : ℕ) × ((p : Entry → Bool) → count_by p new ≡ count_by p old + (if p (entry seat event) then 1 else 0)))
+IsCounted old new event = (seat : ℕ)
+    × ((p : Entry → Bool) → count_by p new ≡ count_by p old + (if p (entry seat event) then 1 else 0))
 
--- a number that was granted is settled as its line tells, or stays open
+-- a number that was granted is settled as its line tells
 abbrev pub IsEnding : ℕ → List Entry → List Entry → FileOutcome → Type 0
 IsEnding number old new (Sealed n bytes) = (n ≡ number) × IsCounted old new (Settled number ended.Sealed)
 IsEnding number old new _ = IsCounted old new (Settled number ended.Void)

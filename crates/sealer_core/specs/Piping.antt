@@ -10,7 +10,7 @@ use Rattle.command_core.specs.declared.line.FileFault.TheVariants.{NoNumber, Uns
 use Rattle.command_core.specs.declared.line.FileOutcome.{FileOutcome}
 use Rattle.command_core.specs.declared.line.FileOutcome.TheVariants.{Sealed, Failed}
 use Rattle.command_core.specs.Work.{AreTold}
-use Rattle.sealer_core.specs.Sealing.{Accounts, AreNumbered, line_of}
+use Rattle.sealer_core.specs.Sealing.{Accounts, AreNumbered, IsSettled, line_of}
 
 -- ---- what was read and written
 
@@ -50,8 +50,8 @@ pub record IsPiped (key : List ℕ) (shape : ShapeView) (most : ℕ) (left left'
   pub works : WorksStream key shape most left left' failures failures' taken taken' refusals refusals' device operations outcome
   pub accounts : Accounts (line_of stream_name outcome ∷ []) operations
 
--- So it was, over one legal history, with a number of the range; and its line was told, by a writer that had taken `old` and has
--- `new` now, with so many failures.
+-- So it was, over one legal history, with a number of the range, and none is open; and its line was told, by a writer that had
+-- taken `old` and has `new` now, with so many failures.
 pub record HasSealedStream (key : List ℕ) (shape : ShapeView) (most : ℕ) (left left' : Option (List ℕ))
     (failures failures' : Option ℕ) (taken taken' : Option (List ℕ)) (refusals refusals' : Option ℕ) (terms : Terms)
     (history : List Entry) (status : ℕ) (old new : Option (List ℕ)) (faults faults' : Option ℕ) : Type 0 where
@@ -61,3 +61,4 @@ pub record HasSealedStream (key : List ℕ) (shape : ShapeView) (most : ℕ) (le
   pub told : AreTold status (line_of stream_name outcome ∷ []) old new faults faults'
   pub numbered : AreNumbered terms.range (line_of stream_name outcome ∷ [])
   pub legal : Legal terms history
+  pub settled : IsSettled history

@@ -6,7 +6,7 @@ use Rattle.journal_core.specs.declared.entry.Entry.{Entry}
 use Rattle.journal_core.specs.declared.entry.Event.TheVariants.{Granted, Exhausted, Settled}
 use Rattle.journal_core.specs.declared.entry.Way.TheVariants as ended
 use Rattle.journal_core.specs.declared.terms.Terms.{Terms}
-use Rattle.journal_core.specs.History.{Legal, times_granted}
+use Rattle.journal_core.specs.History.{Legal, tally_of, times_granted}
 use Rattle.journal_core.specs.Range.{Numbers}
 use Rattle.io_core.specs.Streams.{Appends, AppendsFront}
 use Rattle.container_core.specs.declared.fault.SealFault.TheVariants as sealing_fault
@@ -145,12 +145,17 @@ times_voided number history = count_by (voids number) history
 abbrev pub operations_of : List SeatView → List Entry
 operations_of seats = flat_map (λ seat. seat.mine) seats
 
--- The lines and the operations of a ledger agree: a number that was settled as sealed stands in a line that says
--- `sealed`, and each such line, and each number that was settled as void, has a grant of its own.
+-- The lines and the operations of a ledger agree: each number was settled as sealed as often as a line says so, and granted as
+-- often as that and as it was settled as void. So no number is open, and where none is granted twice, each that was granted
+-- was settled once: as sealed where a line says so, and as void where none does.
 pub record Accounts (lines : List FileLine) (operations : List Entry) : Type 0 where
-  pub told : (number : ℕ) → times_sealed number operations ≤ times_told number lines
+  pub told : (number : ℕ) → times_sealed number operations ≡ times_told number lines
   pub granted : (number : ℕ)
-      → times_told number lines + times_voided number operations ≤ times_granted number operations
+      → times_told number lines + times_voided number operations ≡ times_granted number operations
+
+-- as many numbers were granted as were settled: an audit finds none open
+abbrev pub IsSettled : List Entry → Type 0
+IsSettled history = let tally = tally_of history in tally.granted ≡ tally.sealed + tally.void
 
 -- the numbers in the lines that say `sealed` lie in the range, and no two of them are the same
 pub record AreNumbered (range : Numbers) (lines : List FileLine) : Type 0 where
@@ -231,8 +236,8 @@ pub record AreSealed (lanes : ℕ) (names : List (List ℕ)) (operations : List 
   pub worked : AreGrouped lanes names status old new failures failures' steps steps'
   pub accounts : Accounts worked.lines operations
 
--- So they were, with a group for as many files as the ledger has seats, over one legal history, and no number stands in
--- two lines.
+-- So they were, with a group for as many files as the ledger has seats, over one legal history; no number stands in two
+-- lines, and none is open.
 pub record HasSealed (names : List (List ℕ)) (terms : Terms) (history : List Entry) (status : ℕ)
     (old new : Option (List ℕ))
     (failures failures' : Option ℕ) (steps steps' : Option (List Step)) : Type 0 where
@@ -240,6 +245,7 @@ pub record HasSealed (names : List (List ℕ)) (terms : Terms) (history : List E
   pub numbered : AreNumbered terms.range worked.lines
   pub legal : Legal terms history
   pub accounts : Accounts worked.lines history
+  pub settled : IsSettled history
 
 -- what a journal got, where one was asked for: this text, or a beginning of it
 abbrev pub IsWritten : {J : Type 0} → (J → Option (List ℕ)) → List ℕ → Bool → Option J → Option J → Type 0

@@ -7,7 +7,8 @@ ghost use Rattle.journal_core.specs.declared.entry.Way.TheVariants.{Sealed};
 ghost use Rattle.ledger_core.specs.Closing.{AreAllSeats};
 ghost use Rattle.command_core.specs.Folder.{stepped};
 ghost use Rattle.sealer_core.specs.Group.{name_of, IsPrepared, made_for, IsHeld, IsCounted, IsEnding, IsPut, IsEndOf};
-ghost use Rattle.sealer_core.specs.Group.{IsEndBy, IsEndIn, left_by, AreHeld, AreEnded, IsGroup, refused_lines};
+ghost use Rattle.sealer_core.specs.Group.{IsEndBy, IsEndIn, left_by, read_of, AreHeld, AreOwed, OwesAt, IsOwed, SettledAt};
+ghost use Rattle.sealer_core.specs.Group.{AreEnded, IsGroup, refused_lines};
 ghost use Rattle.command_core.specs.Lines.{FileLine};
 ghost use Rattle.command_core.specs.Work.{AreTold};
 ghost use Rattle.crew_core.specs.Batch.{AreOutcomes};
@@ -26,15 +27,19 @@ use std::alloc::Global;
 use std::collections::VecDeque;
 use std::thread::Threads;
 
-// Settles a number at the seat of this place. Where memory for that is refused the number stays open.
+// Settles a number at the seat of this place, which owes that.
 fn settle_at(ledger: &Ledger, seats: &mut [Seat], place: u32, spent: Spent)
     requires all { AreAllSeats ledger.now seats.old }
     requires place { place < length seats.old }
+    requires device { spent.device ≡ ledger.now.terms.range.device }
+    requires owed { OwesAt seats.old place spent.number }
     ensures all { AreAllSeats ledger.now seats.new }
     ensures count { length seats.new ≡ length seats.old }
     ensures settled { IsCounted (operations_of seats.old) (operations_of seats.new) (Settled spent.number spent.way) }
+    ensures made { SettledAt place spent.number seats.old seats.new }
 {
     let seat = &mut seats[place as usize];
+    let _knows = seat.number();
     settle_of_file(ledger, seat, spent);
 }
 
@@ -50,7 +55,8 @@ fn end_job<F: Folder>(
     bytes: u64,
 ) -> FileOutcome
     requires all { AreAllSeats ledger.now seats.old }
-    requires held { IsHeld (length seats.old) outcome }
+    requires held { IsHeld (length seats.old) ledger.now.terms.range.device outcome }
+    requires owed { IsOwed seats.old outcome }
     ensures all { AreAllSeats ledger.now seats.new }
     ensures count { length seats.new ≡ length seats.old }
     ensures outcome { IsOfNumber result }
@@ -59,6 +65,7 @@ fn end_job<F: Folder>(
     ensures accounts { (name : List ℕ) (lines : List FileLine) (others : List Outcome)
         → AreHeld lines (outcome ∷ others) (operations_of seats.old)
         → AreHeld (lines ++ line_of name result ∷ []) others (operations_of seats.new) }
+    ensures owed { (others : List Outcome) → AreOwed seats.old (outcome ∷ others) → AreOwed seats.new others }
 {
     match outcome {
         Outcome::Unissued { fault, .. } => FileOutcome::Failed(fault_of(fault)),
@@ -95,10 +102,12 @@ fn end_next<F: Folder>(
     bytes: u64,
 ) -> FileOutcome
     requires all { AreAllSeats ledger.now seats.old }
-    requires held { All (IsHeld (length seats.old)) outcomes.old.items }
+    requires held { All (IsHeld (length seats.old) ledger.now.terms.range.device) outcomes.old.items }
+    requires owed { AreOwed seats.old outcomes.old.items }
     ensures all { AreAllSeats ledger.now seats.new }
     ensures count { length seats.new ≡ length seats.old }
-    ensures held { All (IsHeld (length seats.old)) outcomes.new.items }
+    ensures held { All (IsHeld (length seats.old) ledger.now.terms.range.device) outcomes.new.items }
+    ensures owed { AreOwed seats.new outcomes.new.items }
     ensures outcome { IsOfNumber result }
     ensures next { outcomes.new.items ≡ drop 1 outcomes.old.items }
     ensures end { IsEndBy bytes (F.Writer.taken writer.old) (F.Writer.taken writer.new) outcomes.old.items result }
@@ -128,12 +137,15 @@ fn write_container<F: Folder>(
     requires all { AreAllSeats ledger.now seats.old }
     requires place { place < length seats.old }
     requires sealed { spent.way ≡ Sealed }
+    requires device { spent.device ≡ ledger.now.terms.range.device }
+    requires owed { OwesAt seats.old place spent.number }
     ensures all { AreAllSeats ledger.now seats.new }
     ensures count { length seats.new ≡ length seats.old }
     ensures outcome { IsOfNumber result }
     ensures written { IsPut container.now spent.number bytes (F.Writer.taken writer.old) (F.Writer.taken writer.new) result }
     ensures steps { F.steps folder.new ≡ finished_after (F.steps folder.old) output.now result }
     ensures accounts { IsEnding spent.number (operations_of seats.old) (operations_of seats.new) result }
+    ensures made { SettledAt place spent.number seats.old seats.new }
 {
     let number = spent.number();
     match write_output(folder, output, writer, container) {
@@ -158,10 +170,12 @@ fn end_file<F: Folder>(
 ) -> FileOutcome
     requires all { AreAllSeats ledger.now seats.old }
     requires prepared { IsPrepared file }
-    requires held { All (IsHeld (length seats.old)) outcomes.old.items }
+    requires held { All (IsHeld (length seats.old) ledger.now.terms.range.device) outcomes.old.items }
+    requires owed { AreOwed seats.old outcomes.old.items }
     ensures all { AreAllSeats ledger.now seats.new }
     ensures count { length seats.new ≡ length seats.old }
-    ensures held { All (IsHeld (length seats.old)) outcomes.new.items }
+    ensures held { All (IsHeld (length seats.old) ledger.now.terms.range.device) outcomes.new.items }
+    ensures owed { AreOwed seats.new outcomes.new.items }
     ensures outcome { IsOfSealing result }
     ensures next { outcomes.new.items ≡ left_by file.entry outcomes.old.items }
     ensures end { IsEndIn outcomes.old.items file.entry result }
@@ -213,11 +227,13 @@ fn end_group<F: Folder, L: Sink>(
 ) -> u8
     requires all { AreAllSeats ledger.now seats.old }
     requires prepared { All IsPrepared files.items }
-    requires held { All (IsHeld (length seats.old)) outcomes.items }
+    requires held { All (IsHeld (length seats.old) ledger.now.terms.range.device) outcomes.items }
+    requires owed { AreOwed seats.old outcomes.items }
+    requires few { length outcomes.items ≤ length (flat_map read_of files.items) }
     ensures all { AreAllSeats ledger.now seats.new }
     ensures count { length seats.new ≡ length seats.old }
-    ensures ended { (left : List Outcome)
-        × AreEnded (map name_of files.entry.items) (flat_map made_for files.entry.items) outcomes.items left
+    ensures owed { AreOwed seats.new [] }
+    ensures ended { AreEnded (map name_of files.entry.items) (flat_map made_for files.entry.items) outcomes.items []
         (operations_of seats.old) (operations_of seats.new) start result
         (L.taken lines.old) (L.taken lines.new) (L.failures lines.old) (L.failures lines.new) (F.steps folder.old)
         (F.steps folder.new) }
@@ -264,9 +280,11 @@ fn seal_jobs<T: Threads + Sync>(
     requires few { length jobs.now ≤ length seats.old }
     requires lanes { length seats.old ≤ MAX_LANES }
     requires short { All (λ job. length job.items ≤ MAX_BYTES) jobs.now }
+    requires owed { AreOwed seats.old [] }
     ensures all { AreAllSeats ledger.now seats.new }
     ensures count { length seats.new ≡ length seats.old }
-    ensures held { All (IsHeld (length seats.old)) result.items }
+    ensures held { All (IsHeld (length seats.old) ledger.now.terms.range.device) result.items }
+    ensures owed { AreOwed seats.new result.items }
     ensures outcomes { (result.items ≡ []) ⊎ AreOutcomes key.now shape.now (map (λ job. job.items) jobs.now) result.items }
     ensures accounts { (lines : List FileLine) → Accounts lines (operations_of seats.old)
         → AreHeld lines result.items (operations_of seats.new) }
@@ -319,8 +337,10 @@ fn seal_group<T: Threads + Sync, F: Folder, L: Sink>(
     requires lanes { length seats.old ≤ MAX_LANES }
     requires few { length names.now ≤ length seats.old }
     requires max_bytes { max_bytes ≤ MAX_BYTES }
+    requires owed { AreOwed seats.old [] }
     ensures all { AreAllSeats ledger.now seats.new }
     ensures count { length seats.new ≡ length seats.old }
+    ensures owed { AreOwed seats.new [] }
     ensures group { IsGroup (map (λ name. name.now) names.now) (operations_of seats.old)
         (operations_of seats.new) status result
         (L.taken lines.old) (L.taken lines.new) (L.failures lines.old) (L.failures lines.new) (F.steps folder.old)

@@ -4,10 +4,11 @@ ghost use Rattle.std.specs.Prelude.{◌≡◌, ◌⊎◌, ℕ, ◌<◌, ◌≤�
 ghost use Rattle.std.specs.Prelude.{Ok};
 ghost use Rattle.container_core.specs.Container.{container};
 ghost use Rattle.journal_core.specs.declared.entry.Event.TheVariants.{Granted, Exhausted, Settled};
+ghost use Rattle.journal_core.specs.declared.entry.Way.{Way};
 ghost use Rattle.journal_core.specs.declared.entry.Way.TheVariants.{Sealed};
 ghost use Rattle.journal_core.specs.Range.{prefix_of};
 ghost use Rattle.io_core.specs.Streams.{Appends};
-ghost use Rattle.ledger_core.specs.Shared.{Extends, IsSameSeat, SeatView};
+ghost use Rattle.ledger_core.specs.Shared.{Extends, Holds, IsSameSeat, SeatView, spent_as};
 ghost use Rattle.command_core.specs.Folder.{stepped};
 ghost use Rattle.command_core.specs.Lines.{FileLine};
 ghost use Rattle.command_core.specs.declared.line.FileOutcome.TheVariants.{Failed};
@@ -39,6 +40,7 @@ pub(crate) fn issue_to_file(ledger: &Ledger, seat: &mut Seat) -> Result<Grant, F
     requires ours { seat.old.ledger ≡ ledger.now.ledger }
     ensures granted { IfOk result (λ grant. Extends seat.old (Granted grant.number) seat.new
         × (grant.device ≡ seat.old.terms.range.device)) }
+    ensures held { IfOk result (λ grant. (way : Way) → Holds seat.new (spent_as grant way)) }
     ensures refused { IfErr result (λ fault. IsOfNumber (Failed fault)
         × ((seat.new ≡ seat.old) ⊎ Extends seat.old Exhausted seat.new)) }
     ensures same { IsSameSeat seat.old seat.new }
@@ -49,10 +51,11 @@ pub(crate) fn issue_to_file(ledger: &Ledger, seat: &mut Seat) -> Result<Grant, F
     }
 }
 
-/// Settles a file's number. Where memory for that is refused the number stays open.
+/// Settles a file's number, which takes no memory.
 pub(crate) fn settle_of_file(ledger: &Ledger, seat: &mut Seat, spent: Spent)
     requires ours { seat.old.ledger ≡ ledger.now.ledger }
-    ensures settled { Extends seat.old (Settled spent.number spent.way) seat.new ⊎ (seat.new ≡ seat.old) }
+    requires held { Holds seat.old spent }
+    ensures settled { Extends seat.old (Settled spent.number spent.way) seat.new }
     ensures same { IsSameSeat seat.old seat.new }
 {
     let _ = ledger.settle(seat, spent);
@@ -70,6 +73,7 @@ fn end_sealed<F: Folder>(
 ) -> FileOutcome
     requires ours { seat.old.ledger ≡ ledger.now.ledger }
     requires sealed { spent.way ≡ Sealed }
+    requires held { Holds seat.old spent }
     ensures outcome { IsOfNumber result }
     ensures sealed { IfSealed result (λ number count. (number ≡ spent.number) × (count ≡ bytes)) }
     ensures kept { F.Writer.taken writer.new ≡ F.Writer.taken writer.old }

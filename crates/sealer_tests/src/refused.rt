@@ -121,15 +121,10 @@ fn is_of(line: &str, word: &str, name: &str) -> bool {
     }
 }
 
-// Whether a journal that was written whole is legal, and has open only the number whose settlement found no memory:
-// then nothing else was refused, and all files are sealed.
+// Whether a journal that was written whole is legal, with nothing open: the number of each file that is sealed is so, and a
+// file that failed has a void one or none.
 fn is_closed(alloc: Global, journal: &[u8], there: usize) -> bool {
-    let rest = if there == 3 {
-        counts(alloc, journal, 2, 0, 1)
-    } else {
-        counts(alloc, journal, there, 1, 0)
-    };
-    rest || counts(alloc, journal, there, 0, 0)
+    (there < 3 && counts(alloc, journal, there, 1, 0)) || counts(alloc, journal, there, 0, 0)
 }
 
 // Whether a run left and told what it has to, where at most one growth was refused.

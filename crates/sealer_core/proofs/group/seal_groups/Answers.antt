@@ -2,7 +2,7 @@ use Rattle.std.proofs.Common.{ℕ, List, [], refl, sym, ap, ◌∙◌, subst, ma
 use Rattle.std.proofs.lemmas.List.{take_all, length-map}
 use Rattle.journal_core.specs.declared.entry.Entry.{Entry}
 use Rattle.sealer_core.specs.Sealing.{Accounts, AreSealed, operations_of}
-use Rattle.sealer_core.proofs.Groups.{groups_more, group_names}
+use Rattle.sealer_core.proofs.Groups.{groups_more, group_names, owed_none}
 use Rattle.sealer_core.proofs.Numbering.{accounts_none}
 use Rattle.sealer_core.proofs.Sealings.{nothing_sealed}
 use Rattle.sealer_core.proofs.group.seal_groups.Goals as goal
@@ -13,6 +13,7 @@ loop-done-init g c =
     (subst (λ (l : List Entry). Accounts [] l) (sym c.requires.fresh) accounts_none) in record {
       all = c.requires.all;
       count = refl;
+      owed = owed_none _ c.requires.fresh;
       within = omega arith;
       sealed = (none.0, λ below. none.1);
     }
@@ -33,6 +34,7 @@ loop-done-preserved g c =
     (group_names files group c.loop-done.done _ (c.split_at-in-loop-done.ensures.front ∙ ap (take c.min.result) c.split_at.ensures.back) short) in record {
       all = s.all;
       count = s.count ∙ i.count;
+      owed = s.owed;
       within = omega arith;
       sealed = (more.0, λ below. more.1 (omega (arith, below)));
     }

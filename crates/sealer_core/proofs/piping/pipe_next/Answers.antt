@@ -1,8 +1,8 @@
-use Rattle.std.proofs.Common.{rules, List, [], subst, sym, ap, ◌∙◌}
+use Rattle.std.proofs.Common.{rules, List, [], subst, sym}
 use Rattle.journal_core.specs.declared.entry.Entry.{Entry}
 use Rattle.sealer_core.specs.Piping.{stream_name}
 use Rattle.sealer_core.specs.Sealing.{Accounts}
-use Rattle.sealer_core.proofs.Numbering.{accounts_none, after_failure, after_fault, after_run}
+use Rattle.sealer_core.proofs.Numbering.{accounts_none, after_failure, after_fault, after_run, spent_held}
 use Rattle.sealer_core.proofs.Streams.{granted_now, stream_begun, stream_sealed, works_failed}
 use Rattle.sealer_core.proofs.piping.pipe_next.Goals as goal
 
@@ -34,3 +34,6 @@ returns-in-Err-sealed-clause-piped g c =
       accounts = after_fault [] c.args.seat.now _ _ stream_name c.in-Ok.grant c.run_pipe-sealed.result.1 _ c.in-Ok.ensures.granted.0 (search rules)
           c.settle_of_file.ensures.settled none;
     }
+
+pub settle_of_file-requires-clause-held : goal.settle_of_file-requires-clause-held
+settle_of_file-requires-clause-held g c = spent_held c.issue_to_file.new.seat _ c.in-Ok.grant _ c.run_pipe-sealed.ensures.sealed c.run_pipe-sealed.ensures.void c.in-Ok.ensures.held
