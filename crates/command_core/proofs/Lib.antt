@@ -1,3 +1,5 @@
 pub mod KeyFiles
 pub mod Labels
+pub mod Openings
 pub mod Telling
+pub mod Traces

@@ -10,7 +10,9 @@ use Rattle.journal_core.specs.Text.{ended_lines}
 use Rattle.journal_core.proofs.Texts.{ended_lines-append}
 use Rattle.command_core.specs.Lines.{FileLine, line_text, lines_text, is_failed, status_of_lines}
 use Rattle.command_core.specs.Folder.{Step, stepped}
-use Rattle.command_core.specs.Work.{AreTold, AreWorked, no_steps}
+use Rattle.command_core.specs.Trace.{Event, Does}
+use Rattle.command_core.proofs.Traces.{nothing, weaken, chain}
+use Rattle.command_core.specs.Work.{AreDone, AreTold, AreWorked, Work, no_steps}
 use Rattle.command_core.specs.declared.line.FileOutcome.{FileOutcome}
 use Rattle.std.proofs.lemmas.Grind.{flat_map-append}
 use Rattle.std.proofs.lemmas.List.Elements.{All-push}
@@ -103,17 +105,36 @@ pub stepped-stepped : (steps : Option (List Step)) (a b : List Step) → stepped
 stepped-stepped None a b = refl
 stepped-stepped (Some steps) a b = ap Some (append_assoc steps a b)
 
+-- ---- what happened
+
+pub nothing_done : (does : List ℕ → FileOutcome → List Event → Type 0) (told : Option (List Event)) → Does (AreDone does []) told told
+nothing_done does told = weaken (λ events none. record { works = []; lined = refl; each = λ k d below. absurd (omega (arith, below)); joined = none }) told told (nothing told)
+
+-- one file more
+pub done_more : (does : List ℕ → FileOutcome → List Event → Type 0) (lines : List FileLine) (line : FileLine) (told told' told'' : Option (List Event))
+    → Does (AreDone does lines) told told' → Does (does line.name line.outcome) told' told'' → Does (AreDone does (lines ++ line ∷ [])) told told''
+done_more does lines line told told' told'' done next = chain (AreDone does (lines ++ line ∷ [])) (λ events more d is.
+    let work : Work = record { line = line; events = more } in record {
+      works = d.works ++ work ∷ [];
+      lined = map-append (λ (w : Work). w.line) d.works (work ∷ []) ∙ ap (λ l. l ++ line ∷ []) d.lined;
+      each = All-push (λ (w : Work). does w.line.name w.line.outcome w.events) d.works work d.each is;
+      joined = ap (λ l. l ++ more) d.joined ∙ ap (λ l. flat_map (λ (w : Work). w.events) d.works ++ l) (sym (append-nil more))
+          ∙ sym (flat_map-append (λ (w : Work). w.events) d.works (work ∷ []));
+    }) told told' told'' done next
+
 -- one file more was worked
-pub worked_more : (fits : FileOutcome → Type 0) (steps_for : FileLine → List Step) (names names' : List (List ℕ)) (line : FileLine) (status status' : ℕ)
-    (old mid new : Option (List ℕ)) (failures failures' failures'' : Option ℕ) (steps steps' steps'' : Option (List Step))
-    → (w : AreWorked fits steps_for names status old mid failures failures' steps steps') → fits line.outcome → steps'' ≡ stepped steps' (steps_for line)
+pub worked_more : (fits : FileOutcome → Type 0) (steps_for : FileLine → List Step) (does : List ℕ → FileOutcome → List Event → Type 0) (names names' : List (List ℕ)) (line : FileLine) (status status' : ℕ)
+    (old mid new : Option (List ℕ)) (failures failures' failures'' : Option ℕ) (steps steps' steps'' : Option (List Step)) (told told' told'' : Option (List Event))
+    → (w : AreWorked fits steps_for does names status old mid failures failures' steps steps' told told') → fits line.outcome → steps'' ≡ stepped steps' (steps_for line)
+    → Does (does line.name line.outcome) told' told''
     → AreTold status' (w.lines ++ line ∷ []) old new failures failures'' → names ++ line.name ∷ [] ≡ names'
-    → AreWorked fits steps_for names' status' old new failures failures'' steps steps''
-worked_more fits steps_for names names' line status status' old mid new failures failures' failures'' steps steps' steps'' w fit stepping told longer = record {
+    → AreWorked fits steps_for does names' status' old new failures failures'' steps steps'' told told''
+worked_more fits steps_for does names names' line status status' old mid new failures failures' failures'' steps steps' steps'' told told' told'' w fit stepping next lines longer = record {
   lines = w.lines ++ line ∷ [];
+  done = done_more does w.lines line told told' told'' w.done next;
   named = map-append (λ (l : FileLine). l.name) w.lines (line ∷ []) ∙ ap (λ l. l ++ line.name ∷ []) w.named ∙ longer;
   fitting = All-push (λ (l : FileLine). fits l.outcome) w.lines line w.fitting fit;
-  told = told;
+  told = lines;
   stepwise = stepping ∙ ap (λ s. stepped s (steps_for line)) w.stepwise ∙ stepped-stepped steps (flat_map steps_for w.lines) (steps_for line)
       ∙ ap (stepped steps) (ap (λ l. flat_map steps_for w.lines ++ l) (sym (append-nil (steps_for line))) ∙ sym (flat_map-append steps_for w.lines (line ∷ [])));
 }

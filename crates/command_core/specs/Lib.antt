@@ -3,4 +3,5 @@ pub mod Folder
 pub mod KeyFile
 pub mod Labels
 pub mod Lines
+pub mod Trace
 pub mod Work

@@ -1,15 +1,25 @@
 -- What `open_all` and `verify_all` do with a list of files.
 use Rattle.std.specs.Prelude.{◌≡◌, ◌≢◌, ◌⊎◌, ℕ, ◌-◌, ◌≤◌, Bool, true, false, List, [], ◌∷◌, length, take, map, All, ⊤, Option}
-use Rattle.std.specs.Prelude.{flat_map}
+use Rattle.std.specs.Prelude.{flat_map, Ok, Err}
 use Rattle.container_core.specs.declared.fault.OpenFault.TheVariants.{Write}
+use Rattle.container_core.specs.Container.{header_length}
+use Rattle.container_core.specs.Faults.{IsOfBytes}
+use Rattle.container_core.specs.Opening.{opening}
+use Rattle.engine_core.specs.Engine.{OpensTo}
 use Rattle.io_core.specs.Streams.{Appends, AppendsFront, counted}
 use Rattle.command_core.specs.declared.commands.Task.{Task}
 use Rattle.command_core.specs.declared.commands.Task.TheVariants.{Open, Verify}
+use Rattle.command_core.specs.declared.line.FileFault.{FileFault}
 use Rattle.command_core.specs.declared.line.FileFault.TheVariants.{CannotOpen, OutOfMemory, NoNumber, Unopened}
-use Rattle.command_core.specs.declared.line.FileFault.TheVariants.{AnotherLabel, Unsealed}
+use Rattle.command_core.specs.declared.line.FileFault.TheVariants.{AnotherLabel, Unsealed, NoSuffix, OutputExists}
+use Rattle.command_core.specs.declared.line.FileFault.TheVariants.{CannotCreate}
 use Rattle.command_core.specs.declared.line.FileOutcome.{FileOutcome}
 use Rattle.command_core.specs.declared.line.FileOutcome.TheVariants.{Opened, Good, Shown, Failed}
+use Rattle.command_core.specs.Facts.{IsOfHeader}
 use Rattle.command_core.specs.Folder.{Step, Created, Finished, Removing, stepped}
+use Rattle.command_core.specs.Labels.{IsLabelled}
+use Rattle.command_core.specs.Trace.{Event, Does}
+use Rattle.command_core.specs.Trace as trace
 use Rattle.command_core.specs.Lines.{FileLine, lines_text, status_of_lines}
 
 -- the name without its last four bytes, which are `.stm`
@@ -49,6 +59,68 @@ opening_steps line = output_steps (output_of line.name) line.outcome
 abbrev pub no_steps : FileLine → List Step
 no_steps line = []
 
+-- the input opens to this plaintext, and has the label
+abbrev pub IsGood : List ℕ → ℕ → Option (List ℕ) → List ℕ → List ℕ → Type 0
+IsGood key most label input plain = (opening key most input ≡ Ok plain) × IsLabelled label input
+
+-- An input that was read has this fault: it is the first by the definition, or the input opens and has another label. Of
+-- a reader that failed and of memory nothing is said.
+abbrev pub IsFaultOf : List ℕ → ℕ → Option (List ℕ) → List ℕ → FileFault → Type 0
+IsFaultOf key most label input (Unopened Write) = ⊥
+IsFaultOf key most label input (Unopened fault) = IsOfBytes fault → opening key most input ≡ Err fault
+IsFaultOf key most label input AnotherLabel =
+    (plain : List ℕ) × (opening key most input ≡ Ok plain) × ¬ IsLabelled label input
+IsFaultOf key most label input _ = ⊥
+
+-- What goes with the line of a file of this name that is to be opened. An output is created only behind the reading of an
+-- input that opens and has the label. It is finished with the plaintext, once, and then the line says `opened`; or its
+-- removal is tried.
+abbrev pub Opening : List ℕ → ℕ → Option (List ℕ) → List ℕ → FileOutcome → List Event → Type 0
+Opening key most label name (Opened n) events = (input : List ℕ) × (plain : List ℕ)
+    × IsGood key most label input plain × (n ≡ length plain)
+    × (events ≡ trace.Reading name input ∷ trace.Created (output_of name) ∷ trace.Finished (output_of name) plain ∷ [])
+Opening key most label name (Failed (Unopened Write)) events = (input : List ℕ) × (plain : List ℕ)
+    × IsGood key most label input plain
+    × (events ≡ trace.Reading name input ∷ trace.Created (output_of name) ∷ trace.Removing (output_of name) ∷ [])
+Opening key most label name (Failed OutputExists) events = (input : List ℕ) × (plain : List ℕ)
+    × IsGood key most label input plain × (events ≡ trace.Reading name input ∷ [])
+Opening key most label name (Failed CannotCreate) events = (input : List ℕ) × (plain : List ℕ)
+    × IsGood key most label input plain × (events ≡ trace.Reading name input ∷ [])
+Opening key most label name (Failed NoSuffix) events = events ≡ []
+Opening key most label name (Failed CannotOpen) events = events ≡ []
+Opening key most label name (Failed fault) events =
+    (input : List ℕ) × IsFaultOf key most label input fault × (events ≡ trace.Reading name input ∷ [])
+Opening key most label name _ events = ⊥
+
+-- What goes with the line of a file of this name that is to be verified: its input was read, and is as the line says.
+abbrev pub Verifying : List ℕ → ℕ → Option (List ℕ) → List ℕ → FileOutcome → List Event → Type 0
+Verifying key most label name (Good n) events =
+    (input : List ℕ) × OpensTo key most input n × IsLabelled label input × (events ≡ trace.Reading name input ∷ [])
+Verifying key most label name (Shown n facts) events = (input : List ℕ) × OpensTo key most input n
+    × IsLabelled label input × IsOfHeader facts (take (header_length input) input)
+    × (events ≡ trace.Reading name input ∷ [])
+Verifying key most label name (Failed CannotOpen) events = events ≡ []
+Verifying key most label name (Failed fault) events =
+    (input : List ℕ) × IsFaultOf key most label input fault × (events ≡ trace.Reading name input ∷ [])
+Verifying key most label name _ events = ⊥
+
+abbrev pub events_of : Task → List ℕ → ℕ → Option (List ℕ) → List ℕ → FileOutcome → List Event → Type 0
+events_of Open = Opening
+events_of (Verify show) = Verifying
+
+-- a file's line, and what happened for it
+pub record Work : Type 0 where
+  pub line : FileLine
+  pub events : List Event
+
+-- These events are those of the lines, one behind the other: each line goes with its own.
+pub record AreDone (does : List ℕ → FileOutcome → List Event → Type 0) (lines : List FileLine) (events : List Event)
+    : Type 0 where
+  pub works : List Work
+  pub lined : map (λ w. w.line) works ≡ lines
+  pub each : All (λ w. does w.line.name w.line.outcome w.events) works
+  pub joined : events ≡ flat_map (λ w. w.events) works
+
 abbrev pub IsOutcomeOf : Task → FileOutcome → Type 0
 IsOutcomeOf Open outcome = IsOfOpening outcome
 IsOutcomeOf (Verify show) outcome = IsOfVerifying show outcome
@@ -66,13 +138,15 @@ pub record AreTold (status : ℕ) (lines : List FileLine) (old new : Option (Lis
   pub whole : status ≢ 2 → (status ≡ status_of_lines lines) × Appends old new (lines_text lines)
   pub stopped : (failures' ≡ failures) ⊎ ((status ≡ 2) × (failures' ≡ counted true failures))
 
--- Every file was worked, in order, each with an outcome that fits, and with its steps on the folder; and their lines
--- were told.
-pub record AreWorked (fits : FileOutcome → Type 0) (steps_for : FileLine
-    → List Step) (names : List (List ℕ)) (status : ℕ)
-    (old new : Option (List ℕ)) (failures failures' : Option ℕ) (steps steps' : Option (List Step)) : Type 0 where
+-- Every file was worked, in order, each with an outcome that fits, and with its steps on the folder; their lines were
+-- told; and what happened, where the folder tells it, is what goes with each line.
+pub record AreWorked (fits : FileOutcome → Type 0) (steps_for : FileLine → List Step)
+    (does : List ℕ → FileOutcome → List Event → Type 0) (names : List (List ℕ)) (status : ℕ)
+    (old new : Option (List ℕ)) (failures failures' : Option ℕ) (steps steps' : Option (List Step))
+    (events events' : Option (List Event)) : Type 0 where
   pub lines : List FileLine
   pub named : map (λ line. line.name) lines ≡ names
   pub fitting : All (λ line. fits line.outcome) lines
   pub told : AreTold status lines old new failures failures'
   pub stepwise : steps' ≡ stepped steps (flat_map steps_for lines)
+  pub done : Does (AreDone does lines) events events'

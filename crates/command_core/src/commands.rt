@@ -12,7 +12,9 @@ ghost use Rattle.command_core.specs.Folder.{stepped};
 ghost use Rattle.command_core.specs.Labels.{IsLabelled};
 ghost use Rattle.command_core.specs.Lines.{FileLine, is_failed};
 ghost use Rattle.command_core.specs.Work.{output_of, IsOfOpening, IsOfVerifying, opening_steps, no_steps, IsOutcomeOf};
-ghost use Rattle.command_core.specs.Work.{output_steps, steps_of, AreTold, AreWorked};
+ghost use Rattle.command_core.specs.Trace.{Does};
+ghost use Rattle.command_core.specs.Work.{output_steps, steps_of, AreTold, AreWorked, IsFaultOf, IsGood};
+ghost use Rattle.command_core.specs.Work.{Opening, Verifying, events_of};
 
 use crate::facts::Facts;
 use crate::folder::{Folder, FolderFault, write_output};
@@ -99,9 +101,9 @@ fn read_labelled<T: Threads + Sync, R: Source>(
     requires max_bytes { max_bytes ≤ MAX_OPENED_BYTES }
     requires workers { (0 < workers) × (workers ≤ MAX_WORKERS) }
     ensures plaintext { IfOk result (λ plain. IfSome (R.left reader.old) (λ input.
-        (opening key.now max_bytes input ≡ Ok plain.items) × IsLabelled (option_map (λ b. b.now) label.entry) input)) }
-    ensures another { result ≡ Err FileFault.AnotherLabel → IfSome (R.left reader.old) (λ input. (plain : List ℕ)
-        × (opening key.now max_bytes input ≡ Ok plain) × ¬ IsLabelled (option_map (λ b. b.now) label.entry) input) }
+        IsGood key.now max_bytes (option_map (λ b. b.now) label.entry) input plain.items)) }
+    ensures exact { IfErr result (λ fault. IfSome (R.left reader.old) (λ input.
+        IsFaultOf key.now max_bytes (option_map (λ b. b.now) label.entry) input fault)) }
     ensures fault { IfErr result (λ fault. IsOfOpening (FileOutcome.Failed fault)) }
     ensures unmade { IfErr result (λ fault. (output : List ℕ) → output_steps output (FileOutcome.Failed fault) ≡ []) }
 {
@@ -132,8 +134,8 @@ fn check_labelled<T: Threads + Sync, R: Source>(
         OpensTo key.now max_bytes input checked.1 × IsLabelled (option_map (λ b. b.now) label.entry) input)) }
     ensures facts { IfOk result (λ checked. IfSome (R.left reader.old) (λ input.
         IsOfHeader checked.0 (take (header_length input) input))) }
-    ensures another { result ≡ Err FileFault.AnotherLabel → IfSome (R.left reader.old) (λ input. (plain : List ℕ)
-        × (opening key.now max_bytes input ≡ Ok plain) × ¬ IsLabelled (option_map (λ b. b.now) label.entry) input) }
+    ensures exact { IfErr result (λ fault. IfSome (R.left reader.old) (λ input.
+        IsFaultOf key.now max_bytes (option_map (λ b. b.now) label.entry) input fault)) }
     ensures fault { IfErr result (λ fault. (show : Bool) → IsOfVerifying show (FileOutcome.Failed fault)) }
 {
     let (header, bytes) = match run_check(rt, alloc, key, reader, max_bytes, workers, &Free) {
@@ -161,6 +163,8 @@ fn open_file<T: Threads + Sync, F: Folder>(
     ensures outcome { IsOfOpening result }
     ensures steps { F.steps folder.new ≡ stepped (F.steps folder.old)
         (opening_steps (record { name = name.now; outcome = result })) }
+    ensures events { Does (Opening key.now options.now.max_bytes (option_map (λ b. b.now) options.now.label)
+        name.now result) (F.told folder.old) (F.told folder.new) }
 {
     let Some(output) = output_name(name) else {
         return FileOutcome::Failed(FileFault::NoSuffix);
@@ -209,6 +213,8 @@ fn verify_file<T: Threads + Sync, F: Folder>(
     requires workers { (0 < options.now.workers) × (options.now.workers ≤ MAX_WORKERS) }
     ensures outcome { IsOfVerifying show result }
     ensures steps { F.steps folder.new ≡ F.steps folder.old }
+    ensures events { Does (Verifying key.now options.now.max_bytes (option_map (λ b. b.now) options.now.label)
+        name.now result) (F.told folder.old) (F.told folder.new) }
 {
     let Ok(mut reader) = folder.open(name) else {
         return FileOutcome::Failed(FileFault::CannotOpen);
@@ -286,6 +292,8 @@ fn work_file<T: Threads + Sync, F: Folder>(
     ensures outcome { IsOutcomeOf task result }
     ensures steps { F.steps folder.new ≡ stepped (F.steps folder.old)
         (steps_of task (record { name = name.now; outcome = result })) }
+    ensures events { Does (events_of task key.now options.now.max_bytes (option_map (λ b. b.now) options.now.label)
+        name.now result) (F.told folder.old) (F.told folder.new) }
 {
     match task {
         Task::Open => open_file(rt, alloc, key, folder, name, options),
@@ -304,9 +312,11 @@ fn work_all<T: Threads + Sync, F: Folder, W: Sink>(
 ) -> u8
     requires max_bytes { options.now.max_bytes ≤ MAX_OPENED_BYTES }
     requires workers { (0 < options.now.workers) × (options.now.workers ≤ MAX_WORKERS) }
-    ensures { AreWorked (IsOutcomeOf task) (steps_of task) (map (λ name. name.now) options.now.files.now) result
+    ensures { AreWorked (IsOutcomeOf task) (steps_of task)
+        (events_of task key.now options.now.max_bytes (option_map (λ b. b.now) options.now.label))
+        (map (λ name. name.now) options.now.files.now) result
         (W.taken lines.old) (W.taken lines.new) (W.failures lines.old) (W.failures lines.new) (F.steps folder.old)
-        (F.steps folder.new) }
+        (F.steps folder.new) (F.told folder.old) (F.told folder.new) }
 {
     let mut status = 0;
     for name in options.files {
@@ -332,9 +342,11 @@ pub fn open_all<T: Threads + Sync, F: Folder, L: Sink + Drop, E: Sink + Drop, J:
     requires workers { (0 < options.now.workers) × (options.now.workers ≤ MAX_WORKERS) }
     requires max_bytes { options.now.max_bytes ≤ MAX_OPENED_BYTES }
     ensures status { result ≤ 2 }
-    ensures files { AreWorked IsOfOpening opening_steps (map (λ name. name.now) options.now.files.now) result
+    ensures files { AreWorked IsOfOpening opening_steps
+        (Opening key.now options.now.max_bytes (option_map (λ b. b.now) options.now.label))
+        (map (λ name. name.now) options.now.files.now) result
         (L.taken out.old.lines) (L.taken out.new.lines) (L.failures out.old.lines) (L.failures out.new.lines)
-        (F.steps folder.old) (F.steps folder.new) }
+        (F.steps folder.old) (F.steps folder.new) (F.told folder.old) (F.told folder.new) }
     ensures others { (out.new.faults ≡ out.old.faults) × (out.new.journal ≡ out.old.journal) }
 {
     work_all(rt, alloc, key, folder, options, &mut out.lines, Task::Open)
@@ -355,9 +367,11 @@ pub fn verify_all<T: Threads + Sync, F: Folder, L: Sink + Drop, E: Sink + Drop, 
     requires workers { (0 < options.now.workers) × (options.now.workers ≤ MAX_WORKERS) }
     requires max_bytes { options.now.max_bytes ≤ MAX_OPENED_BYTES }
     ensures status { result ≤ 2 }
-    ensures files { AreWorked (IsOfVerifying options.now.show) no_steps (map (λ name. name.now) options.now.files.now) result
+    ensures files { AreWorked (IsOfVerifying options.now.show) no_steps
+        (Verifying key.now options.now.max_bytes (option_map (λ b. b.now) options.now.label))
+        (map (λ name. name.now) options.now.files.now) result
         (L.taken out.old.lines) (L.taken out.new.lines) (L.failures out.old.lines) (L.failures out.new.lines)
-        (F.steps folder.old) (F.steps folder.new) }
+        (F.steps folder.old) (F.steps folder.new) (F.told folder.old) (F.told folder.new) }
     ensures nothing_made { F.steps folder.new ≡ F.steps folder.old }
     ensures others { (out.new.faults ≡ out.old.faults) × (out.new.journal ≡ out.old.journal) }
 {

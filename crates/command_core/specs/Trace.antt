@@ -1,0 +1,43 @@
+-- What a folder tells of a run: which files were read, and what became of its outputs.
+use Rattle.std.specs.Prelude.{⊤, ◌≡◌, ℕ, List, [], ◌∷◌, ◌++◌, length, Option, None, Some}
+
+-- A file was opened to be read, and these are the bytes that its reader has; an output was created; an output was
+-- finished, and these are all its bytes; the removal of a file was tried.
+pub data Event : Type 0 where
+  Reading : List ℕ → List ℕ → Event
+  Created : List ℕ → Event
+  Finished : List ℕ → List ℕ → Event
+  Removing : List ℕ → Event
+
+-- Events of this kind came behind those so far, where it is still known what came. A folder may forget, and then it
+-- knows no more.
+abbrev pub Does : (List Event → Type 0) → Option (List Event) → Option (List Event) → Type 0
+Does kind before None = ⊤
+Does kind None (Some after) = ⊥
+Does kind (Some before) (Some after) = (events : List Event) × kind events × (after ≡ before ++ events)
+
+-- What the writer of an output tells that it took: the name under which the output was created, behind its length, and
+-- then the bytes of the output. Whoever writes only adds to it, so an output keeps its name.
+abbrev pub tape : List ℕ → List ℕ → List ℕ
+tape name bytes = length name ∷ name ++ bytes
+
+-- nothing came
+abbrev pub Nothing : List Event → Type 0
+Nothing events = events ≡ []
+
+-- a file was opened, and its reader has these bytes to give
+abbrev pub Opens : List ℕ → Option (List ℕ) → List Event → Type 0
+Opens name left events = (bytes : List ℕ) × (left ≡ Some bytes) × (events ≡ Reading name bytes ∷ [])
+
+-- an output was created, whose writer tells its name and took no byte
+abbrev pub Creates : List ℕ → Option (List ℕ) → List Event → Type 0
+Creates name taken events = (taken ≡ Some (tape name [])) × (events ≡ Created name ∷ [])
+
+-- the output of this name was finished, with the bytes that its writer tells
+abbrev pub Finishes : List ℕ → Option (List ℕ) → List Event → Type 0
+Finishes name taken events =
+    (bytes : List ℕ) × (taken ≡ Some (tape name bytes)) × (events ≡ Finished name bytes ∷ [])
+
+-- the removal of a file was tried
+abbrev pub Removes : List ℕ → List Event → Type 0
+Removes name events = events ≡ Removing name ∷ []
