@@ -1,15 +1,55 @@
 -- What a folder in memory stands for.
-use Rattle.std.specs.Prelude.{ℕ, List, Option}
+use Rattle.std.specs.Prelude.{◌≡◌, ℕ, List, [], ◌∷◌, Option, Some, None, bytes_eq, string_bytes}
+use Rattle.std.specs.Prelude.{if◌then◌else◌}
+use Rattle.command_core.specs.Trace.{Event}
+use Rattle.command_core.specs.Trace as trace
+use Rattle.folder_memory.specs.declared.memory.Content.{Content}
+use Rattle.folder_memory.specs.declared.memory.Content.TheVariants.{Whole, Written}
+use Rattle.folder_memory.specs.declared.memory.File.{File}
 use Rattle.folder_memory.specs.declared.memory.Pace.{Pace}
+use Rattle.folder_memory.specs.declared.memory.Told.{Told}
+use Rattle.folder_memory.specs.declared.memory.Told.TheVariants.{Reading, Created, Finished, Removing}
 
--- the names of its files, how many calls are still answered before one fails, and how readers and writers that are made
--- from now on move their bytes
+-- a file's name, and its bytes once it is whole: put into the folder, or finished
+pub record FileView : Type 0 where
+  pub name : List ℕ
+  pub whole : Option (List ℕ)
+
+abbrev pub file_view : List ℕ → Option (List ℕ) → FileView
+file_view name whole = record { name = name; whole = whole }
+
+abbrev pub whole_of : Content → Option (List ℕ)
+whole_of (Whole bytes) = Some bytes.items
+whole_of (Written shown) = None
+
+abbrev pub file_of : File → FileView
+file_of file = file_view (string_bytes file.name) (whole_of file.content)
+
+-- the bytes of the file of this name, where there is one and it is whole
+abbrev pub bytes_of : List FileView → List ℕ → Option (List ℕ)
+bytes_of [] name = None
+bytes_of (file ∷ files) name = if bytes_eq file.name name then file.whole else bytes_of files name
+
+-- its files, how many calls are still answered before one fails, how readers and writers that are made from now on move
+-- their bytes, and what happened, unless something was forgotten
 pub record MemoryView : Type 0 where
-  pub names : List (List ℕ)
+  pub files : List FileView
   pub refused : Option ℕ
   pub readers : Pace
   pub writers : Pace
+  pub log : Option (List Event)
 
-abbrev pub memory_view : List (List ℕ) → Option ℕ → Pace → Pace → MemoryView
-memory_view names refused readers writers =
-    record { names = names; refused = refused; readers = readers; writers = writers }
+abbrev pub memory_view : List FileView → Option ℕ → Pace → Pace → Option (List Event) → MemoryView
+memory_view files refused readers writers log =
+    record { files = files; refused = refused; readers = readers; writers = writers; log = log }
+
+abbrev pub event_of : Told → Event
+event_of (Reading name bytes) = trace.Reading (string_bytes name) bytes.items
+event_of (Created name) = trace.Created (string_bytes name)
+event_of (Finished name bytes) = trace.Finished (string_bytes name) bytes.items
+event_of (Removing name) = trace.Removing (string_bytes name)
+
+-- this event is to be told, for which there was memory
+abbrev pub IsEvent : Option Told → List Event → Type 0
+IsEvent None events = ⊥
+IsEvent (Some told) events = events ≡ event_of told ∷ []

@@ -1,13 +1,15 @@
 //! A folder in memory, whose calls, readers and writers fail where they are told to.
 //!
-//! Its readers and writers tell nothing of their bytes.
-ghost use Rattle.std.specs.Prelude.{◌≡◌, ◌<◌, [], ◌∷◌, ◌++◌, None, Some, IfSome, OnOk, IfOk, length, string_bytes};
-ghost use Rattle.std.specs.Prelude.{is_some, position, bytes_eq};
-ghost use Rattle.folder_memory.specs.Memory.{memory_view};
+//! It keeps what happened and tells it, and its readers and writers tell their bytes. Where memory for an event is
+//! refused it forgets, and tells nothing from then on.
+ghost use Rattle.std.specs.Prelude.{◌≡◌, ◌<◌, [], ◌∷◌, ◌++◌, None, Some, IfSome, OnOk, OnErr, IfOk, length, string_bytes};
+ghost use Rattle.std.specs.Prelude.{is_some, map, option_map, position, bytes_eq};
+ghost use Rattle.command_core.specs.Trace.{Created, Does, Finished, Reading, Removing};
+ghost use Rattle.folder_memory.specs.Memory.{IsEvent, bytes_of, event_of, file_view, memory_view, whole_of};
 
 use command_core::{Folder, FolderFault};
 use io_memory::{FromMemory, Schedule, ToMemory};
-use ledger_core::{Failed, Sink, Source, write_all};
+use ledger_core::{Failed, Sink, Source};
 use std::alloc::{AllocError, Global};
 use std::cell::RefCell;
 use std::marker::Model;
@@ -28,8 +30,29 @@ pub const STEADY: Pace = Pace {
     schedule: Schedule::Never,
 };
 
-// A file's bytes, which its writer shares with the folder.
-type Content = Rc<RefCell<ToMemory>>;
+/// What happened in a folder.
+#[derive(Drop)]
+pub enum Told {
+    /// A file of this name was opened to be read, and these were its bytes.
+    Reading(String, Vec<u8>),
+    /// An output was created.
+    Created(String),
+    /// An output was finished, and these were all its bytes.
+    Finished(String, Vec<u8>),
+    /// The removal of a file was tried.
+    Removing(String),
+}
+
+// What the writer of an output took so far, which it shows to the folder.
+type Shown = Rc<RefCell<Vec<u8>>>;
+
+#[derive(Drop)]
+enum Content {
+    // The bytes of a file that was put here or finished.
+    Whole(Vec<u8>),
+    // An output that wasn't finished.
+    Written(Shown),
+}
 
 #[derive(Drop)]
 struct File {
@@ -46,16 +69,18 @@ pub struct MemoryFolder {
     refused: Option<u64>,
     readers: Pace,
     writers: Pace,
+    // What happened, as long as nothing was forgotten.
+    told: Option<Vec<Told>>,
 }
 
 impl Model for MemoryFolder {
-    ghost use Rattle.std.specs.Prelude.{map, string_bytes};
-    ghost use Rattle.folder_memory.specs.Memory.{MemoryView, memory_view};
+    ghost use Rattle.std.specs.Prelude.{map, option_map};
+    ghost use Rattle.folder_memory.specs.Memory.{MemoryView, event_of, file_of, memory_view};
 
     ghost Value = { MemoryView };
 
-    ghost view = { λ f. memory_view
-        (map (λ file. string_bytes file.name) f.files.items) f.refused f.readers f.writers };
+    ghost view = { λ f. memory_view (map file_of f.files.items) f.refused f.readers f.writers
+        (option_map (λ told. map event_of told.items) f.told) };
 }
 
 /// A reader of the bytes that a file had when it was opened.
@@ -67,16 +92,29 @@ pub struct MemoryReader {
     pace: Pace,
 }
 
+// Contracts see the bytes that are left.
+impl Model for MemoryReader {
+    ghost use Rattle.std.specs.Prelude.{ℕ, ◌≤◌, List, drop, length};
+
+    ghost Value = { List ℕ };
+
+    ghost view = { λ r. drop r.at r.bytes.items };
+
+    ghost invariant = { λ r. r.at ≤ length r.bytes.items };
+}
+
 /// A writer of a file in memory.
 #[derive(Drop)]
 pub struct MemoryWriter {
-    content: Content,
+    name: String,
+    bytes: ToMemory,
+    shown: Shown,
 }
 
 impl MemoryFolder {
     /// An empty folder, in which nothing fails.
     pub fn new(alloc: Global) -> MemoryFolder
-        ensures { result ≡ memory_view [] None STEADY STEADY }
+        ensures { result ≡ memory_view [] None STEADY STEADY (Some []) }
     {
         MemoryFolder {
             alloc,
@@ -84,18 +122,19 @@ impl MemoryFolder {
             refused: None,
             readers: STEADY,
             writers: STEADY,
+            told: Some(Vec::new(alloc)),
         }
     }
 
-    /// Puts a file of these bytes into the folder. `Exists` where the name is there.
+    /// Puts a file of these bytes into the folder. `Exists` where the name is there. It is no event.
     pub fn put(&mut self, name: &str, bytes: &[u8]) -> Result<(), FolderFault>
-        ensures { OnOk result (self.new ≡ record self.old { names = self.old.names ++ name.now ∷ [] }) }
+        ensures ok { OnOk result
+            (self.new ≡ record self.old { files = self.old.files ++ file_view name.now (Some bytes.now) ∷ [] }) }
+        ensures err { OnErr result (self.new ≡ self.old) }
     {
-        let content = self.add(name, bytes.len(), STEADY)?;
-        let mut writer = MemoryWriter { content };
-        match write_all(&mut writer, bytes) {
-            Ok(()) => Ok(()),
-            Err(Failed) => Err(FolderFault::Failed),
+        match Vec::from_slice(self.alloc, bytes) {
+            Ok(bytes) => self.add(name, Content::Whole(bytes)),
+            Err(_) => Err(FolderFault::Failed),
         }
     }
 
@@ -122,47 +161,74 @@ impl MemoryFolder {
 
     /// Whether there is a file of this name.
     pub fn has(&self, name: &str) -> bool
-        ensures { result ≡ is_some (position (λ one. bytes_eq one name.now) self.now.names) }
+        ensures { result ≡ is_some (position (λ file. bytes_eq file.name name.now) self.now.files) }
     {
         place_of(self.files.as_slice(), name).is_some()
     }
 
-    /// The bytes of a file.
-    pub fn bytes(&self, name: &str) -> Result<Vec<u8>, FolderFault> {
+    /// The bytes of a file: of an output that wasn't finished those that it shows.
+    pub fn bytes(&self, name: &str) -> Result<Vec<u8>, FolderFault>
+        ensures { IfOk result (λ bytes.
+            IfSome (bytes_of self.now.files name.now) (λ whole. bytes.items ≡ whole)) }
+    {
         let Some(place) = place_of(self.files.as_slice(), name) else {
             return Err(FolderFault::Failed);
         };
-        let Ok(content) = self.files[place].content.try_borrow() else {
-            return Err(FolderFault::Failed);
-        };
-        match Vec::from_slice(self.alloc, content.bytes()) {
+        match copy_of(self.alloc, &self.files[place].content) {
             Ok(bytes) => Ok(bytes),
             Err(_) => Err(FolderFault::Failed),
         }
     }
 
-    fn add(&mut self, name: &str, room: usize, pace: Pace) -> Result<Content, FolderFault>
-        ensures { OnOk result (self.new ≡ record self.old { names = self.old.names ++ name.now ∷ [] }) }
+    /// What happened so far, unless something was forgotten.
+    pub fn told(&self) -> Option<&[Told]>
+        ensures { option_map (λ told. map event_of told.now) result ≡ self.now.log }
+    {
+        match &self.told {
+            Some(told) => Some(told.as_slice()),
+            None => None,
+        }
+    }
+
+    fn add(&mut self, name: &str, content: Content) -> Result<(), FolderFault>
+        ensures ok { OnOk result
+            (self.new ≡ record self.old { files = self.old.files ++ file_view name.now (whole_of content) ∷ [] }) }
+        ensures err { OnErr result (self.new ≡ self.old) }
     {
         if self.has(name) {
             return Err(FolderFault::Exists);
         }
-        match new_file(self.alloc, name, room, pace) {
-            Ok(file) => {
-                let Ok(content) = file.content.clone() else {
-                    return Err(FolderFault::Failed);
-                };
-                if self.files.push(file).is_err() {
-                    return Err(FolderFault::Failed);
-                }
-                Ok(content)
-            }
-            Err(AllocError) => Err(FolderFault::Failed),
+        let Ok(name) = String::from_str(self.alloc, name) else {
+            return Err(FolderFault::Failed);
+        };
+        match self.files.push(File { name, content }) {
+            Ok(()) => Ok(()),
+            Err(_) => Err(FolderFault::Failed),
+        }
+    }
+
+    // Keeps what happened, or forgets all where memory for it was refused.
+    fn tell(&mut self, event: Option<Told>)
+        ensures told { Does (IsEvent event) self.old.log self.new.log }
+        ensures others { self.new ≡ record self.old { log = self.new.log } }
+    {
+        let Some(event) = event else {
+            self.told = None;
+            return;
+        };
+        let is_kept = match &mut self.told {
+            Some(told) => told.push(event).is_ok(),
+            None => false,
+        };
+        if !is_kept {
+            self.told = None;
         }
     }
 
     // Whether this call is the one that fails.
-    fn is_refused(&mut self) -> bool {
+    fn is_refused(&mut self) -> bool
+        ensures { self.new ≡ record self.old { refused = self.new.refused } }
+    {
         match self.refused {
             None => false,
             Some(0) => {
@@ -184,13 +250,62 @@ fn place_of(files: &[File], name: &str) -> Option<usize>
     files.iter().position(|file| file.name.as_str() == name)
 }
 
-fn new_file(alloc: Global, name: &str, room: usize, pace: Pace) -> Result<File, AllocError>
-    ensures { IfOk result (λ file. string_bytes file.name ≡ name.now) }
+fn copy_of(alloc: Global, content: &Content) -> Result<Vec<u8>, AllocError>
+    ensures { IfOk result (λ bytes. IfSome (whole_of content.now) (λ whole. bytes.items ≡ whole)) }
+{
+    match content {
+        Content::Whole(bytes) => Vec::from_slice(alloc, bytes.as_slice()),
+        Content::Written(shown) => match shown.try_borrow() {
+            Ok(shown) => Vec::from_slice(alloc, shown.as_slice()),
+            Err(_) => Err(AllocError),
+        },
+    }
+}
+
+// Shows these bytes, unless memory for them is refused.
+fn show(shown: &Shown, bytes: &[u8]) {
+    if let Ok(mut shown) = shown.try_borrow_mut() {
+        let _ = shown.extend_from_slice(bytes);
+    }
+}
+
+fn new_writer(alloc: Global, name: &str, pace: Pace) -> Result<MemoryWriter, AllocError>
+    ensures { IfOk result (λ writer. (string_bytes writer.name ≡ name.now) × (writer.bytes.taken ≡ [])) }
 {
     let name = String::from_str(alloc, name)?;
-    let bytes = ToMemory::new(alloc, room, pace.most, pace.schedule)?;
-    let content = Rc::new(alloc, RefCell::new(bytes))?;
-    Ok(File { name, content })
+    let bytes = ToMemory::new(alloc, 0, pace.most, pace.schedule)?;
+    let shown = Rc::new(alloc, RefCell::new(Vec::new(alloc)))?;
+    Ok(MemoryWriter { name, bytes, shown })
+}
+
+fn reading(alloc: Global, name: &str, bytes: &[u8]) -> Option<Told>
+    ensures { IfSome result (λ told. event_of told ≡ Reading name.now bytes.now) }
+{
+    let name = String::from_str(alloc, name).ok()?;
+    let bytes = Vec::from_slice(alloc, bytes).ok()?;
+    Some(Told::Reading(name, bytes))
+}
+
+fn created(alloc: Global, name: &str) -> Option<Told>
+    ensures { IfSome result (λ told. event_of told ≡ Created name.now) }
+{
+    let name = String::from_str(alloc, name).ok()?;
+    Some(Told::Created(name))
+}
+
+fn finished(alloc: Global, name: &str, bytes: &[u8]) -> Option<Told>
+    ensures { IfSome result (λ told. event_of told ≡ Finished name.now bytes.now) }
+{
+    let name = String::from_str(alloc, name).ok()?;
+    let bytes = Vec::from_slice(alloc, bytes).ok()?;
+    Some(Told::Finished(name, bytes))
+}
+
+fn removing(alloc: Global, name: &str) -> Option<Told>
+    ensures { IfSome result (λ told. event_of told ≡ Removing name.now) }
+{
+    let name = String::from_str(alloc, name).ok()?;
+    Some(Told::Removing(name))
 }
 
 impl Folder for MemoryFolder {
@@ -198,38 +313,61 @@ impl Folder for MemoryFolder {
 
     type Writer = MemoryWriter;
 
+    ghost told = { λ f. f.log };
+
     fn open(&mut self, name: &str) -> Result<MemoryReader, FolderFault> {
         if self.is_refused() {
             return Err(FolderFault::Failed);
         }
-        match self.bytes(name) {
-            Ok(bytes) => Ok(MemoryReader {
-                bytes,
-                at: 0,
-                calls: 0,
-                pace: self.readers,
-            }),
-            Err(_) => Err(FolderFault::Failed),
-        }
+        let Ok(bytes) = self.bytes(name) else {
+            return Err(FolderFault::Failed);
+        };
+        self.tell(reading(self.alloc, name, bytes.as_slice()));
+        Ok(MemoryReader {
+            bytes,
+            at: 0,
+            calls: 0,
+            pace: self.readers,
+        })
     }
 
     fn create(&mut self, name: &str) -> Result<MemoryWriter, FolderFault> {
         if self.is_refused() {
             return Err(FolderFault::Failed);
         }
-        let content = self.add(name, 0, self.writers)?;
-        Ok(MemoryWriter { content })
-    }
-
-    fn finish(&mut self, _name: &str, _output: &mut MemoryWriter) -> Result<(), FolderFault> {
-        if self.is_refused() {
-            Err(FolderFault::Failed)
-        } else {
-            Ok(())
+        if self.has(name) {
+            return Err(FolderFault::Exists);
         }
+        let Ok(writer) = new_writer(self.alloc, name, self.writers) else {
+            return Err(FolderFault::Failed);
+        };
+        let Ok(shown) = writer.shown.clone() else {
+            return Err(FolderFault::Failed);
+        };
+        self.add(name, Content::Written(shown))?;
+        self.tell(created(self.alloc, name));
+        Ok(writer)
     }
 
+    // The output is finished under its own name alone.
+    fn finish(&mut self, name: &str, output: &mut MemoryWriter) -> Result<(), FolderFault> {
+        if self.is_refused() || output.name.as_str() != name {
+            return Err(FolderFault::Failed);
+        }
+        let Some(place) = place_of(self.files.as_slice(), name) else {
+            return Err(FolderFault::Failed);
+        };
+        let Ok(bytes) = Vec::from_slice(self.alloc, output.bytes.bytes()) else {
+            return Err(FolderFault::Failed);
+        };
+        self.files[place].content = Content::Whole(bytes);
+        self.tell(finished(self.alloc, name, output.bytes.bytes()));
+        Ok(())
+    }
+
+    // The event comes first: the removal is tried, whatever becomes of it.
     fn remove(&mut self, name: &str) -> Result<(), FolderFault> {
+        self.tell(removing(self.alloc, name));
         if self.is_refused() {
             return Err(FolderFault::Failed);
         }
@@ -242,13 +380,17 @@ impl Folder for MemoryFolder {
 }
 
 impl Source for MemoryReader {
+    ghost use Rattle.std.specs.Prelude.{Some};
+
+    ghost left = { λ r. Some r };
+
     fn read(&mut self, buffer: &mut [u8]) -> Result<usize, Failed> {
-        let at = self.at.min(self.bytes.len());
+        let at = self.at;
         let schedule = schedule_after(self.pace.schedule, self.calls, at as u64);
         self.calls = self.calls.saturating_add(1);
         let mut rest = FromMemory::new(&self.bytes.as_slice()[at..], self.pace.most, schedule);
         let n = rest.read(buffer)?;
-        self.at = at.saturating_add(n);
+        self.at += n;
         Ok(n)
     }
 }
@@ -269,10 +411,14 @@ fn schedule_after(schedule: Schedule, calls: u64, bytes: u64) -> Schedule {
 }
 
 impl Sink for MemoryWriter {
+    ghost use Rattle.std.specs.Prelude.{Some, string_bytes};
+    ghost use Rattle.command_core.specs.Trace.{tape};
+
+    ghost taken = { λ w. Some (tape (string_bytes w.name) w.bytes.taken) };
+
     fn write(&mut self, bytes: &[u8]) -> Result<usize, Failed> {
-        let Ok(mut content) = self.content.try_borrow_mut() else {
-            return Err(Failed);
-        };
-        content.write(bytes)
+        let n = self.bytes.write(bytes)?;
+        show(&self.shown, &bytes[..n]);
+        Ok(n)
     }
 }

@@ -1,0 +1,16 @@
+use Rattle.std.proofs.Common.{rules, ◌≡◌, ◌∙◌, map, IfSome, subst, sym, ap, Option, Some, List, ℕ, bytes_eq, string_bytes}
+use Rattle.std.specs.List.{position}
+use Rattle.folder_memory.specs.Memory.{FileView, bytes_of, file_of, whole_of}
+use Rattle.folder_memory.specs.declared.memory.File.{File}
+use Rattle.folder_memory.proofs.Files.{bytes_at}
+use Rattle.folder_memory.proofs.memory.MemoryFolder.bytes.Goals as goal
+
+pub returns-in-Ok : goal.returns-in-Ok
+returns-in-Ok c =
+    let files = c.self.inside.files.items in
+    let same : c.args.self.now.files ≡ map file_of files = search rules in
+    let place : position (λ (file : File). bytes_eq (string_bytes file.name) c.args.name.now) files ≡ Some c.in-Some.place = search rules in
+    let at : bytes_of c.args.self.now.files c.args.name.now ≡ whole_of c.index.result.now.content =
+    ap (λ (views : List FileView). bytes_of views c.args.name.now) same ∙ bytes_at c.args.name.now files c.in-Some.place c.index.result.now place
+    ∙ ap (λ (file : File). whole_of file.content) (sym c.index.ensures) in
+    subst (λ (held : Option (List ℕ)). IfSome held (λ whole. c.in-Ok.bytes.items ≡ whole)) (sym at) (search rules)
