@@ -1,10 +1,10 @@
 -- The files of a folder in memory by their names, and what is left of one that is read.
-use Rattle.std.proofs.Common.{◌≡◌, ◌∙◌, ℕ, ◌+◌, ◌-◌, ◌<◌, ◌≤◌, zero, suc, true, false, List, [], ◌∷◌, ◌++◌, get_or, length, take, drop, map, Option, Some, refl, sym, ap, bytes_eq, string_bytes, arith, if◌then◌else◌}
+use Rattle.std.proofs.Common.{◌≡◌, ◌∙◌, ℕ, ◌+◌, ◌-◌, ◌<◌, ◌≤◌, zero, suc, true, false, List, [], ◌∷◌, ◌++◌, get_or, length, take, drop, map, Some, sym, ap, bytes_eq, string_bytes, arith, if◌then◌else◌}
 use Rattle.std.specs.List.{position}
 use Rattle.std.proofs.Math.Seq.{drop-append_seam, take-length}
 use Rattle.std.proofs.lemmas.List.{drop-drop, length-drop, length-take-le}
 use Rattle.std.proofs.lemmas.List.Quantifiers.{position-Some}
-use Rattle.folder_memory.specs.Memory.{FileView, bytes_of, file_of, whole_of}
+use Rattle.folder_memory.specs.Memory.{bytes_of, file_of, whole_of}
 use Rattle.folder_memory.specs.declared.memory.File.{File}
 
 -- what a read of n bytes leaves

@@ -1,2 +1,3 @@
 mod Files
 mod Positions
+mod Truth

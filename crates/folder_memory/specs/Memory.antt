@@ -1,5 +1,5 @@
 -- What a folder in memory stands for.
-use Rattle.std.specs.Prelude.{◌≡◌, ℕ, List, [], ◌∷◌, Option, Some, None, bytes_eq, string_bytes}
+use Rattle.std.specs.Prelude.{◌≡◌, ⊤, ℕ, List, [], ◌∷◌, Option, Some, None, bytes_eq, string_bytes}
 use Rattle.std.specs.Prelude.{if◌then◌else◌}
 use Rattle.command_core.specs.Trace.{Event}
 use Rattle.command_core.specs.Trace as trace
@@ -53,3 +53,24 @@ event_of (Removing name) = trace.Removing (string_bytes name)
 abbrev pub IsEvent : Option Told → List Event → Type 0
 IsEvent None events = ⊥
 IsEvent (Some told) events = events ≡ event_of told ∷ []
+
+-- what an event leaves of the output of this name: its bytes where it was finished, nothing where its removal was tried
+abbrev pub left_by : List ℕ → Option (List ℕ) → Event → Option (List ℕ)
+left_by name left (trace.Reading other bytes) = left
+left_by name left (trace.Created other) = left
+left_by name left (trace.Finished other bytes) = if bytes_eq other name then Some bytes else left
+left_by name left (trace.Removing other) = if bytes_eq other name then None else left
+
+abbrev pub left_after : List ℕ → Option (List ℕ) → List Event → Option (List ℕ)
+left_after name left [] = left
+left_after name left (event ∷ events) = left_after name (left_by name left event) events
+
+-- the bytes with which the output of this name was finished, unless its removal was tried since
+abbrev pub told_of : List Event → List ℕ → Option (List ℕ)
+told_of events name = left_after name None events
+
+-- What is told is true of the files: an output that was finished, and whose removal wasn't tried since, has those bytes.
+unfoldable pub AreAsTold : List FileView → Option (List Event) → Type 0
+AreAsTold files None = ⊤
+AreAsTold files (Some events) =
+    (name : List ℕ) (bytes : List ℕ) → told_of events name ≡ Some bytes → bytes_of files name ≡ Some bytes

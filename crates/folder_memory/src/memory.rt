@@ -5,7 +5,7 @@
 ghost use Rattle.std.specs.Prelude.{◌≡◌, ◌<◌, [], ◌∷◌, ◌++◌, None, Some, IfSome, OnOk, OnErr, IfOk, length, string_bytes};
 ghost use Rattle.std.specs.Prelude.{is_some, map, option_map, position, bytes_eq};
 ghost use Rattle.command_core.specs.Trace.{Created, Does, Finished, Reading, Removing};
-ghost use Rattle.folder_memory.specs.Memory.{IsEvent, bytes_of, event_of, file_view, memory_view, whole_of};
+ghost use Rattle.folder_memory.specs.Memory.{IsEvent, bytes_of, event_of, file_view, memory_view, told_of, whole_of};
 
 use command_core::{Folder, FolderFault};
 use io_memory::{FromMemory, Schedule, ToMemory};
@@ -75,11 +75,15 @@ pub struct MemoryFolder {
 
 impl Model for MemoryFolder {
     ghost use Rattle.std.specs.Prelude.{map, option_map};
-    ghost use Rattle.folder_memory.specs.Memory.{MemoryView, event_of, file_of, memory_view};
+    ghost use Rattle.folder_memory.specs.Memory.{AreAsTold, MemoryView, event_of, file_of, memory_view};
 
     ghost Value = { MemoryView };
 
     ghost view = { λ f. memory_view (map file_of f.files.items) f.refused f.readers f.writers
+        (option_map (λ told. map event_of told.items) f.told) };
+
+    // An output that was finished has the bytes that were told, until its removal is tried.
+    ghost invariant = { λ f. AreAsTold (map file_of f.files.items)
         (option_map (λ told. map event_of told.items) f.told) };
 }
 
@@ -168,8 +172,11 @@ impl MemoryFolder {
 
     /// The bytes of a file: of an output that wasn't finished those that it shows.
     pub fn bytes(&self, name: &str) -> Result<Vec<u8>, FolderFault>
-        ensures { IfOk result (λ bytes.
+        ensures held { IfOk result (λ bytes.
             IfSome (bytes_of self.now.files name.now) (λ whole. bytes.items ≡ whole)) }
+        // An output that was finished has the bytes that were told, until its removal is tried.
+        ensures told { IfOk result (λ bytes. IfSome self.now.log (λ events.
+            IfSome (told_of events name.now) (λ whole. bytes.items ≡ whole))) }
     {
         let Some(place) = place_of(self.files.as_slice(), name) else {
             return Err(FolderFault::Failed);
@@ -207,24 +214,6 @@ impl MemoryFolder {
         }
     }
 
-    // Keeps what happened, or forgets all where memory for it was refused.
-    fn tell(&mut self, event: Option<Told>)
-        ensures told { Does (IsEvent event) self.old.log self.new.log }
-        ensures others { self.new ≡ record self.old { log = self.new.log } }
-    {
-        let Some(event) = event else {
-            self.told = None;
-            return;
-        };
-        let is_kept = match &mut self.told {
-            Some(told) => told.push(event).is_ok(),
-            None => false,
-        };
-        if !is_kept {
-            self.told = None;
-        }
-    }
-
     // Whether this call is the one that fails.
     fn is_refused(&mut self) -> bool
         ensures { self.new ≡ record self.old { refused = self.new.refused } }
@@ -240,6 +229,24 @@ impl MemoryFolder {
                 false
             }
         }
+    }
+}
+
+// Keeps what happened, or forgets all where memory for it was refused.
+fn tell(told: &mut Option<Vec<Told>>, event: Option<Told>)
+    ensures { Does (IsEvent event) (option_map (λ told. map event_of told.items) told.old)
+        (option_map (λ told. map event_of told.items) told.new) }
+{
+    let Some(event) = event else {
+        *told = None;
+        return;
+    };
+    let is_kept = match told {
+        Some(told) => told.push(event).is_ok(),
+        None => false,
+    };
+    if !is_kept {
+        *told = None;
     }
 }
 
@@ -322,7 +329,8 @@ impl Folder for MemoryFolder {
         let Ok(bytes) = self.bytes(name) else {
             return Err(FolderFault::Failed);
         };
-        self.tell(reading(self.alloc, name, bytes.as_slice()));
+        let event = reading(self.alloc, name, bytes.as_slice());
+        tell(&mut self.told, event);
         Ok(MemoryReader {
             bytes,
             at: 0,
@@ -345,7 +353,8 @@ impl Folder for MemoryFolder {
             return Err(FolderFault::Failed);
         };
         self.add(name, Content::Written(shown))?;
-        self.tell(created(self.alloc, name));
+        let event = created(self.alloc, name);
+        tell(&mut self.told, event);
         Ok(writer)
     }
 
@@ -361,14 +370,17 @@ impl Folder for MemoryFolder {
             return Err(FolderFault::Failed);
         };
         self.files[place].content = Content::Whole(bytes);
-        self.tell(finished(self.alloc, name, output.bytes.bytes()));
+        let event = finished(self.alloc, name, output.bytes.bytes());
+        tell(&mut self.told, event);
         Ok(())
     }
 
-    // The event comes first: the removal is tried, whatever becomes of it.
+    // The removal is tried, whatever becomes of it.
     fn remove(&mut self, name: &str) -> Result<(), FolderFault> {
-        self.tell(removing(self.alloc, name));
-        if self.is_refused() {
+        let is_refused = self.is_refused();
+        let event = removing(self.alloc, name);
+        tell(&mut self.told, event);
+        if is_refused {
             return Err(FolderFault::Failed);
         }
         let Some(place) = place_of(self.files.as_slice(), name) else {
