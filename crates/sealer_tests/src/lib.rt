@@ -29,3 +29,5 @@ mod shapes;
 mod stops;
 #[cfg(test)]
 mod streams;
+#[cfg(test)]
+mod traces;

@@ -1,0 +1,317 @@
+//! What happened in a folder while `open_all` and `verify_all` worked its files: what was read, created, finished and
+//! removed, by name and with all its bytes. The short containers are those of Python's `cryptography`.
+use crate::cases::{Case, Left, Trouble, Work, ends_in};
+use crate::runs::{COUNTING, CUT, EMPTY, LABELLED, SECRET, folder_of};
+use container_core::{Key, Shape, seal};
+use folder_memory::{MemoryFolder, Pace, Told};
+use io_memory::Schedule;
+use std::alloc::Global;
+use std::thread::Threads;
+
+// What has to be told.
+#[derive(Clone, Copy)]
+enum Seen<'a> {
+    Reading(&'a str, &'a [u8]),
+    Created(&'a str),
+    Finished(&'a str, &'a [u8]),
+    Removing(&'a str),
+}
+
+fn is_seen(told: &Told, seen: Seen) -> bool {
+    match seen {
+        Seen::Reading(name, bytes) => match told {
+            Told::Reading(own, read) => own.as_str() == name && read.as_slice() == bytes,
+            _ => false,
+        },
+        Seen::Created(name) => match told {
+            Told::Created(own) => own.as_str() == name,
+            _ => false,
+        },
+        Seen::Finished(name, bytes) => match told {
+            Told::Finished(own, all) => own.as_str() == name && all.as_slice() == bytes,
+            _ => false,
+        },
+        Seen::Removing(name) => match told {
+            Told::Removing(own) => own.as_str() == name,
+            _ => false,
+        },
+    }
+}
+
+// Whether this and nothing else happened in the folder, in this order.
+fn tells(folder: &MemoryFolder, seen: &[Seen]) -> bool {
+    let Some(told) = folder.told() else {
+        return false;
+    };
+    if told.len() != seen.len() {
+        return false;
+    }
+    for at in 0..seen.len() {
+        if !is_seen(&told[at], seen[at]) {
+            return false;
+        }
+    }
+    true
+}
+
+// Whether the run ends as the case says, over the case's folder, and this happened there.
+fn goes<R: AllocGlobal + Threads + Sync>(rt: &R, case: &Case, seen: &[Seen]) -> bool {
+    match folder_of(rt.alloc(), case.folder) {
+        Some(mut folder) => ends_in(rt, &mut folder, case) && tells(&folder, seen),
+        None => false,
+    }
+}
+
+static OPENED: Case = Case {
+    folder: &[
+        ("a.stm", &SECRET),
+        ("b.txt", &SECRET),
+        ("c.stm", &EMPTY),
+        ("c", b"kept"),
+        ("d.stm", &CUT),
+        ("e.stm", &EMPTY),
+    ],
+    trouble: Trouble::Nothing,
+    work: Work::Open,
+    files: &["a.stm", "b.txt", "m.stm", "c.stm", "d.stm", "e.stm"],
+    max_bytes: 8,
+    status: 1,
+    lines: b"opened a.stm bytes 8\n\
+      failed b.txt: name does not end in .stm\n\
+      failed m.stm: cannot open\n\
+      failed c.stm: output exists\n\
+      failed d.stm: chunk 0 does not check\n\
+      opened e.stm bytes 0\n",
+    faults: b"",
+    journal: b"",
+    left: &[("a", Left::Is(b"a secret")), ("d", Left::Absent)],
+};
+
+static OPENED_SEEN: [Seen; 8] = [
+    Seen::Reading("a.stm", &SECRET),
+    Seen::Created("a"),
+    Seen::Finished("a", b"a secret"),
+    Seen::Reading("c.stm", &EMPTY),
+    Seen::Reading("d.stm", &CUT),
+    Seen::Reading("e.stm", &EMPTY),
+    Seen::Created("e"),
+    Seen::Finished("e", b""),
+];
+
+#[test]
+fn an_output_is_created_behind_what_was_checked_and_finished_once(rt: HostRuntime) {
+    assert!(rt; goes(&rt, &OPENED, &OPENED_SEEN));
+}
+
+static UNWRITTEN: Case = Case {
+    folder: &[("a.stm", &SECRET), ("b.stm", &EMPTY)],
+    trouble: Trouble::Writers(Pace {
+        most: 3,
+        schedule: Schedule::Bytes(5),
+    }),
+    work: Work::Open,
+    files: &["a.stm", "b.stm"],
+    max_bytes: 8,
+    status: 1,
+    lines: b"failed a.stm: write failed\nopened b.stm bytes 0\n",
+    faults: b"",
+    journal: b"",
+    left: &[],
+};
+
+static UNWRITTEN_SEEN: [Seen; 6] = [
+    Seen::Reading("a.stm", &SECRET),
+    Seen::Created("a"),
+    Seen::Removing("a"),
+    Seen::Reading("b.stm", &EMPTY),
+    Seen::Created("b"),
+    Seen::Finished("b", b""),
+];
+
+#[test]
+fn an_output_that_was_not_written_whole_is_not_finished(rt: HostRuntime) {
+    assert!(rt; goes(&rt, &UNWRITTEN, &UNWRITTEN_SEEN));
+}
+
+// The calls are the opening, the creation and the finishing.
+static UNFINISHED: Case = Case {
+    folder: &[("a.stm", &SECRET)],
+    trouble: Trouble::Call(2),
+    work: Work::Open,
+    files: &["a.stm"],
+    max_bytes: 8,
+    status: 1,
+    lines: b"failed a.stm: write failed\n",
+    faults: b"",
+    journal: b"",
+    left: &[("a", Left::Absent)],
+};
+
+static UNFINISHED_SEEN: [Seen; 3] = [
+    Seen::Reading("a.stm", &SECRET),
+    Seen::Created("a"),
+    Seen::Removing("a"),
+];
+
+#[test]
+fn an_output_that_could_not_be_finished_is_removed(rt: HostRuntime) {
+    assert!(rt; goes(&rt, &UNFINISHED, &UNFINISHED_SEEN));
+}
+
+static VERIFIED: Case = Case {
+    folder: &[
+        ("a.stm", &LABELLED),
+        ("b.stm", &SECRET),
+        ("c.stm", &CUT),
+        ("d", &LABELLED),
+    ],
+    trouble: Trouble::Nothing,
+    work: Work::VerifyLabelled(b"db dump"),
+    files: &["a.stm", "b.stm", "m.stm", "c.stm", "d"],
+    max_bytes: 8,
+    status: 1,
+    lines: b"good a.stm bytes 8\n\
+      failed b.stm: another label\n\
+      failed m.stm: cannot open\n\
+      failed c.stm: chunk 0 does not check\n\
+      good d bytes 8\n",
+    faults: b"",
+    journal: b"",
+    left: &[],
+};
+
+static VERIFIED_SEEN: [Seen; 4] = [
+    Seen::Reading("a.stm", &LABELLED),
+    Seen::Reading("b.stm", &SECRET),
+    Seen::Reading("c.stm", &CUT),
+    Seen::Reading("d", &LABELLED),
+];
+
+#[test]
+fn what_is_verified_is_read_once_and_nothing_else_happens(rt: HostRuntime) {
+    assert!(rt; goes(&rt, &VERIFIED, &VERIFIED_SEEN));
+}
+
+// ---- three chunks of 4,096, 4,096 and 5 bytes, each with a tag of 16, behind a header of 25
+
+fn plain_of_three(alloc: Global) -> Option<Vec<u8>> {
+    let mut plain = Vec::with_capacity(alloc, 8197).ok()?;
+    for at in 0..8197_u32 {
+        plain.push((at % 251) as u8).ok()?;
+    }
+    Some(plain)
+}
+
+fn sealed_of(alloc: Global, plain: &[u8]) -> Option<Vec<u8>> {
+    let shape = Shape::two(12, b"").ok()?;
+    seal(
+        alloc,
+        &Key::new(COUNTING),
+        &shape,
+        [0, 0, 1, 0, 0, 0, 1],
+        plain,
+    )
+    .ok()
+}
+
+// A run over one file of the three chunks.
+fn of_three(work: Work, status: u8, lines: &'static [u8]) -> Case<'static> {
+    Case {
+        folder: &[],
+        trouble: Trouble::Nothing,
+        work,
+        files: &["a.stm"],
+        max_bytes: 8197,
+        status,
+        lines,
+        faults: b"",
+        journal: b"",
+        left: &[],
+    }
+}
+
+// Whether a container is opened and found good, with what happens then.
+fn is_opened<R: AllocGlobal + Threads + Sync>(rt: &R, sealed: &[u8], plain: &[u8]) -> bool {
+    let opened = of_three(Work::Open, 0, b"opened a.stm bytes 8197\n");
+    let good = of_three(Work::Verify, 0, b"good a.stm bytes 8197\n");
+    let Some(mut folder) = folder_of(rt.alloc(), &[("a.stm", sealed)]) else {
+        return false;
+    };
+    ends_in(rt, &mut folder, &opened)
+        && ends_in(rt, &mut folder, &good)
+        && tells(
+            &folder,
+            &[
+                Seen::Reading("a.stm", sealed),
+                Seen::Created("a"),
+                Seen::Finished("a", plain),
+                Seen::Reading("a.stm", sealed),
+            ],
+        )
+}
+
+// Whether neither command takes a container with this fault: it is only read.
+fn is_refused<R: AllocGlobal + Threads + Sync>(rt: &R, sealed: &[u8], line: &'static [u8]) -> bool {
+    let opened = of_three(Work::Open, 1, line);
+    let verified = of_three(Work::Verify, 1, line);
+    let Some(mut folder) = folder_of(rt.alloc(), &[("a.stm", sealed)]) else {
+        return false;
+    };
+    ends_in(rt, &mut folder, &opened)
+        && ends_in(rt, &mut folder, &verified)
+        && tells(
+            &folder,
+            &[
+                Seen::Reading("a.stm", sealed),
+                Seen::Reading("a.stm", sealed),
+            ],
+        )
+}
+
+// The same of a container whose byte at a place is altered.
+fn is_refused_at<R: AllocGlobal + Threads + Sync>(
+    rt: &R,
+    plain: &[u8],
+    place: usize,
+    line: &'static [u8],
+) -> bool {
+    let Some(mut sealed) = sealed_of(rt.alloc(), plain) else {
+        return false;
+    };
+    if place >= sealed.len() {
+        return false;
+    }
+    sealed[place] ^= 1;
+    is_refused(rt, sealed.as_slice(), line)
+}
+
+static NOT_0: [u8; 37] = *b"failed a.stm: chunk 0 does not check\n";
+
+static NOT_1: [u8; 37] = *b"failed a.stm: chunk 1 does not check\n";
+
+static NOT_2: [u8; 37] = *b"failed a.stm: chunk 2 does not check\n";
+
+// The first and the last byte of each sealed chunk.
+fn refuses_each_chunk<R: AllocGlobal + Threads + Sync>(rt: &R, plain: &[u8]) -> bool {
+    is_refused_at(rt, plain, 25, &NOT_0)
+        && is_refused_at(rt, plain, 4136, &NOT_0)
+        && is_refused_at(rt, plain, 4137, &NOT_1)
+        && is_refused_at(rt, plain, 8248, &NOT_1)
+        && is_refused_at(rt, plain, 8249, &NOT_2)
+        && is_refused_at(rt, plain, 8269, &NOT_2)
+}
+
+fn works_three_chunks<R: AllocGlobal + Threads + Sync>(rt: &R) -> bool {
+    let Some(plain) = plain_of_three(rt.alloc()) else {
+        return false;
+    };
+    let Some(sealed) = sealed_of(rt.alloc(), plain.as_slice()) else {
+        return false;
+    };
+    is_opened(rt, sealed.as_slice(), plain.as_slice()) && refuses_each_chunk(rt, plain.as_slice())
+}
+
+#[test]
+fn a_chunk_that_was_altered_is_named_and_no_output_is_created(rt: HostRuntime) {
+    assert!(rt; works_three_chunks(&rt));
+}
