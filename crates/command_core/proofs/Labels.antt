@@ -21,12 +21,3 @@ label-taken input two =
 
 pub no_label : (input : List ℕ) → is_two input ≡ false → label_in input ≡ None
 no_label input one = label-one input one
-
--- an input that opens, and hasn't the label
-pub opens_unlabelled : (left : Option (List ℕ)) (key header : List ℕ) (most n : ℕ) (asked : Option (List ℕ)) (labelled : Bool)
-    → IfSome left (HasHeader header) → IfSome left (λ input. OpensTo key most input n)
-    → ((input : List ℕ) → header ≡ take (header_length input) input → header_length input ≤ length input → (labelled ≡ true) ↔ IsLabelled asked input) → labelled ≡ false
-    → IfSome left (λ input. (plain : List ℕ) × (opening key most input ≡ Ok plain) × (IsLabelled asked input → ⊥))
-opens_unlabelled None key header most n asked labelled front opens same other = tt
-opens_unlabelled (Some input) key header most n asked labelled front opens same other =
-    (opens.0, opens.1, λ named. true≢false (sym ((same input front.0 front.1).1 named) ∙ other))

@@ -231,7 +231,11 @@ fn of_three(work: Work, status: u8, lines: &'static [u8]) -> Case<'static> {
 }
 
 // Whether a container is opened and found good, with what happens then.
-fn is_opened<R: AllocGlobal + Threads + Sync>(rt: &R, sealed: &[u8], plain: &[u8]) -> bool {
+fn is_opened<'a, R: AllocGlobal + Threads + Sync>(
+    rt: &R,
+    sealed: &'a [u8],
+    plain: &'a [u8],
+) -> bool {
     let opened = of_three(Work::Open, 0, b"opened a.stm bytes 8197\n");
     let good = of_three(Work::Verify, 0, b"good a.stm bytes 8197\n");
     let Some(mut folder) = folder_of(rt.alloc(), &[("a.stm", sealed)]) else {
