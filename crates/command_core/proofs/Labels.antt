@@ -1,11 +1,8 @@
 -- The label of an input, by its header alone.
-use Rattle.std.proofs.Common.{◌≡◌, ◌↔◌, ℕ, ◌≤◌, Bool, true, false, List, ◌∷◌, [], ◌++◌, get_or, length, take, drop, Option, Some, None, IfSome, Ok, sym, ap, ◌∙◌, arith, true≢false}
+use Rattle.std.proofs.Common.{◌≡◌, ℕ, true, false, List, ◌∷◌, [], ◌++◌, get_or, take, drop, Some, None, sym, ap, ◌∙◌, arith}
 use Rattle.std.specs.Str.{bytes_eq}
 use Rattle.std.proofs.lemmas.List.{take-take, drop-take}
 use Rattle.container_core.specs.Container.{magic, header_length, is_two, label_in}
-use Rattle.container_core.specs.Opening.{opening}
-use Rattle.engine_core.specs.Engine.{HasHeader, OpensTo}
-use Rattle.command_core.specs.Labels.{IsLabelled}
 use Rattle.container_core.proofs.HeaderLemmas.{length-two, label-one, label-two, least-length}
 
 pub two-taken : (input : List ℕ) → is_two (take (header_length input) input) ≡ is_two input

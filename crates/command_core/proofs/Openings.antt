@@ -1,16 +1,12 @@
 -- What happened for a file whose output was created: it was finished, or its removal was tried.
-use Rattle.std.proofs.Common.{◌≡◌, ℕ, refl, ap, ◌∙◌, List, [], ◌∷◌, ◌++◌, length, Option, None, Some, Err, IfSome}
-use Rattle.container_core.specs.declared.fault.OpenFault.{OpenFault}
+use Rattle.std.proofs.Common.{◌≡◌, ℕ, ap, ◌∙◌, List, [], ◌∷◌, ◌++◌, length, Option, IfSome}
 use Rattle.container_core.specs.declared.fault.OpenFault.TheVariants as bytes
-use Rattle.container_core.specs.Faults.{IsOfBytes}
-use Rattle.container_core.specs.Opening.{opening}
 use Rattle.io_core.specs.Streams.{Appends}
-use Rattle.command_core.specs.declared.line.FileFault.{FileFault}
-use Rattle.command_core.specs.declared.line.FileFault.TheVariants.{CannotOpen, NoSuffix, OutputExists, CannotCreate, OutOfMemory, NoNumber, AnotherLabel, Unopened, Unsealed}
+use Rattle.command_core.specs.declared.line.FileFault.TheVariants.{Unopened}
 use Rattle.command_core.specs.declared.line.FileOutcome.TheVariants.{Opened, Failed}
-use Rattle.command_core.specs.Trace.{Event, Reading, Created, Finished, Removing, Does, Nothing, Opens, Creates, Finishes, Removes}
-use Rattle.command_core.specs.Work.{IsFaultOf, IsGood, Opening, Verifying, output_of}
-use Rattle.command_core.proofs.Traces.{weaken, chain, known, finished_as}
+use Rattle.command_core.specs.Trace.{Event, Created, Finished, Removing, Does, Nothing, Opens, Creates, Finishes, Removes}
+use Rattle.command_core.specs.Work.{IsGood, Opening, output_of}
+use Rattle.command_core.proofs.Traces.{chain, known, finished_as}
 
 -- the output was finished
 pub all_written : (key : List ℕ) (most n : ℕ) (label : Option (List ℕ)) (name output plain : List ℕ) (left taken taken' : Option (List ℕ)) (one two three four : Option (List Event)) → output ≡ output_of name
