@@ -1,5 +1,5 @@
 -- The laws of lives: adjacent ranges are apart, so grants have different prefixes, so sealed chunks have different nonces.
-use Rattle.std.proofs.Common.{◌≡◌, ◌≢◌, ℕ, zero, suc, ◌+◌, ◌++◌, ◌/◌, ◌%◌, ◌^◌, ◌<◌, ◌≤◌, Bool, List, [], ◌∷◌, length, Some, None, refl, sym, ap, ◌∙◌, subst, arith, append-nil}
+use Rattle.std.proofs.Common.{◌≡◌, ◌≢◌, ℕ, zero, suc, ◌+◌, ◌++◌, ◌^◌, ◌<◌, ◌≤◌, Bool, List, [], ◌∷◌, length, Some, None, refl, sym, ap, ◌∙◌, subst, arith, append-nil}
 use mathlib.Core.Logic.{dite}
 use native.Mathlib.Decide.{dec_le}
 use Rattle.std.specs.Prelude.{slice_get}
@@ -8,7 +8,7 @@ use Rattle.std.proofs.Math.Nat.{pow-le-pow_right}
 use Rattle.std.proofs.lemmas.Option.{slice_get_within}
 use Rattle.journal_core.specs.declared.entry.Event.TheVariants.{Granted}
 use Rattle.journal_core.specs.declared.entry.Entry.{Entry}
-use Rattle.journal_core.specs.Range.{range_of, prefix_of}
+use Rattle.journal_core.specs.Range.{range_of}
 use Rattle.journal_core.specs.History.{Legal, entry}
 use Rattle.journal_core.proofs.Prefixes.{numbers_once, prefix_tells}
 use Rattle.container_core.specs.Chunks.{chunks}
@@ -153,7 +153,7 @@ runs_differ device runs i k j l number one other less =
     let from = other.from in
     omega arith
 
-not_apart : (k l : ℕ) → (k ≢ l → ⊥) → k ≡ l
+pub not_apart : (k l : ℕ) → (k ≢ l → ⊥) → k ≡ l
 not_apart k l h =
     dite (dec_le k l)
     (λ le. dite (dec_le l k) (λ ge. omega arith) (λ gt. absurd (h (λ e. omega arith))))
@@ -175,7 +175,7 @@ same_place device runs i k j l number one other =
     (λ gt. runs_differ device runs j l i k number other one (omega arith))) in
     (runs_agree, entries_differ device runs i k l number one (subst (λ (r : ℕ). Granting device runs r l number) (sym runs_agree) other))
 
-abbrev grant_of : ℕ → ℕ → ℕ → ℕ → Grant
+abbrev pub grant_of : ℕ → ℕ → ℕ → ℕ → Grant
 grant_of device run at number = record { device = device; run = run; entry = at; number = number }
 
 same_grant : (one other : Grant) → one.device ≡ other.device → one.run ≡ other.run → one.entry ≡ other.entry → one.number ≡ other.number → one ≡ other
@@ -198,7 +198,7 @@ one_grant lives one other has also same =
 
 -- the nonces of a container
 
-nonce_at : (header : List ℕ) (number : ℕ) (list : List (List ℕ)) (k : ℕ) (nonce : List ℕ) → slice_get (stream_nonces header number list) k ≡ Some nonce
+pub nonce_at : (header : List ℕ) (number : ℕ) (list : List (List ℕ)) (k : ℕ) (nonce : List ℕ) → slice_get (stream_nonces header number list) k ≡ Some nonce
     → (last : Bool) × (k < length list) × (nonce ≡ nonce_of (prefix_in header) (number + k) last)
 unfolding stream_nonces
 nonce_at header number [] k nonce at = absurd (cc)
@@ -211,7 +211,7 @@ nonce_at header number (chunk ∷ rest) (suc k) nonce at =
     let there : number + 1 + k ≡ number + suc k = omega arith in
     (last, omega arith, is ∙ ap (λ (m : ℕ). nonce_of (prefix_in header) m last) there)
 
-header_prefix : (key prefix : List ℕ) (shape : ShapeView) → length prefix ≡ 7 → prefix_in (header_of key shape prefix) ≡ prefix
+pub header_prefix : (key prefix : List ℕ) (shape : ShapeView) → length prefix ≡ 7 → prefix_in (header_of key shape prefix) ≡ prefix
 header_prefix key prefix shape seven =
     ap prefix_in (sym (append-nil (header_of key shape prefix))) ∙ prefix_in-header_of key prefix [] shape seven
 

@@ -3,6 +3,7 @@
 #![tactic(auto)]
 
 ghost use Rattle.std.specs.Prelude.{◌≡◌, ◌≢◌, ℕ, ◌+◌, ◌^◌, ◌<◌, ◌≤◌, ◌++◌, List, length, Some, slice_get};
+ghost use Rattle.io_core.specs.Streams.{IsFront};
 ghost use Rattle.journal_core.specs.Range.{prefix_of};
 ghost use Rattle.container_core.specs.Chunks.{chunks};
 ghost use Rattle.container_core.specs.Container.{container, header_of};
@@ -10,6 +11,7 @@ ghost use Rattle.container_core.specs.Shape.{IsShape, size_of};
 ghost use Rattle.ranges_core.specs.Reservations.{TakenRange};
 ghost use Rattle.life_core.specs.Life.{Grant, HasGrant, IsLife, Lives, Run, Sealing};
 ghost use Rattle.life_core.specs.Life.{container_nonces, prefix_by, reserved, sealed_under};
+ghost use Rattle.life_core.specs.Outputs.{AreRuns, HoldsChunk, IsOutput, Output, Place, StandsAt, Written, nonces_of};
 
 /// In the life of a key and device no number is in two of the ranges that its runs reserved.
 pub fn ranges_are_apart()
@@ -47,4 +49,26 @@ pub fn containers_are_sealed_under_their_nonces()
         ≡ header_of key sealing.shape (prefix_by grant)
         ++ sealed_under key (header_of key sealing.shape (prefix_by grant))
         (container_nonces key grant sealing) (chunks (size_of sealing.shape) sealing.plain) }
+{}
+
+/// No two chunks of what the runs of one key wrote have one nonce. The runs of a device have ranges that lie one behind the
+/// other, and legal histories over them; each output held, when it was finished or given up, a beginning of the container
+/// of a plaintext under a number that was granted to its run, and to no other output of it. Then two chunks of which their
+/// outputs held some, with one nonce, are the same chunk of the same output of the same run.
+pub fn no_two_chunks_have_one_nonce()
+    ensures { (key : List ℕ) (runs : ℕ → List Written) (one other : Place) (this that : Output)
+        (chunk another : ℕ) (nonce : List ℕ)
+        → AreRuns key one.device (runs one.device) → AreRuns key other.device (runs other.device)
+        → StandsAt runs one this → StandsAt runs other that
+        → HoldsChunk key one.device this chunk nonce → HoldsChunk key other.device that another nonce
+        → (one ≡ other) × (chunk ≡ another) }
+{}
+
+/// What an output held is a beginning of the header and of its plaintext's chunks in order, each sealed by the AEAD under
+/// the nonce at its place.
+pub fn outputs_are_sealed_under_their_nonces()
+    ensures { (key : List ℕ) (device : ℕ) (output : Output) → IsOutput key device output
+        → IsFront output.held (header_of key output.shape (prefix_of device output.number)
+        ++ sealed_under key (header_of key output.shape (prefix_of device output.number)) (nonces_of key device output)
+        (chunks (size_of output.shape) output.plain)) }
 {}

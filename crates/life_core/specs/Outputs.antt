@@ -1,0 +1,76 @@
+-- What the runs of one key wrote: each run's range, its ledger's history, and its outputs, every one under a number of its own.
+use Rattle.std.specs.Prelude.{◌≡◌, ℕ, ◌+◌, ◌*◌, ◌^◌, ◌<◌, ◌≤◌, nat_eq, List, length, count_by, Some, slice_get}
+use Rattle.std.specs.List.{AllByRecursion}
+use Rattle.io_core.specs.Streams.{IsFront}
+use Rattle.journal_core.specs.declared.entry.Entry.{Entry}
+use Rattle.journal_core.specs.Range.{IsLawfulRange, prefix_of}
+use Rattle.journal_core.specs.declared.terms.Terms.{Terms}
+use Rattle.journal_core.specs.History.{Legal, times_granted}
+use Rattle.container_core.specs.declared.TheConstants.{TAG}
+use Rattle.container_core.specs.Chunks.{chunks}
+use Rattle.container_core.specs.Container.{container, header_of}
+use Rattle.container_core.specs.Shape.{ShapeView, IsShape, size_of}
+use Rattle.life_core.specs.Life.{stream_nonces}
+
+-- an output: the number under which it was sealed, its shape, a plaintext, and the bytes that it held when it was finished
+-- or given up
+pub record Output : Type 0 where
+  pub number : ℕ
+  pub shape : ShapeView
+  pub plain : List ℕ
+  pub held : List ℕ
+
+-- it held a beginning of the plaintext's container
+pub record IsOutput (key : List ℕ) (device : ℕ) (output : Output) : Type 0 where
+  pub shape : IsShape output.shape
+  pub begins : IsFront output.held (container key output.shape (prefix_of device output.number) output.plain)
+
+-- the nonces of the container's chunks, in order
+unfoldable pub nonces_of : List ℕ → ℕ → Output → List (List ℕ)
+nonces_of key device output = stream_nonces (header_of key output.shape (prefix_of device output.number)) 0
+    (chunks (size_of output.shape) output.plain)
+
+-- how many of the outputs stand under a number
+abbrev pub times_used : ℕ → List Output → ℕ
+times_used number outputs = count_by (λ output. nat_eq number output.number) outputs
+
+-- a run: its range and seats, what its ledger did, and the outputs that it wrote
+pub record Written : Type 0 where
+  pub terms : Terms
+  pub history : List Entry
+  pub outputs : List Output
+
+-- its history is legal over a range of the device, each output is one of the key's, and no number stands over more of
+-- them than it was granted
+pub record HasWritten (key : List ℕ) (device : ℕ) (run : Written) : Type 0 where
+  pub of_device : run.terms.range.device ≡ device
+  pub lawful : IsLawfulRange run.terms.range
+  pub legal : Legal run.terms run.history
+  pub each : AllByRecursion (IsOutput key device) run.outputs
+  pub granted : (number : ℕ) → times_used number run.outputs ≤ times_granted number run.history
+
+-- runs of one device, one after another: each range lies behind those before it
+pub record AreRuns (key : List ℕ) (device : ℕ) (runs : List Written) : Type 0 where
+  pub each : AllByRecursion (HasWritten key device) runs
+  pub rise : (i j : ℕ) (one other : Written) → i < j → slice_get runs i ≡ Some one → slice_get runs j ≡ Some other
+      → one.terms.range.lo + one.terms.range.size ≤ other.terms.range.lo
+
+-- where an output stands: its device, its run among those of the device, and its place among the outputs of the run
+pub record Place : Type 0 where
+  pub device : ℕ
+  pub run : ℕ
+  pub output : ℕ
+
+-- this output stands there
+pub record StandsAt (runs : ℕ → List Written) (place : Place) (output : Output) : Type 0 where
+  pub run : Written
+  pub at_run : slice_get (runs place.device) place.run ≡ Some run
+  pub at_output : slice_get run.outputs place.output ≡ Some output
+
+-- A chunk of the output that it held some of, of a number of 32 bits, and the nonce under which it is sealed. Before it stand
+-- the header and so many chunks, each with its tag.
+pub record HoldsChunk (key : List ℕ) (device : ℕ) (output : Output) (chunk : ℕ) (nonce : List ℕ) : Type 0 where
+  pub reached : length (header_of key output.shape (prefix_of device output.number))
+      + chunk * (size_of output.shape + TAG) < length output.held
+  pub numbered : chunk < 2 ^ 32
+  pub nonce_is : slice_get (nonces_of key device output) chunk ≡ Some nonce
