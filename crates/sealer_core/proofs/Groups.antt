@@ -442,9 +442,9 @@ none_left files (o ∷ os) none few = let no = ap (λ l. length (flat_map read_o
 -- ---- files of a group that have their lines
 
 -- none has one yet
-pub nothing_ended : (outcomes : List Outcome) (operations : List Entry) (status : ℕ) (taken : Option (List ℕ)) (failures : Option ℕ) (steps : Option (List Step))
-    → AreEnded [] [] outcomes outcomes operations operations status status taken taken failures failures steps steps
-nothing_ended outcomes operations status taken failures steps = record {
+pub nothing_ended : (happened : List FileLine → Type 0) (outcomes : List Outcome) (operations : List Entry) (status : ℕ) (taken : Option (List ℕ)) (failures : Option ℕ) (steps : Option (List Step)) → happened []
+    → AreEnded happened [] [] outcomes outcomes operations operations status status taken taken failures failures steps steps
+nothing_ended happened outcomes operations status taken failures steps done = record {
   lines = [];
   named = refl;
   fitting = All-nil (λ (l : FileLine). IsOfSealing l.outcome);
@@ -452,17 +452,18 @@ nothing_ended outcomes operations status taken failures steps = record {
   stepwise = stepped-nil steps;
   told = λ before first count t. subst (λ (l : List FileLine). AreTold status l first taken count failures) (sym (append-nil before)) t;
   accounts = λ before a. subst (λ (l : List FileLine). AreHeld l outcomes operations) (sym (append-nil before)) a;
+  done = done;
 }
 
 -- one more has its line
-pub ended_more : (names : List (List ℕ)) (made made' : List Step) (line : FileLine) (outcomes outcomes' outcomes'' : List Outcome) (operations operations' operations'' : List Entry)
+pub ended_more : (happened happened' : List FileLine → Type 0) (names : List (List ℕ)) (made made' : List Step) (line : FileLine) (outcomes outcomes' outcomes'' : List Outcome) (operations operations' operations'' : List Entry)
     (status status' status'' : ℕ) (old mid new : Option (List ℕ)) (failures failures' failures'' : Option ℕ) (steps steps' steps'' : Option (List Step))
-    → AreEnded names made outcomes outcomes' operations operations' status status' old mid failures failures' steps steps'
+    → (e : AreEnded happened names made outcomes outcomes' operations operations' status status' old mid failures failures' steps steps')
     → IsOfSealing line.outcome → creations_of line ≡ made' → steps'' ≡ stepped steps' (endings_of line)
     → ((told : List FileLine) (first : Option (List ℕ)) (count : Option ℕ) → AreTold status' told first mid count failures' → AreTold status'' (told ++ line ∷ []) first new count failures'')
-    → ((lines : List FileLine) → AreHeld lines outcomes' operations' → AreHeld (lines ++ line ∷ []) outcomes'' operations'')
-    → AreEnded (names ++ line.name ∷ []) (made ++ made') outcomes outcomes'' operations operations'' status status'' old new failures failures'' steps steps''
-ended_more names made made' line outcomes outcomes' outcomes'' operations operations' operations'' status status' status'' old mid new failures failures' failures'' steps steps' steps'' e fit made_is stepwise told accounts = record {
+    → ((lines : List FileLine) → AreHeld lines outcomes' operations' → AreHeld (lines ++ line ∷ []) outcomes'' operations'') → happened' (e.lines ++ line ∷ [])
+    → AreEnded happened' (names ++ line.name ∷ []) (made ++ made') outcomes outcomes'' operations operations'' status status'' old new failures failures'' steps steps''
+ended_more happened happened' names made made' line outcomes outcomes' outcomes'' operations operations' operations'' status status' status'' old mid new failures failures' failures'' steps steps' steps'' e fit made_is stepwise told accounts done = record {
   lines = e.lines ++ line ∷ [];
   named = map-append (λ (l : FileLine). l.name) e.lines (line ∷ []) ∙ ap (λ l. l ++ line.name ∷ []) e.named;
   fitting = All-push (λ (l : FileLine). IsOfSealing l.outcome) e.lines line e.fitting fit;
@@ -473,21 +474,24 @@ ended_more names made made' line outcomes outcomes' outcomes'' operations operat
       (told (before ++ e.lines) first count (e.told before first count t));
   accounts = λ before a. subst (λ (l : List FileLine). AreHeld l outcomes'' operations'') (append_assoc before e.lines (line ∷ []))
       (accounts (before ++ e.lines) (e.accounts before a));
+  done = done;
 }
 
 -- the group was worked
-pub group_of : (names names' : List (List ℕ)) (made : List Step) (outcomes : List Outcome) (operations operations' operations'' : List Entry)
+pub group_of : (happened happened' : List FileLine → Type 0) (names names' : List (List ℕ)) (made : List Step) (outcomes : List Outcome) (operations operations' operations'' : List Entry)
     (status status' : ℕ) (old new : Option (List ℕ)) (failures failures' : Option ℕ) (steps steps' steps'' : Option (List Step))
-    → AreEnded names made outcomes [] operations' operations'' status status' old new failures failures' steps' steps''
+    → AreEnded happened names made outcomes [] operations' operations'' status status' old new failures failures' steps' steps''
     → names ≡ names' → steps' ≡ stepped steps made → ((lines : List FileLine) → Accounts lines operations → AreHeld lines outcomes operations')
-    → IsGroup names' operations operations'' status status' old new failures failures' steps steps''
-group_of names names' made outcomes operations operations' operations'' status status' old new failures failures' steps steps' steps'' e same stepping held = record {
+    → ((lines : List FileLine) → happened lines → happened' lines)
+    → IsGroup happened' names' operations operations'' status status' old new failures failures' steps steps''
+group_of happened happened' names names' made outcomes operations operations' operations'' status status' old new failures failures' steps steps' steps'' e same stepping held also = record {
   lines = e.lines;
   named = e.named ∙ same;
   fitting = e.fitting;
   stepwise = e.stepwise ∙ ap (λ s. stepped s (flat_map endings_of e.lines)) (stepping ∙ ap (stepped steps) (sym e.created)) ∙ stepped-stepped steps (flat_map creations_of e.lines) (flat_map endings_of e.lines);
   told = e.told;
   accounts = λ before a. let_go (before ++ e.lines) operations'' (e.accounts before (held before a));
+  done = also e.lines e.done;
 }
 
 -- ---- files of a group before the sealing
@@ -512,46 +516,55 @@ module _ {W : Type 0} (items items' : List (Prepared W)) (file : Prepared W) (is
   pub prepared_all : All IsPrepared items → IsPrepared file → All IsPrepared items'
   prepared_all so its = subst (All IsPrepared) (sym is) (All-push IsPrepared items file so its)
 
-pub ending_none : {W : Type 0} (files : List (Prepared W)) (outcomes : List Outcome) (operations : List Entry) (status : ℕ) (taken : Option (List ℕ)) (failures : Option ℕ)
-    (steps : Option (List Step)) → AreEnding files files outcomes outcomes operations operations status status taken taken failures failures steps steps
-ending_none files outcomes operations status taken failures steps = record {
+pub ending_none : {W : Type 0} (happened : List FileLine → Type 0) (files : List (Prepared W)) (outcomes : List Outcome) (operations : List Entry) (status : ℕ) (taken : Option (List ℕ)) (failures : Option ℕ)
+    (steps : Option (List Step)) → happened [] → AreEnding happened files files outcomes outcomes operations operations status status taken taken failures failures steps steps
+ending_none happened files outcomes operations status taken failures steps done = record {
   names = [];
   made = [];
   named = refl;
   created = refl;
-  ended = nothing_ended outcomes operations status taken failures steps;
+  ended = nothing_ended happened outcomes operations status taken failures steps done;
 }
 
-pub ending_more : {W : Type 0} (files items left : List (Prepared W)) (file : Prepared W) (name : List ℕ) (outcome : FileOutcome) (outcomes outcomes' outcomes'' : List Outcome)
+pub ending_more : {W : Type 0} (happened happened' : List FileLine → Type 0) (files items left : List (Prepared W)) (file : Prepared W) (name : List ℕ) (outcome : FileOutcome) (outcomes outcomes' outcomes'' : List Outcome)
     (operations operations' operations'' : List Entry) (status status' status'' : ℕ) (old mid new : Option (List ℕ)) (failures failures' failures'' : Option ℕ)
     (steps steps' steps'' : Option (List Step)) → items ≡ file ∷ left → name ≡ name_of file
-    → AreEnding files items outcomes outcomes' operations operations' status status' old mid failures failures' steps steps'
+    → (e : AreEnding happened files items outcomes outcomes' operations operations' status status' old mid failures failures' steps steps')
     → IsOfSealing outcome → created_as (sealed_name (name_of file)) outcome ≡ made_for file → steps'' ≡ stepped steps' (ended_as (sealed_name (name_of file)) outcome)
     → ((told : List FileLine) (first : Option (List ℕ)) (count : Option ℕ) → AreTold status' told first mid count failures'
     → AreTold status'' (told ++ line_of name outcome ∷ []) first new count failures'')
-    → ((lines : List FileLine) → AreHeld lines outcomes' operations' → AreHeld (lines ++ line_of (name_of file) outcome ∷ []) outcomes'' operations'')
-    → AreEnding files left outcomes outcomes'' operations operations'' status status'' old new failures failures'' steps steps''
-ending_more files items left file name outcome outcomes outcomes' outcomes'' operations operations' operations'' status status' status'' old mid new failures failures' failures'' steps steps' steps'' is its e fit created stepwise told accounts = record {
+    → ((lines : List FileLine) → AreHeld lines outcomes' operations' → AreHeld (lines ++ line_of (name_of file) outcome ∷ []) outcomes'' operations'') → happened' (e.ended.lines ++ line_of (name_of file) outcome ∷ [])
+    → AreEnding happened' files left outcomes outcomes'' operations operations'' status status'' old new failures failures'' steps steps''
+ending_more happened happened' files items left file name outcome outcomes outcomes' outcomes'' operations operations' operations'' status status' status'' old mid new failures failures' failures'' steps steps' steps'' is its e fit created stepwise told accounts done = record {
   names = e.names ++ name_of file ∷ [];
   made = e.made ++ made_for file;
   named = append_assoc e.names (name_of file ∷ []) (map name_of left) ∙ ap (λ l. e.names ++ map name_of l) (sym is) ∙ e.named;
   created = append_assoc e.made (made_for file) (flat_map made_for left) ∙ ap (λ l. e.made ++ flat_map made_for l) (sym is) ∙ e.created;
-  ended = ended_more e.names e.made (made_for file) (line_of (name_of file) outcome) outcomes outcomes' outcomes'' operations operations' operations'' status status' status'' old mid new
+  ended = ended_more happened happened' e.names e.made (made_for file) (line_of (name_of file) outcome) outcomes outcomes' outcomes'' operations operations' operations'' status status' status'' old mid new
       failures failures' failures'' steps steps' steps'' e.ended fit created stepwise
-      (λ before first count t. subst (λ (n : List ℕ). AreTold status'' (before ++ line_of n outcome ∷ []) first new count failures'') its (told before first count t)) accounts;
+      (λ before first count t. subst (λ (n : List ℕ). AreTold status'' (before ++ line_of n outcome ∷ []) first new count failures'') its (told before first count t)) accounts done;
 }
 
-pub ending_all : {W : Type 0} (files left : List (Prepared W)) (outcomes outcomes' : List Outcome) (operations operations' : List Entry) (status status' : ℕ)
+pub ending_all : {W : Type 0} (happened happened' : List FileLine → Type 0) (files left : List (Prepared W)) (outcomes outcomes' : List Outcome) (operations operations' : List Entry) (status status' : ℕ)
     (old new : Option (List ℕ)) (failures failures' : Option ℕ) (steps steps' : Option (List Step)) → left ≡ [] → length outcomes' ≤ length (flat_map read_of left)
-    → AreEnding files left outcomes outcomes' operations operations' status status' old new failures failures' steps steps'
-    → AreEnded (map name_of files) (flat_map made_for files) outcomes [] operations operations' status status' old new failures failures' steps steps'
-ending_all files left outcomes outcomes' operations operations' status status' old new failures failures' steps steps' none few e =
-    subst (λ (n : List (List ℕ)). AreEnded n (flat_map made_for files) outcomes [] operations operations' status status' old new failures failures' steps steps')
+    → ((lines : List FileLine) → happened lines → happened' lines) → AreEnding happened files left outcomes outcomes' operations operations' status status' old new failures failures' steps steps'
+    → AreEnded happened' (map name_of files) (flat_map made_for files) outcomes [] operations operations' status status' old new failures failures' steps steps'
+ending_all happened happened' files left outcomes outcomes' operations operations' status status' old new failures failures' steps steps' none few also e =
+    subst (λ (n : List (List ℕ)). AreEnded happened' n (flat_map made_for files) outcomes [] operations operations' status status' old new failures failures' steps steps')
     (sym (append-nil e.names) ∙ ap (λ l. e.names ++ map name_of l) (sym none) ∙ e.named)
-    (subst (λ (m : List Step). AreEnded e.names m outcomes [] operations operations' status status' old new failures failures' steps steps')
+    (subst (λ (m : List Step). AreEnded happened' e.names m outcomes [] operations operations' status status' old new failures failures' steps steps')
     (sym (append-nil e.made) ∙ ap (λ l. e.made ++ flat_map made_for l) (sym none) ∙ e.created)
-    (subst (λ (os : List Outcome). AreEnded e.names e.made outcomes os operations operations' status status' old new failures failures' steps steps')
-    (none_left left outcomes' none few) e.ended))
+    (subst (λ (os : List Outcome). AreEnded happened' e.names e.made outcomes os operations operations' status status' old new failures failures' steps steps')
+    (none_left left outcomes' none few) (record {
+      lines = e.ended.lines;
+      named = e.ended.named;
+      fitting = e.ended.fitting;
+      created = e.ended.created;
+      stepwise = e.ended.stepwise;
+      told = e.ended.told;
+      accounts = e.ended.accounts;
+      done = also e.ended.lines e.ended.done;
+    })))
 
 -- ---- a group for which memory was refused
 
@@ -583,32 +596,34 @@ refused_more names names' name before longer =
     append_assoc before (refused_lines names) (line_of name (Failed OutOfMemory) ∷ [])
     ∙ ap (λ l. before ++ l) (sym (map-append (λ (n : List ℕ). line_of n (Failed OutOfMemory)) names (name ∷ [])) ∙ ap refused_lines longer)
 
-pub refused_group : (names : List (List ℕ)) (operations : List Entry) (status status' : ℕ) (old new : Option (List ℕ)) (failures failures' : Option ℕ) (steps steps' : Option (List Step))
+pub refused_group : (happened : List FileLine → Type 0) (names : List (List ℕ)) (operations : List Entry) (status status' : ℕ) (old new : Option (List ℕ)) (failures failures' : Option ℕ) (steps steps' : Option (List Step))
     → steps' ≡ steps
     → ((before : List FileLine) (first : Option (List ℕ)) (count : Option ℕ) → AreTold status before first old count failures
     → AreTold status' (before ++ refused_lines names) first new count failures')
-    → IsGroup names operations operations status status' old new failures failures' steps steps'
-refused_group names operations status status' old new failures failures' steps steps' same told = record {
+    → happened (refused_lines names) → IsGroup happened names operations operations status status' old new failures failures' steps steps'
+refused_group happened names operations status status' old new failures failures' steps steps' same told done = record {
   lines = refused_lines names;
   named = refused_named names;
   fitting = refused_fitting names;
   stepwise = same ∙ stepped-nil steps ∙ ap (stepped steps) (sym (ap (λ l. l ++ flat_map endings_of (refused_lines names)) (none_created names) ∙ none_ended names));
   told = told;
   accounts = λ before a. refused_accounts names before operations a;
+  done = done;
 }
 
 -- ---- groups
 
 -- one group more was sealed
-pub groups_more : (lanes : ℕ) (names more names' : List (List ℕ)) (operations operations' : List Entry) (status status' : ℕ)
+pub groups_more : (happened happened' : List (List FileLine) → Type 0) (also : List FileLine → Type 0) (lanes : ℕ) (names more names' : List (List ℕ)) (operations operations' : List Entry) (status status' : ℕ)
     (old mid new : Option (List ℕ)) (failures failures' failures'' : Option ℕ) (steps steps' steps'' : Option (List Step))
-    → (s : AreSealed lanes names operations status old mid failures failures' steps steps') → All (λ (g : List FileLine). length g ≡ lanes) s.worked.groups
-    → IsGroup more operations operations' status status' mid new failures' failures'' steps' steps'' → length more ≤ lanes → names ++ more ≡ names'
-    → (t : AreSealed lanes names' operations' status' old new failures failures'' steps steps'') × (length more ≡ lanes → All (λ (g : List FileLine). length g ≡ lanes) t.worked.groups)
-groups_more lanes names more names' operations operations' status status' old mid new failures failures' failures'' steps steps' steps'' s full g few longer =
+    → (s : AreSealed happened lanes names operations status old mid failures failures' steps steps') → All (λ (g : List FileLine). length g ≡ lanes) s.worked.groups
+    → (g : IsGroup also more operations operations' status status' mid new failures' failures'' steps' steps'') → length more ≤ lanes → names ++ more ≡ names'
+    → happened' (s.worked.groups ++ g.lines ∷ [])
+    → (t : AreSealed happened' lanes names' operations' status' old new failures failures'' steps steps'') × (length more ≡ lanes → All (λ (g : List FileLine). length g ≡ lanes) t.worked.groups)
+groups_more happened happened' also lanes names more names' operations operations' status status' old mid new failures failures' failures'' steps steps' steps'' s full g few longer done =
     let long : length more ≡ length g.lines = ap length (sym g.named) ∙ length-map g.lines (λ (l : FileLine). l.name) in
-    let (t, each) = sealed_more lanes names more names' g.lines operations operations' status status' old mid new failures failures' failures'' steps steps' steps'' s full (omega arith)
-    g.named g.fitting g.stepwise (g.told s.worked.lines old failures s.worked.told) longer (g.accounts s.worked.lines s.accounts) in
+    let (t, each) = sealed_more happened happened' lanes names more names' g.lines operations operations' status status' old mid new failures failures' failures'' steps steps' steps'' s full (omega arith)
+    g.named g.fitting g.stepwise (g.told s.worked.lines old failures s.worked.told) longer (g.accounts s.worked.lines s.accounts) done in
     (t, λ is. each (sym long ∙ is))
 
 pub rest_all : {X : Type 0} (P : X → Type 0) (xs ys : List X) (x : X) → xs ≡ x ∷ ys → All P xs → All P ys

@@ -1,5 +1,7 @@
 mod Apart
 pub mod Groups
+pub mod Happened
+pub mod Matches
 pub mod Numbering
 pub mod Sealings
 pub mod Streams

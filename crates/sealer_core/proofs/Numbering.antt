@@ -438,11 +438,11 @@ are_numbered terms history lines legal a = record {
 
 -- ---- a run
 
-pub has_sealed : (names : List (List ℕ)) (ledger : LedgerView) (seats : List SeatView) (history : List Entry) (status : ℕ) (old new : Option (List ℕ))
+pub has_sealed : (happened : List (List FileLine) → Type 0) (names : List (List ℕ)) (ledger : LedgerView) (seats : List SeatView) (history : List Entry) (status : ℕ) (old new : Option (List ℕ))
     (failures failures' : Option ℕ) (steps steps' : Option (List Step)) → AreAllSeats ledger seats → IsWhole ledger.terms seats history
-    → AreSealed ledger.terms.seats names (operations_of seats) status old new failures failures' steps steps'
-    → HasSealed names ledger.terms history status old new failures failures' steps steps'
-has_sealed names ledger seats history status old new failures failures' steps steps' all whole s =
+    → AreSealed happened ledger.terms.seats names (operations_of seats) status old new failures failures' steps steps'
+    → HasSealed happened names ledger.terms history status old new failures failures' steps steps'
+has_sealed happened names ledger seats history status old new failures failures' steps steps' all whole s =
     let accounts = accounts_whole s.worked.lines ledger seats history all whole s.accounts in record {
       worked = s.worked;
       numbered = are_numbered ledger.terms history s.worked.lines whole.legal accounts;

@@ -1,6 +1,6 @@
 -- Inside: files that are sealed in a group, by several lanes: before the sealing, and between it and their lines.
 use Rattle.std.specs.Prelude.{⊤, ◌≡◌, ◌≢◌, ℕ, ◌+◌, ◌<◌, Bool, false, nat_eq, if◌then◌else◌, List, [], ◌∷◌, ◌++◌}
-use Rattle.std.specs.Prelude.{drop, map, All, count_by, flat_map, slice_get, Option, Some, string_bytes}
+use Rattle.std.specs.Prelude.{drop, length, map, All, count_by, flat_map, slice_get, Option, Some, string_bytes}
 use Rattle.journal_core.specs.declared.entry.Entry.{Entry}
 use Rattle.journal_core.specs.declared.entry.Event.{Event}
 use Rattle.journal_core.specs.declared.entry.Event.TheVariants.{Settled}
@@ -23,7 +23,9 @@ use Rattle.command_core.specs.declared.line.FileFault.TheVariants.{Unsealed}
 use Rattle.command_core.specs.Folder.{Step, Created, stepped}
 use Rattle.command_core.specs.Lines.{FileLine}
 use Rattle.sealer_core.specs.Sealing.{IsOfSealing, Accounts, unissued_as, creations_of, endings_of, group_steps}
-use Rattle.sealer_core.specs.Sealing.{line_of, sealed_name, times_sealed, times_voided, times_told}
+use Rattle.sealer_core.specs.Sealing.{line_of, prepared, sealed_name, times_sealed, times_voided, times_told}
+use Rattle.command_core.specs.Trace.{Creates, Does, Finishes, tape}
+use Rattle.command_core.specs.Trace as trace
 use Rattle.command_core.specs.Work.{AreTold}
 
 -- ---- a file before the sealing
@@ -58,6 +60,37 @@ abbrev pub read_of : {W : Type 0} → Prepared W → List ℕ
 read_of (Refused name fault) = []
 read_of (Unread name output fault) = []
 read_of (Read name output writer bytes) = bytes ∷ []
+
+-- ---- what happens before the sealing
+
+-- what happens for a file whose output isn't created
+abbrev pub IsRefusal : List ℕ → FileFault → List trace.Event → Type 0
+IsRefusal name CannotOpen events = events ≡ []
+IsRefusal name OutOfMemory events = events ≡ []
+IsRefusal name OutputExists events = (input : List ℕ) × (events ≡ trace.Reading name input ∷ [])
+IsRefusal name CannotCreate events = (input : List ℕ) × (events ≡ trace.Reading name input ∷ [])
+IsRefusal name _ events = ⊥
+
+module _ {W : Type 0} (taken : W → Option (List ℕ)) where
+  -- What happens for a file before the sealing, and its input, where this was read: then its output took nothing so far.
+  abbrev pub IsBegun : Prepared W → List (List ℕ) → List trace.Event → Type 0
+  IsBegun (Refused name fault) inputs events = (inputs ≡ []) × IsRefusal name.now fault events
+  IsBegun (Unread name output fault) inputs events =
+      (inputs ≡ []) × ((input : List ℕ) × (events ≡ prepared name.now input))
+  IsBegun (Read name output writer bytes) inputs events = (input : List ℕ) × (inputs ≡ input ∷ [])
+      × (bytes ≡ length input) × (taken writer ≡ Some (tape (sealed_name name.now) []))
+      × (events ≡ prepared name.now input)
+
+  -- the same of one file more, whose input is then the last of the jobs
+  abbrev pub IsBegunWith : List (List ℕ) → List (List ℕ) → Prepared W → List trace.Event → Type 0
+  IsBegunWith jobs jobs' file events = (inputs : List (List ℕ)) × (jobs' ≡ jobs ++ inputs) × IsBegun file inputs events
+
+  -- and of all files, one behind the other
+  abbrev pub AreBegun : List (Prepared W) → List (List ℕ) → List trace.Event → Type 0
+  AreBegun [] inputs events = (inputs ≡ []) × (events ≡ [])
+  AreBegun (file ∷ files) inputs events = (own : List (List ℕ)) × (others : List (List ℕ))
+      × (first : List trace.Event) × (rest : List trace.Event) × IsBegun file own first × AreBegun files others rest
+      × (inputs ≡ own ++ others) × (events ≡ first ++ rest)
 
 -- ---- between the sealing and the lines
 
@@ -136,18 +169,40 @@ abbrev pub IsEndBy : ℕ → Option (List ℕ) → Option (List ℕ) → List Ou
 IsEndBy bytes old new [] end = end ≡ Failed (Unsealed sealing_fault.OutOfMemory)
 IsEndBy bytes old new (outcome ∷ outcomes) end = IsEndOf bytes old new outcome end
 
--- A file ends by its own fault, or where it was read by the first of the outcomes.
-abbrev pub IsEndIn : {W : Type 0} → List Outcome → Prepared W → FileOutcome → Type 0
-IsEndIn outcomes (Refused name fault) end = end ≡ Failed fault
-IsEndIn outcomes (Unread name output fault) end = end ≡ Failed (Unsealed fault)
-IsEndIn outcomes (Read name output writer bytes) end = (old : Option (List ℕ))
-    × ((new : Option (List ℕ)) × IsEndBy bytes old new outcomes end)
+-- Its output was finished with what its writer tells, where the file was sealed; else its removal was tried.
+abbrev pub IsClosed : List ℕ → Option (List ℕ) → FileOutcome → List trace.Event → Type 0
+IsClosed output taken (Sealed number bytes) events = Finishes output taken events
+IsClosed output taken _ events = trace.Removes output events
+
+-- A file ends by its own fault, or where it was read by the first of the outcomes; and so its output is closed.
+abbrev pub IsEndIn : {W : Type 0} → (W → Option (List ℕ)) → List Outcome → Prepared W → FileOutcome → List trace.Event
+    → Type 0
+IsEndIn taken outcomes (Refused name fault) end events = (end ≡ Failed fault) × (events ≡ [])
+IsEndIn taken outcomes (Unread name output fault) end events =
+    (end ≡ Failed (Unsealed fault)) × trace.Removes (sealed_name name.now) events
+IsEndIn taken outcomes (Read name output writer bytes) end events = (new : Option (List ℕ))
+    × IsEndBy bytes (taken writer) new outcomes end × IsClosed (sealed_name name.now) new end events
 
 -- the outcomes that are left for the files behind it: a file that was read has the first one, and no other file has any
 abbrev pub left_by : {W : Type 0} → Prepared W → List Outcome → List Outcome
 left_by (Refused name fault) outcomes = outcomes
 left_by (Unread name output fault) outcomes = outcomes
 left_by (Read name output writer bytes) outcomes = drop 1 outcomes
+
+-- Files end in turn: with these lines, and these events.
+abbrev pub IsEndOfAll : {W : Type 0} → (W → Option (List ℕ)) → List (Prepared W) → List Outcome → List FileLine
+    → List trace.Event → Type 0
+IsEndOfAll taken [] outcomes lines events = (lines ≡ []) × (events ≡ [])
+IsEndOfAll taken (file ∷ files) outcomes lines events = (end : FileOutcome) × (more : List FileLine)
+    × (first : List trace.Event) × (rest : List trace.Event) × IsEndIn taken outcomes file end first
+    × IsEndOfAll taken files (left_by file outcomes) more rest
+    × (lines ≡ line_of (name_of file) end ∷ more) × (events ≡ first ++ rest)
+
+-- So far they did, and where the files that are left do so too all of them do.
+pub record EndsSoFar {W : Type 0} (taken : W → Option (List ℕ)) (files left : List (Prepared W))
+    (outcomes outcomes' : List Outcome) (lines : List FileLine) (events : List trace.Event) : Type 0 where
+  pub all : (more : List FileLine) (rest : List trace.Event) → IsEndOfAll taken left outcomes' more rest
+      → IsEndOfAll taken files outcomes (lines ++ more) (events ++ rest)
 
 -- ---- the lines of a group
 
@@ -157,7 +212,7 @@ refused_lines names = map (λ name. line_of name (Failed OutOfMemory)) names
 
 -- Files of a group have their lines: those, in order; and so stand status, operations and steps behind them, where they
 -- stood so before.
-pub record AreEnded (names : List (List ℕ)) (made : List Step) (outcomes outcomes' : List Outcome)
+pub record AreEnded (happened : List FileLine → Type 0) (names : List (List ℕ)) (made : List Step) (outcomes outcomes' : List Outcome)
     (operations operations' : List Entry) (status status' : ℕ)
     (old new : Option (List ℕ)) (failures failures' : Option ℕ) (steps steps' : Option (List Step)) : Type 0 where
   pub lines : List FileLine
@@ -170,20 +225,21 @@ pub record AreEnded (names : List (List ℕ)) (made : List Step) (outcomes outco
       → AreTold status' (before ++ lines) first new count failures'
   pub accounts : (before : List FileLine) → AreHeld before outcomes operations
       → AreHeld (before ++ lines) outcomes' operations'
+  pub done : happened lines
 
 -- So far it stands with these files, of which the latter have no line yet.
-pub record AreEnding {W : Type 0} (files left : List (Prepared W)) (outcomes outcomes' : List Outcome)
+pub record AreEnding {W : Type 0} (happened : List FileLine → Type 0) (files left : List (Prepared W)) (outcomes outcomes' : List Outcome)
     (operations operations' : List Entry) (status status' : ℕ)
     (old new : Option (List ℕ)) (failures failures' : Option ℕ) (steps steps' : Option (List Step)) : Type 0 where
   pub names : List (List ℕ)
   pub made : List Step
   pub named : names ++ map name_of left ≡ map name_of files
   pub created : made ++ flat_map made_for left ≡ flat_map made_for files
-  pub ended : AreEnded names made outcomes outcomes' operations operations' status status'
+  pub ended : AreEnded happened names made outcomes outcomes' operations operations' status status'
       old new failures failures' steps steps'
 
 -- A group was worked: its files have their lines, and so stand status, operations and steps behind them.
-pub record IsGroup (names : List (List ℕ)) (operations operations' : List Entry) (status status' : ℕ)
+pub record IsGroup (happened : List FileLine → Type 0) (names : List (List ℕ)) (operations operations' : List Entry) (status status' : ℕ)
     (old new : Option (List ℕ)) (failures failures' : Option ℕ) (steps steps' : Option (List Step)) : Type 0 where
   pub lines : List FileLine
   pub named : map (λ line. line.name) lines ≡ names
@@ -193,3 +249,4 @@ pub record IsGroup (names : List (List ℕ)) (operations operations' : List Entr
       → AreTold status before first old count failures
       → AreTold status' (before ++ lines) first new count failures'
   pub accounts : (before : List FileLine) → Accounts before operations → Accounts (before ++ lines) operations'
+  pub done : happened lines

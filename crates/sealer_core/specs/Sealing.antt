@@ -7,7 +7,9 @@ use Rattle.journal_core.specs.declared.entry.Event.TheVariants.{Granted, Exhaust
 use Rattle.journal_core.specs.declared.entry.Way.TheVariants as ended
 use Rattle.journal_core.specs.declared.terms.Terms.{Terms}
 use Rattle.journal_core.specs.History.{Legal, tally_of, times_granted}
-use Rattle.journal_core.specs.Range.{Numbers}
+use Rattle.journal_core.specs.Range.{Numbers, prefix_of}
+use Rattle.container_core.specs.Container.{container}
+use Rattle.container_core.specs.Shape.{ShapeView}
 use Rattle.io_core.specs.Streams.{Appends, AppendsFront}
 use Rattle.container_core.specs.declared.fault.SealFault.TheVariants as sealing_fault
 use Rattle.ledger_core.specs.declared.fault.IssueFault.{IssueFault}
@@ -33,6 +35,8 @@ use Rattle.command_core.specs.declared.line.FileOutcome.{FileOutcome}
 use Rattle.command_core.specs.declared.line.FileOutcome.TheVariants.{Sealed, Opened, Good, Shown, Failed}
 use Rattle.command_core.specs.Folder.{Step, Created, Finished, Removing, stepped}
 use Rattle.command_core.specs.Lines.{FileLine}
+use Rattle.command_core.specs.Trace.{Event, Does}
+use Rattle.command_core.specs.Trace as trace
 use Rattle.command_core.specs.Work.{AreTold}
 
 -- ---- one file
@@ -94,6 +98,46 @@ group_steps group = flat_map creations_of group ++ flat_map endings_of group
 abbrev pub finished_after : Option (List Step) → List ℕ → FileOutcome → Option (List Step)
 finished_after steps output (Sealed number bytes) = stepped steps (Finished output ∷ [])
 finished_after steps output _ = steps
+
+-- ---- what happens in the folder for one file
+
+-- its input was read, and its output created
+abbrev pub prepared : List ℕ → List ℕ → List Event
+prepared name input = trace.Reading name input ∷ trace.Created (sealed_name name) ∷ []
+
+-- nothing
+abbrev pub IsUnopened : List Event → List Event → Type 0
+IsUnopened before after = (before ≡ []) × (after ≡ [])
+
+-- its input was read, and no output created
+abbrev pub IsUncreated : List ℕ → List Event → List Event → Type 0
+IsUncreated name before after = (input : List ℕ) × (before ≡ trace.Reading name input ∷ []) × (after ≡ [])
+
+-- its output's removal was tried
+abbrev pub IsRemoved : List ℕ → List Event → List Event → Type 0
+IsRemoved name before after =
+    (input : List ℕ) × (before ≡ prepared name input) × (after ≡ trace.Removing (sealed_name name) ∷ [])
+
+-- What goes with the line of a file of this name that is to be sealed under a key, in a shape, by a device: what happens
+-- before the files of its group are sealed, and what behind that. A line that says `sealed` goes with an output that was
+-- created once and finished once, with the container of the input that was read as this name, under the number in the
+-- line.
+abbrev pub Sealing : List ℕ → ShapeView → ℕ → List ℕ → FileOutcome → List Event → List Event → Type 0
+Sealing key shape device name (Sealed number bytes) before after = (input : List ℕ) × (bytes ≡ length input)
+    × (before ≡ prepared name input)
+    × (after ≡ trace.Finished (sealed_name name) (container key shape (prefix_of device number) input) ∷ [])
+Sealing key shape device name (Failed CannotOpen) before after = IsUnopened before after
+Sealing key shape device name (Failed OutOfMemory) before after = IsUnopened before after
+Sealing key shape device name (Failed OutputExists) before after = IsUncreated name before after
+Sealing key shape device name (Failed CannotCreate) before after = IsUncreated name before after
+Sealing key shape device name (Failed NoNumber) before after = IsRemoved name before after
+Sealing key shape device name (Failed (Unsealed fault)) before after = IsRemoved name before after
+Sealing key shape device name _ before after = ⊥
+
+-- its output was finished with what its writer tells, where the file was sealed; else nothing
+abbrev pub EndsBy : List ℕ → Option (List ℕ) → FileOutcome → List Event → Type 0
+EndsBy output taken (Sealed number bytes) events = trace.Finishes output taken events
+EndsBy output taken _ events = trace.Nothing events
 
 -- a fact of a file that was sealed
 abbrev pub IfSealed : FileOutcome → (ℕ → ℕ → Type 0) → Type 0
@@ -215,8 +259,31 @@ abbrev pub FoldsFiles : {D F : Type 0} {g : disk.Ghosts D} → (Held (FileStore 
 FoldsFiles {g} kept folded =
     FoldsARange over_files kept folded (λ store left. AreClean g left.log left.db → AreFolded store left)
 
--- Every file was worked, in order and in groups of so many, the last of at most so many; and their lines were told.
-pub record AreGrouped (lanes : ℕ) (names : List (List ℕ)) (status : ℕ) (old new : Option (List ℕ))
+-- a file's line, and what happened for it: before the files of its group were sealed, and behind that
+pub record Part : Type 0 where
+  pub line : FileLine
+  pub before : List Event
+  pub after : List Event
+
+-- what happened for a group: before the sealing, one file behind the other, and then what happened behind it
+abbrev pub group_events : List Part → List Event
+group_events parts = flat_map (λ part. part.before) parts ++ flat_map (λ part. part.after) parts
+
+-- These events are those of the groups of lines, one group behind the other: each line goes with its own.
+pub record AreOfGroups (does : List ℕ → FileOutcome → List Event → List Event → Type 0) (groups : List (List FileLine))
+    (events : List Event) : Type 0 where
+  pub parts : List (List Part)
+  pub lined : map (λ group. map (λ part. part.line) group) parts ≡ groups
+  pub each : All (λ group. All (λ part. does part.line.name part.line.outcome part.before part.after) group) parts
+  pub joined : events ≡ flat_map group_events parts
+
+-- What happened in the folder, where it is known, goes with the lines of these groups.
+abbrev pub Happened : List ℕ → ShapeView → ℕ → Option (List Event) → Option (List Event) → List (List FileLine) → Type 0
+Happened key shape device events events' groups = Does (AreOfGroups (Sealing key shape device) groups) events events'
+
+-- Every file was worked, in order and in groups of so many, the last of at most so many; their lines were told, and what
+-- happened goes with the groups.
+pub record AreGrouped (happened : List (List FileLine) → Type 0) (lanes : ℕ) (names : List (List ℕ)) (status : ℕ) (old new : Option (List ℕ))
     (failures failures' : Option ℕ)
     (steps steps' : Option (List Step)) : Type 0 where
   pub groups : List (List FileLine)
@@ -228,20 +295,21 @@ pub record AreGrouped (lanes : ℕ) (names : List (List ℕ)) (status : ℕ) (ol
   pub fitting : All (λ line. IsOfSealing line.outcome) lines
   pub told : AreTold status lines old new failures failures'
   pub stepwise : steps' ≡ stepped steps (flat_map group_steps groups)
+  pub done : happened groups
 
 -- So they were, and these operations of a ledger go with the lines.
-pub record AreSealed (lanes : ℕ) (names : List (List ℕ)) (operations : List Entry) (status : ℕ)
+pub record AreSealed (happened : List (List FileLine) → Type 0) (lanes : ℕ) (names : List (List ℕ)) (operations : List Entry) (status : ℕ)
     (old new : Option (List ℕ))
     (failures failures' : Option ℕ) (steps steps' : Option (List Step)) : Type 0 where
-  pub worked : AreGrouped lanes names status old new failures failures' steps steps'
+  pub worked : AreGrouped happened lanes names status old new failures failures' steps steps'
   pub accounts : Accounts worked.lines operations
 
 -- So they were, with a group for as many files as the ledger has seats, over one legal history; no number stands in two
 -- lines, and none is open.
-pub record HasSealed (names : List (List ℕ)) (terms : Terms) (history : List Entry) (status : ℕ)
+pub record HasSealed (happened : List (List FileLine) → Type 0) (names : List (List ℕ)) (terms : Terms) (history : List Entry) (status : ℕ)
     (old new : Option (List ℕ))
     (failures failures' : Option ℕ) (steps steps' : Option (List Step)) : Type 0 where
-  pub worked : AreGrouped terms.seats names status old new failures failures' steps steps'
+  pub worked : AreGrouped happened terms.seats names status old new failures failures' steps steps'
   pub numbered : AreNumbered terms.range worked.lines
   pub legal : Legal terms history
   pub accounts : Accounts worked.lines history

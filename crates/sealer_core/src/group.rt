@@ -8,13 +8,14 @@ ghost use Rattle.ledger_core.specs.Closing.{AreAllSeats};
 ghost use Rattle.command_core.specs.Folder.{stepped};
 ghost use Rattle.sealer_core.specs.Group.{name_of, IsPrepared, made_for, IsHeld, IsCounted, IsEnding, IsPut, IsEndOf};
 ghost use Rattle.sealer_core.specs.Group.{IsEndBy, IsEndIn, left_by, read_of, AreHeld, AreOwed, OwesAt, IsOwed, SettledAt};
-ghost use Rattle.sealer_core.specs.Group.{AreEnded, IsGroup, refused_lines};
+ghost use Rattle.sealer_core.specs.Group.{AreEnded, IsEndOfAll, IsGroup, refused_lines};
 ghost use Rattle.command_core.specs.Lines.{FileLine};
+ghost use Rattle.command_core.specs.Trace.{Does};
 ghost use Rattle.command_core.specs.Work.{AreTold};
 ghost use Rattle.crew_core.specs.Batch.{AreOutcomes};
 ghost use Rattle.crew_core.specs.declared.outcome.Outcome.{Outcome};
 ghost use Rattle.sealer_core.specs.Sealing.{Accounts, AreSealed, IsOfNumber, IsOfSealing, line_of, operations_of};
-ghost use Rattle.sealer_core.specs.Sealing.{created_as, ended_as, finished_after, sealed_name};
+ghost use Rattle.sealer_core.specs.Sealing.{EndsBy, Happened, created_as, ended_as, finished_after, sealed_name};
 
 use crate::lane::{fault_of, settle_of_file};
 use crate::prepare::{Prepared, prepare_group};
@@ -62,6 +63,7 @@ fn end_job<F: Folder>(
     ensures outcome { IsOfNumber result }
     ensures end { IsEndOf bytes (F.Writer.taken writer.old) (F.Writer.taken writer.new) outcome result }
     ensures steps { F.steps folder.new ≡ finished_after (F.steps folder.old) output.now result }
+    ensures told { Does (EndsBy output.now (F.Writer.taken writer.new) result) (F.told folder.old) (F.told folder.new) }
     ensures accounts { (name : List ℕ) (lines : List FileLine) (others : List Outcome)
         → AreHeld lines (outcome ∷ others) (operations_of seats.old)
         → AreHeld (lines ++ line_of name result ∷ []) others (operations_of seats.new) }
@@ -112,6 +114,7 @@ fn end_next<F: Folder>(
     ensures next { outcomes.new.items ≡ drop 1 outcomes.old.items }
     ensures end { IsEndBy bytes (F.Writer.taken writer.old) (F.Writer.taken writer.new) outcomes.old.items result }
     ensures steps { F.steps folder.new ≡ finished_after (F.steps folder.old) output.now result }
+    ensures told { Does (EndsBy output.now (F.Writer.taken writer.new) result) (F.told folder.old) (F.told folder.new) }
     ensures accounts { (name : List ℕ) (lines : List FileLine)
         → AreHeld lines outcomes.old.items (operations_of seats.old)
         → AreHeld (lines ++ line_of name result ∷ []) outcomes.new.items (operations_of seats.new) }
@@ -144,6 +147,7 @@ fn write_container<F: Folder>(
     ensures outcome { IsOfNumber result }
     ensures written { IsPut container.now spent.number bytes (F.Writer.taken writer.old) (F.Writer.taken writer.new) result }
     ensures steps { F.steps folder.new ≡ finished_after (F.steps folder.old) output.now result }
+    ensures told { Does (EndsBy output.now (F.Writer.taken writer.new) result) (F.told folder.old) (F.told folder.new) }
     ensures accounts { IsEnding spent.number (operations_of seats.old) (operations_of seats.new) result }
     ensures made { SettledAt place spent.number seats.old seats.new }
 {
@@ -178,7 +182,8 @@ fn end_file<F: Folder>(
     ensures owed { AreOwed seats.new outcomes.new.items }
     ensures outcome { IsOfSealing result }
     ensures next { outcomes.new.items ≡ left_by file.entry outcomes.old.items }
-    ensures end { IsEndIn outcomes.old.items file.entry result }
+    ensures end { Does (IsEndIn F.Writer.taken outcomes.old.items file.entry result) (F.told folder.old)
+        (F.told folder.new) }
     ensures created { created_as (sealed_name (name_of file.entry)) result ≡ made_for file.entry }
     ensures stepwise { F.steps folder.new ≡ stepped (F.steps folder.old)
         (ended_as (sealed_name (name_of file.entry)) result) }
@@ -233,7 +238,8 @@ fn end_group<F: Folder, L: Sink>(
     ensures all { AreAllSeats ledger.now seats.new }
     ensures count { length seats.new ≡ length seats.old }
     ensures owed { AreOwed seats.new [] }
-    ensures ended { AreEnded (map name_of files.entry.items) (flat_map made_for files.entry.items) outcomes.items []
+    ensures ended { AreEnded (λ lines. Does (IsEndOfAll F.Writer.taken files.entry.items outcomes.items lines)
+        (F.told folder.old) (F.told folder.new)) (map name_of files.entry.items) (flat_map made_for files.entry.items) outcomes.items []
         (operations_of seats.old) (operations_of seats.new) start result
         (L.taken lines.old) (L.taken lines.new) (L.failures lines.old) (L.failures lines.new) (F.steps folder.old)
         (F.steps folder.new) }
@@ -341,7 +347,8 @@ fn seal_group<T: Threads + Sync, F: Folder, L: Sink>(
     ensures all { AreAllSeats ledger.now seats.new }
     ensures count { length seats.new ≡ length seats.old }
     ensures owed { AreOwed seats.new [] }
-    ensures group { IsGroup (map (λ name. name.now) names.now) (operations_of seats.old)
+    ensures group { IsGroup (λ lines. Happened key.now shape.now ledger.now.terms.range.device (F.told folder.old)
+        (F.told folder.new) (lines ∷ [])) (map (λ name. name.now) names.now) (operations_of seats.old)
         (operations_of seats.new) status result
         (L.taken lines.old) (L.taken lines.new) (L.failures lines.old) (L.failures lines.new) (F.steps folder.old)
         (F.steps folder.new) }
@@ -369,7 +376,8 @@ pub(crate) fn seal_groups<T: Threads + Sync, F: Folder, L: Sink>(
     requires fresh { operations_of seats.old ≡ [] }
     requires max_bytes { options.now.max_bytes ≤ MAX_BYTES }
     ensures all { AreAllSeats ledger.now seats.new }
-    ensures sealed { AreSealed (length seats.old) (map (λ name. name.now) options.now.files.now)
+    ensures sealed { AreSealed (Happened key.now options.now.shape.now ledger.now.terms.range.device
+        (F.told folder.old) (F.told folder.new)) (length seats.old) (map (λ name. name.now) options.now.files.now)
         (operations_of seats.new) result
         (L.taken lines.old) (L.taken lines.new) (L.failures lines.old) (L.failures lines.new) (F.steps folder.old)
         (F.steps folder.new) }

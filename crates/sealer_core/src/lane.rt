@@ -12,7 +12,8 @@ ghost use Rattle.ledger_core.specs.Shared.{Extends, Holds, IsSameSeat, SeatView,
 ghost use Rattle.command_core.specs.Folder.{stepped};
 ghost use Rattle.command_core.specs.Lines.{FileLine};
 ghost use Rattle.command_core.specs.declared.line.FileOutcome.TheVariants.{Failed};
-ghost use Rattle.sealer_core.specs.Sealing.{Accounts, AreSealed, IfSealed, IsOfNumber, IsOfSealing, unissued_as};
+ghost use Rattle.command_core.specs.Trace.{Does};
+ghost use Rattle.sealer_core.specs.Sealing.{Accounts, AreSealed, EndsBy, Happened, IfSealed, IsOfNumber, IsOfSealing, unissued_as};
 ghost use Rattle.sealer_core.specs.Sealing.{line_of, creations_of, endings_of, finished_after};
 
 use crate::sealing::SealOptions;
@@ -78,6 +79,7 @@ fn end_sealed<F: Folder>(
     ensures sealed { IfSealed result (λ number count. (number ≡ spent.number) × (count ≡ bytes)) }
     ensures kept { F.Writer.taken writer.new ≡ F.Writer.taken writer.old }
     ensures steps { F.steps folder.new ≡ finished_after (F.steps folder.old) output.now result }
+    ensures told { Does (EndsBy output.now (F.Writer.taken writer.new) result) (F.told folder.old) (F.told folder.new) }
     ensures same { IsSameSeat seat.old seat.new }
     ensures accounts { (granted : SeatView) → Extends granted (Granted spent.number) seat.old
         → (name : List ℕ) (lines : List FileLine) → Accounts lines granted.mine
@@ -121,6 +123,7 @@ fn seal_next<T: Threads + Sync, R: Source, F: Folder>(
         × Appends (F.Writer.taken writer.old) (F.Writer.taken writer.new)
         (container key.now shape.now (prefix_of seat.old.terms.range.device number) input))) }
     ensures steps { F.steps folder.new ≡ finished_after (F.steps folder.old) output.now result }
+    ensures told { Does (EndsBy output.now (F.Writer.taken writer.new) result) (F.told folder.old) (F.told folder.new) }
     ensures same { IsSameSeat seat.old seat.new }
     ensures accounts { (name : List ℕ) (lines : List FileLine) → Accounts lines seat.old.mine
         → Accounts (lines ++ line_of name result ∷ []) seat.new.mine }
@@ -163,17 +166,20 @@ fn seal_file<T: Threads + Sync, F: Folder>(
     ensures outcome { IsOfSealing result }
     ensures steps { F.steps folder.new ≡ stepped (F.steps folder.old)
         (creations_of (line_of name.now result) ++ endings_of (line_of name.now result)) }
+    ensures happened { Happened key.now shape.now seat.old.terms.range.device (F.told folder.old) (F.told folder.new)
+        ((line_of name.now result ∷ []) ∷ []) }
     ensures same { IsSameSeat seat.old seat.new }
     ensures accounts { (lines : List FileLine) → Accounts lines seat.old.mine
         → Accounts (lines ++ line_of name.now result ∷ []) seat.new.mine }
 {
-    let Ok(output) = format!(in alloc; "{name}.stm") else {
+    let Ok(sealed) = format!(in alloc; "{name}.stm") else {
         return FileOutcome::Failed(FileFault::OutOfMemory);
     };
+    let output = sealed.as_str();
     let Ok(mut reader) = folder.open(name) else {
         return FileOutcome::Failed(FileFault::CannotOpen);
     };
-    let mut writer = match folder.create(output.as_str()) {
+    let mut writer = match folder.create(output) {
         Ok(writer) => writer,
         Err(FolderFault::Exists) => return FileOutcome::Failed(FileFault::OutputExists),
         Err(FolderFault::Failed) => return FileOutcome::Failed(FileFault::CannotCreate),
@@ -186,7 +192,7 @@ fn seal_file<T: Threads + Sync, F: Folder>(
         seat,
         folder,
         &mut reader,
-        output.as_str(),
+        output,
         &mut writer,
         max_bytes,
         workers,
@@ -194,7 +200,7 @@ fn seal_file<T: Threads + Sync, F: Folder>(
         shape,
     );
     if let FileOutcome::Failed(_) = outcome {
-        let _ = folder.remove(output.as_str());
+        let _ = folder.remove(output);
     }
     outcome
 }
@@ -216,7 +222,8 @@ pub(crate) fn seal_one_lane<T: Threads + Sync, F: Folder, W: Sink>(
     requires workers { (0 < options.now.workers) × (options.now.workers ≤ MAX_WORKERS) }
     requires window { (0 < options.now.window) × (options.now.window ≤ MAX_WINDOW) }
     ensures same { IsSameSeat seat.old seat.new }
-    ensures sealed { AreSealed 1 (map (λ name. name.now) options.now.files.now) seat.new.mine result
+    ensures sealed { AreSealed (Happened key.now options.now.shape.now seat.old.terms.range.device
+        (F.told folder.old) (F.told folder.new)) 1 (map (λ name. name.now) options.now.files.now) seat.new.mine result
         (W.taken lines.old) (W.taken lines.new) (W.failures lines.old) (W.failures lines.new) (F.steps folder.old)
         (F.steps folder.new) }
 {

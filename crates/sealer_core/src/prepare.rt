@@ -1,8 +1,9 @@
 //! Files of a group before they are sealed: of each in turn its input is opened, its output created and its input read.
 ghost use Rattle.std.specs.Prelude.{◌≡◌, ◌+◌, ◌≤◌, [], ◌∷◌, ◌++◌, length, map, All, flat_map, vec_len, IfOk, OnErr};
-ghost use Rattle.io_core.specs.Streams.{Consumes};
+ghost use Rattle.io_core.specs.Streams.{Consumes, IsAtEnd};
 ghost use Rattle.command_core.specs.Folder.{stepped};
-ghost use Rattle.sealer_core.specs.Group.{name_of, IsPrepared, made_for, read_of};
+ghost use Rattle.command_core.specs.Trace.{Does};
+ghost use Rattle.sealer_core.specs.Group.{AreBegun, IsBegunWith, name_of, IsPrepared, made_for, read_of};
 
 use command_core::{FileFault, Folder, FolderFault, MAX_BYTES};
 use container_core::SealFault;
@@ -64,6 +65,8 @@ fn prepare_file<'a, F: Folder>(
     ensures name { name_of result ≡ name.now }
     ensures prepared { IsPrepared result }
     ensures steps { F.steps folder.new ≡ stepped (F.steps folder.old) (made_for result) }
+    ensures told { Does (IsBegunWith F.Writer.taken (map (λ job. job.items) jobs.old.items)
+        (map (λ job. job.items) jobs.new.items) result) (F.told folder.old) (F.told folder.new) }
 {
     let Ok(output) = format!(in alloc; "{name}.stm") else {
         return Prepared::Refused {
@@ -120,7 +123,7 @@ fn read_job<R: Source>(
     ensures count { vec_len jobs.new ≤ vec_len jobs.old + 1 }
     ensures read { IfOk result (λ bytes. (job : _) × (jobs.new.items ≡ jobs.old.items ++ job ∷ [])
         × (bytes ≡ length job.items)
-        × Consumes (R.left reader.old) (R.left reader.new) job.items) }
+        × Consumes (R.left reader.old) (R.left reader.new) job.items × IsAtEnd (R.left reader.new)) }
     ensures unread { OnErr result (jobs.new.items ≡ jobs.old.items) }
 {
     let plain = match read_plain(alloc, reader, max_bytes) {
@@ -146,6 +149,8 @@ pub(crate) fn prepare_group<'a, F: Folder>(
     ensures prepared { IfOk result (λ group. All IsPrepared group.0.items) }
     ensures steps { IfOk result (λ group. F.steps folder.new ≡ stepped (F.steps folder.old)
         (flat_map made_for group.0.items)) }
+    ensures told { IfOk result (λ group. Does (AreBegun F.Writer.taken group.0.items
+        (map (λ job. job.items) group.1.items)) (F.told folder.old) (F.told folder.new)) }
     ensures short { IfOk result (λ group. All (λ job. length job.items ≤ MAX_BYTES) group.1.items) }
     ensures few { IfOk result (λ group. vec_len group.1 ≤ length names.now) }
     ensures read { IfOk result (λ group. map (λ job. length job.items) group.1.items ≡ flat_map read_of group.0.items) }

@@ -13,7 +13,7 @@ ghost use Rattle.journal_core.specs.Text.{journal_text};
 ghost use Rattle.ledger_core.specs.Closing.{AreAllSeats};
 ghost use Rattle.ledger_core.specs.Shared.{fresh_seats};
 ghost use Rattle.reserve_core.specs.Lasting.{StillLast};
-ghost use Rattle.sealer_core.specs.Sealing.{AppendsOnce, AreSealed, CrashesAround, FoldsARange, HasSealed, IsReserved, IsWritten};
+ghost use Rattle.sealer_core.specs.Sealing.{AppendsOnce, AreSealed, CrashesAround, FoldsARange, Happened, HasSealed, IsReserved, IsWritten};
 ghost use Rattle.sealer_core.specs.Sealing.{ReservesOnce, operations_of};
 
 use crate::ending::end_ledger;
@@ -143,7 +143,8 @@ fn seal_files<T: Threads + Sync, F: Folder, W: Sink>(
     requires workers { (0 < options.now.workers) × (options.now.workers ≤ MAX_WORKERS) }
     requires window { (0 < options.now.window) × (options.now.window ≤ MAX_WINDOW) }
     ensures all { AreAllSeats ledger.now seats.new }
-    ensures sealed { AreSealed ledger.now.terms.seats (map (λ name. name.now) options.now.files.now)
+    ensures sealed { AreSealed (Happened key.now options.now.shape.now ledger.now.terms.range.device
+        (F.told folder.old) (F.told folder.new)) ledger.now.terms.seats (map (λ name. name.now) options.now.files.now)
         (operations_of seats.new) result
         (W.taken lines.old) (W.taken lines.new) (W.failures lines.old) (W.failures lines.new) (F.steps folder.old)
         (F.steps folder.new) }
@@ -176,7 +177,8 @@ fn work_ledger<T: Threads + Sync, F: Folder, W: Sink, J: Sink>(
     requires workers { (0 < options.now.workers) × (options.now.workers ≤ MAX_WORKERS) }
     requires window { (0 < options.now.window) × (options.now.window ≤ MAX_WINDOW) }
     ensures { (history : List Entry)
-        × HasSealed (map (λ name. name.now) options.now.files.now) ledger.terms history result.0
+        × HasSealed (Happened key.now options.now.shape.now ledger.terms.range.device (F.told folder.old)
+        (F.told folder.new)) (map (λ name. name.now) options.now.files.now) ledger.terms history result.0
         (W.taken lines.old) (W.taken lines.new) (W.failures lines.old) (W.failures lines.new) (F.steps folder.old)
         (F.steps folder.new)
         × IsWritten J.taken (journal_text ledger.terms history) (is_ok result.1) journal.old journal.new }
@@ -228,12 +230,13 @@ pub fn seal_all<
     ensures status { result ≤ 2 }
     // No file was touched; or the files were sealed over a range that was reserved, in a ledger file that has it without
     // its log, with one legal history, which the journal tells.
-    ensures run { ((result ≡ 2) × (F.steps folder.new ≡ F.steps folder.old) × (out.new.lines ≡ out.old.lines)
+    ensures run { ((result ≡ 2) × (folder.new ≡ folder.old) × (out.new.lines ≡ out.old.lines)
         × (out.new.journal ≡ out.old.journal))
         ⊎ ((range : Numbers) × (history : List Entry) × (told : ℕ) × (written : Bool)
         × FoldsARange S.Store LedgerFile.Kept LedgerFile.Folded S.is_folded (sha256 key.now) options.now.device
         (length options.now.files.now) file.old file.new range
-        × HasSealed (map (λ name. name.now) options.now.files.now) (terms_of range options.now.lanes) history told
+        × HasSealed (Happened key.now options.now.shape.now range.device (F.told folder.old) (F.told folder.new))
+        (map (λ name. name.now) options.now.files.now) (terms_of range options.now.lanes) history told
         (L.taken out.old.lines) (L.taken out.new.lines) (L.failures out.old.lines) (L.failures out.new.lines)
         (F.steps folder.old) (F.steps folder.new)
         × IsWritten J.taken (journal_text (terms_of range options.now.lanes) history) written

@@ -1,7 +1,8 @@
 -- The files so far have their lines.
 use Rattle.std.proofs.Common.{◌≡◌, ◌≤◌, length, All, flat_map}
+use Rattle.command_core.specs.Trace.{Does}
 use Rattle.ledger_core.specs.Closing.{AreAllSeats}
-use Rattle.sealer_core.specs.Group.{IsPrepared, IsHeld, AreEnding, AreOwed, read_of}
+use Rattle.sealer_core.specs.Group.{EndsSoFar, IsPrepared, IsHeld, AreEnding, AreOwed, read_of}
 use Rattle.sealer_core.specs.Sealing.{operations_of}
 use Rattle.sealer_core.proofs.group.end_group.Given as goal
 
@@ -13,7 +14,8 @@ invariant-loop-file g l = record {
   held : All (IsHeld (length l.initial.seats) l.ledger.terms.range.device) l.outcomes.items;
   owed : AreOwed l.seats l.outcomes.items;
   few : length l.outcomes.items ≤ length (flat_map read_of l.files.items);
-  ending : AreEnding l.initial.files.items l.files.items l.initial.outcomes.items l.outcomes.items (operations_of l.initial.seats) (operations_of l.seats) l.start l.status
+  ending : AreEnding (λ lines. Does (EndsSoFar g.F.Writer.Sink.taken l.initial.files.items l.files.items l.initial.outcomes.items l.outcomes.items lines)
+      (g.F.Folder.told l.initial.folder) (g.F.Folder.told l.folder)) l.initial.files.items l.files.items l.initial.outcomes.items l.outcomes.items (operations_of l.initial.seats) (operations_of l.seats) l.start l.status
       (g.L.Sink.taken l.initial.lines) (g.L.Sink.taken l.lines) (g.L.Sink.failures l.initial.lines) (g.L.Sink.failures l.lines)
       (g.F.Folder.steps l.initial.folder) (g.F.Folder.steps l.folder);
 }

@@ -2,7 +2,7 @@ use Rattle.std.proofs.Common.{◌≡◌, Bool, true, false, map, is_ok, inr, ref
 use Rattle.journal_core.specs.declared.terms.Terms.{Terms}
 use Rattle.journal_core.specs.Journal.{terms_of}
 use Rattle.journal_core.specs.Text.{journal_text}
-use Rattle.sealer_core.specs.Sealing.{HasSealed, IsWritten}
+use Rattle.sealer_core.specs.Sealing.{Happened, HasSealed, IsWritten}
 use Rattle.sealer_core.proofs.sealing.seal_all.Goals as goal
 
 pub returns-in-Ok-ended-clause-run : goal.returns-in-Ok-ended-clause-run
@@ -13,7 +13,7 @@ returns-in-Ok-ended-clause-run g c =
     let (history, sealed, written) = c.work_ledger-told.ensures in
     let terms : ledger.terms ≡ terms_of range c.args.options.now.lanes = ap (terms_of range) c.in-Ok.ensures.opened.0 in
     let Written : Terms → Bool → Type 0 = λ t ok. IsWritten g.J.Sink.taken (journal_text t history) ok c.args.out.now.journal c.work_ledger-told.new.journal in
-    let Sealed : Terms → Type 0 = λ t. HasSealed (map (λ name. name.now) c.args.options.now.files.now) t history told
+    let Sealed : Terms → Type 0 = λ t. HasSealed (Happened c.args.key.now c.args.options.now.shape.now range.device (g.F.Folder.told c.args.folder.now) (g.F.Folder.told c.work_ledger-told.new.folder)) (map (λ name. name.now) c.args.options.now.files.now) t history told
     (g.L.Sink.taken c.args.out.now.lines) (g.L.Sink.taken c.work_ledger-told.new.lines)
     (g.L.Sink.failures c.args.out.now.lines) (g.L.Sink.failures c.work_ledger-told.new.lines)
     (g.F.Folder.steps c.args.folder.now) (g.F.Folder.steps c.work_ledger-told.new.folder) in
@@ -28,7 +28,7 @@ returns-in-Err-ended-clause-run g c =
     let (history, sealed, written) = c.work_ledger-told.ensures in
     let terms : ledger.terms ≡ terms_of range c.args.options.now.lanes = ap (terms_of range) c.in-Ok.ensures.opened.0 in
     let Written : Terms → Bool → Type 0 = λ t ok. IsWritten g.J.Sink.taken (journal_text t history) ok c.args.out.now.journal c.work_ledger-told.new.journal in
-    let Sealed : Terms → Type 0 = λ t. HasSealed (map (λ name. name.now) c.args.options.now.files.now) t history told
+    let Sealed : Terms → Type 0 = λ t. HasSealed (Happened c.args.key.now c.args.options.now.shape.now range.device (g.F.Folder.told c.args.folder.now) (g.F.Folder.told c.work_ledger-told.new.folder)) (map (λ name. name.now) c.args.options.now.files.now) t history told
     (g.L.Sink.taken c.args.out.now.lines) (g.L.Sink.taken c.work_ledger-told.new.lines)
     (g.L.Sink.failures c.args.out.now.lines) (g.L.Sink.failures c.work_ledger-told.new.lines)
     (g.F.Folder.steps c.args.folder.now) (g.F.Folder.steps c.work_ledger-told.new.folder) in

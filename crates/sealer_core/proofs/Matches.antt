@@ -1,0 +1,254 @@
+-- What happened for a group: of each file before the sealing and behind it. A file that was read goes with the first of
+-- the inputs and with the first of the outcomes, and leaves the others to the files behind it.
+use Rattle.std.proofs.Common.{◌≡◌, ◌⊎◌, ◌∙◌, ℕ, suc, refl, sym, ap, subst, arith, List, [], ◌∷◌, ◌++◌, length, map, append-nil, append_assoc, All, Vec, Global, Option, Some, None, ⊎_elim}
+use Rattle.std.specs.Prelude.{⊤, flat_map, slice_get}
+use Rattle.std.proofs.lemmas.List.{map-append}
+use Rattle.std.proofs.lemmas.List.Elements.{All-nil, All-cons, All-head, All-tail}
+use Rattle.container_core.specs.Shape.{ShapeView}
+use Rattle.container_core.specs.Container.{container}
+use Rattle.container_core.specs.declared.fault.SealFault.TheVariants as sealing_fault
+use Rattle.crew_core.specs.Batch.{AreOutcomes, IsOutcome}
+use Rattle.crew_core.specs.declared.outcome.Outcome.{Outcome}
+use Rattle.crew_core.specs.declared.outcome.Outcome.TheVariants as job
+use Rattle.journal_core.specs.Range.{prefix_of}
+use Rattle.ledger_core.specs.declared.fault.IssueFault.{IssueFault}
+use Rattle.ledger_core.specs.declared.fault.IssueFault.TheVariants as issue_fault
+use Rattle.io_core.specs.Streams.{Consumes, IsAtEnd}
+use Rattle.command_core.specs.declared.line.FileFault.{FileFault}
+use Rattle.command_core.specs.declared.line.FileFault.TheVariants.{CannotOpen, NoSuffix, OutputExists, CannotCreate, OutOfMemory, NoNumber, AnotherLabel, Unopened, Unsealed}
+use Rattle.command_core.specs.declared.line.FileOutcome.{FileOutcome}
+use Rattle.command_core.specs.declared.line.FileOutcome.TheVariants.{Sealed, Opened, Good, Shown, Failed}
+use Rattle.command_core.specs.Lines.{FileLine}
+use Rattle.command_core.specs.Trace.{Event, Reading, Created, Finished, Does, Opens, Creates, tape}
+use Rattle.command_core.proofs.Traces.{nothing, weaken, chain, finished_as}
+use Rattle.sealer_core.specs.declared.prepare.Prepared.{Prepared}
+use Rattle.sealer_core.specs.declared.prepare.Prepared.TheVariants.{Refused, Unread, Read}
+use Rattle.sealer_core.specs.Group.{AreBegun, EndsSoFar, HasEnded, IsBegun, IsBegunWith, IsClosed, IsEndBy, IsEndIn, IsEndOfAll, IsHeld, IsPut, IsRefusal, left_by, name_of, refused_lines}
+use Rattle.sealer_core.specs.Sealing.{AreOfGroups, Happened, IsRemoved, Part, Sealing, line_of, prepared, sealed_name, unissued_as}
+use Rattle.sealer_core.proofs.Happened.{group_done}
+
+-- ---- before the sealing
+
+-- what was read to its end is the whole input
+read_whole : (left left' : Option (List ℕ)) (input bytes : List ℕ) → left ≡ Some input → Consumes left left' bytes → IsAtEnd left' → bytes ≡ input
+read_whole None left' input bytes is consumed end = absurd (cc)
+read_whole (Some all) None input bytes is consumed end = absurd consumed
+read_whole (Some all) (Some rest) input bytes is consumed end =
+    let same : all ≡ input = cc in
+    sym (consumed ∙ ap (λ r. bytes ++ r) end ∙ append-nil bytes) ∙ same
+
+module _ {W : Type 0} (taken : W → Option (List ℕ)) where
+  -- no file was begun
+  pub none_begun : (files : List (Prepared W)) (jobs : List (List ℕ)) (told : Option (List Event)) → files ≡ [] → jobs ≡ [] → Does (AreBegun taken files jobs) told told
+  none_begun files jobs told empty none = subst (λ f. Does (AreBegun taken f jobs) told told) (sym empty) (weaken (λ events n. (none, n)) told told (nothing told))
+
+  begun_push : (files : List (Prepared W)) (file : Prepared W) (inputs own : List (List ℕ)) (events first : List Event) → AreBegun taken files inputs events → IsBegun taken file own first
+      → AreBegun taken (files ++ file ∷ []) (inputs ++ own) (events ++ first)
+  begun_push [] file inputs own events first (none, nil) is =
+      (own, [], first, [], is, (refl, refl), ap (λ l. l ++ own) none ∙ sym (append-nil own), ap (λ l. l ++ first) nil ∙ sym (append-nil first))
+  begun_push (f ∷ files) file inputs own events first (mine, others, now, rest, its, so, joined, chained) is = (
+    mine,
+    others ++ own,
+    now,
+    rest ++ first,
+    its,
+    begun_push files file others own rest first so is,
+    ap (λ l. l ++ own) joined ∙ append_assoc mine others own,
+    ap (λ l. l ++ first) chained ∙ append_assoc now rest first,
+  )
+
+  -- a file was read, as the last of the jobs
+  pub was_read : (name output : List ℕ) (writer : W) (bytes : ℕ) (left left' : Option (List ℕ)) (jobs jobs' : List (Vec ℕ Global)) (job : Vec ℕ Global) (one two three : Option (List Event)) → output ≡ sealed_name name
+      → Does (Opens name left) one two → Does (Creates output (taken writer)) two three → jobs' ≡ jobs ++ job ∷ [] → bytes ≡ length job.items → Consumes left left' job.items → IsAtEnd left'
+      → Does (λ events. (inputs : List (List ℕ)) × (map (λ (j : Vec ℕ Global). j.items) jobs' ≡ map (λ (j : Vec ℕ Global). j.items) jobs ++ inputs)
+      × ((input : List ℕ) × (inputs ≡ input ∷ []) × (bytes ≡ length input) × (taken writer ≡ Some (tape (sealed_name name) [])) × (events ≡ prepared name input))) one three
+  was_read name output writer bytes left left' jobs jobs' job one two three named opens creates pushed count consumed end =
+      chain (λ events. (inputs : List (List ℕ)) × (map (λ (j : Vec ℕ Global). j.items) jobs' ≡ map (λ (j : Vec ℕ Global). j.items) jobs ++ inputs)
+      × ((input : List ℕ) × (inputs ≡ input ∷ []) × (bytes ≡ length input) × (taken writer ≡ Some (tape (sealed_name name) [])) × (events ≡ prepared name input)))
+      (λ x y o m.
+      let whole : job.items ≡ o.0 = read_whole left left' o.0 job.items o.1 consumed end in
+      let both : x ++ y ≡ Reading name o.0 ∷ Created output ∷ [] = (λ i. o.2 i ++ m.1 i) in (
+        job.items ∷ [],
+        ap (map (λ (j : Vec ℕ Global). j.items)) pushed ∙ map-append (λ (j : Vec ℕ Global). j.items) jobs (job ∷ []),
+        (job.items, refl, count, m.0 ∙ ap (λ n. Some (tape n [])) named, both ∙ ap (λ n. Reading name o.0 ∷ Created n ∷ []) named ∙ ap (prepared name) (sym whole)),
+      ))
+      one two three opens creates
+
+  -- one file more
+  pub begun_more : (files files' : List (Prepared W)) (file : Prepared W) (jobs jobs' : List (List ℕ)) (told told' told'' : Option (List Event)) → files' ≡ files ++ file ∷ []
+      → Does (AreBegun taken files jobs) told told' → Does (IsBegunWith taken jobs jobs' file) told' told'' → Does (AreBegun taken files' jobs') told told''
+  begun_more files files' file jobs jobs' told told' told'' is so more = chain (AreBegun taken files' jobs')
+      (λ x y b m. subst (λ f. AreBegun taken f jobs' (x ++ y)) (sym is)
+      (subst (λ j. AreBegun taken (files ++ file ∷ []) j (x ++ y)) (sym m.1) (begun_push files file jobs m.0 x y b m.2))) told told' told'' so more
+
+-- ---- behind the sealing
+
+module _ {W : Type 0} (taken : W → Option (List ℕ)) where
+  -- no file has ended
+  pub none_ended_yet : (files : List (Prepared W)) (outcomes : List Outcome) (told : Option (List Event)) → Does (EndsSoFar taken files files outcomes outcomes []) told told
+  none_ended_yet files outcomes told = weaken (λ events none. record { all = λ more rest so. subst (IsEndOfAll taken files outcomes more) (sym (ap (λ l. l ++ rest) none)) so })
+      told told (nothing told)
+
+  -- one more has
+  pub one_more_ended : (files items left : List (Prepared W)) (file : Prepared W) (outcomes outcomes' outcomes'' : List Outcome) (lines : List FileLine) (end : FileOutcome) (told told' told'' : Option (List Event))
+      → items ≡ file ∷ left → outcomes'' ≡ left_by file outcomes' → Does (EndsSoFar taken files items outcomes outcomes' lines) told told'
+      → Does (IsEndIn taken outcomes' file end) told' told'' → Does (EndsSoFar taken files left outcomes outcomes'' (lines ++ line_of (name_of file) end ∷ [])) told told''
+  one_more_ended files items left file outcomes outcomes' outcomes'' lines end told told' told'' is next so ends =
+      chain (EndsSoFar taken files left outcomes outcomes'' (lines ++ line_of (name_of file) end ∷ []))
+      (λ x y s e. record {
+        all = λ more rest after.
+            let line = line_of (name_of file) end in
+            let whole = s.all (line ∷ more) (y ++ rest) (subst (λ l. IsEndOfAll taken l outcomes' (line ∷ more) (y ++ rest)) (sym is)
+            (end, more, y, rest, e, subst (λ o. IsEndOfAll taken left o more rest) next after, refl, refl)) in
+            subst (λ l. IsEndOfAll taken files outcomes l ((x ++ y) ++ rest)) (sym (append_assoc lines (line ∷ []) more))
+            (subst (IsEndOfAll taken files outcomes (lines ++ line ∷ more)) (sym (append_assoc x y rest)) whole);
+      }) told told' told'' so ends
+
+  -- all have
+  pub all_ended : (files left : List (Prepared W)) (outcomes outcomes' : List Outcome) (lines : List FileLine) (told told' : Option (List Event)) → left ≡ []
+      → Does (EndsSoFar taken files left outcomes outcomes' lines) told told' → Does (IsEndOfAll taken files outcomes lines) told told'
+  all_ended files left outcomes outcomes' lines told told' none so = weaken (λ events s.
+      subst (λ l. IsEndOfAll taken files outcomes l events) (append-nil lines)
+      (subst (IsEndOfAll taken files outcomes (lines ++ [])) (append-nil events) (s.all [] [] (subst (λ l. IsEndOfAll taken l outcomes' [] []) (sym none) (refl, refl))))) told told' so
+
+-- ---- a group for which memory was refused
+
+pub refused_happened : (key : List ℕ) (shape : ShapeView) (device : ℕ) (names : List (List ℕ)) (told told' : Option (List Event)) → told' ≡ told → Happened key shape device told told' (refused_lines names ∷ [])
+refused_happened key shape device names told told' same =
+    subst (λ t. Happened key shape device told t (refused_lines names ∷ [])) (sym same)
+    (weaken (λ events none. group_done (Sealing key shape device) (parts names) (refused_lines names) events (lined names) (each names)
+    (none ∙ sym (λ i. (empty (λ (part : Part). part.before) (λ n. refl) names) i ++ (empty (λ (part : Part). part.after) (λ n. refl) names) i))) told told (nothing told))
+  where
+    part_of : List ℕ → Part
+    part_of name = record { line = line_of name (Failed OutOfMemory); before = []; after = [] }
+
+    parts : List (List ℕ) → List Part
+    parts names = map part_of names
+
+    lined : (names : List (List ℕ)) → map (λ (part : Part). part.line) (parts names) ≡ refused_lines names
+    lined [] = refl
+    lined (name ∷ names) = ap (λ l. line_of name (Failed OutOfMemory) ∷ l) (lined names)
+
+    each : (names : List (List ℕ)) → All (λ (part : Part). Sealing key shape device part.line.name part.line.outcome part.before part.after) (parts names)
+    each [] = All-nil (λ (part : Part). Sealing key shape device part.line.name part.line.outcome part.before part.after)
+    each (name ∷ names) = All-cons (λ (part : Part). Sealing key shape device part.line.name part.line.outcome part.before part.after) (part_of name) (parts names) (refl, refl) (each names)
+
+    empty : (of : Part → List Event) → ((name : List ℕ) → of (part_of name) ≡ []) → (names : List (List ℕ)) → flat_map of (parts names) ≡ []
+    empty of none [] = refl
+    empty of none (name ∷ names) = ap (λ l. l ++ flat_map of (parts names)) (none name) ∙ empty of none names
+
+-- ---- both
+
+module _ (key : List ℕ) (shape : ShapeView) (device : ℕ) where
+  -- each outcome is one of its job, and of a number of the device
+  abbrev Fit : List (List ℕ) → List Outcome → Type 0
+  Fit jobs [] = ⊤
+  Fit [] (outcome ∷ outcomes) = ⊤
+  Fit (input ∷ jobs) (outcome ∷ outcomes) = IsOutcome key shape input outcome × HasEnded device outcome × Fit jobs outcomes
+
+  all_fit : (seats : ℕ) (jobs : List (List ℕ)) (outcomes : List Outcome) → AreOutcomes key shape jobs outcomes → All (IsHeld seats device) outcomes → Fit jobs outcomes
+  all_fit seats jobs [] are held = tt
+  all_fit seats [] (outcome ∷ outcomes) are held = tt
+  all_fit seats (input ∷ jobs) (outcome ∷ outcomes) are held = (
+    are.each 0 input outcome refl refl,
+    (All-head (IsHeld seats device) outcome outcomes held).1,
+    all_fit seats jobs outcomes (record { count = (let c = are.count in omega arith); each = λ n j o at also. are.each (suc n) j o at also }) (All-tail (IsHeld seats device) outcome outcomes held),
+  )
+
+  outcomes_fit : (seats : ℕ) (jobs : List (List ℕ)) (outcomes : List Outcome) → (outcomes ≡ []) ⊎ AreOutcomes key shape jobs outcomes → All (IsHeld seats device) outcomes → Fit jobs outcomes
+  outcomes_fit seats jobs outcomes how held = ⊎_elim (λ (none : outcomes ≡ []). subst (Fit jobs) (sym none) tt) (λ (are : AreOutcomes key shape jobs outcomes). all_fit seats jobs outcomes are held) how
+
+  refused_as : (name : List ℕ) (fault : FileFault) (before after : List Event) → IsRefusal name fault before → after ≡ [] → Sealing key shape device name (Failed fault) before after
+  refused_as name CannotOpen before after is none = (is, none)
+  refused_as name OutOfMemory before after is none = (is, none)
+  refused_as name OutputExists before after is none = (is.0, is.1, none)
+  refused_as name CannotCreate before after is none = (is.0, is.1, none)
+  refused_as name NoSuffix before after is none = absurd is
+  refused_as name NoNumber before after is none = absurd is
+  refused_as name AnotherLabel before after is none = absurd is
+  refused_as name (Unopened fault) before after is none = absurd is
+  refused_as name (Unsealed fault) before after is none = absurd is
+
+  module _ (name input : List ℕ) (bytes : ℕ) (old new : Option (List ℕ)) (before after : List Event)
+      (count : bytes ≡ length input) (empty : old ≡ Some (tape (sealed_name name) [])) (begun : before ≡ prepared name input) where
+    failed_as : (fault : FileFault) (end : FileOutcome) → ((b a : List Event) → IsRemoved name b a → Sealing key shape device name (Failed fault) b a) → end ≡ Failed fault
+        → IsClosed (sealed_name name) new end after → Sealing key shape device name end before after
+    failed_as fault end how is closed = subst (λ o. Sealing key shape device name o before after) (sym is)
+        (how before after (input, begun, subst (λ o. IsClosed (sealed_name name) new o after) is closed))
+
+    put_as : (all : List ℕ) (number : ℕ) (end : FileOutcome) → all ≡ container key shape (prefix_of device number) input → IsPut all number bytes old new end
+        → IsClosed (sealed_name name) new end after → Sealing key shape device name end before after
+    put_as all number (Sealed n m) is (same, long, grew) closed =
+        let put : all ≡ container key shape (prefix_of device n) input = is ∙ ap (λ k. container key shape (prefix_of device k) input) (sym same) in
+        let finished = finished_as (sealed_name name) [] all old new after empty grew closed in
+        (input, long ∙ count, begun, finished ∙ ap (λ c. Finished (sealed_name name) c ∷ []) put)
+    put_as all number (Opened n) is (wrong, front) closed = absurd (cc)
+    put_as all number (Good n) is (wrong, front) closed = absurd (cc)
+    put_as all number (Shown n facts) is (wrong, front) closed = absurd (cc)
+    put_as all number (Failed fault) is (wrong, front) closed = failed_as (Unsealed sealing_fault.Write) (Failed fault) (λ b a r. r) wrong closed
+
+    unissued : (fault : IssueFault) (b a : List Event) → IsRemoved name b a → Sealing key shape device name (Failed (unissued_as fault)) b a
+    unissued issue_fault.Exhausted b a r = r
+    unissued issue_fault.SeatClosed b a r = r
+    unissued issue_fault.OutOfMemory b a r = r
+
+    ended_as_job : (outcomes : List Outcome) (jobs : List (List ℕ)) (end : FileOutcome) → Fit (input ∷ jobs) outcomes → IsEndBy bytes old new outcomes end
+        → IsClosed (sealed_name name) new end after → Sealing key shape device name end before after
+    ended_as_job [] jobs end fit is closed = failed_as (Unsealed sealing_fault.OutOfMemory) end (λ b a r. r) is closed
+    ended_as_job (job.Sealed seat bytes spent ∷ outcomes) jobs end fit is closed =
+        put_as bytes.items spent.number end (fit.0.0 ∙ ap (λ d. container key shape (prefix_of d spent.number) input) fit.1.0) is closed
+    ended_as_job (job.Spoiled seat spent ∷ outcomes) jobs end fit is closed = failed_as (Unsealed sealing_fault.OutOfMemory) end (λ b a r. r) is closed
+    ended_as_job (job.Unissued seat fault ∷ outcomes) jobs end fit is closed = failed_as (unissued_as fault) end (unissued fault) is closed
+
+    fit_left : (outcomes : List Outcome) (jobs : List (List ℕ)) → Fit (input ∷ jobs) outcomes → Fit jobs (Rattle.std.specs.Prelude.drop 1 outcomes)
+    fit_left [] jobs fit = tt
+    fit_left (outcome ∷ outcomes) jobs fit = fit.2
+
+  module _ {W : Type 0} (taken : W → Option (List ℕ)) where
+    -- the parts of a group's files
+    abbrev AreParts : List FileLine → List Event → List Event → Type 0
+    AreParts lines before after = (parts : List Part) × (map (λ (part : Part). part.line) parts ≡ lines)
+        × All (λ (part : Part). Sealing key shape device part.line.name part.line.outcome part.before part.after) parts
+        × (before ≡ flat_map (λ (part : Part). part.before) parts) × (after ≡ flat_map (λ (part : Part). part.after) parts)
+
+    part_more : (name : List ℕ) (end : FileOutcome) (first first' : List Event) (lines more : List FileLine) (before after rest rest' : List Event)
+        → Sealing key shape device name end first first' → AreParts more rest rest' → lines ≡ line_of name end ∷ more → before ≡ first ++ rest → after ≡ first' ++ rest'
+        → AreParts lines before after
+    part_more name end first first' lines more before after rest rest' is (parts, lined, each, joined, joined') so chained chained' =
+        let part : Part = record { line = line_of name end; before = first; after = first' } in (
+          part ∷ parts,
+          ap (λ l. line_of name end ∷ l) lined ∙ sym so,
+          All-cons (λ (part : Part). Sealing key shape device part.line.name part.line.outcome part.before part.after) part parts is each,
+          chained ∙ ap (λ l. first ++ l) joined,
+          chained' ∙ ap (λ l. first' ++ l) joined',
+        )
+
+    matched : (files : List (Prepared W)) (jobs : List (List ℕ)) (outcomes : List Outcome) (lines : List FileLine) (before after : List Event) → AreBegun taken files jobs before → Fit jobs outcomes
+        → IsEndOfAll taken files outcomes lines after → AreParts lines before after
+    matched [] jobs outcomes lines before after (none, first) fit (nil, then) =
+        ([], sym nil, All-nil (λ (part : Part). Sealing key shape device part.line.name part.line.outcome part.before part.after), first, then)
+    matched (Refused name fault ∷ files) jobs outcomes lines before after (own, others, first, rest, (none, is), begun, joined, chained) fit (end, more, first', rest', (failed, nil), ended, lined, chained') =
+        let fits : Fit others outcomes = subst (λ j. Fit j outcomes) (joined ∙ ap (λ l. l ++ others) none) fit in
+        part_more name.now end first first' lines more before after rest rest'
+        (subst (λ o. Sealing key shape device name.now o first first') (sym failed) (refused_as name.now fault first first' is nil))
+        (matched files others outcomes more rest rest' begun fits ended) lined chained chained'
+    matched (Unread name output fault ∷ files) jobs outcomes lines before after (own, others, first, rest, (none, (input, is)), begun, joined, chained) fit (end, more, first', rest', (failed, removed), ended, lined, chained') =
+        let fits : Fit others outcomes = subst (λ j. Fit j outcomes) (joined ∙ ap (λ l. l ++ others) none) fit in
+        part_more name.now end first first' lines more before after rest rest'
+        (subst (λ o. Sealing key shape device name.now o first first') (sym failed) (input, is, removed))
+        (matched files others outcomes more rest rest' begun fits ended) lined chained chained'
+    matched (Read name output writer bytes ∷ files) jobs outcomes lines before after (own, others, first, rest, (input, mine, count, empty, is), begun, joined, chained) fit (end, more, first', rest', (new, ends, closed), ended, lined, chained') =
+        let fits : Fit (input ∷ others) outcomes = subst (λ j. Fit j outcomes) (joined ∙ ap (λ l. l ++ others) mine) fit in
+        part_more name.now end first first' lines more before after rest rest'
+        (ended_as_job name.now input bytes (taken writer) new first first' count empty is outcomes others end fits ends closed)
+        (matched files others (left_by (Read name output writer bytes) outcomes) more rest rest' begun
+        (fit_left name.now input bytes (taken writer) new first first' count empty is outcomes others fits) ended) lined chained chained'
+
+    -- what happened for a group goes with its lines
+    pub group_happened : (files : List (Prepared W)) (slice jobs : List (List ℕ)) (seats : ℕ) (outcomes : List Outcome) (lines : List FileLine) (told told' told'' : Option (List Event)) → slice ≡ jobs
+        → (outcomes ≡ []) ⊎ AreOutcomes key shape slice outcomes → All (IsHeld seats device) outcomes → Does (AreBegun taken files jobs) told told'
+        → Does (IsEndOfAll taken files outcomes lines) told' told'' → Happened key shape device told told'' (lines ∷ [])
+    group_happened files slice jobs seats outcomes lines told told' told'' same how held begun ended = chain (AreOfGroups (Sealing key shape device) (lines ∷ []))
+        (λ x y b e.
+        let p = matched files jobs outcomes lines x y b (subst (λ j. Fit j outcomes) same (outcomes_fit seats slice outcomes how held)) e in
+        group_done (Sealing key shape device) p.0 lines (x ++ y) p.1 p.2 (λ i. p.3 i ++ p.4 i)) told told' told'' begun ended
