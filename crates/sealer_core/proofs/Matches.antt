@@ -1,7 +1,7 @@
 -- What happened for a group: of each file before the sealing and behind it. A file that was read goes with the first of
 -- the inputs and with the first of the outcomes, and leaves the others to the files behind it.
 use Rattle.std.proofs.Common.{◌≡◌, ◌⊎◌, ◌∙◌, ℕ, suc, refl, sym, ap, subst, arith, List, [], ◌∷◌, ◌++◌, length, map, append-nil, append_assoc, All, Vec, Global, Option, Some, None, ⊎_elim}
-use Rattle.std.specs.Prelude.{⊤, flat_map, slice_get}
+use Rattle.std.specs.Prelude.{⊤, drop, flat_map, slice_get}
 use Rattle.std.proofs.lemmas.List.{map-append}
 use Rattle.std.proofs.lemmas.List.Elements.{All-nil, All-cons, All-head, All-tail}
 use Rattle.container_core.specs.Shape.{ShapeView}
@@ -200,7 +200,7 @@ module _ (key : List ℕ) (shape : ShapeView) (device : ℕ) where
     ended_as_job (job.Spoiled seat spent ∷ outcomes) jobs end fit is closed = failed_as (Unsealed sealing_fault.OutOfMemory) end (λ b a r. r) is closed
     ended_as_job (job.Unissued seat fault ∷ outcomes) jobs end fit is closed = failed_as (unissued_as fault) end (unissued fault) is closed
 
-    fit_left : (outcomes : List Outcome) (jobs : List (List ℕ)) → Fit (input ∷ jobs) outcomes → Fit jobs (Rattle.std.specs.Prelude.drop 1 outcomes)
+    fit_left : (outcomes : List Outcome) (jobs : List (List ℕ)) → Fit (input ∷ jobs) outcomes → Fit jobs (drop 1 outcomes)
     fit_left [] jobs fit = tt
     fit_left (outcome ∷ outcomes) jobs fit = fit.2
 

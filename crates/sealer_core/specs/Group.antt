@@ -24,7 +24,7 @@ use Rattle.command_core.specs.Folder.{Step, Created, stepped}
 use Rattle.command_core.specs.Lines.{FileLine}
 use Rattle.sealer_core.specs.Sealing.{IsOfSealing, Accounts, unissued_as, creations_of, endings_of, group_steps}
 use Rattle.sealer_core.specs.Sealing.{line_of, prepared, sealed_name, times_sealed, times_voided, times_told}
-use Rattle.command_core.specs.Trace.{Creates, Does, Finishes, tape}
+use Rattle.command_core.specs.Trace.{Finishes, tape}
 use Rattle.command_core.specs.Trace as trace
 use Rattle.command_core.specs.Work.{AreTold}
 
