@@ -5,3 +5,4 @@ pub mod Matches
 pub mod Numbering
 pub mod Sealings
 pub mod Streams
+pub mod Outputs

@@ -281,6 +281,14 @@ pub record AreOfGroups (does : List ℕ → FileOutcome → List Event → List 
 abbrev pub Happened : List ℕ → ShapeView → ℕ → Option (List Event) → Option (List Event) → List (List FileLine) → Type 0
 Happened key shape device events events' groups = Does (AreOfGroups (Sealing key shape device) groups) events events'
 
+-- the bytes of the outputs that were finished, in order
+abbrev pub finished_in : List Event → List (List ℕ)
+finished_in [] = []
+finished_in (trace.Reading name bytes ∷ events) = finished_in events
+finished_in (trace.Created name ∷ events) = finished_in events
+finished_in (trace.Finished name bytes ∷ events) = bytes ∷ finished_in events
+finished_in (trace.Removing name ∷ events) = finished_in events
+
 -- Every file was worked, in order and in groups of so many, the last of at most so many; their lines were told, and what
 -- happened goes with the groups.
 pub record AreGrouped (happened : List (List FileLine) → Type 0) (lanes : ℕ) (names : List (List ℕ)) (status : ℕ) (old new : Option (List ℕ))

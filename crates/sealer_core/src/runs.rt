@@ -1,12 +1,18 @@
 //! What the runs of one ledger file are to each other.
-ghost use Rattle.std.specs.Prelude.{◌≡◌, ◌⊎◌, ◌+◌, ◌≤◌, ℕ, List, []};
-ghost use Rattle.journal_core.specs.Range.{Numbers};
+ghost use Rattle.std.specs.Prelude.{◌≡◌, ◌⊎◌, ◌+◌, ◌++◌, ◌≤◌, ℕ, List, [], Option, Some, map};
+ghost use Rattle.command_core.specs.Folder.{Step};
+ghost use Rattle.command_core.specs.Trace.{Event};
+ghost use Rattle.container_core.specs.Shape.{IsShape, ShapeView};
+ghost use Rattle.journal_core.specs.declared.entry.Entry.{Entry};
+ghost use Rattle.journal_core.specs.declared.terms.Terms.{Terms};
+ghost use Rattle.journal_core.specs.Range.{IsLawfulRange, Numbers};
+ghost use Rattle.life_core.specs.Outputs.{HasWritten, Output};
 ghost use Rattle.sqlite.specs.Files.{over_files};
 ghost use Rattle.sqlite_wal.specs.Files.{outcomes};
 ghost use Rattle.sqlite_wal.specs.Reads.{AreClean};
 ghost use Rattle.sqlite_wal.specs.Recovery.{Image};
 ghost use Rattle.reserve_core.specs.NextRun.{IsFound, PassInTurn};
-ghost use Rattle.sealer_core.specs.Sealing.{FoldsFiles};
+ghost use Rattle.sealer_core.specs.Sealing.{FoldsFiles, Happened, HasSealed, finished_in};
 
 use reserve_core::LedgerFile;
 use sqlite::Files;
@@ -27,4 +33,19 @@ pub fn runs_are_apart<D: Disk + Drop, E: Disk + Drop>()
         → FoldsFiles LedgerFile.Kept LedgerFile.Folded key_id device more (LedgerFile.Kept now) newer other
         → newer ≡ LedgerFile.Folded rest → AreClean E.Disk rest.log rest.db
         → one.lo + one.size ≤ other.lo }
+{}
+
+/// What a run of `seal_all` wrote is what the law on outputs asks for (`laws::no_two_chunks_have_one_nonce`): the outputs that it
+/// finished hold, one by one and in order, whole containers under the key and in the shape, each under a number of its own that
+/// was granted in this run. The premises but the first two are clauses of `seal_all`, over a folder that tells what happened.
+pub fn a_run_has_written()
+    ensures { (key : List ℕ) (shape : ShapeView) (names : List (List ℕ)) (terms : Terms) (history : List Entry) (status : ℕ)
+        (old new : Option (List ℕ)) (failures later : Option ℕ) (steps steps_then : Option (List Step))
+        (before after : List Event)
+        → IsShape shape → IsLawfulRange terms.range
+        → HasSealed (Happened key shape terms.range.device (Some before) (Some after)) names terms history status old new
+        failures later steps steps_then
+        → (events : List Event) × (outputs : List Output) × (after ≡ before ++ events)
+        × (finished_in events ≡ map (λ output. output.held) outputs)
+        × HasWritten key terms.range.device (record { terms = terms; history = history; outputs = outputs }) }
 {}
