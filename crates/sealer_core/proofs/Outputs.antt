@@ -66,14 +66,16 @@ module _ (key : List ℕ) (shape : ShapeView) (device : ℕ) (lawful : IsShape s
   of_one : (name : List ℕ) (outcome : FileOutcome) (before after : List Event) → Sealing key shape device name outcome before after
       → (finished_in before ≡ []) × Finishing key device (record { name = name; outcome = outcome } ∷ []) after
   of_one name (Sealed number bytes) before after (input, long, begun, ended) =
-      let output : Output = record { number = number; shape = shape; plain = input; held = container key shape (prefix_of device number) input } in
-      (ap finished_in begun, record {
-        outputs = output ∷ [];
-        each = (record { shape = lawful; begins = ([], sym (append-nil (container key shape (prefix_of device number) input))) }, tt);
-        finished = ap finished_in ended;
-        counted = λ n. sum_by-cons (λ (o : Output). cond (nat_eq n o.number) 1 0) output []
-            ∙ sym (sum_by-cons (λ (l : FileLine). cond (tells_of n l.outcome) 1 0) (record { name = name; outcome = Sealed number bytes }) []);
-      })
+      let output : Output = record { number = number; shape = shape; plain = input; held = container key shape (prefix_of device number) input } in (
+        ap finished_in begun,
+        record {
+          outputs = output ∷ [];
+          each = (record { shape = lawful; begins = ([], sym (append-nil (container key shape (prefix_of device number) input))) }, tt);
+          finished = ap finished_in ended;
+          counted = λ n. sum_by-cons (λ (o : Output). cond (nat_eq n o.number) 1 0) output []
+              ∙ sym (sum_by-cons (λ (l : FileLine). cond (tells_of n l.outcome) 1 0) (record { name = name; outcome = Sealed number bytes }) []);
+        },
+      )
   of_one name (Failed CannotOpen) before after (one, two) = (ap finished_in one, nothing_of key device name (Failed CannotOpen) after (ap finished_in two) (λ n. refl))
   of_one name (Failed OutOfMemory) before after (one, two) = (ap finished_in one, nothing_of key device name (Failed OutOfMemory) after (ap finished_in two) (λ n. refl))
   of_one name (Failed OutputExists) before after (input, one, two) = (ap finished_in one, nothing_of key device name (Failed OutputExists) after (ap finished_in two) (λ n. refl))
@@ -132,10 +134,11 @@ module _ (key : List ℕ) (shape : ShapeView) (device : ℕ) (lawful : IsShape s
   of_parts [] all = (refl, none_of key device)
   of_parts (part ∷ parts) all =
       let (silent, own) = of_one key shape device lawful part.line.name part.line.outcome part.before part.after
-          (All-head (IsPartOf key shape device) part parts all) in
-      let (quiet, others) = of_parts parts (All-tail (IsPartOf key shape device) part parts all) in
-      (finished-append part.before (befores parts) ∙ ap (λ l. l ++ finished_in (befores parts)) silent ∙ quiet,
-      both key device (part.line ∷ []) (lines_of parts) part.after (afters parts) own others)
+      (All-head (IsPartOf key shape device) part parts all) in
+      let (quiet, others) = of_parts parts (All-tail (IsPartOf key shape device) part parts all) in (
+        finished-append part.before (befores parts) ∙ ap (λ l. l ++ finished_in (befores parts)) silent ∙ quiet,
+        both key device (part.line ∷ []) (lines_of parts) part.after (afters parts) own others,
+      )
 
   of_group : (parts : List Part) → All (IsPartOf key shape device) parts → Finishing key device (lines_of parts) (group_events parts)
   of_group parts all =
@@ -161,13 +164,18 @@ module _ (key : List ℕ) (shape : ShapeView) (device : ℕ) (lawful : IsShape s
       let (events, happened, joined) = sealed.worked.done in
       let finishing = of_groups happened.parts happened.each in
       let lines : flat_map (λ group. group) (map lines_of happened.parts) ≡ sealed.worked.lines =
-      ap (λ (groups : List (List FileLine)). flat_map (λ group. group) groups) happened.lined ∙ sym sealed.worked.joined in
-      (events, finishing.outputs, joined, ap finished_in happened.joined ∙ finishing.finished, record {
-        of_device = of_device;
-        lawful = range;
-        legal = sealed.legal;
-        each = finishing.each;
-        granted = λ n.
-            let told = finishing.counted n ∙ ap (times_told n) lines in
-            let granted = sealed.accounts.granted n in omega arith;
-      })
+      ap (λ (groups : List (List FileLine)). flat_map (λ group. group) groups) happened.lined ∙ sym sealed.worked.joined in (
+        events,
+        finishing.outputs,
+        joined,
+        ap finished_in happened.joined ∙ finishing.finished,
+        record {
+          of_device = of_device;
+          lawful = range;
+          legal = sealed.legal;
+          each = finishing.each;
+          granted = λ n.
+              let told = finishing.counted n ∙ ap (times_told n) lines in
+              let granted = sealed.accounts.granted n in omega arith;
+        },
+      )

@@ -37,7 +37,8 @@ pub fn runs_are_apart<D: Disk + Drop, E: Disk + Drop>()
 
 /// What a run of `seal_all` wrote is what the law on outputs asks for (`laws::no_two_chunks_have_one_nonce`): the outputs that it
 /// finished hold, one by one and in order, whole containers under the key and in the shape, each under a number of its own that
-/// was granted in this run. The premises but the first two are clauses of `seal_all`, over a folder that tells what happened.
+/// was granted in this run. Each premise is a clause of `seal_all`, over a folder
+/// that tells what happened, but that the shape is one, which the shape of the options is.
 pub fn a_run_has_written()
     ensures { (key : List ℕ) (shape : ShapeView) (names : List (List ℕ)) (terms : Terms) (history : List Entry) (status : ℕ)
         (old new : Option (List ℕ)) (failures later : Option ℕ) (steps steps_then : Option (List Step))

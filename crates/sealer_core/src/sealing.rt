@@ -8,7 +8,7 @@ ghost use Rattle.sha2.specs.Sha256.{sha256};
 ghost use Rattle.sqlite.specs.Held.{Held, state};
 ghost use Rattle.journal_core.specs.declared.entry.Entry.{Entry};
 ghost use Rattle.journal_core.specs.Journal.{terms_of};
-ghost use Rattle.journal_core.specs.Range.{Numbers};
+ghost use Rattle.journal_core.specs.Range.{IsLawfulRange, Numbers};
 ghost use Rattle.journal_core.specs.Text.{journal_text};
 ghost use Rattle.ledger_core.specs.Closing.{AreAllSeats};
 ghost use Rattle.ledger_core.specs.Shared.{fresh_seats};
@@ -110,6 +110,7 @@ pub(crate) fn open_ledger<S: Fold>(
         (sha256 key.now) device files file.old file.new r.0.terms.range) }
     ensures opened { IfOk result (λ r. (r.0.terms.seats ≡ lanes) × AreAllSeats r.0 r.1.items
         × (r.1.items ≡ fresh_seats r.0.ledger r.0.terms lanes)) }
+    ensures lawful { IfOk result (λ r. IsLawfulRange r.0.terms.range) }
     ensures once { ReservesOnce S.Store LedgerFile.Kept LedgerFile.Folded S.is_left (sha256 key.now) device files
         file.old file.new }
     ensures other { ((k : Held S) → file.old ≢ LedgerFile.Kept k) → file.new ≡ file.old }
@@ -118,6 +119,8 @@ pub(crate) fn open_ledger<S: Fold>(
         Ok(range) => range,
         Err(fault) => return Err(fault),
     };
+    // It tells that the range is a lawful one.
+    let _lawful = range.size();
     match Ledger::open(alloc, range, lanes) {
         Ok(opened) => Ok(opened),
         Err(_) => Err(RunFault::NoLedger),
@@ -235,6 +238,7 @@ pub fn seal_all<
         ⊎ ((range : Numbers) × (history : List Entry) × (told : ℕ) × (written : Bool)
         × FoldsARange S.Store LedgerFile.Kept LedgerFile.Folded S.is_folded (sha256 key.now) options.now.device
         (length options.now.files.now) file.old file.new range
+        × IsLawfulRange range
         × HasSealed (Happened key.now options.now.shape.now range.device (F.told folder.old) (F.told folder.new))
         (map (λ name. name.now) options.now.files.now) (terms_of range options.now.lanes) history told
         (L.taken out.old.lines) (L.taken out.new.lines) (L.failures out.old.lines) (L.failures out.new.lines)

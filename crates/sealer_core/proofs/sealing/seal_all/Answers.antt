@@ -18,7 +18,7 @@ returns-in-Ok-ended-clause-run g c =
     (g.L.Sink.failures c.args.out.now.lines) (g.L.Sink.failures c.work_ledger-told.new.lines)
     (g.F.Folder.steps c.args.folder.now) (g.F.Folder.steps c.work_ledger-told.new.folder) in
     let ok : is_ok c.work_ledger-told.result.1 ≡ true = ap is_ok c.in-Ok-ended.is in
-    inr (range, history, told, true, c.in-Ok.ensures.reserved, subst Sealed terms sealed, subst (λ t. Written t true) terms (subst (Written ledger.terms) ok written), refl)
+    inr (range, history, told, true, c.in-Ok.ensures.reserved, c.in-Ok.ensures.lawful, subst Sealed terms sealed, subst (λ t. Written t true) terms (subst (Written ledger.terms) ok written), refl)
 
 pub returns-in-Err-ended-clause-run : goal.returns-in-Err-ended-clause-run
 returns-in-Err-ended-clause-run g c =
@@ -33,4 +33,4 @@ returns-in-Err-ended-clause-run g c =
     (g.L.Sink.failures c.args.out.now.lines) (g.L.Sink.failures c.work_ledger-told.new.lines)
     (g.F.Folder.steps c.args.folder.now) (g.F.Folder.steps c.work_ledger-told.new.folder) in
     let ok : is_ok c.work_ledger-told.result.1 ≡ false = ap is_ok c.in-Err-ended.is in
-    inr (range, history, told, false, c.in-Ok.ensures.reserved, subst Sealed terms sealed, subst (λ t. Written t false) terms (subst (Written ledger.terms) ok written), refl)
+    inr (range, history, told, false, c.in-Ok.ensures.reserved, c.in-Ok.ensures.lawful, subst Sealed terms sealed, subst (λ t. Written t false) terms (subst (Written ledger.terms) ok written), refl)
