@@ -3,14 +3,14 @@ ghost use Rattle.std.specs.Prelude.{◌≡◌, ◌⊎◌, ◌<◌, ◌≤◌, �
 ghost use Rattle.sha2.specs.Sha256.{sha256};
 ghost use Rattle.journal_core.specs.declared.entry.Entry.{Entry};
 ghost use Rattle.journal_core.specs.Journal.{terms_of};
-ghost use Rattle.journal_core.specs.Range.{Numbers};
+ghost use Rattle.journal_core.specs.Range.{IsLawfulRange, Numbers};
 ghost use Rattle.journal_core.specs.Text.{journal_text};
 ghost use Rattle.sqlite_wal.specs.Files.{image_at};
 ghost use Rattle.sqlite.specs.Files.{file_state, over_files};
 ghost use Rattle.sqlite.specs.State.{HasCleanDisk};
 ghost use Rattle.reserve_core.specs.NextRun.{IsFound};
 ghost use Rattle.sealer_core.specs.Piping.{HasSealedStream};
-ghost use Rattle.sealer_core.specs.Sealing.{FoldsFiles, HasSealed, IsWritten, ReservesFilesOnce};
+ghost use Rattle.sealer_core.specs.Sealing.{FoldsFiles, Happened, HasSealed, IsWritten, ReservesFilesOnce};
 
 use crate::files::{clear, key_of, names_of, outputs_of, progress_of, read_list};
 use crate::{Terminals, complain};
@@ -273,12 +273,14 @@ fn seal_from<
         × (HasCleanDisk (file_state keeper) → IsFound over_files (image_at S.Start) keeper)
         × ReservesFilesOnce LedgerFile.Kept LedgerFile.Folded (sha256 key.now) options.now.device
         (length options.now.files.now) (LedgerFile.Kept keeper) r.1
-        × (((r.0 ≡ 2) × (F.steps folder.new ≡ F.steps folder.old) × (out.new.lines ≡ out.old.lines)
+        × (((r.0 ≡ 2) × (folder.new ≡ folder.old) × (out.new.lines ≡ out.old.lines)
         × (out.new.journal ≡ out.old.journal))
         ⊎ ((range : Numbers) × (history : List Entry) × (told : ℕ) × (written : Bool)
         × FoldsFiles LedgerFile.Kept LedgerFile.Folded (sha256 key.now) options.now.device
         (length options.now.files.now) (LedgerFile.Kept keeper) r.1 range
-        × HasSealed (map (λ name. name.now) options.now.files.now) (terms_of range options.now.lanes) history told
+        × IsLawfulRange range
+        × HasSealed (Happened key.now options.now.shape.now range.device (F.told folder.old) (F.told folder.new))
+        (map (λ name. name.now) options.now.files.now) (terms_of range options.now.lanes) history told
         (L.taken out.old.lines) (L.taken out.new.lines) (L.failures out.old.lines) (L.failures out.new.lines)
         (F.steps folder.old) (F.steps folder.new)
         × IsWritten J.taken (journal_text (terms_of range options.now.lanes) history) written

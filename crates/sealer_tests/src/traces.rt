@@ -1,5 +1,5 @@
-//! What happened in a folder while `open_all` and `verify_all` worked its files: what was read, created, finished and
-//! removed, by name and with all its bytes. The short containers are those of Python's `cryptography`.
+//! What happened in a folder while `open_all`, `verify_all` and `seal_all` worked its files: what was read, created,
+//! finished and removed, by name and with all its bytes. The short containers are those of Python's `cryptography`.
 use crate::cases::{Case, Left, Trouble, Work, ends_in};
 use crate::runs::{COUNTING, CUT, EMPTY, LABELLED, SECRET, folder_of};
 use container_core::{Key, Shape, seal};
@@ -190,6 +190,102 @@ static VERIFIED_SEEN: [Seen; 4] = [
 #[test]
 fn what_is_verified_is_read_once_and_nothing_else_happens(rt: HostRuntime) {
     assert!(rt; goes(&rt, &VERIFIED, &VERIFIED_SEEN));
+}
+
+// Of no plaintext, under number 1.
+const NONE_UNDER_1: [u8; 40] = [
+    0x53, 0x54, 0x52, 0x4d, 0x53, 0x45, 0x41, 0x4c, 0x01, 0x10, 0x00, 0x00, 0x01, 0x00, 0x00, 0x00,
+    0x01, 0x63, 0x0d, 0xcd, 0x29, 0x66, 0xc4, 0x33, 0x16, 0x4f, 0xe9, 0x88, 0xc6, 0x2c, 0x60, 0x17,
+    0x4c, 0xce, 0x1f, 0xb8, 0xf1, 0x40, 0x26, 0x1f,
+];
+
+// Of `more`, under number 2.
+const MORE_UNDER_2: [u8; 44] = [
+    0x53, 0x54, 0x52, 0x4d, 0x53, 0x45, 0x41, 0x4c, 0x01, 0x10, 0x00, 0x00, 0x01, 0x00, 0x00, 0x00,
+    0x02, 0x63, 0x0d, 0xcd, 0x29, 0x66, 0xc4, 0x33, 0x26, 0x47, 0x9f, 0x18, 0x95, 0x61, 0x2f, 0x87,
+    0xd1, 0x57, 0x3b, 0xa4, 0x48, 0x14, 0x67, 0x19, 0x4f, 0x28, 0x5a, 0xe5,
+];
+
+// A file of each fate.
+static FATES: Case = Case {
+    folder: &[
+        ("a", b"a secret"),
+        ("c", b"x"),
+        ("c.stm", b"kept"),
+        ("d", b""),
+        ("e", b"more"),
+        ("long", b"nine more"),
+    ],
+    trouble: Trouble::NoJournal,
+    work: Work::Seal {
+        workers: 1,
+        lanes: 1,
+    },
+    files: &["a", "m", "c", "d", "e", "long"],
+    max_bytes: 8,
+    status: 1,
+    lines: b"sealed a file 0 bytes 8\n\
+      failed m: cannot open\n\
+      failed c: output exists\n\
+      sealed d file 1 bytes 0\n\
+      sealed e file 2 bytes 4\n\
+      failed long: too long\n",
+    faults: b"",
+    journal: b"",
+    left: &[
+        ("e.stm", Left::Holds(2, b"more")),
+        ("long.stm", Left::Absent),
+    ],
+};
+
+fn sealed_by(lanes: u32) -> Case<'static> {
+    let mut case = FATES;
+    case.work = Work::Seal { workers: 1, lanes };
+    case
+}
+
+// Each file in turn.
+static SEALED_SEEN: [Seen; 13] = [
+    Seen::Reading("a", b"a secret"),
+    Seen::Created("a.stm"),
+    Seen::Finished("a.stm", &SECRET),
+    Seen::Reading("c", b"x"),
+    Seen::Reading("d", b""),
+    Seen::Created("d.stm"),
+    Seen::Finished("d.stm", &NONE_UNDER_1),
+    Seen::Reading("e", b"more"),
+    Seen::Created("e.stm"),
+    Seen::Finished("e.stm", &MORE_UNDER_2),
+    Seen::Reading("long", b"nine more"),
+    Seen::Created("long.stm"),
+    Seen::Removing("long.stm"),
+];
+
+#[test]
+fn one_lane_finishes_each_output_with_the_container_of_its_input(rt: HostRuntime) {
+    assert!(rt; goes(&rt, &sealed_by(1), &SEALED_SEEN));
+}
+
+// The first three files, and then the others.
+static GROUPS_SEEN: [Seen; 13] = [
+    Seen::Reading("a", b"a secret"),
+    Seen::Created("a.stm"),
+    Seen::Reading("c", b"x"),
+    Seen::Finished("a.stm", &SECRET),
+    Seen::Reading("d", b""),
+    Seen::Created("d.stm"),
+    Seen::Reading("e", b"more"),
+    Seen::Created("e.stm"),
+    Seen::Reading("long", b"nine more"),
+    Seen::Created("long.stm"),
+    Seen::Finished("d.stm", &NONE_UNDER_1),
+    Seen::Finished("e.stm", &MORE_UNDER_2),
+    Seen::Removing("long.stm"),
+];
+
+#[test]
+fn three_lanes_read_each_group_before_they_finish_its_outputs(rt: HostRuntime) {
+    assert!(rt; goes(&rt, &sealed_by(3), &GROUPS_SEEN));
 }
 
 // ---- three chunks of 4,096, 4,096 and 5 bytes, each with a tag of 16, behind a header of 25
