@@ -4,4 +4,3 @@ pub mod OpeningRounds
 pub mod PieceLemmas
 pub mod PipeLemmas
 pub mod ReadingLemmas
-pub mod SealingRounds

@@ -6,7 +6,7 @@ use Rattle.std.proofs.Common.{arith, zero-mul, append_assoc, length-append, leng
 use Rattle.std.proofs.lemmas.Bool.{cases_lt}
 use Rattle.std.proofs.lemmas.List.{take_at, take_all}
 use Rattle.std.proofs.lemmas.Result.{IfOk-weaker}
-use Rattle.std.proofs.Math.Nat.{mul-le-mul_left, mul-le-mul_right}
+use Rattle.std.proofs.Math.Nat.{mul-le-mul_right}
 use Rattle.std.proofs.KnownBytes.{Consumes-trans}
 use Rattle.io_core.specs.Streams.{Consumes}
 use Rattle.container_core.specs.declared.fault.OpenFault.{OpenFault}

@@ -1,19 +1,19 @@
--- A stream under the header of a shape is the shape's container.
-use Rattle.std.proofs.Common.{◌≡◌, ℕ, ◌+◌, ◌*◌, ◌<◌, ◌≤◌, List, ◌++◌, length, take, drop, Option, Some, None, IfSome, Result, Ok, Err, OnOk, OnErr, ap, ◌∙◌, subst, append_assoc}
+-- A stream under the header of a shape is the shape's container, and so are its rounds.
+use Rattle.std.proofs.Common.{◌≡◌, ℕ, ◌+◌, ◌*◌, ◌<◌, ◌≤◌, false, List, [], ◌∷◌, ◌++◌, length, take, drop, Option, Some, None, IfSome, Result, Ok, Err, OnOk, OnErr, refl, sym, ap, ◌∙◌, subst, append_assoc, append-nil}
 use Rattle.std.proofs.lemmas.List.{take_at, drop_at}
 use Rattle.container_core.specs.Chunks.{chunks}
 use Rattle.container_core.specs.Container.{container, header_of, hint_of, label_bytes, size_in}
 use Rattle.container_core.specs.Shape.{ShapeView, size_of}
-use Rattle.container_core.specs.Stream.{stream}
+use Rattle.container_core.specs.Stream.{stream, stream_by}
 use Rattle.container_core.specs.declared.fault.SealFault.{SealFault}
-use Rattle.container_core.specs.declared.fault.SealFault.TheVariants.{TooManyChunks}
 use Rattle.container_core.proofs.HeaderLemmas.{length-hint_of, size-header_of}
-use Rattle.engine_core.specs.Engine.{seal_read_failed, seal_write_failed}
+use Rattle.engine_core.specs.Engine.{BeginsContainer, DropsRound, HasReadPlain, HasWrittenRounds, rounds_so_far, seal_read_failed, seal_write_failed}
 use Rattle.engine_core.specs.Piped.{HasPipedContainer}
-use Rattle.io_core.specs.Reads.{ConsumesExactly}
+use Rattle.io_core.specs.Reads.{ConsumesExactly, ConsumesUpTo}
 use Rattle.io_core.specs.Streams.{Appends, AppendsFront, counted}
-use Rattle.pipe_core.specs.Order.{whole}
-use Rattle.pipe_core.specs.Pipe.{HasPiped, read_failed, write_failed}
+use Rattle.pipe_core.specs.Order.{HasBegun, chunks_so_far}
+use Rattle.pipe_core.specs.Rounds.{DropsInHand, HasSealedRounds}
+use Rattle.pipe_core.specs.Pipe.{HasPiped, read_failed, whole, write_failed}
 
 -- a shape's header has the key's hint
 pub hint-header_of : (key prefix : List ℕ) (shape : ShapeView) → length prefix ≡ 7
@@ -44,6 +44,14 @@ on_err : {A E : Type 0} {P Q : Type 0} (r : Result A E) → (P → Q) → OnErr 
 on_err (Ok x) f p = tt
 on_err (Err x) f p = f p
 
+same_reads : (failures failures' : Option ℕ) (r : Result ℕ SealFault) → failures' ≡ counted (read_failed r) failures → failures' ≡ counted (seal_read_failed r) failures
+same_reads failures failures' (Ok n) e = e
+same_reads failures failures' (Err fault) e = e
+
+same_writes : (failures failures' : Option ℕ) (r : Result ℕ SealFault) → failures' ≡ counted (write_failed r) failures → failures' ≡ counted (seal_write_failed r) failures
+same_writes failures failures' (Ok n) e = e
+same_writes failures failures' (Err fault) e = e
+
 pub piped-container : (key prefix header : List ℕ) (shape : ShapeView) (most : ℕ) (left left' taken taken' : Option (List ℕ)) (failures failures' refusals refusals' : Option ℕ)
     (result : Result ℕ SealFault) → header ≡ header_of key shape prefix
     → HasPiped key header most left left' failures failures' taken taken' refusals refusals' result
@@ -59,14 +67,73 @@ piped-container key prefix header shape most left left' taken taken' failures fa
       one = λ e. subst (λ (n : ℕ). ConsumesExactly left left' (n + 1)) sized (did.one e);
       begun = on_err result (if_some left (λ input was. subst (AppendsFront taken taken') (whole-container key prefix header input shape named) was)) did.begun;
       endless = did.endless;
-      read = same_reads result did.read;
-      write = same_writes result did.write;
+      read = same_reads failures failures' result did.read;
+      write = same_writes refusals refusals' result did.write;
     }
-  where
-    same_reads : (r : Result ℕ SealFault) → failures' ≡ counted (read_failed r) failures → failures' ≡ counted (seal_read_failed r) failures
-    same_reads (Ok n) e = e
-    same_reads (Err fault) e = e
 
-    same_writes : (r : Result ℕ SealFault) → refusals' ≡ counted (write_failed r) refusals → refusals' ≡ counted (seal_write_failed r) refusals
-    same_writes (Ok n) e = e
-    same_writes (Err fault) e = e
+-- ---- in rounds
+
+-- what was written begins the container of what was read, and of what is left or may follow
+begins : (key prefix header : List ℕ) (shape : ShapeView) (n : ℕ) (left left' taken taken' : Option (List ℕ)) → header ≡ header_of key shape prefix
+    → ConsumesUpTo left left' n → HasBegun header key header left taken taken' → BeginsContainer key shape prefix left left' taken taken'
+begins key prefix header shape n None left' taken taken' named bound begun = (
+  begun.0,
+  [],
+  tt,
+  subst (AppendsFront taken taken') (whole-container key prefix header begun.0 shape named ∙ ap (container key shape prefix) (sym (append-nil begun.0))) begun.2,
+)
+begins key prefix header shape n (Some input) None taken taken' named bound begun = absurd bound.1
+begins key prefix header shape n (Some input) (Some rest) taken taken' named bound begun = (
+  bound.0,
+  rest,
+  bound.1,
+  subst (AppendsFront taken taken') (whole-container key prefix header begun.0 shape named ∙ ap (container key shape prefix) (sym begun.1 ∙ bound.1)) begun.2,
+)
+
+so_far : (key header header' past : List ℕ) (size : ℕ) → header ≡ header' → size_in header ≡ size
+    → chunks_so_far header key header past ≡ rounds_so_far size key header' past
+so_far key header header' [] size named sized = refl
+so_far key header header' (x ∷ past) size named sized =
+    ap (λ (s : ℕ). header ++ stream_by key header 0 false (chunks s (x ∷ past))) sized
+    ∙ ap (λ (h : List ℕ). h ++ stream_by key h 0 false (chunks size (x ∷ past))) named
+
+drops : (key prefix header : List ℕ) (shape : ShapeView) (most window : ℕ) (left left' taken taken' : Option (List ℕ)) → header ≡ header_of key shape prefix
+    → DropsInHand header key header most window left left' taken taken' → DropsRound key shape prefix most window left left' taken taken'
+drops key prefix header shape most window left left' taken taken' named (past, held, rounds, consumed, long, within, some, few, written) =
+    let sized : size_in header ≡ size_of shape = ap size_in named ∙ size-header_of key prefix shape in (
+      past,
+      held,
+      rounds,
+      consumed,
+      long ∙ ap (λ (s : ℕ). rounds * (window * s)) sized,
+      within,
+      some,
+      subst (λ (s : ℕ). length held ≤ window * s + 1) sized few,
+      subst (Appends taken taken') (so_far key header (header_of key shape prefix) past (size_of shape) named sized) written,
+    )
+
+pub rounds-read : (key header : List ℕ) (most window : ℕ) (left left' taken taken' : Option (List ℕ)) (failures failures' refusals refusals' : Option ℕ)
+    (result : Result ℕ SealFault)
+    → HasSealedRounds header key header most window left left' failures failures' taken taken' refusals refusals' result
+    → HasReadPlain {A = ℕ} most left left' failures failures' result
+rounds-read key header most window left left' taken taken' failures failures' refusals refusals' result did = record {
+  end = did.end;
+  more = did.more;
+  too_long = did.one;
+  bound = did.bound;
+  read = same_reads failures failures' result did.read;
+}
+
+pub rounds-container : (key prefix header : List ℕ) (shape : ShapeView) (most window : ℕ) (left left' taken taken' : Option (List ℕ))
+    (failures failures' refusals refusals' : Option ℕ) (result : Result ℕ SealFault) → header ≡ header_of key shape prefix
+    → HasSealedRounds header key header most window left left' failures failures' taken taken' refusals refusals' result
+    → HasWrittenRounds key shape prefix most window left left' taken taken' refusals refusals' result
+rounds-container key prefix header shape most window left left' taken taken' failures failures' refusals refusals' result named did = record {
+  written = on_ok result (if_some left (λ input was. subst (Appends taken taken') (whole-container key prefix header input shape named) was)) did.written;
+  within = did.within;
+  begun = on_err result (begins key prefix header shape (most + 1) left left' taken taken' named did.bound) did.begun;
+  dropped = λ e. drops key prefix header shape most window left left' taken taken' named (did.dropped e);
+  unwritten = did.unwritten;
+  write = same_writes refusals refusals' result did.write;
+  length = did.answer;
+}

@@ -1,6 +1,5 @@
 pub mod Engine
 pub mod Fronts
 pub mod Piped
-pub mod Rounds
 pub mod Status
 pub mod Windows

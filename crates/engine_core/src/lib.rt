@@ -2,8 +2,8 @@
 //!
 //! `engine` has those of one thread, `run` those with workers, whose answers are the same, and
 //! `pipe` the one that seals a stream of any length. `front` reads a header, and
-//! `reading` what is read whole before anything is written; `sealing` has what seals a window at a time, `windows` what
-//! opens or checks, and `rooms` the room of both. `auditor` has the audit.
+//! `reading` what is read whole before anything is written; `windows` has what opens or checks a window at a time, and
+//! `rooms` its room. `auditor` has the audit.
 #![tactic(auto)]
 
 pub mod auditor;
@@ -13,7 +13,6 @@ pub mod pipe;
 pub mod reading;
 mod rooms;
 pub mod run;
-mod sealing;
 mod windows;
 
 pub use crate::auditor::run_audit;

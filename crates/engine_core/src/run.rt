@@ -12,23 +12,24 @@ ghost use Rattle.ledger_core.specs.Range.{prefix_of};
 ghost use Rattle.engine_core.specs.Engine.{HasReadPlain, HasWrittenRounds, HasReadContainer, HasWrittenPlain};
 ghost use Rattle.engine_core.specs.Engine.{HasHeader, OpensTo};
 
-use crate::sealing::seal_rounds;
 use crate::windows::open_rounds;
 use container_core::{Header, Key, MAX_OPENED, MAX_PLAIN, OpenFault, SealFault, Shape};
 use crew_core::{DEFAULT_WINDOW, Gate, MAX_WINDOW, MAX_WORKERS};
 use ledger_core::{Failed, Grant, Sink, Source, Spent, write_all};
+use pipe_core::pipe_rounds;
 use round_core::Task;
 use std::alloc::Global;
+use std::sync::Wait;
 use std::thread::Threads;
 
 /// Reads all of an input of at most `max_bytes` bytes (2^40 at most) and writes its container in a shape, under a key
-/// and a grant's prefix, sealed by 1 to 16 workers in rounds of `window` chunks (1 to 256): while one is sealed, the
-/// one before is written and the one behind is read. Answers the input's length. `TooLong` where a byte more was read,
-/// and nothing past it is; the round in hand is dropped then, and those before it were written. At every fault what was
-/// written begins the container of some plaintext that begins with what was read, and at `OutOfMemory` it is nothing.
-/// Memory is taken before the first chunk is sealed: two windows of plaintext, a window of sealed chunks, and as many
-/// for each worker; and one word for each round, without which the caller's thread seals it alone.
-pub fn run_seal_by<T: Threads + Sync, R: Source, W: Sink, G: Gate + Sync>(
+/// and a grant's prefix, in rounds of `window` chunks (1 to 256), sealed by 1 to 16 workers that live as long as the
+/// input, where at most two windows of chunks are read and not written. Answers the input's length. `TooLong` where a
+/// byte more was read, and nothing past it is; the round in hand is dropped then, and those before it were written. At
+/// every fault what was written begins the container of some plaintext that begins with what was read, and at
+/// `OutOfMemory` it is nothing. Memory is taken before anything is written: two windows of chunks, two queues and a bell
+/// for each worker; of an input that ends within the first round its chunks, and no queue where one worker suffices.
+pub fn run_seal_by<T: Threads + Wait + Sync, R: Source, W: Sink, G: Gate + Sync>(
     rt: &T,
     alloc: Global,
     key: &Key,
@@ -56,9 +57,9 @@ pub fn run_seal_by<T: Threads + Sync, R: Source, W: Sink, G: Gate + Sync>(
     ensures sealed { OnOk result.0 (result.1 ≡ spent_as grant Sealed) }
     ensures void { OnErr result.0 (result.1 ≡ spent_as grant Void) }
 {
-    let prefix = grant.prefix();
-    match seal_rounds(
-        rt, alloc, key, shape, prefix, reader, writer, max_bytes, workers, window, gate,
+    let header = Header::of(key, shape, grant.prefix());
+    match pipe_rounds(
+        rt, alloc, key, &header, reader, writer, max_bytes, workers, window, gate,
     ) {
         Ok(bytes) => (Ok(bytes), grant.used()),
         Err(fault) => (Err(fault), grant.waste()),
@@ -66,7 +67,7 @@ pub fn run_seal_by<T: Threads + Sync, R: Source, W: Sink, G: Gate + Sync>(
 }
 
 /// `run_seal_by` in rounds of `DEFAULT_WINDOW` chunks, 16.
-pub fn run_seal<T: Threads + Sync, R: Source, W: Sink, G: Gate + Sync>(
+pub fn run_seal<T: Threads + Wait + Sync, R: Source, W: Sink, G: Gate + Sync>(
     rt: &T,
     alloc: Global,
     key: &Key,

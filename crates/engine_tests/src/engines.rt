@@ -9,6 +9,7 @@ use engine_core::{run_open, run_plain, run_seal, run_verify};
 use io_memory::{FromMemory, Schedule, ToMemory};
 use ledger_core::Way;
 use std::alloc::Global;
+use std::sync::Wait;
 use std::test::Fail;
 use std::thread::Threads;
 
@@ -19,7 +20,7 @@ const PREFIX: [u8; 7] = [0, 0, 1, 0, 0, 0, 0];
 
 // Seals from a reader that fails on schedule, under a grant of this number. Answers what the engine does, and how the
 // grant ended.
-fn seal_from<R: Threads + Sync>(
+fn seal_from<R: Threads + Wait + Sync>(
     rt: &R,
     alloc: Global,
     number: u32,
@@ -99,7 +100,7 @@ fn is_plain<R: Threads + Sync>(rt: &R, alloc: Global, bytes: &[u8], plain: &[u8]
     }
 }
 
-fn leaves_ten_bytes<R: Threads + Sync>(rt: &R, alloc: Global, workers: u32) -> Option<bool>
+fn leaves_ten_bytes<R: Threads + Wait + Sync>(rt: &R, alloc: Global, workers: u32) -> Option<bool>
     requires workers { (0 < workers) × (workers ≤ MAX_WORKERS) }
 {
     let reader = FromMemory::new(b"", MOST, Schedule::Never);
@@ -118,7 +119,7 @@ fn writer_fails_after_ten_bytes(rt: HostRuntime) {
 }
 
 // Whether `four` is too long for three bytes, and not for four.
-fn is_too_long_by_one<R: Threads + Sync>(rt: &R, alloc: Global) -> Option<bool> {
+fn is_too_long_by_one<R: Threads + Wait + Sync>(rt: &R, alloc: Global) -> Option<bool> {
     let mut writer = ToMemory::new(alloc, 64, MOST, Schedule::Never).ok()?;
     let reader = FromMemory::new(b"four", 1, Schedule::Never);
     let (three, way) = seal_from(rt, alloc, 7, reader, &mut writer, 3, 2)?;
@@ -182,7 +183,7 @@ fn no_plaintext_byte_allowed_in_version_two(rt: HostRuntime) -> Result<(), Fail>
 }
 
 // Whether what is sealed of this plaintext opens to it.
-fn opens_again<R: Threads + Sync>(rt: &R, alloc: Global, plain: &[u8]) -> Option<bool> {
+fn opens_again<R: Threads + Wait + Sync>(rt: &R, alloc: Global, plain: &[u8]) -> Option<bool> {
     let reader = FromMemory::new(plain, 70_000, Schedule::Never);
     let mut writer = ToMemory::new(alloc, 300_000, 99_999, Schedule::Never).ok()?;
     let (result, way) = seal_from(rt, alloc, 1, reader, &mut writer, 200_000, 3)?;
@@ -209,7 +210,7 @@ fn what_is_sealed_opens(rt: HostRuntime) -> Result<(), Fail> {
 }
 
 // Whether sealing and verifying fail where this call of the reader does.
-fn is_failed_call_seen<R: Threads + Sync>(
+fn is_failed_call_seen<R: Threads + Wait + Sync>(
     rt: &R,
     alloc: Global,
     bytes: &[u8],
@@ -224,7 +225,11 @@ fn is_failed_call_seen<R: Threads + Sync>(
     Some(is_void && verified == Err(OpenFault::Read))
 }
 
-fn are_failed_calls_seen<R: Threads + Sync>(rt: &R, alloc: Global, bytes: &[u8]) -> Option<bool> {
+fn are_failed_calls_seen<R: Threads + Wait + Sync>(
+    rt: &R,
+    alloc: Global,
+    bytes: &[u8],
+) -> Option<bool> {
     let mut writer = ToMemory::new(alloc, 64, MOST, Schedule::Never).ok()?;
     for call in 0..6 {
         if is_failed_call_seen(rt, alloc, bytes, &mut writer, call) != Some(true) {
@@ -269,7 +274,12 @@ fn a_failed_write_leaves_a_beginning(rt: HostRuntime) -> Result<(), Fail> {
 }
 
 // Whether a writer with room for the container gets it, and one with room for the plaintext that.
-fn has_room<R: Threads + Sync>(rt: &R, alloc: Global, plain: &[u8], sealed: &[u8]) -> Option<bool> {
+fn has_room<R: Threads + Wait + Sync>(
+    rt: &R,
+    alloc: Global,
+    plain: &[u8],
+    sealed: &[u8],
+) -> Option<bool> {
     let bytes = plain.len() as u64;
     let room = Schedule::Bytes(sealed.len() as u64);
     let mut writer = ToMemory::new(alloc, 64, 7, room).ok()?;

@@ -8,6 +8,7 @@ use crew_tests::{COUNTING, Late, Meeting, Recorder, grant_of, pattern, zeros};
 use engine_core::{run_check, run_open, run_plain, run_read, run_seal, run_verify};
 use io_memory::{FromMemory, Schedule, ToMemory};
 use std::alloc::Global;
+use std::sync::Wait;
 use std::test::Fail;
 use std::thread::Threads;
 
@@ -42,7 +43,7 @@ static ENGINES: [Engine; 6] = [
 ];
 
 // Whether an engine does its work over this plaintext: over its container, where the engine doesn't seal.
-fn runs<R: Threads + Sync, G: Gate + Sync>(
+fn runs<R: Threads + Wait + Sync, G: Gate + Sync>(
     rt: &R,
     alloc: Global,
     engine: Engine,
@@ -61,7 +62,7 @@ fn runs<R: Threads + Sync, G: Gate + Sync>(
     }
 }
 
-fn seals<R: Threads + Sync, G: Gate + Sync>(
+fn seals<R: Threads + Wait + Sync, G: Gate + Sync>(
     rt: &R,
     alloc: Global,
     plain: &[u8],
@@ -126,7 +127,7 @@ fn opens<R: Threads + Sync, G: Gate + Sync>(
 }
 
 // Whether two passes are made by so many workers in each engine, and the gate gives up as told.
-fn pass_twice<R: Threads + Sync>(
+fn pass_twice<R: Threads + Wait + Sync>(
     rt: &R,
     alloc: Global,
     plain: &[u8],
@@ -182,7 +183,7 @@ fn one_worker_meets_nobody(rt: HostRuntime) -> Result<(), Fail> {
 }
 
 // Whether so many workers of an engine pass with each piece of 18 once.
-fn passes_each_once<R: Threads + Sync>(
+fn passes_each_once<R: Threads + Wait + Sync>(
     rt: &R,
     alloc: Global,
     engine: Engine,
@@ -196,7 +197,12 @@ fn passes_each_once<R: Threads + Sync>(
     Some(is_done && gate.is_each_once(u64::from(workers)))
 }
 
-fn pass_each_once<R: Threads + Sync>(rt: &R, alloc: Global, plain: &[u8], workers: u32) -> bool
+fn pass_each_once<R: Threads + Wait + Sync>(
+    rt: &R,
+    alloc: Global,
+    plain: &[u8],
+    workers: u32,
+) -> bool
     requires workers { (0 < workers) × (workers ≤ MAX_WORKERS) }
 {
     for engine in &ENGINES {
@@ -217,7 +223,7 @@ fn all_workers_pass_with_each_piece_once(rt: HostRuntime) -> Result<(), Fail> {
 }
 
 // Whether the second worker of each engine makes seven pieces while the first is held with one.
-fn are_held_with_one<R: Threads + Sync>(rt: &R, alloc: Global, plain: &[u8]) -> bool {
+fn are_held_with_one<R: Threads + Wait + Sync>(rt: &R, alloc: Global, plain: &[u8]) -> bool {
     for engine in &ENGINES {
         let gate = Late::new(7, TURNS);
         let is_done = runs(rt, alloc, *engine, plain, 2, &gate);

@@ -10,6 +10,7 @@ use io_memory::{Schedule, ToMemory};
 use std::alloc::Global;
 use std::io;
 use std::io::{ErrorKind, Read};
+use std::sync::Wait;
 use std::sync::atomic::{AtomicU64, Ordering};
 use std::test::Fail;
 use std::thread::Threads;
@@ -78,7 +79,7 @@ impl Read for Held<'_> {
 }
 
 // Seals five chunks in rounds of two, where all behind the first round and a byte is held.
-fn seal_held<T: Threads + Sync>(
+fn seal_held<T: Threads + Wait + Sync>(
     rt: &T,
     alloc: Global,
     workers: u32,

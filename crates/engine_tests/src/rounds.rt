@@ -12,6 +12,7 @@ use ledger_core::Way;
 use std::alloc::Global;
 use std::io;
 use std::io::{ErrorKind, Read, Write};
+use std::sync::Wait;
 use std::sync::atomic::{AtomicU64, Ordering};
 use std::test::Fail;
 use std::thread::Threads;
@@ -22,7 +23,7 @@ const PREFIX: [u8; 7] = [0, 0, 1, 0, 0, 0, 0];
 const MOST: usize = usize::MAX;
 
 // Seals under a grant of device 1 and file 0. Answers what the engine does, and how the grant ended.
-fn seal_by<T: Threads + Sync, R: Source, W: Sink>(
+fn seal_by<T: Threads + Wait + Sync, R: Source, W: Sink>(
     rt: &T,
     alloc: Global,
     reader: &mut R,
@@ -79,7 +80,7 @@ fn steady(max_bytes: u64, workers: u32, window: u32) -> Asked
 }
 
 // Whether these bytes are sealed with this answer, the grant ends as the answer says, and this was written.
-fn ends_as<T: Threads + Sync>(
+fn ends_as<T: Threads + Wait + Sync>(
     rt: &T,
     alloc: Global,
     plain: &[u8],
@@ -116,7 +117,11 @@ fn container_of(alloc: Global, plain: &[u8]) -> Result<Vec<u8>, Fail> {
 }
 
 // Whether all windows give the container of so many bytes.
-fn gives_the_container<T: Threads + Sync>(rt: &T, alloc: Global, plain: &[u8]) -> Result<bool, Fail>
+fn gives_the_container<T: Threads + Wait + Sync>(
+    rt: &T,
+    alloc: Global,
+    plain: &[u8],
+) -> Result<bool, Fail>
     requires { length plain.now ≤ 1099511627776 }
 {
     let whole = container_of(alloc, plain)?;
@@ -141,7 +146,7 @@ fn any_window_gives_the_container(rt: HostRuntime) -> Result<(), Fail> {
 }
 
 // Of two chunks and a byte, which is one too many, so much of the container of the two is written.
-fn drops_the_rest<T: Threads + Sync>(
+fn drops_the_rest<T: Threads + Wait + Sync>(
     rt: &T,
     alloc: Global,
     workers: u32,
@@ -179,7 +184,7 @@ fn a_byte_too_many_drops_the_round_in_hand(rt: HostRuntime) -> Result<(), Fail> 
 }
 
 // Of four chunks and five bytes so much of the container is written, and this is the fault.
-fn leaves<T: Threads + Sync>(
+fn leaves<T: Threads + Wait + Sync>(
     rt: &T,
     alloc: Global,
     asked: Asked,
@@ -212,7 +217,7 @@ fn a_failed_write_leaves_a_beginning(rt: HostRuntime) -> Result<(), Fail> {
 }
 
 // The same where the reader fails behind so many bytes.
-fn leaves_at_read<T: Threads + Sync>(
+fn leaves_at_read<T: Threads + Wait + Sync>(
     rt: &T,
     alloc: Global,
     workers: u32,
@@ -304,24 +309,46 @@ impl Write for Counting<'_> {
     }
 }
 
-// Seals five chunks of zeros in rounds of one, where what stands behind the first byte of chunk 3 is given once so much
-// was written.
-fn seal_waiting<T: Threads + Sync>(
+// Seals five chunks of zeros, where what stands behind so many bytes is given once so much was written.
+fn seal_waiting_by<T: Threads + Wait + Sync>(
     rt: &T,
     alloc: Global,
+    from: u64,
     wanted: u64,
-) -> Result<Result<u64, SealFault>, Fail> {
+    workers: u32,
+    window: u32,
+) -> Result<Result<u64, SealFault>, Fail>
+    requires workers { (0 < workers) × (workers ≤ MAX_WORKERS) }
+    requires window { (0 < window) × (window ≤ MAX_WINDOW) }
+{
     let written = AtomicU64::new(0);
     let mut reader = FromRead(Waiting {
         given: 0,
         all: 327_680,
-        from: 196_609,
+        from,
         wanted,
         written: &written,
     });
     let mut writer = ToWrite(Counting { written: &written });
-    let (result, _) = seal_by(rt, alloc, &mut reader, &mut writer, 1 << 20, 1, 1)?;
+    let (result, _) = seal_by(
+        rt,
+        alloc,
+        &mut reader,
+        &mut writer,
+        1 << 20,
+        workers,
+        window,
+    )?;
     Ok(result)
+}
+
+// Seals them in rounds of one, where that is what stands behind the first byte of chunk 3.
+fn seal_waiting<T: Threads + Wait + Sync>(
+    rt: &T,
+    alloc: Global,
+    wanted: u64,
+) -> Result<Result<u64, SealFault>, Fail> {
+    seal_waiting_by(rt, alloc, 196_609, wanted, 1, 1)
 }
 
 // Rounds 0 and 1 are written before round 3 is asked for, so a reader that waits for that is not kept waiting for ever.
@@ -332,5 +359,20 @@ fn a_round_is_written_before_the_second_behind_it_is_read(rt: HostRuntime) -> Re
     assert!(rt; two == Ok(327_680));
     let three = seal_waiting(&rt, rt.alloc(), 196_680)?;
     assert!(rt; three == Err(SealFault::Read));
+    Ok(())
+}
+
+// The same by several workers: rounds 0 and 1 of one chunk before round 3, and round 0 of two chunks before round 2; but
+// not chunk 2, which is of the round before.
+#[test]
+fn several_workers_write_a_round_before_the_second_behind_it_is_read(
+    rt: HostRuntime,
+) -> Result<(), Fail> {
+    let two = seal_waiting_by(&rt, rt.alloc(), 196_609, 131_128, 4, 1)?;
+    assert!(rt; two == Ok(327_680));
+    let one = seal_waiting_by(&rt, rt.alloc(), 262_145, 131_128, 4, 2)?;
+    assert!(rt; one == Ok(327_680));
+    let more = seal_waiting_by(&rt, rt.alloc(), 262_145, 131_129, 4, 2)?;
+    assert!(rt; more == Err(SealFault::Read));
     Ok(())
 }

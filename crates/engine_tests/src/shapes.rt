@@ -12,6 +12,7 @@ use io_memory::{FromMemory, Schedule, ToMemory};
 use ledger_core::Way;
 use sha2::{Digest, Sha256};
 use std::alloc::Global;
+use std::sync::Wait;
 use std::test::Fail;
 use std::thread::Threads;
 
@@ -56,7 +57,7 @@ pub(crate) fn container_of(
 }
 
 // Whether a plaintext is sealed to these bytes.
-fn seals_to<R: Threads + Sync>(
+fn seals_to<R: Threads + Wait + Sync>(
     rt: &R,
     alloc: Global,
     shape: &Shape,
@@ -131,7 +132,7 @@ fn opens_by_one(alloc: Global, bytes: &[u8], plain: &[u8]) -> Option<bool> {
 }
 
 // Whether 1 and 4 workers in two windows make this container, and all engines open it.
-fn goes_round<R: Threads + Sync>(
+fn goes_round<R: Threads + Wait + Sync>(
     rt: &R,
     alloc: Global,
     shape: &Shape,
@@ -152,7 +153,7 @@ fn goes_round<R: Threads + Sync>(
 }
 
 // The container of so many bytes of the pattern, which all engines make and open.
-fn made_by_all<R: Threads + Sync>(
+fn made_by_all<R: Threads + Wait + Sync>(
     rt: &R,
     alloc: Global,
     exponent: u32,
@@ -175,7 +176,7 @@ fn is_digest(bytes: &[u8], length: usize, digest: &[u8; 32]) -> bool {
 }
 
 // Whether all engines make and open the containers of this exponent whose digests are known.
-fn are_known<R: Threads + Sync>(rt: &R, alloc: Global, exponent: u32) -> Result<bool, Fail> {
+fn are_known<R: Threads + Wait + Sync>(rt: &R, alloc: Global, exponent: u32) -> Result<bool, Fail> {
     for (known, label, count, length, digest) in &SHAPED {
         if *known == exponent {
             let bytes = made_by_all(rt, alloc, exponent, *label, *count)?;
@@ -206,7 +207,7 @@ fn great_chunks_are_known(rt: HostRuntime) -> Result<(), Fail> {
 }
 
 // Whether all engines make and open the containers of no byte, one, a full chunk, and one byte more.
-fn all_lengths_go_round<R: Threads + Sync>(
+fn all_lengths_go_round<R: Threads + Wait + Sync>(
     rt: &R,
     alloc: Global,
     exponent: u32,

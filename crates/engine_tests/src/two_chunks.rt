@@ -9,6 +9,7 @@ use io_memory::{FromMemory, Schedule, ToMemory};
 use ledger_core::Way;
 use sha2::{Digest, Sha256};
 use std::alloc::{AllocError, Global};
+use std::sync::Wait;
 use std::thread::Threads;
 
 static ZEROS: [u8; 65_537] = [0; 65_537];
@@ -61,7 +62,7 @@ fn writer_of(alloc: Global, step: usize, schedule: Schedule) -> Option<ToMemory>
 
 // Seals the zeros, of which so many are read a call, under a grant of file 0. Answers what the engine does, and how the
 // grant ended.
-fn seal_zeros<R: Threads + Sync>(
+fn seal_zeros<R: Threads + Wait + Sync>(
     rt: &R,
     alloc: Global,
     step: usize,
@@ -121,7 +122,11 @@ fn verify_bytes<R: Threads + Sync>(
 
 // ---- so many bytes a call
 
-fn is_sealed_by_steps<R: Threads + Sync>(rt: &R, alloc: Global, step: usize) -> Option<bool> {
+fn is_sealed_by_steps<R: Threads + Wait + Sync>(
+    rt: &R,
+    alloc: Global,
+    step: usize,
+) -> Option<bool> {
     let mut writer = writer_of(alloc, step, Schedule::Never)?;
     let answer = seal_zeros(rt, alloc, step, &mut writer)?;
     Some(answer == (Ok(BYTES), Way::Sealed) && is_container(writer.bytes()))
@@ -147,7 +152,7 @@ fn a_byte_a_call_changes_no_answer(rt: HostRuntime) {
 static ROOMS: [usize; 10] = [0, 1, 23, 24, 25, 65_535, 65_575, 65_576, 65_592, 65_593];
 
 // Whether a sealing into this room ends with `Write`, unless it is room for all, and has written just so much.
-fn is_sealed_into<R: Threads + Sync>(
+fn is_sealed_into<R: Threads + Wait + Sync>(
     rt: &R,
     alloc: Global,
     whole: &[u8],
@@ -163,7 +168,7 @@ fn is_sealed_into<R: Threads + Sync>(
     Some(answer == wanted && writer.bytes() == whole.get(..room)?)
 }
 
-fn are_sealed_into<R: Threads + Sync>(rt: &R, alloc: Global) -> Option<bool> {
+fn are_sealed_into<R: Threads + Wait + Sync>(rt: &R, alloc: Global) -> Option<bool> {
     let whole = container(alloc)?;
     for room in &ROOMS {
         if is_sealed_into(rt, alloc, whole.as_slice(), *room) != Some(true) {
@@ -215,7 +220,7 @@ fn an_opening_writes_what_there_is_room_for(rt: HostRuntime) {
 
 // Whether a sealing gives the container and a sealed number, or a void one without memory and nothing written. `None` is
 // that memory was refused.
-fn is_sealed_or_refused<R: Threads + Sync>(rt: &R, alloc: Global) -> Option<Option<bool>> {
+fn is_sealed_or_refused<R: Threads + Wait + Sync>(rt: &R, alloc: Global) -> Option<Option<bool>> {
     let mut writer = writer_of(alloc, MOST, Schedule::Never)?;
     Some(match seal_zeros(rt, alloc, MOST, &mut writer)? {
         (Err(SealFault::OutOfMemory), way) => {
@@ -229,7 +234,7 @@ fn is_sealed_or_refused<R: Threads + Sync>(rt: &R, alloc: Global) -> Option<Opti
     })
 }
 
-fn seals_again<R: Threads + Sync>(rt: &R, alloc: Global) -> Option<bool> {
+fn seals_again<R: Threads + Wait + Sync>(rt: &R, alloc: Global) -> Option<bool> {
     match is_sealed_or_refused(rt, alloc)? {
         None => is_sealed_or_refused(rt, alloc)?,
         sealed => sealed,
@@ -253,7 +258,7 @@ fn is_opened_or_refused<R: Threads + Sync>(
     })
 }
 
-fn opens_again<R: Threads + Sync>(rt: &R, alloc: Global) -> Option<bool> {
+fn opens_again<R: Threads + Wait + Sync>(rt: &R, alloc: Global) -> Option<bool> {
     let bytes = container(alloc)?;
     match is_opened_or_refused(rt, alloc, bytes.as_slice())? {
         None => is_opened_or_refused(rt, alloc, bytes.as_slice())?,

@@ -1,13 +1,11 @@
 -- What a chunk that was read is of the whole input, and what was read with it.
-use Rattle.std.proofs.Common.{◌≡◌, ℕ, zero, suc, ◌+◌, ◌-◌, ◌*◌, ◌<◌, ◌≤◌, Bool, true, false, eqb, List, [], ◌∷◌, ◌++◌, length, get_or, take, drop}
-use Rattle.std.proofs.Common.{Option, Some, None, IfSome, sym, ap, ◌∙◌, subst, arith, append_assoc, length-append, append-nil, zero-mul}
+use Rattle.std.proofs.Common.{◌≡◌, ℕ, zero, suc, ◌+◌, ◌-◌, ◌*◌, ◌<◌, ◌≤◌, Bool, true, false, List, [], ◌∷◌, ◌++◌, length, get_or, take}
+use Rattle.std.proofs.Common.{Option, Some, None, IfSome, refl, sym, ap, ◌∙◌, subst, arith, append_assoc, length-append, append-nil}
 use Rattle.std.proofs.KnownBytes.{Consumes-trans}
-use Rattle.std.proofs.lemmas.List.{drop_at, take-append-le, take_all, length-take-le}
+use Rattle.std.proofs.lemmas.List.{take_all, length-take-le}
+use Rattle.std.proofs.Math.Nat.{lt_of_mul-lt-mul_right}
 use lib.Seq.{take-suc}
-use Rattle.std.proofs.lemmas.Bool.{false_from_ne_true}
-use Rattle.std.proofs.lemmas.Bool.Decides.{Decides-eqb}
-use Rattle.container_core.specs.Chunks.{chunks, chunk_count}
-use Rattle.container_core.proofs.PartsLemmas.{length-chunks, count-more, count-one, count-some, get_or-chunks}
+use Rattle.io_core.specs.Reads.{ConsumesUpTo}
 use Rattle.io_core.specs.Streams.{Consumes, IsAtEnd}
 use Rattle.pipe_core.specs.declared.intake.Intake.{Intake}
 use Rattle.pipe_core.specs.Intake.{HasRead, seen}
@@ -15,61 +13,6 @@ use Rattle.pipe_core.specs.Pieces.{IsChunk}
 
 not_both : (b : Bool) → b ≡ true → b ≡ false → ⊥
 not_both b is isnt = let e : true ≡ false = sym is ∙ isnt in cc
-
-not_equal : (m n : ℕ) → m < n → eqb m n ≡ false
-not_equal m n less = false_from_ne_true (eqb m n) (λ (e : eqb m n ≡ true). let same = (Decides-eqb m n).0 e in absurd (omega arith))
-
--- so many whole chunks and more than one chunk behind them
-count_behind : (size n m : ℕ) → 0 < size → size < m → n + 1 < chunk_count size (n * size + m)
-count_behind size n m some more =
-    let whole = count-more size n m some (omega arith) in
-    let one = count-more size 1 (m - size) some (omega arith) in
-    let e : chunk_count size (1 * size + (m - size)) ≡ chunk_count size m = ap (chunk_count size) (omega arith) in
-    let few = count-some size (m - size) in
-    omega arith
-
--- a chunk with a byte behind it
-pub chunk_full : (size : ℕ) (input past got rest : List ℕ) (n : ℕ) → 0 < size → input ≡ past ++ (got ++ rest)
-    → length past ≡ n * size → size < length got → IsChunk size input n false (take size got)
-chunk_full size input past got rest n some is whole long =
-    let all : length input ≡ n * size + (length got + length rest) =
-    ap (λ (l : List ℕ). length l) is ∙ length-append past (got ++ rest) ∙ ap (λ (k : ℕ). length past + k) (length-append got rest) ∙ omega arith in
-    let counts = count_behind size n (length got + length rest) some (omega arith) in
-    let counted : n + 1 < chunk_count size (length input) = subst (λ (k : ℕ). n + 1 < chunk_count size k) (sym all) counts in
-    let many = length-chunks size input in
-    record {
-      within = omega arith;
-      is = sym (take-append-le size got rest (omega arith))
-          ∙ ap (take size) (sym (drop_at past (got ++ rest) (n * size) whole) ∙ ap (drop (n * size)) (sym is))
-          ∙ sym (get_or-chunks size input n [] some (omega arith));
-      flag = sym (not_equal (n + 1) (length (chunks size input)) (omega arith));
-    }
-
--- how many chunks: so many whole ones, and a last one
-count_end : (size n m : ℕ) → 0 < size → m ≤ size → (0 < n → 0 < m) → chunk_count size (n * size + m) ≡ n + 1
-count_end size zero m some few more = ap (chunk_count size) (ap (λ (k : ℕ). k + m) (zero-mul size) ∙ omega arith) ∙ count-one size m some few ∙ omega arith
-count_end size (suc n) m some few more =
-    let whole = count-more size (suc n) m some (more (omega arith)) in
-    let one = count-one size m some few in
-    omega arith
-
--- the last chunk
-pub chunk_end : (size : ℕ) (input past got : List ℕ) (n : ℕ) → 0 < size → input ≡ past ++ got
-    → length past ≡ n * size → length got ≤ size → (0 < n → 0 < length got)
-    → IsChunk size input n true got × (length (chunks size input) ≡ n + 1)
-chunk_end size input past got n some is whole few more =
-    let all : length input ≡ n * size + length got = ap (λ (l : List ℕ). length l) is ∙ length-append past got ∙ omega arith in
-    let counted : chunk_count size (length input) ≡ n + 1 = ap (chunk_count size) all ∙ count_end size n (length got) some few more in
-    let many : length (chunks size input) ≡ n + 1 = length-chunks size input ∙ counted in (
-      record {
-        within = omega arith;
-        is = sym (take_all size got few)
-            ∙ ap (take size) (sym (drop_at past got (n * size) whole) ∙ ap (drop (n * size)) (sym is))
-            ∙ sym (get_or-chunks size input n [] some (omega arith));
-        flag = sym ((Decides-eqb (n + 1) (length (chunks size input))).1 (sym many));
-      },
-      many,
-    )
 
 -- what was read so far, and what was read now: whole chunks, and what stands in the buffer
 so_far : (past before read got rest : List ℕ) (bytes : List ℕ) → bytes ≡ past ++ before → got ≡ before ++ read
@@ -80,32 +23,59 @@ so_far past before read got rest bytes was now =
     ∙ append_assoc past (before ++ read) rest
     ∙ ap (λ (l : List ℕ). past ++ (l ++ rest)) (sym now)
 
+-- nothing but what was read so far counts: at an end what is left is nothing
+pub with_rest : (P : List ℕ → Type 0) (left left' : Option (List ℕ)) (bytes : List ℕ) → Consumes left left' bytes
+    → ((rest : List ℕ) → left' ≡ Some rest → P (bytes ++ rest)) → IfSome left P
+with_rest P None left' bytes consumed f = tt
+with_rest P (Some input) None bytes consumed f = absurd consumed
+with_rest P (Some input) (Some rest) bytes consumed f = subst P (sym consumed) (f rest refl)
+
+no_rest : (left : Option (List ℕ)) (rest : List ℕ) → IsAtEnd left → left ≡ Some rest → rest ≡ []
+no_rest None rest end is = absurd (none_is rest is)
+  where
+    none_is : (rest : List ℕ) → None ≡ Some rest → ⊥
+    none_is rest e = cc
+no_rest (Some r) rest end is = same is end
+  where
+    same : Some r ≡ Some rest → r ≡ [] → rest ≡ []
+    same e empty = let s : r ≡ rest = cc in sym s ∙ empty
+
+-- the limit isn't met
+pub over_read : (size limit n : ℕ) (left now after : Option (List ℕ)) (intake intake' : Intake) (read : List ℕ)
+    → HasRead size limit left now intake → intake.ended ≡ false → intake.over ≡ false → Consumes now after read
+    → n ≡ length (seen intake.ahead ++ read) → n + intake.total ≡ limit → n ≤ size + 1
+    → intake'.over ≡ true → intake'.ended ≡ false → intake'.total ≡ intake.total → intake'.chunks ≡ intake.chunks
+    → HasRead size limit left after intake'
+over_read size limit n left now after intake intake' read had going unmet more counts full few over still total counted =
+    let g = (had.going going unmet).0 in
+    let sum = had.sum going in
+    let whole = g.whole in
+    let long : length (had.bytes ++ read) ≡ limit =
+    length-append had.bytes read ∙ ap (λ (k : ℕ). k + length read) (ap (λ (l : List ℕ). length l) g.read ∙ length-append g.past (seen intake.ahead))
+    ∙ (let c = length-append (seen intake.ahead) read in omega arith) in
+    let product : intake'.chunks * size ≡ intake.chunks * size = ap (λ (k : ℕ). k * size) counted in
+    record {
+      bytes = had.bytes ++ read;
+      consumed = Consumes-trans left now after had.bytes read had.consumed more;
+      bound = omega arith;
+      sum = λ _. omega arith;
+      going = λ _ shut. absurd (not_both _ over shut);
+      end = λ ended. absurd (not_both _ ended still);
+      over = λ _. (long, omega arith);
+    }
+
 -- a buffer that is full
 whole_buffer : (size n : ℕ) (buffer got : List ℕ) → length buffer ≡ size + 1 → size < n → take n buffer ≡ got → buffer ≡ got
 whole_buffer size n buffer got long full is = sym (take_all n buffer (omega arith)) ∙ is
 
-pub full_chunk : (size n : ℕ) (left now after : Option (List ℕ)) (intake : Intake) (buffer read : List ℕ) → 0 < size
-    → HasRead size left now intake → intake.ended ≡ false → Consumes now after read
-    → take n buffer ≡ seen intake.ahead ++ read → length buffer ≡ size + 1 → size < n
-    → IfSome left (λ input. IsChunk size input intake.chunks intake.ended (take size buffer))
-full_chunk size n None now after intake buffer read some had going more text long full = tt
-full_chunk size n (Some input) now None intake buffer read some had going more text long full =
-    absurd (Consumes-trans (Some input) now None had.bytes read had.consumed more)
-full_chunk size n (Some input) now (Some rest) intake buffer read some had going more text long full =
-    let g = had.going going in
-    let is : input ≡ (had.bytes ++ read) ++ rest = Consumes-trans (Some input) now (Some rest) had.bytes read had.consumed more in
-    subst (λ (last : Bool). IsChunk size input intake.chunks last (take size buffer)) (sym going)
-    (chunk_full size input g.past buffer rest intake.chunks some
-    (is ∙ so_far g.past (seen intake.ahead) read buffer rest had.bytes g.read (whole_buffer size n buffer _ long full text))
-    g.whole (omega arith))
-
-pub full_read : (size n : ℕ) (left now after : Option (List ℕ)) (intake intake' : Intake) (buffer read : List ℕ)
-    → HasRead size left now intake → intake.ended ≡ false → Consumes now after read
-    → take n buffer ≡ seen intake.ahead ++ read → length buffer ≡ size + 1 → size < n
+pub full_read : (size limit n : ℕ) (left now after : Option (List ℕ)) (intake intake' : Intake) (buffer read : List ℕ)
+    → HasRead size limit left now intake → intake.ended ≡ false → intake.over ≡ false → Consumes now after read
+    → take n buffer ≡ seen intake.ahead ++ read → length buffer ≡ size + 1 → size < n → intake.total + size + 1 < limit
     → intake'.chunks ≡ intake.chunks + 1 → intake'.ahead ≡ Some (get_or buffer size 0) → intake'.ended ≡ false
-    → HasRead size left after intake'
-full_read size n left now after intake intake' buffer read had going more text long full counted ahead still =
-    let g = had.going going in
+    → intake'.over ≡ false → intake'.total ≡ intake.total + size
+    → HasRead size limit left after intake'
+full_read size limit n left now after intake intake' buffer read had going unmet more text long full within counted ahead still shut total =
+    let g = (had.going going unmet).0 in
     let one : seen intake'.ahead ≡ get_or buffer size 0 ∷ [] = ap seen ahead in
     let all : buffer ≡ take size buffer ++ seen intake'.ahead =
     sym (take_all (suc size) buffer (omega arith)) ∙ take-suc buffer size 0 (omega arith) ∙ ap (λ (l : List ℕ). take size buffer ++ l) (sym one) in
@@ -113,60 +83,130 @@ full_read size n left now after intake intake' buffer read had going more text l
     let grown = length-append g.past (take size buffer) in
     let product : (intake.chunks + 1) * size ≡ intake.chunks * size + size = grind arith in
     let product' : intake'.chunks * size ≡ (intake.chunks + 1) * size = ap (λ (k : ℕ). k * size) counted in
+    let is : had.bytes ++ read ≡ g.past ++ buffer =
+    sym (append-nil (had.bytes ++ read)) ∙ so_far g.past (seen intake.ahead) read buffer [] had.bytes g.read (whole_buffer size n buffer _ long full text)
+    ∙ ap (λ (l : List ℕ). g.past ++ l) (append-nil buffer) in
+    let count : length (had.bytes ++ read) ≡ length g.past + length buffer = ap (λ (l : List ℕ). length l) is ∙ length-append g.past buffer in
+    let whole = g.whole in
+    let sum = had.sum going in
     record {
       bytes = had.bytes ++ read;
       consumed = Consumes-trans left now after had.bytes read had.consumed more;
-      going = λ _. record {
-        past = g.past ++ take size buffer;
-        read = sym (append-nil (had.bytes ++ read))
-            ∙ so_far g.past (seen intake.ahead) read buffer [] had.bytes g.read (whole_buffer size n buffer _ long full text)
-            ∙ ap (λ (l : List ℕ). g.past ++ l) (append-nil buffer ∙ all)
-            ∙ sym (append_assoc g.past (take size buffer) (seen intake'.ahead));
-        whole = omega arith;
-        first = λ none_yet. absurd (omega arith);
-        behind = λ _. ap (λ (l : List ℕ). length l) one;
-      };
+      bound = omega arith;
+      sum = λ _. omega arith;
+      going = λ _ _. (
+        record {
+          past = g.past ++ take size buffer;
+          read = is ∙ ap (λ (l : List ℕ). g.past ++ l) all ∙ sym (append_assoc g.past (take size buffer) (seen intake'.ahead));
+          whole = omega arith;
+          first = λ none_yet. absurd (omega arith);
+          behind = λ _. ap (λ (l : List ℕ). length l) one;
+        },
+        omega arith,
+      );
       end = λ over. absurd (not_both _ over still);
-      all = λ over. absurd (not_both _ over still);
+      over = λ over. absurd (not_both _ over shut);
     }
 
-pub end_chunk : (size n : ℕ) (left now after : Option (List ℕ)) (intake : Intake) (buffer read : List ℕ) → 0 < size
-    → HasRead size left now intake → intake.ended ≡ false → Consumes now after read → IsAtEnd after
-    → take n buffer ≡ seen intake.ahead ++ read → n ≤ size → n ≤ length buffer
-    → IfSome left (λ input. IsChunk size input intake.chunks true (take n buffer))
-end_chunk size n None now after intake buffer read some had going more over text few within = tt
-end_chunk size n (Some input) now None intake buffer read some had going more over text few within =
-    absurd (Consumes-trans (Some input) now None had.bytes read had.consumed more)
-end_chunk size n (Some input) now (Some rest) intake buffer read some had going more over text few within =
-    let g = had.going going in
-    let is : input ≡ (had.bytes ++ read) ++ rest = Consumes-trans (Some input) now (Some rest) had.bytes read had.consumed more in
-    let none_left : input ≡ g.past ++ take n buffer =
-    is ∙ so_far g.past (seen intake.ahead) read (take n buffer) rest had.bytes g.read text
-    ∙ ap (λ (l : List ℕ). g.past ++ (take n buffer ++ l)) over ∙ ap (λ (l : List ℕ). g.past ++ l) (append-nil (take n buffer)) in
-    let cut : length (take n buffer) ≡ n = length-take-le n buffer within in
-    (chunk_end size input g.past (take n buffer) intake.chunks some none_left g.whole (omega arith)
-    (λ later. let one = g.behind later in let long = ap (λ (l : List ℕ). length l) text ∙ length-append (seen intake.ahead) read in omega arith)).0
+pub full_chunk : (size limit n : ℕ) (left now after : Option (List ℕ)) (intake : Intake) (buffer read : List ℕ)
+    → HasRead size limit left now intake → intake.ended ≡ false → intake.over ≡ false → Consumes now after read
+    → take n buffer ≡ seen intake.ahead ++ read → length buffer ≡ size + 1 → size < n → 0 < size
+    → IsChunk size left intake.chunks false (take size buffer)
+full_chunk size limit n left now after intake buffer read had going unmet more text long full some =
+    let g = (had.going going unmet).0 in
+    let cut : length (take size buffer) ≡ size = length-take-le size buffer (omega arith) in
+    let all : buffer ≡ take size buffer ++ get_or buffer size 0 ∷ [] = sym (take_all (suc size) buffer (omega arith)) ∙ take-suc buffer size 0 (omega arith) in
+    record {
+      few = omega arith;
+      full = λ _. cut;
+      some = λ _. omega arith;
+      of = with_rest _ left after (had.bytes ++ read) (Consumes-trans left now after had.bytes read had.consumed more)
+          (λ rest _. record {
+            before = g.past;
+            after = get_or buffer size 0 ∷ rest;
+            is = so_far g.past (seen intake.ahead) read buffer rest had.bytes g.read (whole_buffer size n buffer _ long full text)
+                ∙ ap (λ (l : List ℕ). g.past ++ (l ++ rest)) all ∙ ap (λ (l : List ℕ). g.past ++ l) (append_assoc (take size buffer) (get_or buffer size 0 ∷ []) rest);
+            behind = g.whole;
+            more = λ _. omega arith;
+            end = λ e. cc;
+          });
+    }
 
-pub end_read : (size n : ℕ) (left now after : Option (List ℕ)) (intake intake' : Intake) (buffer read : List ℕ) → 0 < size
-    → HasRead size left now intake → intake.ended ≡ false → Consumes now after read → IsAtEnd after
-    → take n buffer ≡ seen intake.ahead ++ read → n ≤ size → n ≤ length buffer
-    → intake.total ≡ intake.chunks * size → intake'.chunks ≡ intake.chunks + 1 → intake'.ended ≡ true
-    → intake'.total ≡ intake.total + n
-    → HasRead size left after intake'
-end_read size n left now after intake intake' buffer read some had going more over text few within sum counted ended total =
-    let g = had.going going in
+pub end_read : (size limit n : ℕ) (left now after : Option (List ℕ)) (intake intake' : Intake) (buffer read : List ℕ)
+    → HasRead size limit left now intake → intake.ended ≡ false → intake.over ≡ false → Consumes now after read → IsAtEnd after
+    → take n buffer ≡ seen intake.ahead ++ read → n ≤ length buffer → intake.total + n < limit
+    → intake'.ended ≡ true → intake'.over ≡ false → intake'.total ≡ intake.total + n
+    → HasRead size limit left after intake'
+end_read size limit n left now after intake intake' buffer read had going unmet more over text within below ended shut total =
+    let g = (had.going going unmet).0 in
     let all : had.bytes ++ read ≡ g.past ++ take n buffer =
     sym (append-nil (had.bytes ++ read)) ∙ so_far g.past (seen intake.ahead) read (take n buffer) [] had.bytes g.read text
     ∙ ap (λ (l : List ℕ). g.past ++ l) (append-nil (take n buffer)) in
     let cut : length (take n buffer) ≡ n = length-take-le n buffer within in
     let long : length (had.bytes ++ read) ≡ length g.past + n = ap (λ (l : List ℕ). length l) all ∙ length-append g.past (take n buffer) ∙ ap (λ (k : ℕ). length g.past + k) cut in
-    let cutting = chunk_end size (had.bytes ++ read) g.past (take n buffer) intake.chunks some all g.whole (omega arith)
-    (λ later. let one = g.behind later in let e = ap (λ (l : List ℕ). length l) text ∙ length-append (seen intake.ahead) read in omega arith) in
     let whole = g.whole in
+    let sum = had.sum going in
     record {
       bytes = had.bytes ++ read;
       consumed = Consumes-trans left now after had.bytes read had.consumed more;
-      going = λ still. absurd (not_both _ ended still);
-      end = λ _. over;
-      all = λ _. (counted ∙ sym cutting.1, omega arith);
+      bound = omega arith;
+      sum = λ still. absurd (not_both _ ended still);
+      going = λ still _. absurd (not_both _ ended still);
+      end = λ _. (over, omega arith, omega arith);
+      over = λ e. absurd (not_both _ e shut);
     }
+
+pub end_chunk : (size limit n : ℕ) (left now after : Option (List ℕ)) (intake : Intake) (buffer read : List ℕ)
+    → HasRead size limit left now intake → intake.ended ≡ false → intake.over ≡ false → Consumes now after read → IsAtEnd after
+    → take n buffer ≡ seen intake.ahead ++ read → n ≤ length buffer → n ≤ size
+    → IsChunk size left intake.chunks true (take n buffer)
+end_chunk size limit n left now after intake buffer read had going unmet more over text within few =
+    let g = (had.going going unmet).0 in
+    let cut : length (take n buffer) ≡ n = length-take-le n buffer within in
+    record {
+      few = omega arith;
+      full = λ e. cc;
+      some = λ later. let one = g.behind later in let long = ap (λ (l : List ℕ). length l) text ∙ length-append (seen intake.ahead) read in omega arith;
+      of = with_rest _ left after (had.bytes ++ read) (Consumes-trans left now after had.bytes read had.consumed more)
+          (λ rest is. record {
+            before = g.past;
+            after = rest;
+            is = so_far g.past (seen intake.ahead) read (take n buffer) rest had.bytes g.read text;
+            behind = g.whole;
+            more = λ e. cc;
+            end = λ _. no_rest after rest over is;
+          });
+    }
+
+-- a read that failed took no more than might be read
+pub lost_read : (size limit upto : ℕ) (left now after : Option (List ℕ)) (intake : Intake)
+    → HasRead size limit left now intake → intake.ended ≡ false → intake.over ≡ false
+    → upto + intake.total ≤ limit → ConsumesUpTo now after (upto - length (seen intake.ahead))
+    → ConsumesUpTo left after limit
+lost_read size limit upto left now after intake had going unmet few lost =
+    let g = (had.going going unmet).0 in
+    let within = (had.going going unmet).1 in
+    let whole = g.whole in
+    let sum = had.sum going in
+    let long : length had.bytes ≡ intake.chunks * size + length (seen intake.ahead) = ap (λ (l : List ℕ). length l) g.read ∙ length-append g.past (seen intake.ahead) ∙ omega arith in
+    let grown = length-append had.bytes lost.0 in
+    let some = lost.2 in
+    (had.bytes ++ lost.0, Consumes-trans left now after had.bytes lost.0 had.consumed lost.1, omega arith)
+
+-- how many chunks there may be
+pub few_chunks : (size limit : ℕ) (left left' : Option (List ℕ)) (intake : Intake) → 0 < size → limit ≤ 4294967295 * size + 1
+    → HasRead size limit left left' intake → intake.ended ≡ false → intake.over ≡ false
+    → (intake.chunks < 4294967295) × (intake.total < limit)
+few_chunks size limit left left' intake some most had going unmet =
+    let g = (had.going going unmet).0 in
+    let within = (had.going going unmet).1 in
+    let whole = g.whole in
+    let sum = had.sum going in
+    let long : length had.bytes ≡ intake.chunks * size + length (seen intake.ahead) = ap (λ (l : List ℕ). length l) g.read ∙ length-append g.past (seen intake.ahead) ∙ omega arith in
+    (below intake.chunks (omega arith) g.behind, omega arith)
+  where
+    below : (n : ℕ) → n * size + length (seen intake.ahead) < limit → (0 < n → length (seen intake.ahead) ≡ 1) → n < 4294967295
+    below zero less behind = omega arith
+    below (suc n) less behind =
+        let one = behind (omega arith) in
+        lt_of_mul-lt-mul_right size (omega arith)

@@ -1,6 +1,7 @@
 pub mod ChunkLemmas
-pub mod FeedLemmas
 pub mod IntakeLemmas
 pub mod Moves
 pub mod Orders
+pub mod RoundLemmas
+pub mod StreamLemmas
 pub mod Sums

@@ -1,13 +1,15 @@
 -- Pieces on their places.
-use Rattle.std.proofs.Common.{◌≡◌, ◌≢◌, ◌⊎◌, ℕ, zero, suc, ◌+◌, ◌-◌, ◌<◌, ◌≤◌, Bool, true, false, cond, nat_lt, List, [], ◌∷◌, ◌++◌, length, get_or, set, Option, Some, None, refl, sym, ap, ◌∙◌, subst, inl, inr, arith, ltb-true, eqb, Result, Ok, Err, OnOk, is_err, ltb-false, append-nil, eq-eqb}
+use Rattle.std.proofs.Common.{◌≡◌, ◌≢◌, ◌⊎◌, ℕ, zero, suc, ◌+◌, ◌-◌, ◌<◌, ◌≤◌, Bool, true, false, cond, nat_lt, List, [], ◌∷◌, ◌++◌, length, get_or, set, Option, Some, None, refl, sym, ap, ◌∙◌, subst, inl, inr, arith, ltb-true, eqb, Result, Ok, Err, OnOk, is_err, ltb-false, append-nil, append_assoc, eq-eqb}
 use Rattle.std.proofs.Common.{length-append}
 use Rattle.std.proofs.lemmas.List.{length-set}
 use Rattle.std.proofs.lemmas.Bool.{cases_eq}
 use Rattle.pipe_core.specs.declared.early.Early.{Early}
 use Rattle.pipe_core.specs.declared.piece.Piece.{Piece}
-use Rattle.pipe_core.specs.Pieces.{IsPiece}
-use Rattle.pipe_core.specs.Order.{placed, AreKept, below, HasSeen, IsOrdered, IsSeen}
-use Rattle.pipe_core.specs.Hands.{times, hand, both, HasRelayed, HasAll, EachOnce, Balanced}
+use Rattle.pipe_core.specs.declared.piece.Task.{Task}
+use Rattle.pipe_core.specs.Pieces.{IsPiece, task_numbers}
+use Rattle.pipe_core.specs.Round.{AreJobs}
+use Rattle.pipe_core.specs.Order.{placed, empty, AreKept, below, HasSeen, IsOrdered, IsSeen}
+use Rattle.pipe_core.specs.Hands.{times, hand, all_numbers, both, HasRelayed, HasAll, EachOnce, Balanced}
 use Rattle.pipe_core.specs.declared.line.Hand.{Hand}
 use Rattle.pipe_core.proofs.Sums.{times_append}
 use Rattle.std.proofs.lemmas.Option.{none-some, same_Some}
@@ -40,23 +42,8 @@ first_kept key header told w rest p kept = let k = kept 0 p refl in (omega arith
 pub rest_kept : (key header : List ℕ) (told : Option (List ℕ)) (w : ℕ) (rest : List (Option Piece)) (p : Piece) → AreKept key header told w (Some p ∷ rest) → AreKept key header told (w + 1) rest
 rest_kept key header told w rest p kept k q e = let r = kept (suc k) q e in (omega arith, r.1)
 
-pub open_kept : (key header : List ℕ) (told : Option (List ℕ)) (w : ℕ) (places : List (Option Piece)) → AreKept key header told w places → AreKept key header told w (places ++ None ∷ [])
-open_kept key header told w places kept k q e = kept k q (was places k q e)
-  where
-    was : (l : List (Option Piece)) (k : ℕ) (q : Piece) → get_or (l ++ None ∷ []) k None ≡ Some q → get_or l k None ≡ Some q
-    was [] zero q e = e
-    was [] (suc k) q e = e
-    was (x ∷ xs) zero q e = e
-    was (x ∷ xs) (suc k) q e = was xs k q e
-
 pub none_kept : (key header : List ℕ) (told : Option (List ℕ)) (w : ℕ) → AreKept key header told w []
 none_kept key header told w k q e = absurd (none-some q e)
-
-pub below_more : (xs ys : List ℕ) (r m n : ℕ) → xs ≡ below m → r ≡ m → n ≡ m + 1 → ys ≡ xs ++ r ∷ [] → ys ≡ below n
-below_more xs ys r m n is at next e = let k : suc m ≡ n = omega arith in e ∙ (λ i. is i ++ at i ∷ []) ∙ ap below k
-
-pub open_kept_as : (key header : List ℕ) (told : Option (List ℕ)) (w v : ℕ) (xs ys : List (Option Piece)) → ys ≡ xs ++ None ∷ [] → v ≡ w → AreKept key header told w xs → AreKept key header told v ys
-open_kept_as key header told w v xs ys e f kept = rw (e, f) (open_kept key header told w xs kept)
 
 pub seen_none : (a b : List ℕ) → HasSeen 0 [] a b
 seen_none a b = record { behind = λ x low. absurd (omega arith); kept = λ k p e. absurd (none-some p e) }
@@ -107,9 +94,6 @@ seen_mine w v xs ys p a a' b b' e f i j h =
     let r = seen_placed w xs p (a ++ p.number ∷ []) (b ++ []) m (omega arith) in
     rw (e, f, i, j, sym (append-nil b)) r
 
-pub seen_same : (w v : ℕ) (xs ys : List (Option Piece)) (a a' b b' : List ℕ) → ys ≡ xs → v ≡ w → a' ≡ a → b' ≡ b → HasSeen w xs a b → HasSeen v ys a' b'
-seen_same w v xs ys a a' b b' e f i j h = rw (e, f, i, j) h
-
 -- the first place was written
 pub seen_next : (w v : ℕ) (xs ys : List (Option Piece)) (p : Piece) (a b : List ℕ) → xs ≡ Some p ∷ ys → v ≡ w + 1 → p.number ≡ w → HasSeen w xs a b → HasSeen v ys a b
 seen_next w v xs ys p a b e f n h = record { behind = λ x low. behind x low (cases_eq x w); kept = λ k q at. (subst (λ (l : List (Option Piece)). HasSeen w l a b) e h).kept (suc k) q at }
@@ -117,16 +101,6 @@ seen_next w v xs ys p a b e f n h = record { behind = λ x low. behind x low (ca
     behind : (x : ℕ) → x < v → (x ≡ w) ⊎ (x ≢ w) → 0 < times x a + times x b
     behind x low (inl same) = subst (λ (y : ℕ). 0 < times y a + times y b) (n ∙ sym same) ((subst (λ (l : List (Option Piece)). HasSeen w l a b) e h).kept 0 p refl)
     behind x low (inr other) = h.behind x (omega arith)
-
--- a place was opened
-pub seen_open : (w v : ℕ) (xs ys : List (Option Piece)) (a b : List ℕ) → ys ≡ xs ++ None ∷ [] → v ≡ w → HasSeen w xs a b → HasSeen v ys a b
-seen_open w v xs ys a b e f h = rw (e, f) record { behind = h.behind; kept = λ k q at. h.kept k q (was xs k q at) }
-  where
-    was : (l : List (Option Piece)) (k : ℕ) (q : Piece) → get_or (l ++ None ∷ []) k None ≡ Some q → get_or l k None ≡ Some q
-    was [] zero q e = e
-    was [] (suc k) q e = e
-    was (x ∷ xs) zero q e = e
-    was (x ∷ xs) (suc k) q e = was xs k q e
 
 pub times_below : (x n : ℕ) → times x (below n) ≡ cond {A = ℕ} (nat_lt x n) 1 0
 times_below x zero = grind (arith)
@@ -184,16 +158,9 @@ each_once n f g j p xs ys h b c = record {
         let e = c x in
         (omega arith, omega arith)
 
-pub on_both : {A E : Type 0} (r : Result A E) {P Q R : Type 0} → OnOk r P → OnOk r Q → (P → Q → R) → OnOk r R
-on_both (Ok x) p q f = f p q
-on_both (Err x) p q f = tt
-
 pub on_one : {A E : Type 0} (r : Result A E) {P R : Type 0} → OnOk r P → (P → R) → OnOk r R
 on_one (Ok x) p f = f p
 on_one (Err x) p f = tt
-
-pub on_if : {A E : Type 0} {P R : Type 0} → (P → R) → (r : Result A E) → OnOk r P → OnOk r R
-on_if f r p = on_one r p f
 
 -- as the hands are after an absorb
 pub all_joined : (n : ℕ) (j p i q j' p' : Hand) → HasRelayed 1 i q → j' ≡ both j i → p' ≡ both p q → HasAll n j p → HasAll n j' p'
@@ -251,18 +218,80 @@ order_mine key header told chunks old new jobs jobs' pieces p e f g good was = r
   seen = seen_mine old.written new.written old.places.items new.places.items p jobs.taken jobs'.taken pieces.taken pieces.taken e f (ap (λ v. v.taken) g) refl was.seen;
 }
 
--- one more chunk was read, and put as a job
-pub order_open : (key header : List ℕ) (told : Option (List ℕ)) (chunks chunks' : ℕ) (old new : Early) (jobs jobs' pieces : Hand)
-    → new.places.items ≡ old.places.items ++ None ∷ [] → new.written ≡ old.written
-    → jobs' ≡ hand jobs.parts (jobs.put ++ chunks ∷ []) jobs.taken → chunks' ≡ chunks + 1
-    → IsOrdered key header told chunks old jobs pieces → IsOrdered key header told chunks' new jobs' pieces
-order_open key header told chunks chunks' old new jobs jobs' pieces e f g next was = record {
-  put = below_more jobs.put jobs'.put chunks chunks chunks' was.put refl next (ap (λ v. v.put) g);
+-- the jobs of the round in hand were put
+get_empty : (l : List (Option Piece)) (n k : ℕ) (q : Piece) → get_or (l ++ empty n) k None ≡ Some q → get_or l k None ≡ Some q
+get_empty [] zero k q e = e
+get_empty [] (suc n) zero q e = e
+get_empty [] (suc n) (suc k) q e = get_empty [] n k q e
+get_empty (x ∷ xs) n zero q e = e
+get_empty (x ∷ xs) n (suc k) q e = get_empty xs n k q e
+
+length_empty : (n : ℕ) → length (empty n) ≡ n
+length_empty zero = refl
+length_empty (suc n) = ap suc (length_empty n)
+
+pub length_opened : (xs ys : List (Option Piece)) (n : ℕ) → ys ≡ xs ++ empty n → length ys ≡ length xs + n
+length_opened xs ys n e = let a = ap (λ (l : List (Option Piece)). length l) e ∙ length-append xs (empty n) in let b = length_empty n in omega arith
+
+pub below_jobs : (header : List ℕ) (told : Option (List ℕ)) (put : ℕ) (ts : List Task) → AreJobs header told put ts
+    → below put ++ all_numbers task_numbers ts ≡ below (put + length ts)
+below_jobs header told put [] jobs = let none_more : put ≡ put + 0 = omega arith in append-nil (below put) ∙ ap below none_more
+below_jobs header told put (t ∷ ts) jobs =
+    let one : suc put ≡ put + 1 = omega arith in
+    let all : put + 1 + length ts ≡ put + length (t ∷ ts) = omega arith in
+    ap (λ (ns : List ℕ). below put ++ (ns ++ all_numbers task_numbers ts)) jobs.1
+    ∙ sym (append_assoc (below put) (put ∷ []) (all_numbers task_numbers ts))
+    ∙ ap (λ (ns : List ℕ). ns ++ all_numbers task_numbers ts) (ap below one)
+    ∙ below_jobs header told (put + 1) ts jobs.2
+    ∙ ap below all
+
+pub order_all : (key header : List ℕ) (told : Option (List ℕ)) (put : ℕ) (old new : Early) (jobs jobs' pieces : Hand) (ts : List Task)
+    → AreJobs header told put ts → new.places.items ≡ old.places.items ++ empty (length ts) → new.written ≡ old.written
+    → jobs' ≡ hand jobs.parts (jobs.put ++ all_numbers task_numbers ts) jobs.taken
+    → IsOrdered key header told put old jobs pieces → IsOrdered key header told (put + length ts) new jobs' pieces
+order_all key header told put old new jobs jobs' pieces ts all e f g was = record {
+  put = ap (λ v. v.put) g ∙ ap (λ (ns : List ℕ). ns ++ all_numbers task_numbers ts) was.put ∙ below_jobs header told put ts all;
   silent = was.silent;
-  count = let n = was.count in let l = ap (λ (xs : List (Option Piece)). length xs) e ∙ length-append old.places.items (None ∷ []) in omega arith;
-  kept = open_kept_as key header told old.written new.written old.places.items new.places.items e f was.kept;
-  seen = seen_open old.written new.written old.places.items new.places.items jobs'.taken pieces.taken e f
-      (seen_same old.written old.written old.places.items old.places.items jobs.taken jobs'.taken pieces.taken pieces.taken refl refl (ap (λ v. v.taken) g) refl was.seen);
+  count = let n = was.count in let l = ap (λ (xs : List (Option Piece)). length xs) e ∙ length-append old.places.items (empty (length ts)) in let m = length_empty (length ts) in omega arith;
+  kept = rw (e, f) (λ k q at. was.kept k q (get_empty old.places.items (length ts) k q at));
+  seen = rw (e, f) (record {
+    behind = λ x low. seen_as (ap (λ v. v.taken) g) x (was.seen.behind x low);
+    kept = λ k q at. seen_as (ap (λ v. v.taken) g) q.number (was.seen.kept k q (get_empty old.places.items (length ts) k q at));
+  });
+}
+  where
+    seen_as : jobs'.taken ≡ jobs.taken → (x : ℕ) → 0 < times x jobs.taken + times x pieces.taken → 0 < times x jobs'.taken + times x pieces.taken
+    seen_as same x some = let t = ap (times x) same in omega arith
+
+-- one of them was put
+pub put_step : (put put' all : List ℕ) (t : Task) (ts rest : List Task) → ts ≡ t ∷ rest → put' ≡ put ++ task_numbers t
+    → put ++ all_numbers task_numbers ts ≡ all → put' ++ all_numbers task_numbers rest ≡ all
+put_step put put' all t ts rest e f was =
+    ap (λ (ns : List ℕ). ns ++ all_numbers task_numbers rest) f
+    ∙ append_assoc put (task_numbers t) (all_numbers task_numbers rest)
+    ∙ ap (λ (l : List Task). put ++ all_numbers task_numbers l) (sym e) ∙ was
+
+pub place_step : (xs xs' all : List (Option Piece)) (t : Task) (ts rest : List Task) → ts ≡ t ∷ rest → xs' ≡ xs ++ None ∷ []
+    → xs ++ empty (length ts) ≡ all → xs' ++ empty (length rest) ≡ all
+place_step xs xs' all t ts rest e f was =
+    ap (λ (l : List (Option Piece)). l ++ empty (length rest)) f
+    ∙ append_assoc xs (None ∷ []) (empty (length rest))
+    ∙ ap (λ (l : List Task). xs ++ empty (length l)) (sym e) ∙ was
+
+pub none_left : (ts : List Task) → length ts ≡ 0 → ts ≡ []
+none_left [] none = refl
+none_left (t ∷ ts) none = absurd (omega arith)
+
+-- the places are the same
+pub order_same : (key header : List ℕ) (told : Option (List ℕ)) (put : ℕ) (early early' : Early) (jobs pieces : Hand)
+    → early'.places ≡ early.places → early'.written ≡ early.written
+    → IsOrdered key header told put early jobs pieces → IsOrdered key header told put early' jobs pieces
+order_same key header told put early early' jobs pieces e f was = record {
+  put = was.put;
+  silent = was.silent;
+  count = let n = was.count in let l = ap (λ v. length v.items) e in omega arith;
+  kept = rw (e, f) was.kept;
+  seen = rw (e, f) was.seen;
 }
 
 -- nothing was read yet

@@ -19,9 +19,6 @@ total_at f [] i v e = absurd (some-ne-none v (sym e))
 total_at f (x ∷ xs) zero v e = let is = ap f (some-injective x v e) in omega arith
 total_at f (x ∷ xs) (suc i) v e = let is = total_at f xs i v e in omega arith
 
-pub All_at : (Hand → Type 0) → List Hand → Type 0
-All_at F views = (i : ℕ) (v : Hand) → get_elem? views i ≡ some v → F v
-
 -- f is nothing of each hand without a worker
 pub none_idle : (f : Hand → ℕ) (views : List Hand) → ((i : ℕ) (v : Hand) → get_elem? views i ≡ some v → v.parts ≡ 0 → f v ≡ 0) → total (λ v. v.parts) views ≡ 0 → total f views ≡ 0
 none_idle f [] idle none = refl

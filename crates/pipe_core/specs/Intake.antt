@@ -1,6 +1,5 @@
 -- What the caller's thread has read of the input.
-use Rattle.std.specs.Prelude.{◌≡◌, ℕ, ◌*◌, ◌<◌, true, false, List, [], ◌∷◌, ◌++◌, length, Option, Some, None}
-use Rattle.container_core.specs.Chunks.{chunks}
+use Rattle.std.specs.Prelude.{◌≡◌, ℕ, ◌+◌, ◌*◌, ◌<◌, ◌≤◌, true, false, List, [], ◌∷◌, ◌++◌, length, Option, Some, None}
 use Rattle.io_core.specs.Streams.{Consumes, IsAtEnd}
 use Rattle.pipe_core.specs.declared.intake.Intake.{Intake}
 
@@ -17,10 +16,13 @@ pub record IsGoing (size : ℕ) (intake : Intake) (bytes : List ℕ) : Type 0 wh
   pub first : intake.chunks ≡ 0 → intake.ahead ≡ None
   pub behind : 0 < intake.chunks → length (seen intake.ahead) ≡ 1
 
--- of what the reader had at first so much was read
-pub record HasRead (size : ℕ) (left left' : Option (List ℕ)) (intake : Intake) : Type 0 where
+-- of what the reader had at first so much was read: fewer bytes than the limit while it goes on, or all of them; or as
+-- many, and it is too long
+pub record HasRead (size limit : ℕ) (left left' : Option (List ℕ)) (intake : Intake) : Type 0 where
   pub bytes : List ℕ
   pub consumed : Consumes left left' bytes
-  pub going : intake.ended ≡ false → IsGoing size intake bytes
-  pub end : intake.ended ≡ true → IsAtEnd left'
-  pub all : intake.ended ≡ true → (intake.chunks ≡ length (chunks size bytes)) × (intake.total ≡ length bytes)
+  pub bound : length bytes ≤ limit
+  pub sum : intake.ended ≡ false → intake.total ≡ intake.chunks * size
+  pub going : intake.ended ≡ false → intake.over ≡ false → IsGoing size intake bytes × (length bytes < limit)
+  pub end : intake.ended ≡ true → IsAtEnd left' × (intake.total ≡ length bytes) × (length bytes < limit)
+  pub over : intake.over ≡ true → (length bytes ≡ limit) × (limit ≤ intake.total + size + 1)

@@ -1,9 +1,9 @@
 -- Pieces on their places, and what is written.
-use Rattle.std.specs.Prelude.{◌≡◌, ℕ, zero, suc, ◌+◌, ◌-◌, ◌<◌, List, [], ◌∷◌, ◌++◌, Option, Some, None, slice_index_or, slice_set}
-use Rattle.std.specs.Prelude.{nat_lt, if◌then◌else◌, drop, IfSome, length}
+use Rattle.std.specs.Prelude.{◌≡◌, ℕ, zero, suc, ◌+◌, ◌-◌, ◌*◌, ◌<◌, List, [], ◌∷◌, ◌++◌, Option, Some, None, slice_index_or, slice_set}
+use Rattle.std.specs.Prelude.{nat_lt, if◌then◌else◌, false, IfSome, length}
 use Rattle.container_core.specs.Chunks.{chunks}
 use Rattle.container_core.specs.Container.{size_in}
-use Rattle.container_core.specs.Stream.{stream}
+use Rattle.container_core.specs.Stream.{stream, stream_by}
 use Rattle.io_core.specs.Streams.{Appends, AppendsFront}
 use Rattle.pipe_core.specs.declared.early.Early.{Early}
 use Rattle.pipe_core.specs.declared.line.Hand.{Hand}
@@ -15,23 +15,45 @@ use Rattle.pipe_core.specs.Hands.{times}
 abbrev pub placed : ℕ → List (Option Piece) → Piece → List (Option Piece)
 placed written places p = if nat_lt p.number written then places else slice_set places (p.number - written) (Some p)
 
+-- so many places with no piece
+abbrev pub empty : ℕ → List (Option Piece)
+empty zero = []
+empty (suc n) = None ∷ empty n
+
 -- each piece stands on its place, and is of the input
 abbrev pub AreKept : List ℕ → List ℕ → Option (List ℕ) → ℕ → List (Option Piece) → Type 0
 AreKept key header told written places = (k : ℕ) (p : Piece) → slice_index_or places k None ≡ Some p
     → (p.number ≡ written + k) × IsPiece key header told p
 
--- a stream under this header: what stands behind a container's header
-abbrev pub whole : List ℕ → List ℕ → List ℕ → List ℕ
-whole key header input = header ++ stream key header 0 (chunks (size_in header) input)
+-- what is written once these bytes are sealed in full chunks, none of which is the last: nothing before the first
+abbrev pub chunks_so_far : List ℕ → List ℕ → List ℕ → List ℕ → List ℕ
+chunks_so_far front key header [] = []
+chunks_so_far front key header (byte ∷ bytes) = front ++ stream_by key header 0 false (chunks (size_in header) (byte ∷ bytes))
 
--- the header and the first so many pieces were written: what is left makes the whole
-abbrev pub AreWritten : List ℕ → List ℕ → Option (List ℕ) → Option (List ℕ) → Option (List ℕ) → ℕ → Type 0
-AreWritten key header told taken taken' written = IfSome told (λ input. (out : List ℕ) × Appends taken taken' out
-    × (out ++ stream key header written (drop written (chunks (size_in header) input)) ≡ whole key header input))
+-- STREAM of an input's chunks, behind what stands before it
+abbrev pub behind : List ℕ → List ℕ → List ℕ → List ℕ → List ℕ
+behind front key header input = front ++ stream key header 0 (chunks (size_in header) input)
 
--- a beginning of the whole was written
-abbrev pub HasBegun : List ℕ → List ℕ → Option (List ℕ) → Option (List ℕ) → Option (List ℕ) → Type 0
-HasBegun key header told taken taken' = IfSome told (λ input. AppendsFront taken taken' (whole key header input))
+-- what stands before a chunk of this number
+abbrev pub front_at : List ℕ → ℕ → List ℕ
+front_at front zero = front
+front_at front (suc number) = []
+
+-- the input begins so, and goes on behind the chunks
+abbrev pub Follows : List ℕ → List ℕ → Type 0
+Follows past input = (rest : List ℕ) × (input ≡ past ++ rest) × (0 < length past → 0 < length rest)
+
+-- the first so many full chunks were written, and what stands before them
+pub record AreWritten (front key header : List ℕ) (told taken taken' : Option (List ℕ)) (written : ℕ) : Type 0 where
+  pub past : List ℕ
+  pub long : length past ≡ written * size_in header
+  pub of : IfSome told (Follows past)
+  pub grown : Appends taken taken' (chunks_so_far front key header past)
+
+-- a beginning was written of all that is written of the input, or where it isn't told of some plaintext
+abbrev pub HasBegun : List ℕ → List ℕ → List ℕ → Option (List ℕ) → Option (List ℕ) → Option (List ℕ) → Type 0
+HasBegun front key header told taken taken' = (plain : List ℕ) × IfSome told (λ input. input ≡ plain)
+    × AppendsFront taken taken' (behind front key header plain)
 
 -- the numbers below n, in order
 abbrev pub below : ℕ → List ℕ
@@ -48,7 +70,7 @@ pub record HasSeen (written : ℕ) (places : List (Option Piece)) (mine back : L
   pub kept : (k : ℕ) (p : Piece) → slice_index_or places k None ≡ Some p
       → 0 < times p.number mine + times p.number back
 
--- so many chunks were read, each was put once as a job, and each that isn't written yet has its place
+-- so many full chunks were put once each as a job, and each that isn't written yet has its place
 pub record IsOrdered (key header : List ℕ) (told : Option (List ℕ)) (chunks : ℕ) (early : Early) (jobs pieces : Hand)
     : Type 0 where
   pub put : jobs.put ≡ below chunks

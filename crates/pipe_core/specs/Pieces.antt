@@ -1,45 +1,46 @@
 -- What a job and a piece are, by the input, where the reader tells it.
-use Rattle.std.specs.Prelude.{◌≡◌, ℕ, ◌+◌, ◌<◌, ◌≤◌, ◌==◌, Bool, List, [], ◌∷◌, length, take, slice_index_or, Option, IfSome, ⊤}
-use Rattle.container_core.specs.Chunks.{chunks}
+use Rattle.std.specs.Prelude.{◌≡◌, ℕ, ◌+◌, ◌*◌, ◌<◌, ◌≤◌, Bool, true, false, List, [], ◌∷◌, ◌++◌, length, take, Option, IfSome, ⊤}
 use Rattle.container_core.specs.Container.{size_in}
 use Rattle.container_core.specs.Stream.{sealed_chunk}
 use Rattle.pipe_core.specs.declared.piece.Task.{Task}
 use Rattle.pipe_core.specs.declared.piece.Task.TheVariants.{Job, Stop}
 use Rattle.pipe_core.specs.declared.piece.Piece.{Piece}
 
--- the input's chunk of this number
-abbrev pub chunk_at : ℕ → List ℕ → ℕ → List ℕ
-chunk_at size input number = slice_index_or (chunks size input) number []
+-- the chunk stands in the input behind so many full ones; something follows, unless it is the last
+pub record StandsIn (size : ℕ) (input : List ℕ) (number : ℕ) (last : Bool) (chunk : List ℕ) : Type 0 where
+  pub before : List ℕ
+  pub after : List ℕ
+  pub is : input ≡ before ++ (chunk ++ after)
+  pub behind : length before ≡ number * size
+  pub more : last ≡ false → 0 < length after
+  pub end : last ≡ true → after ≡ []
 
--- whether it is the last
-abbrev pub is_last : ℕ → List ℕ → ℕ → Bool
-is_last size input number = number + 1 == length (chunks size input)
-
--- this is the input's chunk of this number
-pub record IsChunk (size : ℕ) (input : List ℕ) (number : ℕ) (last : Bool) (chunk : List ℕ) : Type 0 where
-  pub within : number < length (chunks size input)
-  pub is : chunk ≡ chunk_at size input number
-  pub flag : last ≡ is_last size input number
+-- this is a chunk of this number: a full one, or the last
+pub record IsChunk (size : ℕ) (told : Option (List ℕ)) (number : ℕ) (last : Bool) (chunk : List ℕ) : Type 0 where
+  pub few : length chunk ≤ size
+  pub full : last ≡ false → length chunk ≡ size
+  pub some : 0 < number → 0 < length chunk
+  pub of : IfSome told (λ input. StandsIn size input number last chunk)
 
 -- the bytes are the sealed chunk of this number
-pub record IsPart (key header input : List ℕ) (number : ℕ) (bytes : List ℕ) : Type 0 where
-  pub within : number < length (chunks (size_in header) input)
-  pub is : bytes ≡ sealed_chunk key header number (is_last (size_in header) input number)
-      (chunk_at (size_in header) input number)
+pub record IsPart (key header : List ℕ) (told : Option (List ℕ)) (number : ℕ) (last : Bool) (bytes : List ℕ) : Type 0 where
+  pub text : List ℕ
+  pub chunk : IsChunk (size_in header) told number last text
+  pub is : bytes ≡ sealed_chunk key header number last text
 
--- a job is a number and that chunk of the input, in a buffer with room for its tag
+-- a job is a number and that full chunk of the input, in a buffer with room for its tag
 abbrev pub IsTask : List ℕ → Option (List ℕ) → Task → Type 0
-IsTask header told (Job number last buffer filled) = (length buffer.items ≡ size_in header + 16) × (filled ≤ size_in header)
-    × IfSome told (λ input. IsChunk (size_in header) input number last (take filled buffer.items))
+IsTask header told (Job number buffer) = (length buffer.items ≡ size_in header + 16)
+    × IsChunk (size_in header) told number false (take (size_in header) buffer.items)
 IsTask header told Stop = ⊤
 
 -- a piece is a number and that chunk's sealed bytes
 abbrev pub IsPiece : List ℕ → List ℕ → Option (List ℕ) → Piece → Type 0
-IsPiece key header told piece = (length piece.buffer.items ≡ size_in header + 16) × (piece.filled ≤ size_in header + 16)
-    × IfSome told (λ input. IsPart key header input piece.number (take piece.filled piece.buffer.items))
+IsPiece key header told piece = (length piece.buffer.items ≡ size_in header + 16)
+    × IsPart key header told piece.number false piece.buffer.items
 
 abbrev pub task_numbers : Task → List ℕ
-task_numbers (Job number last buffer filled) = number ∷ []
+task_numbers (Job number buffer) = number ∷ []
 task_numbers Stop = []
 
 abbrev pub piece_numbers : Piece → List ℕ

@@ -1,12 +1,12 @@
 -- What a pipe did with its reader and its writer.
-use Rattle.std.specs.Prelude.{◌≡◌, ℕ, ◌+◌, ◌*◌, ◌<◌, ◌≤◌, Bool, true, false, List, length, Option, Result, Ok, Err, OnOk, OnErr, IfOk, IfSome}
+use Rattle.std.specs.Prelude.{◌≡◌, ℕ, ◌+◌, ◌*◌, ◌<◌, ◌≤◌, Bool, false, List, length, Option, Result, Ok, Err, OnOk, OnErr, IfOk, IfSome}
 use Rattle.container_core.specs.Container.{size_in}
 use Rattle.container_core.specs.Faults.{is_failed_read, is_failed_write}
 use Rattle.container_core.specs.declared.fault.SealFault.{SealFault}
 use Rattle.container_core.specs.declared.fault.SealFault.TheVariants as sealing_fault
 use Rattle.io_core.specs.Reads.{ConsumesExactly}
 use Rattle.io_core.specs.Streams.{IsAtEnd, Appends, AppendsFront, counted}
-use Rattle.pipe_core.specs.Order.{whole}
+use Rattle.pipe_core.specs.Order.{behind}
 
 -- whether a read failed
 abbrev pub read_failed : {A : Type 0} → Result A SealFault → Bool
@@ -17,6 +17,16 @@ read_failed (Err fault) = is_failed_read fault
 abbrev pub write_failed : {A : Type 0} → Result A SealFault → Bool
 write_failed (Ok value) = false
 write_failed (Err fault) = is_failed_write fault
+
+-- a stream that is too long has too many chunks
+abbrev pub answer_of_stream : Result ℕ SealFault → Result ℕ SealFault
+answer_of_stream (Ok n) = Ok n
+answer_of_stream (Err sealing_fault.TooLong) = Err sealing_fault.TooManyChunks
+answer_of_stream (Err fault) = Err fault
+
+-- a stream under this header: what stands behind a container's header
+abbrev pub whole : List ℕ → List ℕ → List ℕ → List ℕ
+whole key header input = behind header key header input
 
 -- The input is what the reader had left, where it tells that.
 pub record HasPiped (key header : List ℕ) (most : ℕ) (left left' : Option (List ℕ)) (failures failures' : Option ℕ)

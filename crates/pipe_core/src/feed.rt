@@ -1,38 +1,62 @@
 //! The caller's thread: it reads and writes, and seals a chunk itself where it may not read on.
-ghost use Rattle.std.specs.Prelude.{◌≡◌, ℕ, ◌+◌, ◌*◌, ◌^◌, ◌<◌, ◌≤◌, ◌⊎◌, [], ◌∷◌, All, Option, List, OnOk, OnErr, IfOk, IfErr};
-ghost use Rattle.std.specs.Prelude.{length, true, false, vec_capacity, vec_len, is_err};
+ghost use Rattle.std.specs.Prelude.{◌≡◌, ℕ, ◌+◌, ◌-◌, ◌*◌, ◌^◌, ◌<◌, ◌≤◌, ◌⊎◌, ◌++◌, [], ◌∷◌, All, Option, List, OnOk, OnErr, IfOk, IfSome};
+ghost use Rattle.std.specs.Prelude.{length, true, false, is_err, not};
+ghost use Rattle.std.specs.VecDeque.{deque_capacity, deque_len};
 ghost use Rattle.container_core.specs.Container.{size_in};
-ghost use Rattle.container_core.specs.declared.fault.SealFault.TheVariants as sealing_fault;
 ghost use Rattle.crossbeam_queue.specs.Passes.{view, IsPassOf};
-ghost use Rattle.io_core.specs.Streams.{counted};
-ghost use Rattle.pipe_core.specs.Intake.{HasRead};
-ghost use Rattle.pipe_core.specs.Order.{below, AreKept, AreWritten, HasBegun, IsOrdered, IsSeen};
-ghost use Rattle.pipe_core.specs.Pieces.{IsTask, task_numbers};
-ghost use Rattle.pipe_core.specs.Pipe.{HasPiped, read_failed};
+ghost use Rattle.io_core.specs.Reads.{ConsumesUpTo};
+ghost use Rattle.io_core.specs.Streams.{Appends, AppendsFront, counted};
+ghost use Rattle.pipe_core.specs.Hands.{all_numbers, hand};
+ghost use Rattle.pipe_core.specs.Order.{below, empty, front_at, AreKept, AreWritten, HasBegun, IsOrdered, IsSeen};
+ghost use Rattle.pipe_core.specs.Pieces.{task_numbers};
+ghost use Rattle.pipe_core.specs.Round.{front_of, AreJobs, AreRounds, IsHanded, IsInHand, IsLast, IsPlan, IsRead, IsUnderWay};
+ghost use Rattle.pipe_core.specs.Rounds.{HasSealedRounds};
 ghost use Rattle.pipe_core.specs.declared.line.Hand.{Hand};
+ghost use Rattle.pipe_core.specs.declared.round.Plan.{Plan};
 
 use crate::early::Early;
-use crate::intake::Intake;
 use crate::line::{Hand, JobLine, Naming, PieceLine, put_task, take_piece, take_task};
 use crate::piece::{Piece, Task, make_piece};
+use crate::round::{Plan, Round};
 use crate::worker::rest;
 use container_core::{Header, Key, SealFault, TAG};
 use crossbeam_queue::Pass;
 use io_core::{Failed, Sink, Source, write_all};
 use std::alloc::{AllocError, Global};
+use std::collections::VecDeque;
 use std::sync::Wait;
 use std::thread::Parker;
 use worker_core::Gate;
 
-// A buffer for a chunk and its tag: one that was written, or a new one.
-fn buffer_of(alloc: Global, spare: &mut Vec<Vec<u8>>, size: usize) -> Result<Vec<u8>, AllocError>
+// So many buffers, each for a chunk and its tag.
+fn buffers(alloc: Global, count: usize, size: usize) -> Result<Vec<Vec<u8>>, AllocError>
+    ensures { IfOk result (λ spare. All (λ b. length b.items ≡ size) spare.items) }
+{
+    let mut spare = Vec::with_capacity(alloc, count)?;
+    'making: for _ in 0..count {
+        spare.push_reserved(vec![in alloc; 0; size]?);
+    }
+    Ok(spare)
+}
+
+// A buffer for another chunk, where reading needn't wait, and so many chunks are fewer than may be read.
+fn take_spare(
+    spare: &mut Vec<Vec<u8>>,
+    size: usize,
+    waits: bool,
+    count: usize,
+    depth: usize,
+) -> Option<Vec<u8>>
     requires spare { All (λ b. length b.items ≡ size) spare.old.items }
     ensures spare { All (λ b. length b.items ≡ size) spare.new.items }
-    ensures buffer { IfOk result (λ b. length b.items ≡ size) }
+    ensures buffer { IfSome result (λ b. (length b.items ≡ size) × (count < depth)) }
 {
+    if waits || count >= depth {
+        return None;
+    }
     match spare.pop() {
-        Some(buffer) => Ok(buffer),
-        None => vec![in alloc; 0; size],
+        Some(buffer) => Some(buffer),
+        None => None,
     }
 }
 
@@ -47,10 +71,33 @@ fn keep(spare: &mut Vec<Vec<u8>>, buffer: Vec<u8>, size: usize)
     }
 }
 
+/// Writes a chunk's sealed bytes, and before chunk 0 what stands before it.
+pub(crate) fn write_part<W: Sink>(
+    writer: &mut W,
+    front: &[u8],
+    number: u32,
+    bytes: &[u8],
+) -> Result<(), Failed>
+    ensures ok { OnOk result (Appends (W.taken writer.old) (W.taken writer.new)
+        (front_at front.now number ++ bytes.now)) }
+    ensures err { OnErr result (AppendsFront (W.taken writer.old) (W.taken writer.new)
+        (front_at front.now number ++ bytes.now)) }
+    ensures count { W.failures writer.new ≡ counted (is_err result) (W.failures writer.old) }
+{
+    if number > 0 {
+        return write_all(writer, bytes);
+    }
+    match write_all(writer, front) {
+        Err(Failed) => Err(Failed),
+        Ok(()) => write_all(writer, bytes),
+    }
+}
+
 // Writes the piece whose turn it is: whether it was there.
 fn write_next<N: Naming, W: Sink>(
     early: &mut Early,
     writer: &mut W,
+    front: &[u8],
     spare: &mut Vec<Vec<u8>>,
     size: usize,
 ) -> Result<bool, Failed>
@@ -59,21 +106,22 @@ fn write_next<N: Naming, W: Sink>(
     requires kept { AreKept N.key N.header N.told early.old.written early.old.places.items }
     requires spare { All (λ b. length b.items ≡ size) spare.old.items }
     ensures spare { All (λ b. length b.items ≡ size) spare.new.items }
-    ensures room { vec_capacity early.new.places ≡ vec_capacity early.old.places }
+    ensures room { deque_capacity early.new.places ≡ deque_capacity early.old.places }
+    ensures places { length early.new.places.items ≤ length early.old.places.items }
     ensures order { (chunks : ℕ) (jobs pieces : Hand) → IsOrdered N.key N.header N.told chunks early.old jobs pieces
         → OnOk result (IsOrdered N.key N.header N.told chunks early.new jobs pieces) }
     ensures written { (taken : Option (List ℕ))
-        → AreWritten N.key N.header N.told taken (W.taken writer.old) early.old.written
-        → OnOk result (AreWritten N.key N.header N.told taken (W.taken writer.new) early.new.written) }
+        → AreWritten front.now N.key N.header N.told taken (W.taken writer.old) early.old.written
+        → OnOk result (AreWritten front.now N.key N.header N.told taken (W.taken writer.new) early.new.written) }
     ensures begun { (taken : Option (List ℕ))
-        → AreWritten N.key N.header N.told taken (W.taken writer.old) early.old.written
-        → OnErr result (HasBegun N.key N.header N.told taken (W.taken writer.new)) }
+        → AreWritten front.now N.key N.header N.told taken (W.taken writer.old) early.old.written
+        → OnErr result (HasBegun front.now N.key N.header N.told taken (W.taken writer.new)) }
     ensures count { W.failures writer.new ≡ counted (is_err result) (W.failures writer.old) }
 {
     match early.next() {
         None => Ok(false),
         Some(piece) => {
-            if let Err(Failed) = write_all(writer, &piece.buffer[..piece.filled]) {
+            if let Err(Failed) = write_part(writer, front, piece.number, piece.buffer.as_slice()) {
                 return Err(Failed);
             }
             keep(spare, piece.buffer, size);
@@ -91,7 +139,8 @@ fn take_back<N: Naming>(
     requires from { IsPassOf pieces.now from.old × (0 < (view from.old).parts) }
     ensures from { IsPassOf pieces.now from.new × ((view from.new).parts ≡ (view from.old).parts) }
     ensures same { (early.new.written ≡ early.old.written)
-        × (vec_capacity early.new.places ≡ vec_capacity early.old.places) }
+        × (deque_capacity early.new.places ≡ deque_capacity early.old.places)
+        × (length early.new.places.items ≡ length early.old.places.items) }
     ensures order { (chunks : ℕ) (jobs : Hand) → IsOrdered N.key N.header N.told chunks early.old jobs (view from.old)
         → IsOrdered N.key N.header N.told chunks early.new jobs (view from.new) }
 {
@@ -101,6 +150,42 @@ fn take_back<N: Naming>(
             early.place(piece);
             true
         }
+    }
+}
+
+// Writes a piece, or takes one back: whether there was one.
+fn turn<N: Naming, W: Sink>(
+    pieces: &PieceLine<N>,
+    early: &mut Early,
+    writer: &mut W,
+    front: &[u8],
+    spare: &mut Vec<Vec<u8>>,
+    size: usize,
+    from: &mut Pass<Piece, Hand>,
+) -> Result<bool, Failed>
+    requires from { IsPassOf pieces.now from.old × (0 < (view from.old).parts) }
+    requires few { early.old.written + length early.old.places.items ≤ 4294967295 }
+    requires size { size ≡ size_in N.header + 16 }
+    requires kept { AreKept N.key N.header N.told early.old.written early.old.places.items }
+    requires spare { All (λ b. length b.items ≡ size) spare.old.items }
+    ensures from { IsPassOf pieces.now from.new × ((view from.new).parts ≡ (view from.old).parts) }
+    ensures spare { All (λ b. length b.items ≡ size) spare.new.items }
+    ensures room { deque_capacity early.new.places ≡ deque_capacity early.old.places }
+    ensures places { length early.new.places.items ≤ length early.old.places.items }
+    ensures order { (chunks : ℕ) (jobs : Hand) → IsOrdered N.key N.header N.told chunks early.old jobs (view from.old)
+        → OnOk result (IsOrdered N.key N.header N.told chunks early.new jobs (view from.new)) }
+    ensures written { (taken : Option (List ℕ))
+        → AreWritten front.now N.key N.header N.told taken (W.taken writer.old) early.old.written
+        → OnOk result (AreWritten front.now N.key N.header N.told taken (W.taken writer.new) early.new.written) }
+    ensures begun { (taken : Option (List ℕ))
+        → AreWritten front.now N.key N.header N.told taken (W.taken writer.old) early.old.written
+        → OnErr result (HasBegun front.now N.key N.header N.told taken (W.taken writer.new)) }
+    ensures count { W.failures writer.new ≡ counted (is_err result) (W.failures writer.old) }
+{
+    match write_next::<N, W>(early, writer, front, spare, size) {
+        Err(Failed) => Err(Failed),
+        Ok(true) => Ok(true),
+        Ok(false) => Ok(take_back(pieces, early, from)),
     }
 }
 
@@ -117,103 +202,18 @@ fn work_here<N: Naming, G: Gate>(
     requires into { IsPassOf jobs.now into.old × (0 < (view into.old).parts) }
     ensures into { IsPassOf jobs.now into.new × ((view into.new).parts ≡ (view into.old).parts) }
     ensures same { (early.new.written ≡ early.old.written)
-        × (vec_capacity early.new.places ≡ vec_capacity early.old.places) }
+        × (deque_capacity early.new.places ≡ deque_capacity early.old.places)
+        × (length early.new.places.items ≡ length early.old.places.items) }
     ensures order { (chunks : ℕ) (pieces : Hand) → IsOrdered N.key N.header N.told chunks early.old (view into.old) pieces
         → IsOrdered N.key N.header N.told chunks early.new (view into.new) pieces }
 {
     match take_task(jobs, into) {
-        Some(
-            Task::Job {
-                number,
-                last,
-                buffer,
-                filled,
-            },
-        ) => {
+        Some(Task::Job { number, buffer }) => {
             gate.pass(0, number);
-            early.place(make_piece(key, header, number, last, buffer, filled));
+            early.place(make_piece(key, header, number, buffer));
             true
         }
         Some(Task::Stop) | None => false,
-    }
-}
-
-// Reads the next chunk: a job.
-fn next_job<N: Naming, R: Source>(
-    reader: &mut R,
-    intake: &mut Intake,
-    size: usize,
-    buffer: Vec<u8>,
-) -> Result<Task, Failed>
-    requires size { (size ≡ size_in N.header) × (0 < size) × (size ≤ 2 ^ 20) }
-    requires buffer { length buffer.items ≡ size + 16 }
-    requires going { intake.old.ended ≡ false }
-    requires few { intake.old.chunks < 4294967295 }
-    requires sum { intake.old.total ≡ intake.old.chunks * size }
-    requires read { HasRead size N.told (R.left reader.old) intake.old }
-    ensures task { IfOk result (λ task. IsTask N.header N.told task) }
-    ensures number { IfOk result (λ task. task_numbers task ≡ intake.old.chunks ∷ []) }
-    ensures chunks { OnOk result (intake.new.chunks ≡ intake.old.chunks + 1) }
-    ensures sum { OnOk result (intake.new.ended ≡ false → intake.new.total ≡ intake.new.chunks * size) }
-    ensures read { OnOk result (HasRead size N.told (R.left reader.new) intake.new) }
-    ensures count { R.failures reader.new ≡ counted (is_err result) (R.failures reader.old) }
-{
-    let mut buffer = buffer;
-    let number = intake.chunks;
-    match intake.next(reader, size, buffer.as_mut_slice()) {
-        Err(Failed) => Err(Failed),
-        Ok(filled) => Ok(Task::Job {
-            number,
-            last: intake.ended,
-            buffer,
-            filled,
-        }),
-    }
-}
-
-// Reads the next chunk and puts it as a job.
-fn read_on<N: Naming, T: Wait, R: Source>(
-    rt: &T,
-    alloc: Global,
-    jobs: &JobLine<N>,
-    reader: &mut R,
-    intake: &mut Intake,
-    early: &mut Early,
-    spare: &mut Vec<Vec<u8>>,
-    size: usize,
-    into: &mut Pass<Task, Hand>,
-) -> Result<(), SealFault>
-    requires size { (size ≡ size_in N.header) × (0 < size) × (size ≤ 2 ^ 20) }
-    requires going { intake.old.ended ≡ false }
-    requires few { intake.old.chunks < 4294967295 }
-    requires sum { intake.old.total ≡ intake.old.chunks * size }
-    requires read { HasRead size N.told (R.left reader.old) intake.old }
-    requires room { vec_len early.old.places < vec_capacity early.old.places }
-    requires spare { All (λ b. length b.items ≡ size + 16) spare.old.items }
-    requires into { IsPassOf jobs.now into.old × (0 < (view into.old).parts) }
-    ensures into { IsPassOf jobs.now into.new × ((view into.new).parts ≡ (view into.old).parts) }
-    ensures spare { All (λ b. length b.items ≡ size + 16) spare.new.items }
-    ensures same { OnOk result ((early.new.written ≡ early.old.written)
-        × (vec_capacity early.new.places ≡ vec_capacity early.old.places)) }
-    ensures chunks { OnOk result (intake.new.chunks ≡ intake.old.chunks + 1) }
-    ensures sum { OnOk result (intake.new.ended ≡ false → intake.new.total ≡ intake.new.chunks * size) }
-    ensures read { OnOk result (HasRead size N.told (R.left reader.new) intake.new) }
-    ensures order { (pieces : Hand)
-        → IsOrdered N.key N.header N.told intake.old.chunks early.old (view into.old) pieces
-        → OnOk result (IsOrdered N.key N.header N.told intake.new.chunks early.new (view into.new) pieces) }
-    ensures fault { IfErr result (λ f. (f ≡ sealing_fault.OutOfMemory) ⊎ (f ≡ sealing_fault.Read)) }
-    ensures count { R.failures reader.new ≡ counted (read_failed result) (R.failures reader.old) }
-{
-    let Ok(buffer) = buffer_of(alloc, spare, size + TAG) else {
-        return Err(SealFault::OutOfMemory);
-    };
-    match next_job::<N, R>(reader, intake, size, buffer) {
-        Err(Failed) => Err(SealFault::Read),
-        Ok(job) => {
-            put_task(rt, jobs, into, job);
-            early.open_place();
-            Ok(())
-        }
     }
 }
 
@@ -224,7 +224,339 @@ pub(crate) fn ring(bells: &[Parker]) {
     }
 }
 
-/// Reads and writes to the end, or to the first fault. The header is written before anything is read.
+/// The first of some jobs.
+pub(crate) fn first_of(held: &mut VecDeque<Task>) -> Task
+    requires { 0 < deque_len held.old }
+    ensures items { held.old.items ≡ result ∷ held.new.items }
+    ensures room { deque_capacity held.new ≡ deque_capacity held.old }
+{
+    match held.pop_front() {
+        Some(task) => task,
+        None => unreachable!(),
+    }
+}
+
+// Puts the jobs of the round in hand.
+fn put_all<N: Naming, T: Wait>(
+    rt: &T,
+    jobs: &JobLine<N>,
+    held: &mut VecDeque<Task>,
+    early: &mut Early,
+    into: &mut Pass<Task, Hand>,
+)
+    requires jobs { (put : ℕ) × AreJobs N.header N.told put held.old.items }
+    requires room { length early.old.places.items + length held.old.items ≤ deque_capacity early.old.places }
+    requires into { IsPassOf jobs.now into.old × (0 < (view into.old).parts) }
+    ensures into { IsPassOf jobs.now into.new × (view into.new ≡ hand (view into.old).parts
+        ((view into.old).put ++ all_numbers task_numbers held.old.items) (view into.old).taken) }
+    ensures places { early.new.places.items ≡ early.old.places.items ++ empty (length held.old.items) }
+    ensures same { (early.new.written ≡ early.old.written)
+        × (deque_capacity early.new.places ≡ deque_capacity early.old.places) }
+    ensures held { (held.new.items ≡ []) × (deque_capacity held.new ≡ deque_capacity held.old) }
+{
+    'putting: while !held.is_empty() {
+        put_task(rt, jobs, into, first_of(held));
+        early.open_place();
+    }
+}
+
+// Puts the round in hand, where it is full or the last. What was put before may then be written.
+fn put_round<N: Naming, T: Wait>(
+    rt: &T,
+    jobs: &JobLine<N>,
+    plan: Plan,
+    bells: &[Parker],
+    round: &mut Round,
+    early: &mut Early,
+    into: &mut Pass<Task, Hand>,
+)
+    requires group { 0 < plan.group }
+    requires jobs { (put : ℕ) × AreJobs N.header N.told put round.old.held.items }
+    requires room { length early.old.places.items + length round.old.held.items ≤ deque_capacity early.old.places }
+    requires into { IsPassOf jobs.now into.old × (0 < (view into.old).parts) }
+    ensures into { IsPassOf jobs.now into.new × ((view into.new).parts ≡ (view into.old).parts) }
+    ensures same { (early.new.written ≡ early.old.written) × (round.new.intake ≡ round.old.intake)
+        × (deque_capacity early.new.places ≡ deque_capacity early.old.places)
+        × (deque_capacity round.new.held ≡ deque_capacity round.old.held) }
+    ensures room { length early.new.places.items + length round.new.held.items
+        ≡ length early.old.places.items + length round.old.held.items }
+    ensures handed { length round.old.held.items ≤ plan.group → IsHanded plan.group round.new }
+    ensures way { (left : Option (List ℕ)) (pieces : Hand) → length round.old.held.items ≤ plan.group
+        → (round.old.intake.over ≡ true → length round.old.held.items < plan.group)
+        → IsUnderWay N.key N.header N.told left plan early.old (view into.old) pieces round.old
+        → IsUnderWay N.key N.header N.told left plan early.new (view into.new) pieces round.new }
+{
+    if !round.is_full(plan.group) {
+        return;
+    }
+    early.ripen(true);
+    put_all(rt, jobs, &mut round.held, early, into);
+    ring(bells);
+}
+
+// The same, and at the end, or where it is eager, all may be written.
+fn hand_over<N: Naming, T: Wait>(
+    rt: &T,
+    jobs: &JobLine<N>,
+    plan: Plan,
+    bells: &[Parker],
+    round: &mut Round,
+    early: &mut Early,
+    into: &mut Pass<Task, Hand>,
+)
+    requires group { 0 < plan.group }
+    requires jobs { (put : ℕ) × AreJobs N.header N.told put round.old.held.items }
+    requires room { length early.old.places.items + length round.old.held.items ≤ deque_capacity early.old.places }
+    requires into { IsPassOf jobs.now into.old × (0 < (view into.old).parts) }
+    ensures into { IsPassOf jobs.now into.new × ((view into.new).parts ≡ (view into.old).parts) }
+    ensures same { (early.new.written ≡ early.old.written) × (round.new.intake ≡ round.old.intake)
+        × (deque_capacity early.new.places ≡ deque_capacity early.old.places)
+        × (deque_capacity round.new.held ≡ deque_capacity round.old.held) }
+    ensures room { length early.new.places.items + length round.new.held.items
+        ≡ length early.old.places.items + length round.old.held.items }
+    ensures handed { length round.old.held.items ≤ plan.group → IsHanded plan.group round.new }
+    ensures way { (left : Option (List ℕ)) (pieces : Hand) → length round.old.held.items ≤ plan.group
+        → (round.old.intake.over ≡ true → length round.old.held.items < plan.group)
+        → IsUnderWay N.key N.header N.told left plan early.old (view into.old) pieces round.old
+        → IsUnderWay N.key N.header N.told left plan early.new (view into.new) pieces round.new }
+{
+    put_round(rt, jobs, plan, bells, round, early, into);
+    early.ripen(plan.eager || !round.is_open());
+}
+
+// Seals the last chunk, unless this worker is alone: whether there was something to seal.
+fn seal_first<N: Naming, G: Gate>(
+    key: &Key,
+    header: &Header,
+    gate: &G,
+    bells: &[Parker],
+    round: &mut Round,
+) -> bool
+    requires named { (key.now ≡ N.key) × (header.now ≡ N.header) }
+    requires last { round.old.intake.ended ≡ true → (0 < round.old.intake.chunks)
+        × (length round.old.last.items ≡ size_in N.header + 16) × (round.old.filled ≤ size_in N.header) }
+    ensures same { (round.new.intake ≡ round.old.intake) × (round.new.held ≡ round.old.held)
+        × (round.new.filled ≡ round.old.filled) × (length round.new.last.items ≡ length round.old.last.items) }
+    ensures last { (number : ℕ) → round.old.intake.chunks ≡ number + 1
+        → IsLast N.key N.header N.told number round.old → IsLast N.key N.header N.told number round.new }
+    ensures going { round.old.intake.ended ≡ false → round.new ≡ round.old }
+{
+    if bells.len() > 1 {
+        return round.seal_last::<N, G>(key, header, gate);
+    }
+    false
+}
+
+// Seals a chunk on this thread, or rests where there is none: the last one first, which no other worker can, unless this
+// one is alone. Answers how often it has looked for one since.
+fn busy<N: Naming, T: Wait, G: Gate>(
+    rt: &T,
+    jobs: &JobLine<N>,
+    key: &Key,
+    header: &Header,
+    gate: &G,
+    bells: &[Parker],
+    looks: u32,
+    round: &mut Round,
+    early: &mut Early,
+    into: &mut Pass<Task, Hand>,
+) -> u32
+    requires named { (key.now ≡ N.key) × (header.now ≡ N.header) }
+    requires bells { 0 < length bells.now }
+    requires into { IsPassOf jobs.now into.old × (0 < (view into.old).parts) }
+    requires last { round.old.intake.ended ≡ true → (0 < round.old.intake.chunks)
+        × (length round.old.last.items ≡ size_in N.header + 16) × (round.old.filled ≤ size_in N.header) }
+    ensures into { IsPassOf jobs.now into.new × ((view into.new).parts ≡ (view into.old).parts) }
+    ensures same { (early.new.written ≡ early.old.written)
+        × (deque_capacity early.new.places ≡ deque_capacity early.old.places)
+        × (length early.new.places.items ≡ length early.old.places.items)
+        × (round.new.intake ≡ round.old.intake) × (round.new.held ≡ round.old.held) }
+    ensures way { (left : Option (List ℕ)) (plan : Plan) (pieces : Hand)
+        → IsUnderWay N.key N.header N.told left plan early.old (view into.old) pieces round.old
+        → IsUnderWay N.key N.header N.told left plan early.new (view into.new) pieces round.new }
+{
+    if seal_first::<N, G>(key, header, gate, bells, round) {
+        return 0;
+    }
+    if work_here(jobs, key, header, gate, early, into) {
+        return 0;
+    }
+    if round.seal_last::<N, G>(key, header, gate) {
+        return 0;
+    }
+    rest(rt, &bells[0], looks)
+}
+
+// Reads to the end of the input or to a byte too many, and puts and writes what it may meanwhile: whether no read failed.
+fn take_in<N: Naming, T: Wait, R: Source, W: Sink, G: Gate>(
+    rt: &T,
+    jobs: &JobLine<N>,
+    pieces: &PieceLine<N>,
+    key: &Key,
+    header: &Header,
+    reader: &mut R,
+    writer: &mut W,
+    plan: Plan,
+    front: &[u8],
+    gate: &G,
+    bells: &[Parker],
+    spare: &mut Vec<Vec<u8>>,
+    round: &mut Round,
+    early: &mut Early,
+    into: &mut Pass<Task, Hand>,
+    from: &mut Pass<Piece, Hand>,
+) -> Result<bool, Failed>
+    requires named { (key.now ≡ N.key) × (header.now ≡ N.header) }
+    requires plan { IsPlan N.header plan }
+    requires bells { 0 < length bells.now }
+    requires into { IsPassOf jobs.now into.old × (0 < (view into.old).parts) }
+    requires from { IsPassOf pieces.now from.old × (0 < (view from.old).parts) }
+    requires way { IsUnderWay N.key N.header N.told (R.left reader.old) plan early.old (view into.old) (view from.old) round.old }
+    requires handed { IsHanded plan.group round.old }
+    requires room { (plan.depth ≤ deque_capacity early.old.places) × (plan.group ≤ deque_capacity round.old.held)
+        × (length early.old.places.items + length round.old.held.items ≤ plan.depth) }
+    requires spare { All (λ b. length b.items ≡ size_in N.header + 16) spare.old.items }
+    requires fresh { early.old.written ≡ 0 }
+    ensures into { IsPassOf jobs.now into.new × ((view into.new).parts ≡ (view into.old).parts) }
+    ensures from { IsPassOf pieces.now from.new × ((view from.new).parts ≡ (view from.old).parts) }
+    ensures spare { All (λ b. length b.items ≡ size_in N.header + 16) spare.new.items }
+    ensures all { IfOk result (λ all. all ≡ true
+        → IsUnderWay N.key N.header N.told (R.left reader.new) plan early.new (view into.new) (view from.new) round.new
+        × IsHanded plan.group round.new × (round.new.intake.over ≡ false → round.new.intake.ended ≡ true)) }
+    ensures bound { ConsumesUpTo N.told (R.left reader.new) plan.limit }
+    ensures written { OnOk result (AreWritten front.now N.key N.header N.told
+        (W.taken writer.old) (W.taken writer.new) early.new.written) }
+    ensures begun { OnErr result (HasBegun front.now N.key N.header N.told
+        (W.taken writer.old) (W.taken writer.new)) }
+    ensures reads { IfOk result (λ all. R.failures reader.new ≡ counted (not all) (R.failures reader.old)) }
+    ensures unread { OnErr result (R.failures reader.new ≡ R.failures reader.old) }
+    ensures writes { W.failures writer.new ≡ counted (is_err result) (W.failures writer.old) }
+{
+    let size = header.chunk();
+    let mut looks = 0;
+    for _ in rt.forever() {
+        match turn::<N, W>(pieces, early, writer, front, spare, size + TAG, from) {
+            Ok(true) => {
+                looks = 0;
+                continue;
+            }
+            Ok(false) => {}
+            Err(Failed) => return Err(Failed),
+        }
+        if !round.is_open() {
+            return Ok(true);
+        }
+        // A round is read once those are written that may be: so no write follows a read that fails.
+        let waits = !plan.eager && early.is_ripe();
+        let count = early.len() + round.held.len();
+        if let Some(buffer) = take_spare(spare, size + TAG, waits, count, plan.depth) {
+            match round.read::<N, R>(reader, size, plan.limit, buffer) {
+                Err(Failed) => return Ok(false),
+                Ok(()) => {}
+            }
+            hand_over(rt, jobs, plan, bells, round, early, into);
+            continue;
+        }
+        looks = busy(
+            rt, jobs, key, header, gate, bells, looks, round, early, into,
+        );
+    }
+    unreachable!()
+}
+
+// Writes all that was put.
+fn drain<N: Naming, T: Wait, W: Sink, G: Gate>(
+    rt: &T,
+    jobs: &JobLine<N>,
+    pieces: &PieceLine<N>,
+    key: &Key,
+    header: &Header,
+    writer: &mut W,
+    front: &[u8],
+    gate: &G,
+    bells: &[Parker],
+    spare: &mut Vec<Vec<u8>>,
+    round: &mut Round,
+    early: &mut Early,
+    into: &mut Pass<Task, Hand>,
+    from: &mut Pass<Piece, Hand>,
+) -> Result<(), Failed>
+    requires named { (key.now ≡ N.key) × (header.now ≡ N.header) }
+    requires bells { 0 < length bells.now }
+    requires into { IsPassOf jobs.now into.old × (0 < (view into.old).parts) }
+    requires from { IsPassOf pieces.now from.old × (0 < (view from.old).parts) }
+    requires way { (left : Option (List ℕ)) × (plan : Plan)
+        × IsUnderWay N.key N.header N.told left plan early.old (view into.old) (view from.old) round.old }
+    requires spare { All (λ b. length b.items ≡ size_in N.header + 16) spare.old.items }
+    ensures into { IsPassOf jobs.now into.new × ((view into.new).parts ≡ (view into.old).parts) }
+    ensures from { IsPassOf pieces.now from.new × ((view from.new).parts ≡ (view from.old).parts) }
+    ensures same { (round.new.intake ≡ round.old.intake) × (round.new.held ≡ round.old.held) }
+    ensures all { OnOk result (length early.new.places.items ≡ 0) }
+    ensures way { (left : Option (List ℕ)) (plan : Plan)
+        → IsUnderWay N.key N.header N.told left plan early.old (view into.old) (view from.old) round.old
+        → OnOk result (IsUnderWay N.key N.header N.told left plan early.new (view into.new) (view from.new) round.new) }
+    ensures written { (taken : Option (List ℕ))
+        → AreWritten front.now N.key N.header N.told taken (W.taken writer.old) early.old.written
+        → OnOk result (AreWritten front.now N.key N.header N.told taken (W.taken writer.new) early.new.written) }
+    ensures begun { (taken : Option (List ℕ))
+        → AreWritten front.now N.key N.header N.told taken (W.taken writer.old) early.old.written
+        → OnErr result (HasBegun front.now N.key N.header N.told taken (W.taken writer.new)) }
+    ensures count { W.failures writer.new ≡ counted (is_err result) (W.failures writer.old) }
+{
+    let size = header.chunk();
+    let mut looks = 0;
+    for _ in rt.forever() {
+        if early.len() == 0 {
+            return Ok(());
+        }
+        match turn::<N, W>(pieces, early, writer, front, spare, size + TAG, from) {
+            Ok(true) => {
+                looks = 0;
+                continue;
+            }
+            Ok(false) => {}
+            Err(Failed) => return Err(Failed),
+        }
+        looks = busy(
+            rt, jobs, key, header, gate, bells, looks, round, early, into,
+        );
+    }
+    unreachable!()
+}
+
+/// Ends what was read, once all before is written: the last chunk is written, unless there is a byte too many.
+pub(crate) fn end<N: Naming, W: Sink, G: Gate>(
+    key: &Key,
+    header: &Header,
+    writer: &mut W,
+    front: &[u8],
+    round: &mut Round,
+    gate: &G,
+) -> Result<u64, SealFault>
+    requires named { (key.now ≡ N.key) × (header.now ≡ N.header) }
+    requires closed { round.old.intake.over ≡ false → round.old.intake.ended ≡ true }
+    requires hand { (left : Option (List ℕ)) × (limit : ℕ) × (put : ℕ)
+        × IsInHand N.key N.header N.told left limit put round.old }
+    ensures sealed { (left taken : Option (List ℕ)) (failures : Option ℕ) (limit group put : ℕ) → 0 < limit
+        → IsInHand N.key N.header N.told left limit put round.old → IsHanded group round.old
+        → (round.old.intake.ended ≡ false → AreRounds (size_in N.header) limit group put)
+        → AreWritten front.now N.key N.header N.told taken (W.taken writer.old) put
+        → HasSealedRounds front.now N.key N.header (limit - 1) group N.told left failures failures
+        taken (W.taken writer.new) (W.failures writer.old) (W.failures writer.new) result }
+{
+    if round.intake.over {
+        return Err(SealFault::TooLong);
+    }
+    round.seal_last::<N, G>(key, header, gate);
+    let sealed = &round.last[..round.filled + TAG];
+    match write_part(writer, front, round.intake.chunks - 1, sealed) {
+        Ok(()) => Ok(round.intake.total),
+        Err(Failed) => Err(SealFault::Write),
+    }
+}
+
+/// Reads and writes to the end, or to the first fault, behind what was read. All room is made before anything is
+/// written.
 pub(crate) fn feed<N: Naming, T: Wait, R: Source, W: Sink, G: Gate>(
     rt: &T,
     alloc: Global,
@@ -234,77 +566,56 @@ pub(crate) fn feed<N: Naming, T: Wait, R: Source, W: Sink, G: Gate>(
     header: &Header,
     reader: &mut R,
     writer: &mut W,
-    max_chunks: u32,
-    depth: usize,
+    plan: Plan,
+    round: &mut Round,
     gate: &G,
     bells: &[Parker],
     into: &mut Pass<Task, Hand>,
     from: &mut Pass<Piece, Hand>,
 ) -> Result<u64, SealFault>
-    requires named { (key.now ≡ N.key) × (header.now ≡ N.header) × (R.left reader.old ≡ N.told) }
-    requires depth { 0 < depth }
-    requires most { 0 < max_chunks }
+    requires named { (key.now ≡ N.key) × (header.now ≡ N.header) }
+    requires plan { IsPlan N.header plan }
+    requires read { IsRead N.key N.header N.told (R.left reader.old) plan round.old }
     requires bells { 0 < length bells.now }
     requires into { IsPassOf jobs.now into.old × (0 < (view into.old).parts) × ((view into.old).put ≡ []) }
     requires from { IsPassOf pieces.now from.old × (0 < (view from.old).parts) × ((view from.old).put ≡ []) }
     ensures into { IsPassOf jobs.now into.new × ((view into.new).parts ≡ (view into.old).parts) }
     ensures from { IsPassOf pieces.now from.new × ((view from.new).parts ≡ (view from.old).parts) }
-    ensures piped { HasPiped key.now header.now max_chunks (R.left reader.old) (R.left reader.new)
-        (R.failures reader.old) (R.failures reader.new) (W.taken writer.old) (W.taken writer.new)
-        (W.failures writer.old) (W.failures writer.new) result }
+    ensures sealed { HasSealedRounds (front_of N.header plan) N.key N.header (plan.limit - 1) plan.group
+        N.told (R.left reader.new) (R.failures reader.old) (R.failures reader.new)
+        (W.taken writer.old) (W.taken writer.new) (W.failures writer.old) (W.failures writer.new) result }
     ensures seen { OnOk result ((n : ℕ) × ((view into.new).put ≡ below n) × ((view from.new).put ≡ [])
         × IsSeen n (view into.new).taken (view from.new).taken) }
 {
-    let size = header.chunk();
-    let Ok(mut early) = Early::new(alloc, depth) else {
+    let Ok(mut early) = Early::new(alloc, plan.depth) else {
         return Err(SealFault::OutOfMemory);
     };
-    let Ok(mut spare) = Vec::with_capacity(alloc, depth) else {
+    let count = if round.is_open() {
+        plan.depth - round.held.len()
+    } else {
+        0
+    };
+    let Ok(mut spare) = buffers(alloc, count, header.chunk() + TAG) else {
         return Err(SealFault::OutOfMemory);
     };
-    if let Err(Failed) = write_all(writer, header.bytes()) {
-        return Err(SealFault::Write);
+    let front = plan.front(header);
+    hand_over(rt, jobs, plan, bells, round, &mut early, into);
+    let all = match take_in(
+        rt, jobs, pieces, key, header, reader, writer, plan, front, gate, bells, &mut spare, round,
+        &mut early, into, from,
+    ) {
+        Ok(all) => all,
+        Err(Failed) => return Err(SealFault::Write),
+    };
+    if !all {
+        return Err(SealFault::Read);
     }
-    let mut intake = Intake::new();
-    let mut looks = 0;
-    for _ in rt.forever() {
-        match write_next::<N, W>(&mut early, writer, &mut spare, size + TAG) {
-            Ok(true) => continue,
-            Ok(false) => {}
-            Err(Failed) => return Err(SealFault::Write),
-        }
-        if take_back(pieces, &mut early, from) {
-            looks = 0;
-            continue;
-        }
-        if !intake.ended && early.len() < depth {
-            if intake.chunks == max_chunks {
-                return Err(SealFault::TooManyChunks);
-            }
-            if let Err(fault) = read_on(
-                rt,
-                alloc,
-                jobs,
-                reader,
-                &mut intake,
-                &mut early,
-                &mut spare,
-                size,
-                into,
-            ) {
-                return Err(fault);
-            }
-            ring(bells);
-            continue;
-        }
-        if early.len() == 0 {
-            return Ok(intake.total);
-        }
-        if work_here(jobs, key, header, gate, &mut early, into) {
-            looks = 0;
-        } else {
-            looks = rest(rt, &bells[0], looks);
-        }
+    match drain(
+        rt, jobs, pieces, key, header, writer, front, gate, bells, &mut spare, round, &mut early,
+        into, from,
+    ) {
+        Ok(()) => {}
+        Err(Failed) => return Err(SealFault::Write),
     }
-    unreachable!()
+    end::<N, W, G>(key, header, writer, front, round, gate)
 }

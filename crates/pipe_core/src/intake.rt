@@ -1,6 +1,7 @@
-//! Reading the input chunk by chunk, each with one byte behind it, by which it is known whether the chunk is the last.
-ghost use Rattle.std.specs.Prelude.{◌≡◌, ◌+◌, ◌*◌, ◌^◌, ◌<◌, ◌≤◌, ◌++◌, ◌∷◌, List, ℕ, Option, None, true, false, length, take};
-ghost use Rattle.std.specs.Prelude.{IfOk, OnOk, OnErr, IfSome, is_err};
+//! Reading the input chunk by chunk, each with one byte behind it, by which it is known whether the chunk is the last. No
+//! more than a limit is read of it: where so many bytes were, the input is too long.
+ghost use Rattle.std.specs.Prelude.{◌≡◌, ◌+◌, ◌-◌, ◌*◌, ◌^◌, ◌<◌, ◌≤◌, ◌++◌, ◌∷◌, List, ℕ, Option, None, true, false, length, take};
+ghost use Rattle.std.specs.Prelude.{IfOk, OnOk, OnErr, Some, is_err, slice_index};
 ghost use Rattle.io_core.specs.Reads.{ConsumesUpTo};
 ghost use Rattle.io_core.specs.Streams.{Consumes, IsAtEnd, counted};
 ghost use Rattle.pipe_core.specs.Intake.{HasRead, seen};
@@ -8,13 +9,15 @@ ghost use Rattle.pipe_core.specs.Pieces.{IsChunk};
 
 use io_core::{Failed, Source, fill};
 
-/// What was read of the input: whole chunks, and the byte that was seen behind them; or all of it.
+/// What was read of the input: whole chunks, and the byte that was seen behind them; or all of it; or a byte more than it
+/// may have.
 #[derive(Drop)]
 pub(crate) struct Intake {
     pub(crate) chunks: u32,
     pub(crate) total: u64,
     pub(crate) ahead: Option<u8>,
     pub(crate) ended: bool,
+    pub(crate) over: bool,
 }
 
 // Reads behind a byte until the buffer is full or the end is met. Answers how many bytes stand there, with this one.
@@ -25,7 +28,7 @@ fn fill_after<R: Source>(reader: &mut R, byte: u8, buffer: &mut [u8]) -> Result<
     ensures read { IfOk result (λ n. (read : List ℕ) × Consumes (R.left reader.old) (R.left reader.new) read
         × (take n buffer.new ≡ byte ∷ read)) }
     ensures end { IfOk result (λ n. n < length buffer.new → IsAtEnd (R.left reader.new)) }
-    ensures lost { OnErr result (ConsumesUpTo (R.left reader.old) (R.left reader.new) (length buffer.new)) }
+    ensures lost { OnErr result (ConsumesUpTo (R.left reader.old) (R.left reader.new) (length buffer.new - 1)) }
     ensures count { R.failures reader.new ≡ counted (is_err result) (R.failures reader.old) }
 {
     let (first, rest) = buffer.split_at_mut(1);
@@ -46,7 +49,7 @@ fn fill_behind<R: Source>(
     ensures read { IfOk result (λ n. (read : List ℕ) × Consumes (R.left reader.old) (R.left reader.new) read
         × (take n buffer.new ≡ seen ahead ++ read)) }
     ensures end { IfOk result (λ n. n < length buffer.new → IsAtEnd (R.left reader.new)) }
-    ensures lost { OnErr result (ConsumesUpTo (R.left reader.old) (R.left reader.new) (length buffer.new)) }
+    ensures lost { OnErr result (ConsumesUpTo (R.left reader.old) (R.left reader.new) (length buffer.new - length (seen ahead))) }
     ensures count { R.failures reader.new ≡ counted (is_err result) (R.failures reader.old) }
 {
     match ahead {
@@ -57,76 +60,82 @@ fn fill_behind<R: Source>(
 
 impl Intake {
     pub(crate) fn new() -> Intake
-        ensures read { (left : Option (List ℕ)) (size : ℕ) → HasRead size left left result }
-        ensures fresh { (result.ended ≡ false) × (result.chunks ≡ 0) × (result.total ≡ 0) × (result.ahead ≡ None) }
+        ensures read { (left : Option (List ℕ)) (size limit : ℕ) → 0 < limit → HasRead size limit left left result }
+        ensures fresh { (result.ended ≡ false) × (result.over ≡ false) × (result.chunks ≡ 0) }
     {
         Intake {
             chunks: 0,
             total: 0,
             ahead: None,
             ended: false,
+            over: false,
         }
     }
 
-    // Reads the next chunk and a byte behind it into a buffer of this size.
-    fn fill_chunk<R: Source>(
-        &mut self,
-        reader: &mut R,
-        size: usize,
-        buffer: &mut [u8],
-    ) -> Result<usize, Failed>
-        requires size { (0 < size) × (size ≤ 2 ^ 20) × (length buffer.old ≡ size + 1) }
-        requires going { self.old.ended ≡ false }
-        requires few { self.old.chunks < 4294967295 }
-        requires sum { self.old.total ≡ self.old.chunks * size }
-        ensures within { IfOk result (λ n. n ≤ size) }
-        ensures length { length buffer.new ≡ length buffer.old }
-        ensures chunks { OnOk result (self.new.chunks ≡ self.old.chunks + 1) }
-        ensures sum { OnOk result (self.new.ended ≡ false → self.new.total ≡ self.new.chunks * size) }
-        ensures read { OnOk result ((left : Option (List ℕ)) → HasRead size left (R.left reader.old) self.old
-            → HasRead size left (R.left reader.new) self.new) }
-        ensures chunk { IfOk result (λ n. (left : Option (List ℕ)) → HasRead size left (R.left reader.old) self.old
-            → IfSome left (λ input. IsChunk size input self.old.chunks self.new.ended (take n buffer.new))) }
-        ensures lost { OnErr result (ConsumesUpTo (R.left reader.old) (R.left reader.new) (size + 1)) }
-        ensures count { R.failures reader.new ≡ counted (is_err result) (R.failures reader.old) }
+    // Takes in what stands in the buffer, where so many bytes might be read. Answers how many bytes the chunk has.
+    fn take_in(&mut self, size: usize, room: u64, text: &[u8], n: usize) -> usize
+        requires size { (0 < size) × (size ≤ 2 ^ 20) × (n ≤ length text.now) × (n ≤ size + 1) }
+        requires room { n ≤ room }
+        requires going { (self.old.ended ≡ false) × (self.old.over ≡ false) }
+        requires few { (self.old.chunks < 4294967295) × (self.old.total ≤ 2 ^ 53) }
+        ensures within { result ≤ size }
+        ensures over { (self.new.over ≡ true → n ≡ room) × (self.new.over ≡ false → n < room) }
+        ensures kept { self.new.over ≡ true → (self.new.ended ≡ false) × (self.new.chunks ≡ self.old.chunks)
+            × (self.new.total ≡ self.old.total) }
+        ensures full { self.new.over ≡ false → size < n → (result ≡ size) × (self.new.ended ≡ false)
+            × (self.new.chunks ≡ self.old.chunks + 1) × (self.new.total ≡ self.old.total + size)
+            × (self.new.ahead ≡ Some (slice_index text.now size)) }
+        ensures last { self.new.over ≡ false → n ≤ size → (result ≡ n) × (self.new.ended ≡ true)
+            × (self.new.chunks ≡ self.old.chunks + 1) × (self.new.total ≡ self.old.total + n) }
     {
-        let n = fill_behind(reader, self.ahead, buffer)?;
+        if n as u64 == room {
+            self.over = true;
+            return 0;
+        }
         self.chunks += 1;
         if n > size {
-            self.ahead = Some(buffer[size]);
+            self.ahead = Some(text[size]);
             self.total += size as u64;
-            Ok(size)
+            size
         } else {
             self.ended = true;
             self.total += n as u64;
-            Ok(n)
+            n
         }
     }
 
     /// Reads the next chunk to the front of a buffer that is longer, and a byte behind it, unless the input ends with the
-    /// chunk. Answers how many bytes the chunk has.
+    /// chunk; and no more than so many bytes of the input. Answers how many bytes the chunk has.
     pub(crate) fn next<R: Source>(
         &mut self,
         reader: &mut R,
         size: usize,
+        limit: u64,
         buffer: &mut [u8],
     ) -> Result<usize, Failed>
         requires size { (0 < size) × (size ≤ 2 ^ 20) × (size < length buffer.old) }
-        requires going { self.old.ended ≡ false }
-        requires few { self.old.chunks < 4294967295 }
-        requires sum { self.old.total ≡ self.old.chunks * size }
+        requires going { (self.old.ended ≡ false) × (self.old.over ≡ false) }
+        requires few { (self.old.chunks < 4294967295) × (limit ≤ 2 ^ 53) }
+        requires sum { (self.old.total < limit) × (self.old.total ≡ self.old.chunks * size) }
         ensures within { IfOk result (λ n. n ≤ size) }
         ensures length { length buffer.new ≡ length buffer.old }
-        ensures chunks { OnOk result (self.new.chunks ≡ self.old.chunks + 1) }
-        ensures sum { OnOk result (self.new.ended ≡ false → self.new.total ≡ self.new.chunks * size) }
-        ensures read { OnOk result ((left : Option (List ℕ)) → HasRead size left (R.left reader.old) self.old
-            → HasRead size left (R.left reader.new) self.new) }
-        ensures chunk { IfOk result (λ n. (left : Option (List ℕ)) → HasRead size left (R.left reader.old) self.old
-            → IfSome left (λ input. IsChunk size input self.old.chunks self.new.ended (take n buffer.new))) }
-        ensures lost { OnErr result (ConsumesUpTo (R.left reader.old) (R.left reader.new) (size + 1)) }
+        ensures chunks { OnOk result ((self.new.over ≡ false → self.new.chunks ≡ self.old.chunks + 1)
+            × (self.new.over ≡ true → self.new.chunks ≡ self.old.chunks)) }
+        ensures read { OnOk result ((left : Option (List ℕ)) → HasRead size limit left (R.left reader.old) self.old
+            → HasRead size limit left (R.left reader.new) self.new) }
+        ensures chunk { IfOk result (λ n. (left : Option (List ℕ)) → HasRead size limit left (R.left reader.old) self.old
+            → self.new.over ≡ false → IsChunk size left self.old.chunks self.new.ended (take n buffer.new)) }
+        ensures same { OnErr result (self.new ≡ self.old) }
+        ensures lost { OnErr result ((left : Option (List ℕ)) → HasRead size limit left (R.left reader.old) self.old
+            → ConsumesUpTo left (R.left reader.new) limit) }
         ensures count { R.failures reader.new ≡ counted (is_err result) (R.failures reader.old) }
     {
-        let (text, _) = buffer.split_at_mut(size + 1);
-        self.fill_chunk(reader, size, text)
+        let room = limit - self.total;
+        let upto = room.min(size as u64 + 1) as usize;
+        let (text, _) = buffer.split_at_mut(upto);
+        match fill_behind(reader, self.ahead, text) {
+            Err(Failed) => Err(Failed),
+            Ok(n) => Ok(self.take_in(size, room, text, n)),
+        }
     }
 }

@@ -1,15 +1,20 @@
-//! A stream of any length sealed through two queues: jobs to the workers, and pieces back.
+//! An input sealed through two queues: jobs to the workers, and pieces back. `pipe` seals a stream of any length,
+//! `pipe_rounds` an input of bounded length in rounds of some chunks.
 //!
-//! The caller's thread reads and writes. Each worker lives as long as the stream; while there is nothing to do it sleeps.
+//! The caller's thread reads and writes. Each worker lives as long as the input; while there is nothing to do it sleeps.
 #![tactic(auto)]
 
 mod early;
+mod endless;
 mod feed;
 mod intake;
 mod line;
 mod piece;
+mod round;
+mod rounds;
 mod stream;
 mod worker;
 
+pub use crate::endless::pipe;
 pub use crate::piece::MAX_DEPTH;
-pub use crate::stream::pipe;
+pub use crate::rounds::pipe_rounds;

@@ -1,20 +1,20 @@
 //! The workers and the caller's thread together.
-ghost use Rattle.std.specs.Prelude.{◌≡◌, ℕ, ◌+◌, ◌<◌, ◌≤◌, [], OnOk, IfOk, IfSome, length, take, drop};
+ghost use Rattle.std.specs.Prelude.{◌≡◌, ℕ, ◌+◌, ◌-◌, ◌^◌, ◌<◌, ◌≤◌, [], OnOk, IfOk, IfSome, length};
 ghost use Rattle.std.specs.Thread.{IsSync};
-ghost use Rattle.container_core.specs.Container.{hint_of};
 ghost use Rattle.crossbeam_queue.specs.Passes.{view, IsPassOf};
 ghost use Rattle.pipe_core.specs.Hands.{newcomer, HasRelayed, HasAll, EachOnce};
-ghost use Rattle.pipe_core.specs.Pipe.{HasPiped};
+ghost use Rattle.pipe_core.specs.Round.{front_of, IsPlan, IsRead};
+ghost use Rattle.pipe_core.specs.Rounds.{HasSealedRounds};
 
 use crate::feed::{feed, ring};
 use crate::line::{Cut, Hand, JobLine, Naming, PieceLine, Total, put_task, take_task};
-use crate::piece::{MAX_DEPTH, Piece, Task};
+use crate::piece::{Piece, Task};
+use crate::round::{Plan, Round};
 use crate::worker::worker;
 use container_core::{Header, Key, SealFault};
 use crossbeam_queue::Pass;
 use io_core::{Sink, Source};
 use std::alloc::{AllocError, Global};
-use std::marker::Brand;
 use std::sync::Wait;
 use std::thread::{Parker, Threads, join_mut};
 use worker_core::{Gate, MAX_WORKERS};
@@ -77,32 +77,31 @@ fn lead<N: Naming, T: Wait, R: Source, W: Sink, G: Gate>(
     header: &Header,
     reader: &mut R,
     writer: &mut W,
-    max_chunks: u32,
-    depth: usize,
+    plan: Plan,
+    round: &mut Round,
     gate: &G,
     bells: &[Parker],
     into: &mut Pass<Task, Hand>,
     from: &mut Pass<Piece, Hand>,
 ) -> Result<u64, SealFault>
-    requires named { (key.now ≡ N.key) × (header.now ≡ N.header) × (R.left reader.old ≡ N.told) }
-    requires depth { 0 < depth }
-    requires most { 0 < max_chunks }
+    requires named { (key.now ≡ N.key) × (header.now ≡ N.header) }
+    requires plan { IsPlan N.header plan }
+    requires read { IsRead N.key N.header N.told (R.left reader.old) plan round.old }
     requires bells { 0 < length bells.now }
     requires into { IsPassOf jobs.now into.old × (0 < (view into.old).parts) × ((view into.old).put ≡ []) }
     requires from { IsPassOf pieces.now from.old × (0 < (view from.old).parts) × ((view from.old).put ≡ []) }
     ensures into { IsPassOf jobs.now into.new × ((view into.new).parts ≡ (view into.old).parts) }
     ensures from { IsPassOf pieces.now from.new × ((view from.new).parts ≡ (view from.old).parts) }
-    ensures piped { HasPiped key.now header.now max_chunks (R.left reader.old) (R.left reader.new)
-        (R.failures reader.old) (R.failures reader.new) (W.taken writer.old) (W.taken writer.new)
-        (W.failures writer.old) (W.failures writer.new) result }
+    ensures sealed { HasSealedRounds (front_of N.header plan) N.key N.header (plan.limit - 1) plan.group
+        N.told (R.left reader.new) (R.failures reader.old) (R.failures reader.new)
+        (W.taken writer.old) (W.taken writer.new) (W.failures writer.old) (W.failures writer.new) result }
     ensures all { OnOk result ((n : ℕ) × HasAll n (view into.new) (view from.new)) }
 {
     let answer = feed(
-        rt, alloc, jobs, pieces, key, header, reader, writer, max_chunks, depth, gate, bells, into,
-        from,
+        rt, alloc, jobs, pieces, key, header, reader, writer, plan, round, gate, bells, into, from,
     );
     if answer.is_err() {
-        drop_jobs(jobs, into, depth);
+        drop_jobs(jobs, into, plan.depth);
     }
     stop_all(rt, jobs, into, bells.len() - 1);
     ring(bells);
@@ -120,31 +119,31 @@ fn crew<N: Naming + Send + Sync, T: Threads + Wait + Sync, R: Source, W: Sink, G
     header: &Header,
     reader: &mut R,
     writer: &mut W,
-    max_chunks: u32,
-    depth: usize,
+    plan: Plan,
+    round: &mut Round,
     gate: &G,
     bells: &[Parker],
     upto: u32,
     into: &mut Pass<Task, Hand>,
     from: &mut Pass<Piece, Hand>,
 ) -> Result<u64, SealFault>
-    requires named { (key.now ≡ N.key) × (header.now ≡ N.header) × (R.left reader.old ≡ N.told) }
-    requires depth { 0 < depth }
-    requires most { 0 < max_chunks }
+    requires named { (key.now ≡ N.key) × (header.now ≡ N.header) }
+    requires plan { IsPlan N.header plan }
+    requires read { IsRead N.key N.header N.told (R.left reader.old) plan round.old }
     requires upto { (0 < upto) × (upto ≤ length bells.now) }
     requires into { IsPassOf jobs.now into.old × (upto ≤ (view into.old).parts) × ((view into.old).put ≡ []) }
     requires from { IsPassOf pieces.now from.old × (upto ≤ (view from.old).parts) × ((view from.old).put ≡ []) }
     ensures into { IsPassOf jobs.now into.new × ((view into.new).parts ≡ (view into.old).parts) }
     ensures from { IsPassOf pieces.now from.new × ((view from.new).parts ≡ (view from.old).parts) }
-    ensures piped { HasPiped key.now header.now max_chunks (R.left reader.old) (R.left reader.new)
-        (R.failures reader.old) (R.failures reader.new) (W.taken writer.old) (W.taken writer.new)
-        (W.failures writer.old) (W.failures writer.new) result }
+    ensures sealed { HasSealedRounds (front_of N.header plan) N.key N.header (plan.limit - 1) plan.group
+        N.told (R.left reader.new) (R.failures reader.old) (R.failures reader.new)
+        (W.taken writer.old) (W.taken writer.new) (W.failures writer.old) (W.failures writer.new) result }
     ensures all { OnOk result ((n : ℕ) × HasAll n (view into.new) (view from.new)) }
 {
     if upto == 1 {
         return lead(
-            rt, alloc, jobs, pieces, key, header, reader, writer, max_chunks, depth, gate, bells,
-            into, from,
+            rt, alloc, jobs, pieces, key, header, reader, writer, plan, round, gate, bells, into,
+            from,
         );
     }
     let last = upto - 1;
@@ -170,20 +169,20 @@ fn crew<N: Naming + Send + Sync, T: Threads + Wait + Sync, R: Source, W: Sink, G
         )
     };
     let mut here = || -> Result<u64, SealFault>
-        requires { IsSync T.row × (key.now ≡ N.key) × (header.now ≡ N.header) × (R.left reader.now ≡ N.told)
-            × (0 < depth) × (0 < max_chunks) × (0 < last) × (last ≤ length bells.now)
+        requires { IsSync T.row × (key.now ≡ N.key) × (header.now ≡ N.header) × IsPlan N.header plan
+            × IsRead N.key N.header N.told (R.left reader.now) plan round.now × (0 < last) × (last ≤ length bells.now)
             × IsPassOf jobs.now into.now × (last ≤ (view into.now).parts) × ((view into.now).put ≡ [])
             × IsPassOf pieces.now from.now × (last ≤ (view from.now).parts) × ((view from.now).put ≡ []) }
         ensures { OnOk result ((n : ℕ) × HasAll n (view into.exit.now) (view from.exit.now))
             × (IsPassOf jobs.entry.now into.exit.now × ((view into.exit.now).parts ≡ (view into.entry.now).parts))
             × (IsPassOf pieces.entry.now from.exit.now × ((view from.exit.now).parts ≡ (view from.entry.now).parts))
-            × HasPiped key.entry.now header.entry.now max_chunks (R.left reader.entry.now) (R.left reader.exit.now)
+            × HasSealedRounds (front_of N.header plan) N.key N.header (plan.limit - 1) plan.group N.told (R.left reader.exit.now)
             (R.failures reader.entry.now) (R.failures reader.exit.now) (W.taken writer.entry.now)
             (W.taken writer.exit.now) (W.failures writer.entry.now) (W.failures writer.exit.now) result }
     {
         crew(
-            rt, alloc, jobs, pieces, key, header, reader, writer, max_chunks, depth, gate, bells,
-            last, into, from,
+            rt, alloc, jobs, pieces, key, header, reader, writer, plan, round, gate, bells, last,
+            into, from,
         )
     };
     let ((), answer) = join_mut(rt, &mut other, &mut here);
@@ -202,8 +201,8 @@ fn bells_of(alloc: Global, workers: u32) -> Result<Vec<Parker>, AllocError>
     Ok(bells)
 }
 
-// With the answer, the hands of all workers together.
-fn pipe_named<
+// Seals behind what was read, by so many workers. With the answer, the hands of all workers together.
+pub(crate) fn through<
     N: Naming + Send + Sync,
     T: Threads + Wait + Sync,
     R: Source,
@@ -216,30 +215,30 @@ fn pipe_named<
     header: &Header,
     reader: &mut R,
     writer: &mut W,
-    max_chunks: u32,
+    plan: Plan,
+    round: &mut Round,
     workers: u32,
-    depth: usize,
     gate: &G,
 ) -> (
     Result<u64, SealFault>,
     Option<(Pass<Task, Hand>, Pass<Piece, Hand>)>,
 )
-    requires named { (key.now ≡ N.key) × (header.now ≡ N.header) × (R.left reader.old ≡ N.told) }
-    requires most { 0 < max_chunks }
+    requires named { (key.now ≡ N.key) × (header.now ≡ N.header) }
+    requires plan { IsPlan N.header plan × (plan.depth ≤ 2 ^ 20) }
+    requires read { IsRead N.key N.header N.told (R.left reader.old) plan round.old }
     requires workers { (0 < workers) × (workers ≤ MAX_WORKERS) }
-    requires depth { (0 < depth) × (depth ≤ MAX_DEPTH) }
-    ensures piped { HasPiped key.now header.now max_chunks (R.left reader.old) (R.left reader.new)
-        (R.failures reader.old) (R.failures reader.new) (W.taken writer.old) (W.taken writer.new)
-        (W.failures writer.old) (W.failures writer.new) result.0 }
+    ensures sealed { HasSealedRounds (front_of N.header plan) N.key N.header (plan.limit - 1) plan.group
+        N.told (R.left reader.new) (R.failures reader.old) (R.failures reader.new)
+        (W.taken writer.old) (W.taken writer.new) (W.failures writer.old) (W.failures writer.new) result.0 }
     ensures once { OnOk result.0 (IfSome result.1 (λ hands. (n : ℕ) × EachOnce n (view hands.0) (view hands.1))) }
 {
     let Ok(bells) = bells_of(alloc, workers) else {
         return (Err(SealFault::OutOfMemory), None);
     };
-    let Ok((jobs, mut into)) = JobLine::<N>::ruled(alloc, depth + workers as usize) else {
+    let Ok((jobs, mut into)) = JobLine::<N>::ruled(alloc, plan.depth + workers as usize) else {
         return (Err(SealFault::OutOfMemory), None);
     };
-    let Ok((pieces, mut from)) = PieceLine::<N>::ruled(alloc, depth) else {
+    let Ok((pieces, mut from)) = PieceLine::<N>::ruled(alloc, plan.depth) else {
         return (Err(SealFault::OutOfMemory), None);
     };
     let answer = crew(
@@ -251,8 +250,8 @@ fn pipe_named<
         header,
         reader,
         writer,
-        max_chunks,
-        depth,
+        plan,
+        round,
         gate,
         bells.as_slice(),
         workers,
@@ -262,39 +261,4 @@ fn pipe_named<
     jobs.learn_as::<Total>(&mut into);
     pieces.learn_as::<Total>(&mut from);
     (answer, Some((into, from)))
-}
-
-/// Seals a stream under a header of this key, by 1 to 16 workers, of which the caller's thread is worker 0 and does all reading and
-/// writing, where at most `depth` chunks are read and not written. Answers the stream's length in bytes.
-///
-/// A chunk is sealed once a byte behind it, or the end, was seen, and written once those before it are. The caller's
-/// thread seals a chunk itself where it may not read on, and at the end. `TooManyChunks` where a byte stands behind
-/// `max_chunks` full chunks: nothing past that byte is read. `OutOfMemory` where a queue, the workers' bells or the
-/// buffers find no memory: each of at most `depth` buffers holds a chunk and is used again. The header is written before
-/// anything is read. Where a thread can't be started the others do its work.
-pub fn pipe<T: Threads + Wait + Sync, R: Source, W: Sink, G: Gate + Sync>(
-    rt: &T,
-    alloc: Global,
-    key: &Key,
-    header: &Header,
-    reader: &mut R,
-    writer: &mut W,
-    max_chunks: u32,
-    workers: u32,
-    depth: u32,
-    gate: &G,
-) -> Result<u64, SealFault>
-    requires hint { take 7 (drop 17 header.now) ≡ hint_of key.now }
-    requires most { 0 < max_chunks }
-    requires workers { (0 < workers) × (workers ≤ MAX_WORKERS) }
-    requires depth { (0 < depth) × (depth ≤ MAX_DEPTH) }
-    ensures piped { HasPiped key.now header.now max_chunks (R.left reader.old) (R.left reader.new)
-        (R.failures reader.old) (R.failures reader.new) (W.taken writer.old) (W.taken writer.new)
-        (W.failures writer.old) (W.failures writer.new) result }
-{
-    let depth = depth as usize;
-    pipe_named::<Brand, T, R, W, G>(
-        rt, alloc, key, header, reader, writer, max_chunks, workers, depth, gate,
-    )
-    .0
 }

@@ -48,16 +48,9 @@ pub(crate) fn worker<N: Naming, R: Wait, G: Gate>(
     let mut looks = 0;
     for _ in rt.forever() {
         match take_task(jobs, from) {
-            Some(
-                Task::Job {
-                    number,
-                    last,
-                    buffer,
-                    filled,
-                },
-            ) => {
+            Some(Task::Job { number, buffer }) => {
                 gate.pass(me, number);
-                let piece = make_piece(key, header, number, last, buffer, filled);
+                let piece = make_piece(key, header, number, buffer);
                 put_piece(rt, pieces, into, piece);
                 bells[0].unpark();
                 looks = 0;

@@ -54,7 +54,7 @@ fn begin<R: Files + AllocGlobal + Eprint>(
 
 /// Seals the files.
 pub(crate) fn seal<
-    R: Files + AllocGlobal + Clock + Eprint + Threads + Sync,
+    R: Files + AllocGlobal + Clock + Eprint + Threads + Wait + Sync,
     I: Read + Drop,
     O: Write + Drop,
     E: Write + Drop,
@@ -87,7 +87,7 @@ pub(crate) fn seal<
 
 // Seals the files of these names.
 fn seal_named<
-    R: Files + AllocGlobal + Clock + Eprint + Threads + Sync,
+    R: Files + AllocGlobal + Clock + Eprint + Threads + Wait + Sync,
     O: Write + Drop,
     E: Write + Drop,
 >(
@@ -112,7 +112,7 @@ fn seal_named<
 
 // Seals what is asked for, with the outputs in this folder.
 fn seal_to<
-    R: Files + AllocGlobal + Clock + Eprint + Threads + Sync,
+    R: Files + AllocGlobal + Clock + Eprint + Threads + Wait + Sync,
     O: Write + Drop,
     E: Write + Drop,
 >(
@@ -244,7 +244,7 @@ pub(crate) fn pipe<
 /// Opens this ledger file, and seals the files under a range that is reserved there. The answer is the status, with the
 /// ledger file. `S` stands for what the ledger file and its log hold.
 fn seal_from<
-    R: AllocGlobal + Threads + Sync,
+    R: AllocGlobal + Threads + Wait + Sync,
     S: Start,
     F: Folder,
     L: Sink + Drop,

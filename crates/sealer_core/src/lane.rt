@@ -23,6 +23,7 @@ use crew_core::{Free, MAX_WINDOW, MAX_WORKERS};
 use engine_core::run_seal_by;
 use ledger_core::{Grant, IssueFault, Ledger, Seat, Sink, Source, Spent};
 use std::alloc::Global;
+use std::sync::Wait;
 use std::thread::Threads;
 
 /// Why a file has no number.
@@ -99,7 +100,7 @@ fn end_sealed<F: Folder>(
 }
 
 // Seals what a reader gives under the next number of the ledger, finishes the output, and settles that number.
-fn seal_next<T: Threads + Sync, R: Source, F: Folder>(
+fn seal_next<T: Threads + Wait + Sync, R: Source, F: Folder>(
     rt: &T,
     alloc: Global,
     key: &Key,
@@ -146,7 +147,7 @@ fn seal_next<T: Threads + Sync, R: Source, F: Folder>(
 
 // Seals one file: its input is opened, its output created, and its number issued, in this order. An output whose file
 // failed is removed.
-fn seal_file<T: Threads + Sync, F: Folder>(
+fn seal_file<T: Threads + Wait + Sync, F: Folder>(
     rt: &T,
     alloc: Global,
     key: &Key,
@@ -206,7 +207,7 @@ fn seal_file<T: Threads + Sync, F: Folder>(
 }
 
 /// Seals the files in turn, with a line for each. The answer is the status so far.
-pub(crate) fn seal_one_lane<T: Threads + Sync, F: Folder, W: Sink>(
+pub(crate) fn seal_one_lane<T: Threads + Wait + Sync, F: Folder, W: Sink>(
     rt: &T,
     alloc: Global,
     key: &Key,

@@ -27,6 +27,7 @@ use ledger_core::{Device, Ledger, Range, Seat, Sink};
 use reserve_core::{Fold, Keeper, LedgerFile, ReserveFault};
 use sqlite::Alter;
 use std::alloc::Global;
+use std::sync::Wait;
 use std::thread::Threads;
 
 /// The exit status where no file was touched, or the journal couldn't be written whole.
@@ -128,7 +129,7 @@ pub(crate) fn open_ledger<S: Fold>(
 }
 
 // Seals the files by the lanes that are asked for.
-fn seal_files<T: Threads + Sync, F: Folder, W: Sink>(
+fn seal_files<T: Threads + Wait + Sync, F: Folder, W: Sink>(
     rt: &T,
     alloc: Global,
     key: &Key,
@@ -161,7 +162,7 @@ fn seal_files<T: Threads + Sync, F: Folder, W: Sink>(
 }
 
 // Seals the files over a new ledger, and ends that. The answer is the status of the lines, and how the ledger ended.
-fn work_ledger<T: Threads + Sync, F: Folder, W: Sink, J: Sink>(
+fn work_ledger<T: Threads + Wait + Sync, F: Folder, W: Sink, J: Sink>(
     rt: &T,
     alloc: Global,
     key: &Key,
@@ -210,7 +211,7 @@ fn work_ledger<T: Threads + Sync, F: Folder, W: Sink, J: Sink>(
 /// it is no keeper's, and a further run opens it anew. Nobody else may write the ledger file, and no ledger file that was
 /// copied or restored may be used again with the same key and device.
 pub fn seal_all<
-    T: Threads + Sync,
+    T: Threads + Wait + Sync,
     S: Fold,
     F: Folder,
     L: Sink + Drop,

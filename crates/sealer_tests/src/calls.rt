@@ -2,6 +2,7 @@
 //! it. The lines and journals are written by hand.
 use crate::cases::{Case, Left, Trouble, Work, ends};
 use crate::runs::{EMPTY, SECRET};
+use std::sync::Wait;
 use std::thread::Threads;
 
 // What a run has to tell, and to leave.
@@ -189,7 +190,7 @@ fn opening(number: u64, run: &Run) -> Case<'static> {
     }
 }
 
-fn are_sealed<R: AllocGlobal + Threads + Sync>(rt: &R, lanes: u32, runs: &[Run]) -> bool {
+fn are_sealed<R: AllocGlobal + Threads + Wait + Sync>(rt: &R, lanes: u32, runs: &[Run]) -> bool {
     let mut number = 0;
     for run in runs {
         if !ends(rt, &sealing(lanes, number, run)) {
@@ -200,7 +201,7 @@ fn are_sealed<R: AllocGlobal + Threads + Sync>(rt: &R, lanes: u32, runs: &[Run])
     true
 }
 
-fn are_opened<R: AllocGlobal + Threads + Sync>(rt: &R) -> bool {
+fn are_opened<R: AllocGlobal + Threads + Wait + Sync>(rt: &R) -> bool {
     let mut number = 0;
     for run in &OPENED {
         if !ends(rt, &opening(number, run)) {

@@ -9,6 +9,7 @@ use io_memory::Schedule;
 use reserve_core::{Fold, LedgerFile};
 use sealer_core::{OpenOptions, open_all, verify_all};
 use std::alloc::Global;
+use std::sync::Wait;
 use std::thread::Threads;
 
 // What fails.
@@ -158,7 +159,7 @@ fn open_in<R: AllocGlobal + Threads + Sync>(
 }
 
 // The status of the case's run; `None` where it can't be asked for.
-fn status_over<R: AllocGlobal + Threads + Sync, S: Fold>(
+fn status_over<R: AllocGlobal + Threads + Wait + Sync, S: Fold>(
     rt: &R,
     file: &mut LedgerFile<S>,
     folder: &mut MemoryFolder,
@@ -185,7 +186,7 @@ fn status_over<R: AllocGlobal + Threads + Sync, S: Fold>(
 }
 
 // Whether a run over this ledger file and this folder ends as the case says.
-pub(crate) fn ends_over<R: AllocGlobal + Threads + Sync, S: Fold>(
+pub(crate) fn ends_over<R: AllocGlobal + Threads + Wait + Sync, S: Fold>(
     rt: &R,
     file: &mut LedgerFile<S>,
     folder: &mut MemoryFolder,
@@ -202,7 +203,7 @@ pub(crate) fn ends_over<R: AllocGlobal + Threads + Sync, S: Fold>(
 }
 
 // The same over a ledger file of its own.
-pub(crate) fn ends_in<R: AllocGlobal + Threads + Sync>(
+pub(crate) fn ends_in<R: AllocGlobal + Threads + Wait + Sync>(
     rt: &R,
     folder: &mut MemoryFolder,
     case: &Case,
@@ -214,7 +215,7 @@ pub(crate) fn ends_in<R: AllocGlobal + Threads + Sync>(
 }
 
 // The same over the folder of the case.
-pub(crate) fn ends<R: AllocGlobal + Threads + Sync>(rt: &R, case: &Case) -> bool {
+pub(crate) fn ends<R: AllocGlobal + Threads + Wait + Sync>(rt: &R, case: &Case) -> bool {
     match folder_of(rt.alloc(), case.folder) {
         Some(mut folder) => ends_in(rt, &mut folder, case),
         None => false,

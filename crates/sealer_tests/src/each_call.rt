@@ -11,6 +11,7 @@ use folder_memory::{MemoryFolder, Pace};
 use io_memory::Schedule;
 use sealer_core::{OpenOptions, open_all, verify_all};
 use std::alloc::{AllocError, Global};
+use std::sync::Wait;
 use std::thread::Threads;
 
 #[derive(Clone, Copy, PartialEq, Eq)]
@@ -73,7 +74,7 @@ fn status_of_opening<R: AllocGlobal + Threads + Sync>(
     }
 }
 
-fn status_of<R: AllocGlobal + Threads + Sync>(
+fn status_of<R: AllocGlobal + Threads + Wait + Sync>(
     rt: &R,
     folder: &mut Failing,
     run: &Run,
@@ -99,7 +100,11 @@ fn status_of<R: AllocGlobal + Threads + Sync>(
 }
 
 // The run where the call of this number fails.
-fn run_failing<R: AllocGlobal + Threads + Sync>(rt: &R, run: &Run, number: u64) -> Option<Ended> {
+fn run_failing<R: AllocGlobal + Threads + Wait + Sync>(
+    rt: &R,
+    run: &Run,
+    number: u64,
+) -> Option<Ended> {
     let mut folder = folder_of(rt.alloc(), run.folder)?;
     let pace = Pace {
         most: run.step,
@@ -256,7 +261,7 @@ fn is_right(alloc: Global, run: &Run, ended: &Ended) -> Option<bool> {
 }
 
 // How many calls there are, where the run ends as it has to whichever of them fails.
-fn calls_of<R: AllocGlobal + Threads + Sync>(rt: &R, run: &Run) -> Option<u64> {
+fn calls_of<R: AllocGlobal + Threads + Wait + Sync>(rt: &R, run: &Run) -> Option<u64> {
     for number in 0..1_000u64 {
         let ended = run_failing(rt, run, number)?;
         if is_right(rt.alloc(), run, &ended) != Some(true) {
@@ -270,7 +275,11 @@ fn calls_of<R: AllocGlobal + Threads + Sync>(rt: &R, run: &Run) -> Option<u64> {
 }
 
 // Whether there are at least so many calls, and the run ends as it has to whichever of them fails.
-fn holds_at_each_call<R: AllocGlobal + Threads + Sync>(rt: &R, run: &Run, least: u64) -> bool {
+fn holds_at_each_call<R: AllocGlobal + Threads + Wait + Sync>(
+    rt: &R,
+    run: &Run,
+    least: u64,
+) -> bool {
     match calls_of(rt, run) {
         Some(calls) => calls >= least,
         None => false,
@@ -317,7 +326,7 @@ static TWOS: [u8; 40_000] = [2; 40_000];
 static LONG: [u8; 40_001] = [3; 40_001];
 
 // Six files by two lanes, in groups of two.
-fn holds_in_groups<R: AllocGlobal + Threads + Sync>(rt: &R) -> bool {
+fn holds_in_groups<R: AllocGlobal + Threads + Wait + Sync>(rt: &R) -> bool {
     let folder: [(&str, &[u8]); 4] = [("a", &ONES), ("b", &TWOS), ("c", b"333"), ("long", &LONG)];
     let results: [(&str, &[u8]); 6] = [
         ("a.stm", &ONES),

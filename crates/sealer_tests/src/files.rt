@@ -8,6 +8,7 @@ use container_core::{Key, Shape, seal};
 use folder_memory::{MemoryFolder, Pace};
 use io_memory::Schedule;
 use std::alloc::Global;
+use std::sync::Wait;
 use std::thread::Threads;
 
 static ANOTHER_NAME: Case = Case {
@@ -146,7 +147,7 @@ static EACH_FAULT: Case = Case {
     left: &[],
 };
 
-fn tells_each_fault<R: AllocGlobal + Threads + Sync>(rt: &R) -> bool {
+fn tells_each_fault<R: AllocGlobal + Threads + Wait + Sync>(rt: &R) -> bool {
     match folder_of_faults(rt.alloc()) {
         Some(mut folder) => {
             ends_in(rt, &mut folder, &TOO_LONG_FIRST) && ends_in(rt, &mut folder, &EACH_FAULT)
@@ -187,7 +188,7 @@ static READ: Case = Case {
 };
 
 // Whether a run ends so whose readers fail by this schedule.
-fn ends_by<R: AllocGlobal + Threads + Sync>(
+fn ends_by<R: AllocGlobal + Threads + Wait + Sync>(
     rt: &R,
     folder: &mut MemoryFolder,
     schedule: Schedule,
@@ -197,7 +198,7 @@ fn ends_by<R: AllocGlobal + Threads + Sync>(
     ends_in(rt, folder, case)
 }
 
-fn tells_failed_readers<R: AllocGlobal + Threads + Sync>(rt: &R) -> bool {
+fn tells_failed_readers<R: AllocGlobal + Threads + Wait + Sync>(rt: &R) -> bool {
     let Some(mut folder) = folder_of(rt.alloc(), READ_FAILED.folder) else {
         return false;
     };
@@ -347,7 +348,7 @@ fn folder_of_two(alloc: Global) -> Option<MemoryFolder> {
     folder_of(alloc, &[("a.stm.stm", outer.as_slice())])
 }
 
-fn opens_both<R: AllocGlobal + Threads + Sync>(rt: &R) -> bool {
+fn opens_both<R: AllocGlobal + Threads + Wait + Sync>(rt: &R) -> bool {
     match folder_of_two(rt.alloc()) {
         Some(mut folder) => ends_in(rt, &mut folder, &TWICE_SEALED),
         None => false,

@@ -8,10 +8,11 @@ use crate::runs::{
 use folder_memory::{MemoryFolder, Pace};
 use io_memory::Schedule;
 use std::alloc::Global;
+use std::sync::Wait;
 use std::thread::Threads;
 
 // The status of a run by so many lanes, over a ledger file of its own.
-fn status_by<R: AllocGlobal + Threads + Sync>(
+fn status_by<R: AllocGlobal + Threads + Wait + Sync>(
     rt: &R,
     folder: &mut MemoryFolder,
     files: &[&str],
@@ -60,7 +61,7 @@ fn is_journal_of_three(alloc: Global, journal: &[u8]) -> bool {
     journal.starts_with(b"range 1 0 3 2\n") && is_legal(alloc, journal, line) == Some(true)
 }
 
-fn seals_three<R: AllocGlobal + Threads + Sync>(rt: &R) -> Option<bool> {
+fn seals_three<R: AllocGlobal + Threads + Wait + Sync>(rt: &R) -> Option<bool> {
     let mut folder = folder_of(rt.alloc(), &[("a", &ONES), ("b", &TWOS), ("c", b"333")])?;
     let mut out = steady_outs(rt.alloc())?;
     let status = status_by(rt, &mut folder, &["a", "b", "c"], &mut out, 1 << 30, 2)?;
@@ -157,7 +158,7 @@ fn has_second(alloc: Global, out: &MemoryOuts) -> bool {
         && is_legal(alloc, journal_of(out), line) == Some(true)
 }
 
-fn seals_second<R: AllocGlobal + Threads + Sync>(rt: &R) -> Option<bool> {
+fn seals_second<R: AllocGlobal + Threads + Wait + Sync>(rt: &R) -> Option<bool> {
     let mut folder = folder_of(rt.alloc(), &[("a", b"22"), ("b", b"1"), ("c", b"333")])?;
     // A container of one byte has 41 bytes.
     folder.pace_writers(Pace {
@@ -263,7 +264,7 @@ fn are_there(folder: &MemoryFolder, names: &[&str]) -> bool {
     true
 }
 
-fn seals_five<R: AllocGlobal + Threads + Sync>(rt: &R) -> Option<bool> {
+fn seals_five<R: AllocGlobal + Threads + Wait + Sync>(rt: &R) -> Option<bool> {
     let mut folder = folder_of(
         rt.alloc(),
         &[("a", b""), ("b", b""), ("c", b""), ("d", b""), ("e", b"")],

@@ -6,6 +6,7 @@ use crate::runs::{
 };
 use folder_memory::MemoryFolder;
 use std::alloc::{AllocError, Global};
+use std::sync::Wait;
 use std::thread::Threads;
 
 static FILES: [(&str, &[u8]); 3] = [("a", b"1"), ("b", b"22"), ("c", b"333")];
@@ -148,7 +149,7 @@ fn is_kept(alloc: Global, folder: &MemoryFolder, out: &MemoryOuts, status: u8) -
     })
 }
 
-fn seals_or_lacks_memory<R: AllocGlobal + Threads + Sync>(rt: &R) -> Option<bool> {
+fn seals_or_lacks_memory<R: AllocGlobal + Threads + Wait + Sync>(rt: &R) -> Option<bool> {
     let alloc = rt.alloc();
     let mut folder = folder_again(alloc)?;
     let mut file = ledger_again(alloc)?;

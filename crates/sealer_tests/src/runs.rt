@@ -8,6 +8,7 @@ use reserve_core::{Fold, Keeper, LedgerFile};
 use sealer_core::{Folder, Outs, SealOptions, run_audit, seal_all};
 use sqlite::{Connection, MemStore};
 use std::alloc::Global;
+use std::sync::Wait;
 use std::thread::Threads;
 
 pub(crate) const COUNTING: [u8; 32] = [
@@ -155,7 +156,7 @@ fn opens_to(alloc: Global, sealed: &[u8], number: u8, plain: &[u8]) -> bool {
 
 // The status of `seal_all` under the key of the constant above and device 1, where it may be asked for that, with containers
 // of version 1.
-pub(crate) fn seal_over<R: AllocGlobal + Threads + Sync, S: Fold, F: Folder>(
+pub(crate) fn seal_over<R: AllocGlobal + Threads + Wait + Sync, S: Fold, F: Folder>(
     rt: &R,
     file: &mut LedgerFile<S>,
     folder: &mut F,
@@ -172,7 +173,7 @@ pub(crate) fn seal_over<R: AllocGlobal + Threads + Sync, S: Fold, F: Folder>(
 }
 
 // `seal_over`, with containers of this shape.
-pub(crate) fn seal_shaped<R: AllocGlobal + Threads + Sync, S: Fold, F: Folder>(
+pub(crate) fn seal_shaped<R: AllocGlobal + Threads + Wait + Sync, S: Fold, F: Folder>(
     rt: &R,
     file: &mut LedgerFile<S>,
     folder: &mut F,

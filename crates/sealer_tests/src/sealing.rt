@@ -4,6 +4,7 @@ use crate::cases::{Case, Left, Trouble, Work, ends, ends_over};
 use crate::runs::{EMPTY, SECRET, folder_of, is_legal, ledger_after};
 use folder_memory::Pace;
 use io_memory::Schedule;
+use std::sync::Wait;
 use std::thread::Threads;
 
 // The tables of a ledger file, and rows that leave one number of device 1 under the key 00 01 .. 1f, whose SHA-256 is
@@ -235,7 +236,7 @@ fn without_a_journal_the_files_are_sealed(rt: HostRuntime) {
 }
 
 // Whether one run and then another over a ledger file after these statements end as told, in the folder of the first.
-fn both_end<R: AllocGlobal + Threads + Sync>(
+fn both_end<R: AllocGlobal + Threads + Wait + Sync>(
     rt: &R,
     sql: &str,
     first: &Case,
@@ -324,7 +325,7 @@ fn a_ledger_file_that_was_folded_reserves_no_more(rt: HostRuntime) {
 }
 
 // Whether so many files of one name are refused.
-fn are_too_many<R: AllocGlobal + Threads + Sync>(rt: &R, count: usize) -> Option<bool> {
+fn are_too_many<R: AllocGlobal + Threads + Wait + Sync>(rt: &R, count: usize) -> Option<bool> {
     let files = vec![in rt.alloc(); "a"; count].ok()?;
     let case = Case {
         folder: &[("a", b"")],

@@ -2,6 +2,7 @@
 //! 00 01 .. 1f and device 1.
 use crate::runs::{folder_of, has_bytes, journal_of, ledger_after, seal_shaped, steady_outs};
 use container_core::Shape;
+use std::sync::Wait;
 use std::thread::Threads;
 
 // Of `a secret`, in chunks of 4 KiB under the label `db-dump`, of files 0 and 1.
@@ -20,7 +21,7 @@ static SECOND: [u8; 56] = [
 ];
 
 // Whether so many lanes seal two files in a shape: each container is of one of the two numbers.
-fn seals_both<R: AllocGlobal + Threads + Sync>(rt: &R, lanes: u32) -> Option<bool> {
+fn seals_both<R: AllocGlobal + Threads + Wait + Sync>(rt: &R, lanes: u32) -> Option<bool> {
     let alloc = rt.alloc();
     let shape = Shape::two(12, b"db-dump").ok()?;
     let mut file = ledger_after(alloc, "")?;

@@ -93,7 +93,7 @@ pub(crate) fn database_of(file: LedgerFile<FileStore<Memory>>) -> Option<Memory>
 }
 
 // The database file that the first run leaves.
-fn file_of_first_run<R: AllocGlobal + Threads + Sync>(
+fn file_of_first_run<R: AllocGlobal + Threads + Wait + Sync>(
     rt: &R,
     folder: &mut MemoryFolder,
 ) -> Option<Memory> {
@@ -108,7 +108,11 @@ fn file_of_first_run<R: AllocGlobal + Threads + Sync>(
 }
 
 // Whether the second run, over that file and an empty log, ends as it has to.
-fn goes_on<R: AllocGlobal + Threads + Sync>(rt: &R, folder: &mut MemoryFolder, db: Memory) -> bool {
+fn goes_on<R: AllocGlobal + Threads + Wait + Sync>(
+    rt: &R,
+    folder: &mut MemoryFolder,
+    db: Memory,
+) -> bool {
     let log = Memory::new(rt.alloc());
     match ledger_over(rt.alloc(), Files { log, db }) {
         Some(mut file) => ends_over(rt, &mut file, folder, &SECOND_RUN),
@@ -116,14 +120,14 @@ fn goes_on<R: AllocGlobal + Threads + Sync>(rt: &R, folder: &mut MemoryFolder, d
     }
 }
 
-fn both_run<R: AllocGlobal + Threads + Sync>(rt: &R, folder: &mut MemoryFolder) -> bool {
+fn both_run<R: AllocGlobal + Threads + Wait + Sync>(rt: &R, folder: &mut MemoryFolder) -> bool {
     match file_of_first_run(rt, folder) {
         Some(db) => goes_on(rt, folder, db),
         None => false,
     }
 }
 
-fn goes_on_without_log<R: AllocGlobal + Threads + Sync>(rt: &R) -> Option<bool> {
+fn goes_on_without_log<R: AllocGlobal + Threads + Wait + Sync>(rt: &R) -> Option<bool> {
     let plain = vec![in rt.alloc(); 7u8; 65_537].ok()?;
     let mut folder = folder_of(rt.alloc(), &[("a", b""), ("b", plain.as_slice())])?;
     Some(both_run(rt, &mut folder) && has_number_3(rt.alloc(), &folder, plain.as_slice()))

@@ -1,185 +1,71 @@
-use Rattle.std.proofs.Common.{arith, ◌≡◌, ◌∙◌, true, refl, ap}
-use Rattle.container_core.specs.Container.{size_in}
+use Rattle.std.proofs.Common.{arith, refl, ◌≡◌, ◌∙◌, ℕ, List, Bool, not, true, ap, subst}
+use Rattle.container_core.proofs.OpeningLemmas.{some_size}
 use Rattle.io_core.specs.Streams.{counted}
-use Rattle.container_core.specs.Faults.{is_failed_read}
-use Rattle.pipe_core.proofs.ChunkLemmas.{begun_now}
-use Rattle.pipe_core.proofs.FeedLemmas.{written_at, begun_header, piped_as, piped_end, piped_more, piped_read, piped_write, seen_end}
+use Rattle.pipe_core.specs.Order.{HasBegun}
+use Rattle.pipe_core.specs.Round.{front_of}
+use Rattle.pipe_core.proofs.ChunkLemmas.{begun_now, written_at}
+use Rattle.pipe_core.proofs.RoundLemmas.{handed_as, not_both, rounds_counts, rounds_memory, rounds_read, rounds_write, way_none}
 use Rattle.pipe_core.proofs.feed.feed.Goals as goal
-use Rattle.pipe_core.proofs.feed.feed.Goals.{else-not-intake-via-then-not-intake+else-len-depth, else-not-intake-via-else-not-intake}
 
-pub returns-in-Err-clause-piped : goal.returns-in-Err-clause-piped
-returns-in-Err-clause-piped g c =
-    let n = c.requires.named in
-    piped_as _ _ _ _ _ _ _ _ _ _ _ _ _ _ _ n.0 n.1 n.2
-    (piped_write _ _ _ _ _ _ _ _ _ _ _ (begun_header _ _ _ _ _ _ (c.bytes.ensures.bytes ∙ n.1) c.in-Err.ensures.err) refl c.in-Err.ensures.count)
+pub returns-in_default-clause-sealed : goal.returns-in_default-clause-sealed
+returns-in_default-clause-sealed g c =
+    let r = c.requires.read.hand.read in
+    rounds_memory _ _ _ _ _ _ c.args.plan.limit c.args.plan.group _ _ _ _ c.requires.plan.limit.0 (r.bytes, r.consumed, r.bound) refl refl
 
-pub loop-preserved-in-Ok-true : goal.loop-preserved-in-Ok-true
-loop-preserved-in-Ok-true g c =
-    let was = c.loop.invariant in
-    let wrote = c.in-Ok-true.ensures in
-    let room = wrote.room in
-    let enough = was.room in
-    record {
-      jobs = was.jobs;
-      pieces = was.pieces;
-      parts = was.parts;
-      order = wrote.order _ _ _ was.order;
-      read = was.read;
-      sum = was.sum;
-      few = was.few;
-      written = wrote.written _ was.written;
-      room = omega arith;
-      spare = wrote.spare;
-      failures = was.failures;
-      refusals = wrote.count ∙ was.refusals;
-    }
+pub returns-in_default-buffers-clause-sealed : goal.returns-in_default-buffers-clause-sealed
+returns-in_default-buffers-clause-sealed g c =
+    let r = c.requires.read.hand.read in
+    rounds_memory _ _ _ _ _ _ c.args.plan.limit c.args.plan.group _ _ _ _ c.requires.plan.limit.0 (r.bytes, r.consumed, r.bound) refl refl
 
-pub loop-preserved-then-take_back : goal.loop-preserved-then-take_back
-loop-preserved-then-take_back g c =
-    let was = c.loop.invariant in
-    let wrote = c.in-Ok-false.ensures in
-    let back = c.take_back.ensures in
-    let room = wrote.room in
-    let room' = back.same.1 in
-    let enough = was.room in
-    record {
-      jobs = was.jobs;
-      pieces = back.from.0;
-      parts = (was.parts.0, back.from.1 ∙ was.parts.1);
-      order = back.order _ _ (wrote.order _ _ _ was.order);
-      read = was.read;
-      sum = was.sum;
-      few = was.few;
-      written = written_at _ _ _ _ _ _ _ back.same.0 (wrote.written _ was.written);
-      room = omega arith;
-      spare = wrote.spare;
-      failures = was.failures;
-      refusals = wrote.count ∙ was.refusals;
-    }
+pub take_in-requires-clause-way : goal.take_in-requires-clause-way
+take_in-requires-clause-way g c =
+    let fresh = c.in-Ok.ensures in
+    c.hand_over.ensures.way _ _ c.requires.read.few (λ over. absurd (not_both _ over c.requires.read.within))
+    (way_none _ _ _ _ c.args.plan _ _ _ _ fresh.0 fresh.1 c.requires.into.2 c.requires.from.2 c.requires.read.hand)
 
-pub loop-preserved-then-len-depth : goal.loop-preserved-then-len-depth
-loop-preserved-then-len-depth g c =
-    let was = c.loop.invariant in
-    let wrote = c.in-Ok-false.ensures in
-    let back = c.take_back.ensures in
-    let read = c.in_default-read_on.ensures in
-    let room = wrote.room in
-    let room' = back.same.1 in
-    let room'' = read.same.1 in
-    let enough = was.room in
-    let few = was.few in
-    let more = c.if-intake-max_chunks.false in
-    let counted = read.chunks in
-    record {
-      jobs = read.into.0;
-      pieces = back.from.0;
-      parts = (read.into.1 ∙ was.parts.0, back.from.1 ∙ was.parts.1);
-      order = read.order _ (back.order _ _ (wrote.order _ _ _ was.order));
-      read = read.read;
-      sum = read.sum;
-      few = omega arith;
-      written = written_at _ _ _ _ _ _ _ (read.same.0 ∙ back.same.0) (wrote.written _ was.written);
-      room = omega arith;
-      spare = read.spare;
-      failures = read.count ∙ was.failures;
-      refusals = wrote.count ∙ was.refusals;
-    }
+pub drain-requires-clause-way : goal.drain-requires-clause-way
+drain-requires-clause-way g c = (_, c.args.plan, (c.in-Ok-take_in.ensures.all c.if-not-all.false).0)
 
-pub loop-preserved-then-work_here : goal.loop-preserved-then-work_here
-loop-preserved-then-work_here g c =
-    let was = c.loop.invariant in
-    let wrote = c.in-Ok-false.ensures in
-    let back = c.take_back.ensures in
-    let here = c.work_here.ensures in
-    let room = wrote.room in
-    let room' = back.same.1 in
-    let room'' = here.same.1 in
-    let enough = was.room in
-    record {
-      jobs = here.into.0;
-      pieces = back.from.0;
-      parts = (here.into.1 ∙ was.parts.0, back.from.1 ∙ was.parts.1);
-      order = here.order _ _ (back.order _ _ (wrote.order _ _ _ was.order));
-      read = was.read;
-      sum = was.sum;
-      few = was.few;
-      written = written_at _ _ _ _ _ _ _ (here.same.0 ∙ back.same.0) (wrote.written _ was.written);
-      room = omega arith;
-      spare = wrote.spare;
-      failures = was.failures;
-      refusals = wrote.count ∙ was.refusals;
-    }
+pub returns-in-Err-clause-sealed : goal.returns-in-Err-clause-sealed
+returns-in-Err-clause-sealed g c =
+    let t = c.in-Err.ensures in
+    let front = c.front-front.ensures ∙ ap (λ (h : List ℕ). front_of h c.args.plan) c.requires.named.1 in
+    rounds_write _ _ _ _ _ _ _ c.args.plan.limit c.args.plan.group _ _ _ _ c.requires.plan.limit.0 t.bound
+    (subst (λ (l : List ℕ). HasBegun l g.N.Naming.key g.N.Naming.header g.N.Naming.told (g.W.Sink.taken c.args.writer.now) (g.W.Sink.taken c.take_in.new.writer)) front t.begun)
+    t.unread t.writes
 
-pub loop-preserved : goal.loop-preserved
-loop-preserved g c =
-    let was = c.loop.invariant in
-    let wrote = c.in-Ok-false.ensures in
-    let back = c.take_back.ensures in
-    let here = c.work_here.ensures in
-    let room = wrote.room in
-    let room' = back.same.1 in
-    let room'' = here.same.1 in
-    let enough = was.room in
-    record {
-      jobs = here.into.0;
-      pieces = back.from.0;
-      parts = (here.into.1 ∙ was.parts.0, back.from.1 ∙ was.parts.1);
-      order = here.order _ _ (back.order _ _ (wrote.order _ _ _ was.order));
-      read = was.read;
-      sum = was.sum;
-      few = was.few;
-      written = written_at _ _ _ _ _ _ _ (here.same.0 ∙ back.same.0) (wrote.written _ was.written);
-      room = omega arith;
-      spare = wrote.spare;
-      failures = was.failures;
-      refusals = wrote.count ∙ was.refusals;
-    }
+pub returns-then-not-all-clause-sealed : goal.returns-then-not-all-clause-sealed
+returns-then-not-all-clause-sealed g c =
+    let t = c.in-Ok-take_in.ensures in
+    let front = c.front-front.ensures ∙ ap (λ (h : List ℕ). front_of h c.args.plan) c.requires.named.1 in
+    rounds_read _ _ _ _ _ _ _ c.args.plan.limit c.args.plan.group _ _ _ _ c.requires.plan.limit.0 t.bound
+    (subst (λ (l : List ℕ). HasBegun l g.N.Naming.key g.N.Naming.header g.N.Naming.told (g.W.Sink.taken c.args.writer.now) (g.W.Sink.taken c.take_in.new.writer)) front
+    (begun_now _ _ _ _ _ _ _ (some_size g.N.Naming.header) t.written))
+    (t.reads ∙ ap (λ (b : Bool). counted (not b) (g.R.Source.failures c.args.reader.now)) c.if-not-all.true) t.writes
 
-pub returns-then-intake-max_chunks-clause-piped : goal.returns-then-intake-max_chunks-clause-piped
-returns-then-intake-max_chunks-clause-piped g c =
-    let n = c.requires.named in
-    let was = c.loop.invariant in
-    let wrote = c.in-Ok-false.ensures in
-    let size = c.chunk-size.ensures.value ∙ ap size_in n.1 in
-    piped_as _ _ _ _ _ _ _ _ _ _ _ _ _ _ _ n.0 n.1 n.2
-    (piped_more _ _ _ c.chunk-size.result _ _ _ _ _ _ _ _ c.loop.intake _ size c.requires.most was.read c.if-not-intake.true c.if-intake-max_chunks.true
-    (wrote.written _ was.written) was.failures (wrote.count ∙ was.refusals))
+pub returns-in-Err-drain-clause-sealed : goal.returns-in-Err-drain-clause-sealed
+returns-in-Err-drain-clause-sealed g c =
+    let t = c.in-Ok-take_in.ensures in
+    let d = c.in-Err-drain.ensures in
+    let front = c.front-front.ensures ∙ ap (λ (h : List ℕ). front_of h c.args.plan) c.requires.named.1 in
+    rounds_write _ _ _ _ _ _ _ c.args.plan.limit c.args.plan.group _ _ _ _ c.requires.plan.limit.0 t.bound
+    (subst (λ (l : List ℕ). HasBegun l g.N.Naming.key g.N.Naming.header g.N.Naming.told (g.W.Sink.taken c.args.writer.now) (g.W.Sink.taken c.drain.new.writer)) front
+    (d.begun _ t.written))
+    (t.reads ∙ ap (λ (b : Bool). counted (not b) (g.R.Source.failures c.args.reader.now)) c.if-not-all.false)
+    (d.count ∙ ap (counted true) t.writes)
 
-pub returns-in-Err-read_on-clause-piped : goal.returns-in-Err-read_on-clause-piped
-returns-in-Err-read_on-clause-piped g c =
-    let n = c.requires.named in
-    let was = c.loop.invariant in
-    let wrote = c.in-Ok-false.ensures in
-    piped_as _ _ _ _ _ _ _ _ _ _ _ _ _ _ _ n.0 n.1 n.2
-    (piped_read _ _ _ _ _ _ _ _ _ _ _ c.in-Err-read_on.fault c.in-Err-read_on.ensures.fault (begun_now _ _ _ _ _ _ (wrote.written _ was.written))
-    (c.in-Err-read_on.ensures.count ∙ ap (counted (is_failed_read c.in-Err-read_on.fault)) was.failures) (wrote.count ∙ was.refusals))
-
-pub returns-then-len-eq0-clause-piped : goal.returns-then-len-eq0-clause-piped
-returns-then-len-eq0-clause-piped g c =
-    let n = c.requires.named in
-    let was = c.loop.invariant in
-    let wrote = c.in-Ok-false.ensures in
-    let back = c.take_back.ensures in
-    let size = c.chunk-size.ensures.value ∙ ap size_in n.1 in
-    let least = c.chunk-size.ensures.least in
-    let none_left = c.len-in-loop.ensures.0 in
-    let empty = c.if-len-eq0.true in
-    let depth = c.requires.depth in
-    let over : c.loop.intake.ended ≡ true = elim c.else-not-intake.branch [
-      | else-not-intake-via-then-not-intake+else-len-depth w ↦ let some = w.if-len-depth.false in let same = w.len.ensures.0 in absurd (omega arith)
-      | else-not-intake-via-else-not-intake w ↦ w.if-not-intake.false
-    ] in
-    piped_as _ _ _ _ _ _ _ _ _ _ _ _ _ _ _ n.0 n.1 n.2
-    (piped_end _ _ _ c.chunk-size.result _ _ _ _ _ _ _ _ c.loop.intake c.take_back.new.early _ _ size (omega arith) was.read over
-    (back.order _ _ (wrote.order _ _ _ was.order)) (omega arith) was.few (written_at _ _ _ _ _ _ _ back.same.0 (wrote.written _ was.written))
-    was.failures (wrote.count ∙ was.refusals))
-
-pub returns-then-len-eq0-clause-seen : goal.returns-then-len-eq0-clause-seen
-returns-then-len-eq0-clause-seen g c =
-    let was = c.loop.invariant in
-    let wrote = c.in-Ok-false.ensures in
-    let back = c.take_back.ensures in
-    let order = back.order _ _ (wrote.order _ _ _ was.order) in
-    let none_left = c.len-in-loop.ensures.0 in
-    let empty = c.if-len-eq0.true in
-    (c.loop.intake.chunks, order.put, order.silent, seen_end _ _ _ _ _ _ _ order (omega arith))
+pub returns-clause-sealed : goal.returns-clause-sealed
+returns-clause-sealed g c =
+    let t = c.in-Ok-take_in.ensures in
+    let d = c.in-Ok-drain.ensures in
+    let front = c.front-front.ensures ∙ ap (λ (h : List ℕ). front_of h c.args.plan) c.requires.named.1 in
+    let all = t.all c.if-not-all.false in
+    let way = d.way _ c.args.plan all.0 in
+    let none_left = d.all in
+    let put : way.put ≡ c.drain.new.early.written = let n = way.order.count in omega arith in
+    rounds_counts _ _ _ _ _ _ _ _ _ _ _ _ _ _ _ _ _ front
+    (t.reads ∙ ap (λ (b : Bool). counted (not b) (g.R.Source.failures c.args.reader.now)) c.if-not-all.false)
+    (d.count ∙ t.writes)
+    (c.end.ensures.sealed _ _ (g.R.Source.failures c.take_in.new.reader) c.args.plan.limit c.args.plan.group way.put c.requires.plan.limit.0 way.hand
+    (handed_as c.args.plan.group c.take_in.new.round c.drain.new.round d.same.0 d.same.1 all.1)
+    way.rounds (written_at _ _ _ _ _ _ _ way.put put (d.written _ t.written)))

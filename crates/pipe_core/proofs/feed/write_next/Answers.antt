@@ -1,15 +1,7 @@
-use Rattle.std.proofs.Common.{arith, ℕ, List, ◌≡◌, length, take, sym, ap}
-use Rattle.std.proofs.lemmas.List.{length-take-le}
+use Rattle.std.proofs.Common.{arith}
 use Rattle.pipe_core.proofs.ChunkLemmas.{written_next, begun_next}
 use Rattle.pipe_core.proofs.Orders.{first_is, order_next}
 use Rattle.pipe_core.proofs.feed.write_next.Goals as goal
-
-pub slice_bounds-write_all-end : goal.slice_bounds-write_all-end
-slice_bounds-write_all-end g c =
-    let p = c.in-Some.piece in
-    let good = (first_is _ _ _ _ _ _ p c.in-Some.ensures.some.0 c.requires.kept).1 in
-    let long : length c.deref.result.now ≡ length p.buffer.items = ap (λ (l : List ℕ). length l) c.deref.ensures.value in
-    sym (length-take-le p.filled c.deref.result.now (let a = good.0 in let b = good.1 in omega arith))
 
 pub keep-requires-clause-buffer : goal.keep-requires-clause-buffer
 keep-requires-clause-buffer g c =
@@ -26,10 +18,10 @@ pub returns-in_default-clause-written : goal.returns-in_default-clause-written
 returns-in_default-clause-written g c = λ taken was.
     let p = c.in-Some.piece in
     let first = first_is _ _ _ _ _ _ p c.in-Some.ensures.some.0 c.requires.kept in
-    written_next _ _ _ taken _ _ p.number _ _ _ _ first.0 c.in-Some.ensures.some.1 (ap (take p.filled) c.deref.ensures.value) first.1.2 was c.in_default.ensures.ok
+    written_next _ _ _ _ taken _ _ p.number _ _ _ _ first.0 c.in-Some.ensures.some.1 c.as_slice.ensures.value first.1.1 was c.in_default.ensures.ok
 
 pub returns-in-Err-clause-begun : goal.returns-in-Err-clause-begun
 returns-in-Err-clause-begun g c = λ taken was.
     let p = c.in-Some.piece in
     let first = first_is _ _ _ _ _ _ p c.in-Some.ensures.some.0 c.requires.kept in
-    begun_next _ _ _ taken _ _ p.number _ _ _ first.0 (ap (take p.filled) c.deref.ensures.value) first.1.2 was c.in-Err.ensures.err
+    begun_next _ _ _ _ taken _ _ p.number _ _ _ first.0 c.as_slice.ensures.value first.1.1 was c.in-Err.ensures.err

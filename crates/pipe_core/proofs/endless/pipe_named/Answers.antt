@@ -1,0 +1,34 @@
+use Rattle.std.proofs.Common.{arith, refl, ◌+◌, ◌-◌, ◌*◌, ◌∙◌, ℕ, List, Option, ap, sym, subst, true}
+use Rattle.container_core.specs.Container.{size_in}
+use Rattle.io_core.specs.Streams.{Appends, AppendsFront}
+use Rattle.pipe_core.specs.Round.{IsInHand}
+use Rattle.pipe_core.proofs.RoundLemmas.{read_none, rounds_counts}
+use Rattle.pipe_core.proofs.StreamLemmas.{piped_as, piped_header, piped_of}
+use Rattle.pipe_core.proofs.endless.pipe_named.Goals as goal
+
+pub returns-in-Err : goal.returns-in-Err
+returns-in-Err g c = record {
+  piped = piped_header _ _ _ _ _ _ _ _ _
+      (subst (λ (l : List ℕ). AppendsFront (g.W.Sink.taken c.args.writer.now) (g.W.Sink.taken c.write_all.new.sink) l) c.bytes.ensures.bytes c.in-Err.ensures.err)
+      c.in-Err.ensures.count;
+}
+
+pub through-requires-clause-read : goal.through-requires-clause-read
+through-requires-clause-read g c κs within =
+    let fresh = c.in-Ok.ensures.going in
+    read_none _ _ _ _ (record { limit = c.args.max_chunks * c.chunk.result + 1; group = 1; depth = c.args.depth; eager = true }) c.in-Ok.round
+    (subst (λ (l : Option (List ℕ)). IsInHand g.N.Naming.key g.N.Naming.header g.N.Naming.told l (c.args.max_chunks * c.chunk.result + 1) 0 c.in-Ok.round)
+    (sym c.requires.named.2) (c.in-Ok.ensures.hand g.N.Naming.key g.N.Naming.header g.N.Naming.told (c.args.max_chunks * c.chunk.result + 1) (omega arith)))
+    fresh.2 fresh.3 fresh.1
+
+pub returns : goal.returns
+returns g c =
+    let n = c.requires.named in
+    let size = ap (λ (s : ℕ). c.args.max_chunks * s) (c.chunk.ensures.value ∙ ap size_in n.1) in
+    record {
+      piped = rw c.of_stream.ensures
+          (piped_as _ _ _ _ _ _ _ _ _ _ _ _ _ _ _ n.0 n.1 n.2
+          (piped_of _ _ c.args.max_chunks (c.args.max_chunks * c.chunk.result + 1 - 1) _ _ _ _ _ _ _ _ _ _ (omega (arith, size))
+          (subst (λ (l : List ℕ). Appends (g.W.Sink.taken c.args.writer.now) (g.W.Sink.taken c.write_all.new.sink) l) (c.bytes.ensures.bytes ∙ n.1) c.in_default-write_all.ensures.ok)
+          (rounds_counts _ _ _ _ _ _ _ _ _ _ _ _ _ _ _ _ _ refl refl c.in_default-write_all.ensures.count c.through.ensures.sealed)));
+    }

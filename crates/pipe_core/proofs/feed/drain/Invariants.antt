@@ -1,0 +1,26 @@
+-- What was put and written, however it was read and whatever stood before.
+use Rattle.std.proofs.Common.{◌≡◌, ◌+◌, All, ℕ, List, Option, length}
+use Rattle.container_core.specs.Container.{size_in}
+use Rattle.crossbeam_queue.specs.Passes.{view, IsPassOf}
+use Rattle.pipe_core.specs.declared.round.Plan.{Plan}
+use Rattle.pipe_core.specs.Order.{AreWritten}
+use Rattle.pipe_core.specs.Round.{IsUnderWay}
+use Rattle.pipe_core.proofs.feed.drain.Given as goal
+
+abbrev pub invariant-loop : goal.invariant-loop
+invariant-loop g l = record {
+  jobs : IsPassOf l.jobs l.into;
+  pieces : IsPassOf l.pieces l.from;
+  parts : ((view l.into).parts ≡ (view l.initial.into).parts) × ((view l.from).parts ≡ (view l.initial.from).parts);
+  same : (l.round.intake ≡ l.initial.round.intake) × (l.round.held ≡ l.initial.round.held);
+  some : (left : Option (List ℕ)) × (plan : Plan)
+      × IsUnderWay g.N.Naming.key g.N.Naming.header g.N.Naming.told left plan l.early (view l.into) (view l.from) l.round;
+  way : (left : Option (List ℕ)) (plan : Plan)
+      → IsUnderWay g.N.Naming.key g.N.Naming.header g.N.Naming.told left plan l.initial.early (view l.initial.into) (view l.initial.from) l.initial.round
+      → IsUnderWay g.N.Naming.key g.N.Naming.header g.N.Naming.told left plan l.early (view l.into) (view l.from) l.round;
+  spare : All (λ b. length b.items ≡ size_in g.N.Naming.header + 16) l.spare.items;
+  written : (taken : Option (List ℕ))
+      → AreWritten l.front g.N.Naming.key g.N.Naming.header g.N.Naming.told taken (g.W.Sink.taken l.initial.writer) l.initial.early.written
+      → AreWritten l.front g.N.Naming.key g.N.Naming.header g.N.Naming.told taken (g.W.Sink.taken l.writer) l.early.written;
+  refusals : g.W.Sink.failures l.writer ≡ g.W.Sink.failures l.initial.writer;
+}

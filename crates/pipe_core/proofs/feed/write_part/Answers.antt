@@ -1,0 +1,16 @@
+use Rattle.std.proofs.Common.{arith, ◌++◌, ℕ, List, sym, subst}
+use Rattle.io_core.specs.Streams.{AppendsFront}
+use Rattle.pipe_core.proofs.ChunkLemmas.{begun_before, begun_behind, front_first, on_err}
+use Rattle.pipe_core.proofs.feed.write_part.Goals as goal
+
+pub returns-in-Err-clause-err : goal.returns-in-Err-clause-err
+returns-in-Err-clause-err g c =
+    let first = front_first c.args.front.now c.args.number (omega arith) in
+    subst (λ (l : List ℕ). AppendsFront (g.W.Sink.taken c.args.writer.now) (g.W.Sink.taken c.write_all-2.new.sink) (l ++ c.args.bytes.now)) (sym first) (begun_before _ _ c.args.front.now c.args.bytes.now c.in-Err.ensures.err)
+
+pub returns-in-Ok-clause-err : goal.returns-in-Ok-clause-err
+returns-in-Ok-clause-err g c =
+    let first = front_first c.args.front.now c.args.number (omega arith) in
+    on_err c.write_all-in-Ok.result
+    (λ begun. subst (λ (l : List ℕ). AppendsFront (g.W.Sink.taken c.args.writer.now) (g.W.Sink.taken c.write_all-in-Ok.new.sink) (l ++ c.args.bytes.now)) (sym first) (begun_behind _ _ _ c.args.front.now c.args.bytes.now c.in-Ok.ensures.ok begun))
+    c.write_all-in-Ok.ensures.err

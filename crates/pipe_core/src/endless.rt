@@ -1,0 +1,105 @@
+//! A stream of any length: rounds of one chunk, under a limit of chunks.
+ghost use Rattle.std.specs.Prelude.{◌≡◌, ◌<◌, ◌≤◌, take, drop};
+ghost use Rattle.container_core.specs.Container.{hint_of};
+ghost use Rattle.pipe_core.specs.Pipe.{HasPiped, answer_of_stream};
+
+use crate::line::Naming;
+use crate::piece::MAX_DEPTH;
+use crate::round::{Plan, Round};
+use crate::stream::through;
+use container_core::{Header, Key, SealFault};
+use io_core::{Failed, Sink, Source, write_all};
+use std::alloc::Global;
+use std::marker::Brand;
+use std::sync::Wait;
+use std::thread::Threads;
+use worker_core::{Gate, MAX_WORKERS};
+
+// Of a stream, whose length is bounded by chunks.
+fn of_stream(answer: Result<u64, SealFault>) -> Result<u64, SealFault>
+    ensures { result ≡ answer_of_stream answer }
+{
+    match answer {
+        Err(SealFault::TooLong) => Err(SealFault::TooManyChunks),
+        answer => answer,
+    }
+}
+
+fn pipe_named<
+    N: Naming + Send + Sync,
+    T: Threads + Wait + Sync,
+    R: Source,
+    W: Sink,
+    G: Gate + Sync,
+>(
+    rt: &T,
+    alloc: Global,
+    key: &Key,
+    header: &Header,
+    reader: &mut R,
+    writer: &mut W,
+    max_chunks: u32,
+    workers: u32,
+    depth: u32,
+    gate: &G,
+) -> Result<u64, SealFault>
+    requires named { (key.now ≡ N.key) × (header.now ≡ N.header) × (R.left reader.old ≡ N.told) }
+    requires most { 0 < max_chunks }
+    requires workers { (0 < workers) × (workers ≤ MAX_WORKERS) }
+    requires depth { (0 < depth) × (depth ≤ MAX_DEPTH) }
+    ensures piped { HasPiped key.now header.now max_chunks (R.left reader.old) (R.left reader.new)
+        (R.failures reader.old) (R.failures reader.new) (W.taken writer.old) (W.taken writer.new)
+        (W.failures writer.old) (W.failures writer.new) result }
+{
+    let plan = Plan {
+        limit: max_chunks as u64 * header.chunk() as u64 + 1,
+        group: 1,
+        depth: depth as usize,
+        eager: true,
+    };
+    let Ok(mut round) = Round::new(alloc, plan.group) else {
+        return Err(SealFault::OutOfMemory);
+    };
+    if let Err(Failed) = write_all(writer, header.bytes()) {
+        return Err(SealFault::Write);
+    }
+    of_stream(
+        through::<N, T, R, W, G>(
+            rt, alloc, key, header, reader, writer, plan, &mut round, workers, gate,
+        )
+        .0,
+    )
+}
+
+/// Seals a stream under a header of this key, by 1 to 16 workers, of which the caller's thread is worker 0 and does all reading and
+/// writing, where at most `depth` chunks are read and not written. Answers the stream's length in bytes.
+///
+/// A chunk is sealed once a byte behind it, or the end, was seen, and written once those before it are. The caller's
+/// thread seals the last chunk, and others where it may not read on. `TooManyChunks` where a byte stands behind
+/// `max_chunks` full chunks: nothing past that byte is read. `OutOfMemory` where a queue, the workers' bells or the
+/// `depth` buffers find no memory, each of which holds a chunk and is used again: no more than the header is written then.
+/// The header is written before anything is read. Where a thread can't be started the others do its work.
+pub fn pipe<T: Threads + Wait + Sync, R: Source, W: Sink, G: Gate + Sync>(
+    rt: &T,
+    alloc: Global,
+    key: &Key,
+    header: &Header,
+    reader: &mut R,
+    writer: &mut W,
+    max_chunks: u32,
+    workers: u32,
+    depth: u32,
+    gate: &G,
+) -> Result<u64, SealFault>
+    requires hint { take 7 (drop 17 header.now) ≡ hint_of key.now }
+    requires most { 0 < max_chunks }
+    requires workers { (0 < workers) × (workers ≤ MAX_WORKERS) }
+    requires depth { (0 < depth) × (depth ≤ MAX_DEPTH) }
+    ensures piped { HasPiped key.now header.now max_chunks (R.left reader.old) (R.left reader.new)
+        (R.failures reader.old) (R.failures reader.new) (W.taken writer.old) (W.taken writer.new)
+        (W.failures writer.old) (W.failures writer.new) result }
+{
+    pipe_named::<Brand, T, R, W, G>(
+        rt, alloc, key, header, reader, writer, max_chunks, workers, depth, gate,
+    )
+}
