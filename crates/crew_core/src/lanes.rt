@@ -1,8 +1,12 @@
 //! The lanes of a batch: each draws its jobs from the claims that all share, one after the other till none is left, and
 //! works on them with a seat of its own, in places of its own. So a lane that is held up holds up one job alone.
-ghost use Rattle.std.specs.Prelude.{◌≡◌, ℕ, ◌+◌, ◌<◌, ◌≤◌, [], length, map, All, IfOk, IfSome, IfNone, slice_index_or};
+ghost use Rattle.std.specs.Prelude.{◌≡◌, ℕ, ◌+◌, ◌<◌, ◌≤◌, [], length, map, All, IfOk, OnOk, OnErr, IfSome, IfNone, slice_index_or};
 ghost use Rattle.std.specs.Thread.{IsSync};
 ghost use Rattle.claim_core.specs.Claims.{IsOf, newcomer, with_number, with_end, joined, times, once_below};
+ghost use Rattle.container_core.specs.Container.{container};
+ghost use Rattle.journal_core.specs.declared.entry.Way.TheVariants.{Sealed, Void};
+ghost use Rattle.ledger_core.specs.Range.{prefix_of};
+ghost use Rattle.crew_core.specs.Spending.{spent_as};
 ghost use Rattle.crew_core.specs.Lanes.{ended, AreFree, AreLanes, AreReady, IsStep, IsWorked};
 ghost use Rattle.crew_core.specs.Places.{all_jobs, jobs_of};
 
@@ -11,7 +15,7 @@ use crate::places::{Done, Places};
 use crate::{MAX_JOBS, MAX_LANES};
 use claim_core::{Claimant, Claims};
 use container_core::{Key, MAX_PLAIN, Shape, seal};
-use ledger_core::{Ledger, Seat};
+use ledger_core::{Grant, Ledger, Seat, Spent};
 use std::alloc::{AllocError, Global};
 use std::marker::Model;
 use std::thread::{Threads, join_mut};
@@ -138,6 +142,27 @@ impl<'a> Batch<'a> {
     }
 }
 
+// Seals a text under a grant, which is spent by that: sealed with the container, void where memory for it was refused.
+fn seal_granted(
+    alloc: Global,
+    key: &Key,
+    shape: &Shape,
+    grant: Grant,
+    text: &[u8],
+) -> (Result<Vec<u8>, AllocError>, Spent)
+    requires short { length text.now ≤ MAX_PLAIN }
+    ensures container { IfOk result.0 (λ bytes. bytes.items
+        ≡ container key.now shape.now (prefix_of grant.device grant.number) text.now) }
+    ensures sealed { OnOk result.0 (result.1 ≡ spent_as grant Sealed) }
+    ensures void { OnErr result.0 (result.1 ≡ spent_as grant Void) }
+{
+    match seal(alloc, key, shape, grant.prefix(), text) {
+        Ok(bytes) => (Ok(bytes), grant.used()),
+        // A text has at most 2^40 bytes, so only memory was refused.
+        Err(_) => (Err(AllocError), grant.waste()),
+    }
+}
+
 // Issues a number at the seat, and seals a text under it.
 fn sealed_job(
     alloc: Global,
@@ -156,17 +181,14 @@ fn sealed_job(
         Ok(grant) => grant,
         Err(fault) => return Outcome::Unissued { seat: lane, fault },
     };
-    match seal(alloc, key, shape, grant.prefix(), job) {
+    let (sealed, spent) = seal_granted(alloc, key, shape, grant, job);
+    match sealed {
         Ok(bytes) => Outcome::Sealed {
             seat: lane,
             bytes,
-            spent: grant.used(),
+            spent,
         },
-        // A job has at most 2^40 bytes, so only memory was refused.
-        Err(_) => Outcome::Spoiled {
-            seat: lane,
-            spent: grant.waste(),
-        },
+        Err(AllocError) => Outcome::Spoiled { seat: lane, spent },
     }
 }
 
