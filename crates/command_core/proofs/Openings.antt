@@ -1,12 +1,12 @@
--- What happened for a file whose output was created: it was finished, or its removal was tried.
+-- What happened for a file whose output was created: it was finished, or given up.
 use Rattle.std.proofs.Common.{◌≡◌, ℕ, ap, ◌∙◌, List, [], ◌∷◌, ◌++◌, length, Option, IfSome}
 use Rattle.container_core.specs.declared.fault.OpenFault.TheVariants as bytes
-use Rattle.io_core.specs.Streams.{Appends}
+use Rattle.io_core.specs.Streams.{Appends, AppendsFront}
 use Rattle.command_core.specs.declared.line.FileFault.TheVariants.{Unopened}
 use Rattle.command_core.specs.declared.line.FileOutcome.TheVariants.{Opened, Failed}
-use Rattle.command_core.specs.Trace.{Event, Created, Finished, Removing, Does, Nothing, Opens, Creates, Finishes, Removes}
+use Rattle.command_core.specs.Trace.{Event, Created, Finished, Discarded, Does, Nothing, Opens, Creates, Finishes, Discards}
 use Rattle.command_core.specs.Work.{IsGood, Opening, output_of}
-use Rattle.command_core.proofs.Traces.{chain, known, finished_as}
+use Rattle.command_core.proofs.Traces.{chain, known, finished_as, discarded_as}
 
 -- the output was finished
 pub all_written : (key : List ℕ) (most n : ℕ) (label : Option (List ℕ)) (name output plain : List ℕ) (left taken taken' : Option (List ℕ)) (one two three four : Option (List Event)) → output ≡ output_of name
@@ -23,16 +23,18 @@ all_written key most n label name output plain left taken taken' one two three f
     both ∙ ap (λ o. Created o ∷ Finished o plain ∷ []) named)
     two three four creates finishes)
 
--- its writing, or its finishing, failed
-pub not_written : (key : List ℕ) (most : ℕ) (label : Option (List ℕ)) (name output plain : List ℕ) (left taken : Option (List ℕ)) (one two three four five : Option (List Event)) → output ≡ output_of name
+-- its writing, or its finishing, failed, and it was given up with what was written
+pub not_written : (key : List ℕ) (most : ℕ) (label : Option (List ℕ)) (name output plain : List ℕ) (left taken taken' : Option (List ℕ)) (one two three four five : Option (List Event)) → output ≡ output_of name
     → Does (Opens name left) one two → IfSome left (λ input. IsGood key most label input plain) → Does (Creates output taken) two three
-    → Does Nothing three four → Does (Removes output) four five
+    → AppendsFront taken taken' plain → Does Nothing three four → Does (Discards output taken') four five
     → Does (Opening key most label name (Failed (Unopened bytes.Write))) one five
-not_written key most label name output plain left taken one two three four five named opens good creates none removes = chain (Opening key most label name (Failed (Unopened bytes.Write)))
-    (λ x y o e. (o.0, plain, known (λ input. IsGood key most label input plain) left o.0 o.1 good, (λ i. o.2 i ++ e i)))
+not_written key most label name output plain left taken taken' one two three four five named opens good creates (front, begins, grew) none discards =
+    chain (Opening key most label name (Failed (Unopened bytes.Write)))
+    (λ x y o e. (o.0, plain, front, known (λ input. IsGood key most label input plain) left o.0 o.1 good, begins, (λ i. o.2 i ++ e i)))
     one two five opens
-    (chain (λ events. events ≡ Created (output_of name) ∷ Removing (output_of name) ∷ [])
-    (λ x y c e.
-    let both : x ++ y ≡ Created output ∷ Removing output ∷ [] = (λ i. c.1 i ++ e i) in
-    both ∙ ap (λ o. Created o ∷ Removing o ∷ []) named)
-    two three five creates (chain (Removes output) (λ x y n r. (λ i. n i ++ r i)) three four five none removes))
+    (chain (λ events. events ≡ Created (output_of name) ∷ Discarded (output_of name) front ∷ [])
+    (λ x y c d.
+    let last : y ≡ Discarded output front ∷ [] = discarded_as output [] front taken taken' y c.0 grew d in
+    let both : x ++ y ≡ Created output ∷ Discarded output front ∷ [] = (λ i. c.1 i ++ last i) in
+    both ∙ ap (λ o. Created o ∷ Discarded o front ∷ []) named)
+    two three five creates (chain (Discards output taken') (λ x y n d. (d.0, d.1, (λ i. n i ++ d.2 i))) three four five none discards))

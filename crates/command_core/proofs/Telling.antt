@@ -1,5 +1,5 @@
 -- One line more: what was told of the files so far, and what is told with the next one.
-use Rattle.std.proofs.Common.{◌≡◌, ◌≢◌, ℕ, ◌≤◌, Bool, true, false, ◌||◌, if◌then◌else◌, inl, inr, ⊎_elim, refl, sym, ap, subst, ◌∙◌, List, [], ◌∷◌, ◌++◌, map, append-nil, append_assoc, Option, None, Some, flat_map, Bor, take, length, get_or, ◌+◌, ◌<◌, add-one, arith, lit≤}
+use Rattle.std.proofs.Common.{◌≡◌, ◌≢◌, ℕ, ◌≤◌, Bool, true, false, ◌||◌, if◌then◌else◌, inl, inr, ⊎_elim, refl, sym, ap, subst, ◌∙◌, List, [], ◌∷◌, ◌++◌, map, append-nil, append_assoc, Option, flat_map, Bor, take, length, get_or, ◌+◌, ◌<◌, add-one, arith, lit≤}
 use Rattle.std.proofs.Math.Seq.{take-suc}
 use Rattle.std.proofs.KnownBytes.{Appends-nil, Appends-trans}
 use Rattle.std.proofs.lemmas.List.{map-append}
@@ -9,10 +9,9 @@ use Rattle.io_core.specs.Streams.{Appends, AppendsFront, counted}
 use Rattle.journal_core.specs.Text.{ended_lines}
 use Rattle.journal_core.proofs.Texts.{ended_lines-append}
 use Rattle.command_core.specs.Lines.{FileLine, line_text, lines_text, is_failed, status_of_lines}
-use Rattle.command_core.specs.Folder.{Step, stepped}
 use Rattle.command_core.specs.Trace.{Event, Does}
 use Rattle.command_core.proofs.Traces.{nothing, weaken, chain}
-use Rattle.command_core.specs.Work.{AreDone, AreTold, AreWorked, Work, no_steps}
+use Rattle.command_core.specs.Work.{AreDone, AreTold, AreWorked, Work}
 use Rattle.command_core.specs.declared.line.FileOutcome.{FileOutcome}
 use Rattle.std.proofs.lemmas.Grind.{flat_map-append}
 use Rattle.std.proofs.lemmas.List.Elements.{All-push}
@@ -97,14 +96,6 @@ nothing_told taken failures = record {
   stopped = inl refl;
 }
 
-pub stepped-nil : (steps : Option (List Step)) → steps ≡ stepped steps []
-stepped-nil None = refl
-stepped-nil (Some steps) = ap Some (sym (append-nil steps))
-
-pub stepped-stepped : (steps : Option (List Step)) (a b : List Step) → stepped (stepped steps a) b ≡ stepped steps (a ++ b)
-stepped-stepped None a b = refl
-stepped-stepped (Some steps) a b = ap Some (append_assoc steps a b)
-
 -- ---- what happened
 
 pub nothing_done : (does : List ℕ → FileOutcome → List Event → Type 0) (told : Option (List Event)) → Does (AreDone does []) told told
@@ -123,20 +114,18 @@ done_more does lines line told told' told'' done next = chain (AreDone does (lin
     }) told told' told'' done next
 
 -- one file more was worked
-pub worked_more : (fits : FileOutcome → Type 0) (steps_for : FileLine → List Step) (does : List ℕ → FileOutcome → List Event → Type 0) (names names' : List (List ℕ)) (line : FileLine) (status status' : ℕ)
-    (old mid new : Option (List ℕ)) (failures failures' failures'' : Option ℕ) (steps steps' steps'' : Option (List Step)) (told told' told'' : Option (List Event))
-    → (w : AreWorked fits steps_for does names status old mid failures failures' steps steps' told told') → fits line.outcome → steps'' ≡ stepped steps' (steps_for line)
+pub worked_more : (fits : List ℕ → FileOutcome → Type 0) (does : List ℕ → FileOutcome → List Event → Type 0) (names names' : List (List ℕ)) (line : FileLine) (status status' : ℕ)
+    (old mid new : Option (List ℕ)) (failures failures' failures'' : Option ℕ) (told told' told'' : Option (List Event))
+    → (w : AreWorked fits does names status old mid failures failures' told told') → fits line.name line.outcome
     → Does (does line.name line.outcome) told' told''
     → AreTold status' (w.lines ++ line ∷ []) old new failures failures'' → names ++ line.name ∷ [] ≡ names'
-    → AreWorked fits steps_for does names' status' old new failures failures'' steps steps'' told told''
-worked_more fits steps_for does names names' line status status' old mid new failures failures' failures'' steps steps' steps'' told told' told'' w fit stepping next lines longer = record {
+    → AreWorked fits does names' status' old new failures failures'' told told''
+worked_more fits does names names' line status status' old mid new failures failures' failures'' told told' told'' w fit next lines longer = record {
   lines = w.lines ++ line ∷ [];
   done = done_more does w.lines line told told' told'' w.done next;
   named = map-append (λ (l : FileLine). l.name) w.lines (line ∷ []) ∙ ap (λ l. l ++ line.name ∷ []) w.named ∙ longer;
-  fitting = All-push (λ (l : FileLine). fits l.outcome) w.lines line w.fitting fit;
+  fitting = All-push (λ (l : FileLine). fits l.name l.outcome) w.lines line w.fitting fit;
   told = lines;
-  stepwise = stepping ∙ ap (λ s. stepped s (steps_for line)) w.stepwise ∙ stepped-stepped steps (flat_map steps_for w.lines) (steps_for line)
-      ∙ ap (stepped steps) (ap (λ l. flat_map steps_for w.lines ++ l) (sym (append-nil (steps_for line))) ∙ sym (flat_map-append steps_for w.lines (line ∷ [])));
 }
 
 -- one name more
@@ -144,11 +133,3 @@ pub names-step : (files : List (Bor (List ℕ))) (i : ℕ) (d : Bor (List ℕ)) 
     → map (λ (f : Bor (List ℕ)). f.now) (take i files) ++ (get_or files i d).now ∷ [] ≡ map (λ (f : Bor (List ℕ)). f.now) (take (i + 1) files)
 names-step files i d h =
     sym (ap (λ n. map (λ (f : Bor (List ℕ)). f.now) (take n files)) (add-one i) ∙ ap (map (λ (f : Bor (List ℕ)). f.now)) (take-suc files i d h) ∙ map-append (λ (f : Bor (List ℕ)). f.now) (take i files) (get_or files i d ∷ []))
-
--- a command that makes no steps leaves them as they were
-pub no_steps_made : (steps : Option (List Step)) (lines : List FileLine) → stepped steps (flat_map no_steps lines) ≡ steps
-no_steps_made steps lines = ap (stepped steps) (none lines) ∙ sym (stepped-nil steps)
-  where
-    none : (lines : List FileLine) → flat_map no_steps lines ≡ []
-    none [] = refl
-    none (line ∷ lines) = none lines

@@ -2,7 +2,7 @@
 use Rattle.std.proofs.Common.{◌≡◌, ℕ, refl, sym, ap, subst, ◌∙◌, List, [], ◌∷◌, ◌++◌, length, drop, append-nil, append_assoc, Option, None, Some, IfSome}
 use Rattle.std.proofs.Math.Seq.{drop-append_seam}
 use Rattle.io_core.specs.Streams.{Appends}
-use Rattle.command_core.specs.Trace.{Event, Finished, Does, Nothing, Finishes, tape}
+use Rattle.command_core.specs.Trace.{Event, Finished, Discarded, Does, Nothing, Finishes, Discards, tape}
 
 pub nothing : (told : Option (List Event)) → Does Nothing told told
 nothing None = tt
@@ -30,15 +30,24 @@ some_same a b same = cc
 tape_same : (name bytes more : List ℕ) → tape name bytes ≡ tape name more → bytes ≡ more
 tape_same name bytes more is = sym (drop-append_seam name bytes) ∙ ap (λ l. drop (length name) (drop 1 l)) is ∙ drop-append_seam name more
 
+-- what a writer tells behind these bytes, once more were written
+bytes_as : (name bytes more all : List ℕ) (taken taken' : Option (List ℕ)) → taken ≡ Some (tape name bytes) → Appends taken taken' more → taken' ≡ Some (tape name all) → all ≡ bytes ++ more
+bytes_as name bytes more all None taken' is grew tells = absurd (cc)
+bytes_as name bytes more all (Some before) None is grew tells = absurd grew
+bytes_as name bytes more all (Some before) (Some after) is grew tells =
+    let whole : tape name all ≡ tape name (bytes ++ more) =
+    sym (some_same after (tape name all) tells) ∙ grew ∙ ap (λ l. l ++ more) (some_same before (tape name bytes) is) ∙ ap (λ l. length name ∷ l) (append_assoc name bytes more) in
+    tape_same name all (bytes ++ more) whole
+
 -- what was written behind the bytes of an output is what it is finished with
 pub finished_as : (name bytes more : List ℕ) (taken taken' : Option (List ℕ)) (events : List Event) → taken ≡ Some (tape name bytes) → Appends taken taken' more → Finishes name taken' events
     → events ≡ Finished name (bytes ++ more) ∷ []
-finished_as name bytes more None taken' events is grew f = absurd (cc)
-finished_as name bytes more (Some before) None events is grew f = absurd grew
-finished_as name bytes more (Some before) (Some after) events is grew f =
-    let whole : tape name f.0 ≡ tape name (bytes ++ more) =
-    sym (some_same after (tape name f.0) f.1) ∙ grew ∙ ap (λ l. l ++ more) (some_same before (tape name bytes) is) ∙ ap (λ l. length name ∷ l) (append_assoc name bytes more) in
-    f.2 ∙ ap (λ b. Finished name b ∷ []) (tape_same name f.0 (bytes ++ more) whole)
+finished_as name bytes more taken taken' events is grew f = f.2 ∙ ap (λ b. Finished name b ∷ []) (bytes_as name bytes more f.0 taken taken' is grew f.1)
+
+-- and what it is given up with
+pub discarded_as : (name bytes more : List ℕ) (taken taken' : Option (List ℕ)) (events : List Event) → taken ≡ Some (tape name bytes) → Appends taken taken' more → Discards name taken' events
+    → events ≡ Discarded name (bytes ++ more) ∷ []
+discarded_as name bytes more taken taken' events is grew d = d.2 ∙ ap (λ b. Discarded name b ∷ []) (bytes_as name bytes more d.0 taken taken' is grew d.1)
 
 pub known : (P : List ℕ → Type 0) (left : Option (List ℕ)) (bytes : List ℕ) → left ≡ Some bytes → IfSome left P → P bytes
 known P None bytes is p = absurd (cc)

@@ -1,5 +1,4 @@
 pub mod Facts
-pub mod Folder
 pub mod KeyFile
 pub mod Labels
 pub mod Lines

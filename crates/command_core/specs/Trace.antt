@@ -1,13 +1,17 @@
 -- What a folder tells of a run: which files were read, and what became of its outputs.
 use Rattle.std.specs.Prelude.{⊤, ◌≡◌, ℕ, List, [], ◌∷◌, ◌++◌, length, Option, None, Some}
+use Rattle.command_core.specs.declared.folder.FolderFault.{FolderFault}
 
--- A file was opened to be read, and these are the bytes that its reader has; an output was created; an output was
--- finished, and these are all its bytes; the removal of a file was tried.
+-- A file was opened to be read, and these are the bytes that its reader has; a file could not be opened. An output was
+-- created; an output could not be created, by this fault. An output was finished, and these are all its bytes; an output
+-- was given up with these bytes, and its removal was tried.
 pub data Event : Type 0 where
   Reading : List ℕ → List ℕ → Event
+  Unread : List ℕ → Event
   Created : List ℕ → Event
+  Refused : List ℕ → FolderFault → Event
   Finished : List ℕ → List ℕ → Event
-  Removing : List ℕ → Event
+  Discarded : List ℕ → List ℕ → Event
 
 -- Events of this kind came behind those so far, where it is still known what came. A folder may forget, and then it
 -- knows no more.
@@ -29,15 +33,24 @@ Nothing events = events ≡ []
 abbrev pub Opens : List ℕ → Option (List ℕ) → List Event → Type 0
 Opens name left events = (bytes : List ℕ) × (left ≡ Some bytes) × (events ≡ Reading name bytes ∷ [])
 
+-- a file could not be opened
+abbrev pub FailsToOpen : List ℕ → List Event → Type 0
+FailsToOpen name events = events ≡ Unread name ∷ []
+
 -- an output was created, whose writer tells its name and took no byte
 abbrev pub Creates : List ℕ → Option (List ℕ) → List Event → Type 0
 Creates name taken events = (taken ≡ Some (tape name [])) × (events ≡ Created name ∷ [])
+
+-- an output could not be created, by this fault
+abbrev pub Refuses : List ℕ → FolderFault → List Event → Type 0
+Refuses name fault events = events ≡ Refused name fault ∷ []
 
 -- the output of this name was finished, with the bytes that its writer tells
 abbrev pub Finishes : List ℕ → Option (List ℕ) → List Event → Type 0
 Finishes name taken events =
     (bytes : List ℕ) × (taken ≡ Some (tape name bytes)) × (events ≡ Finished name bytes ∷ [])
 
--- the removal of a file was tried
-abbrev pub Removes : List ℕ → List Event → Type 0
-Removes name events = events ≡ Removing name ∷ []
+-- the output of this name was given up, with the bytes that its writer tells
+abbrev pub Discards : List ℕ → Option (List ℕ) → List Event → Type 0
+Discards name taken events =
+    (bytes : List ℕ) × (taken ≡ Some (tape name bytes)) × (events ≡ Discarded name bytes ∷ [])

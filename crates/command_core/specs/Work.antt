@@ -1,14 +1,15 @@
 -- What `open_all` and `verify_all` do with a list of files.
-use Rattle.std.specs.Prelude.{◌≡◌, ◌≢◌, ◌⊎◌, ℕ, ◌-◌, ◌≤◌, Bool, true, false, List, [], ◌∷◌, length, take, map, All, ⊤, Option}
-use Rattle.std.specs.Prelude.{flat_map, Ok, Err}
+use Rattle.std.specs.Prelude.{◌≡◌, ◌≢◌, ◌⊎◌, ℕ, ◌-◌, ◌≤◌, Bool, true, false, List, [], ◌∷◌, ◌++◌, length, take, map, All}
+use Rattle.std.specs.Prelude.{⊤, Option, flat_map, codes, Ok, Err}
 use Rattle.container_core.specs.declared.fault.OpenFault.TheVariants.{Write}
 use Rattle.container_core.specs.Container.{header_length}
 use Rattle.container_core.specs.Faults.{IsOfBytes}
 use Rattle.container_core.specs.Opening.{opening}
 use Rattle.engine_core.specs.Engine.{OpensTo}
-use Rattle.io_core.specs.Streams.{Appends, AppendsFront, counted}
+use Rattle.io_core.specs.Streams.{Appends, AppendsFront, IsFront, counted}
 use Rattle.command_core.specs.declared.commands.Task.{Task}
 use Rattle.command_core.specs.declared.commands.Task.TheVariants.{Open, Verify}
+use Rattle.command_core.specs.declared.folder.FolderFault.TheVariants as refusal
 use Rattle.command_core.specs.declared.line.FileFault.{FileFault}
 use Rattle.command_core.specs.declared.line.FileFault.TheVariants.{CannotOpen, OutOfMemory, NoNumber, Unopened}
 use Rattle.command_core.specs.declared.line.FileFault.TheVariants.{AnotherLabel, Unsealed, NoSuffix, OutputExists}
@@ -16,7 +17,6 @@ use Rattle.command_core.specs.declared.line.FileFault.TheVariants.{CannotCreate}
 use Rattle.command_core.specs.declared.line.FileOutcome.{FileOutcome}
 use Rattle.command_core.specs.declared.line.FileOutcome.TheVariants.{Opened, Good, Shown, Failed}
 use Rattle.command_core.specs.Facts.{IsOfHeader}
-use Rattle.command_core.specs.Folder.{Step, Created, Finished, Removing, stepped}
 use Rattle.command_core.specs.Labels.{IsLabelled}
 use Rattle.command_core.specs.Trace.{Event, Does}
 use Rattle.command_core.specs.Trace as trace
@@ -26,14 +26,20 @@ use Rattle.command_core.specs.Lines.{FileLine, lines_text, status_of_lines}
 abbrev pub output_of : List ℕ → List ℕ
 output_of name = take (length name - 4) name
 
--- an outcome that `open_all` can have: the file was opened, or failed otherwise than a file that is to be sealed
-abbrev pub IsOfOpening : FileOutcome → Type 0
-IsOfOpening (Opened bytes) = ⊤
-IsOfOpening (Failed OutOfMemory) = ⊥
-IsOfOpening (Failed NoNumber) = ⊥
-IsOfOpening (Failed (Unsealed fault)) = ⊥
-IsOfOpening (Failed fault) = ⊤
-IsOfOpening _ = ⊥
+-- the name of a sealed file: at least one byte, and then `.stm`
+abbrev pub IsSealedName : List ℕ → Type 0
+IsSealedName name = (output_of name ≢ []) × (name ≡ output_of name ++ codes ".stm")
+
+-- An outcome that `open_all` can have of a file of this name: the file was opened, or failed otherwise than a file that is
+-- to be sealed. It fails by its name exactly where that isn't the name of a sealed file.
+abbrev pub IsOfOpening : List ℕ → FileOutcome → Type 0
+IsOfOpening name (Opened bytes) = IsSealedName name
+IsOfOpening name (Failed NoSuffix) = ¬ IsSealedName name
+IsOfOpening name (Failed OutOfMemory) = ⊥
+IsOfOpening name (Failed NoNumber) = ⊥
+IsOfOpening name (Failed (Unsealed fault)) = ⊥
+IsOfOpening name (Failed fault) = IsSealedName name
+IsOfOpening name _ = ⊥
 
 -- an outcome that `verify_all` can have: the file is good, and shown where that is asked for, or it can't be opened, or
 -- its container has a fault, or another label
@@ -45,19 +51,6 @@ IsOfVerifying show (Failed AnotherLabel) = ⊤
 IsOfVerifying show (Failed (Unopened Write)) = ⊥
 IsOfVerifying show (Failed (Unopened fault)) = ⊤
 IsOfVerifying show _ = ⊥
-
--- the steps on outputs that opening a file makes: its output is created where the whole container was checked, and then
--- finished, or its removal is tried where the writing or the finishing fails
-abbrev pub output_steps : List ℕ → FileOutcome → List Step
-output_steps output (Opened bytes) = Created output ∷ Finished output ∷ []
-output_steps output (Failed (Unopened Write)) = Created output ∷ Removing output ∷ []
-output_steps output _ = []
-
-abbrev pub opening_steps : FileLine → List Step
-opening_steps line = output_steps (output_of line.name) line.outcome
-
-abbrev pub no_steps : FileLine → List Step
-no_steps line = []
 
 -- the input opens to this plaintext, and has the label
 abbrev pub IsGood : List ℕ → ℕ → Option (List ℕ) → List ℕ → List ℕ → Type 0
@@ -72,34 +65,37 @@ IsFaultOf key most label input AnotherLabel =
     (plain : List ℕ) × (opening key most input ≡ Ok plain) × ¬ IsLabelled label input
 IsFaultOf key most label input _ = ⊥
 
--- What goes with the line of a file of this name that is to be opened. An output is created only behind the reading of an
--- input that opens and has the label. It is finished with the plaintext, once, and then the line says `opened`; or its
--- removal is tried.
+-- What goes with the line of a file of this name that is to be opened. An output is asked for only behind the reading of an
+-- input that opens and has the label. It is finished with the plaintext, once, and then the line says `opened`; or it is
+-- given up with a beginning of the plaintext; or it is refused, for the cause that the line says.
 abbrev pub Opening : List ℕ → ℕ → Option (List ℕ) → List ℕ → FileOutcome → List Event → Type 0
 Opening key most label name (Opened n) events = (input : List ℕ) × (plain : List ℕ)
     × IsGood key most label input plain × (n ≡ length plain)
     × (events ≡ trace.Reading name input ∷ trace.Created (output_of name) ∷ trace.Finished (output_of name) plain ∷ [])
-Opening key most label name (Failed (Unopened Write)) events = (input : List ℕ) × (plain : List ℕ)
-    × IsGood key most label input plain
-    × (events ≡ trace.Reading name input ∷ trace.Created (output_of name) ∷ trace.Removing (output_of name) ∷ [])
+Opening key most label name (Failed (Unopened Write)) events = (input : List ℕ) × (plain : List ℕ) × (written : List ℕ)
+    × IsGood key most label input plain × IsFront written plain
+    × (events ≡ trace.Reading name input ∷ trace.Created (output_of name) ∷ trace.Discarded (output_of name) written ∷ [])
 Opening key most label name (Failed OutputExists) events = (input : List ℕ) × (plain : List ℕ)
-    × IsGood key most label input plain × (events ≡ trace.Reading name input ∷ [])
+    × IsGood key most label input plain
+    × (events ≡ trace.Reading name input ∷ trace.Refused (output_of name) refusal.Exists ∷ [])
 Opening key most label name (Failed CannotCreate) events = (input : List ℕ) × (plain : List ℕ)
-    × IsGood key most label input plain × (events ≡ trace.Reading name input ∷ [])
+    × IsGood key most label input plain
+    × (events ≡ trace.Reading name input ∷ trace.Refused (output_of name) refusal.Failed ∷ [])
 Opening key most label name (Failed NoSuffix) events = events ≡ []
-Opening key most label name (Failed CannotOpen) events = events ≡ []
+Opening key most label name (Failed CannotOpen) events = events ≡ trace.Unread name ∷ []
 Opening key most label name (Failed fault) events =
     (input : List ℕ) × IsFaultOf key most label input fault × (events ≡ trace.Reading name input ∷ [])
 Opening key most label name _ events = ⊥
 
--- What goes with the line of a file of this name that is to be verified: its input was read, and is as the line says.
+-- What goes with the line of a file of this name that is to be verified: its input was read, and is as the line says, or it
+-- could not be opened. No output is asked for.
 abbrev pub Verifying : List ℕ → ℕ → Option (List ℕ) → List ℕ → FileOutcome → List Event → Type 0
 Verifying key most label name (Good n) events =
     (input : List ℕ) × OpensTo key most input n × IsLabelled label input × (events ≡ trace.Reading name input ∷ [])
 Verifying key most label name (Shown n facts) events = (input : List ℕ) × OpensTo key most input n
     × IsLabelled label input × IsOfHeader facts (take (header_length input) input)
     × (events ≡ trace.Reading name input ∷ [])
-Verifying key most label name (Failed CannotOpen) events = events ≡ []
+Verifying key most label name (Failed CannotOpen) events = events ≡ trace.Unread name ∷ []
 Verifying key most label name (Failed fault) events =
     (input : List ℕ) × IsFaultOf key most label input fault × (events ≡ trace.Reading name input ∷ [])
 Verifying key most label name _ events = ⊥
@@ -121,13 +117,9 @@ pub record AreDone (does : List ℕ → FileOutcome → List Event → Type 0) (
   pub each : All (λ w. does w.line.name w.line.outcome w.events) works
   pub joined : events ≡ flat_map (λ w. w.events) works
 
-abbrev pub IsOutcomeOf : Task → FileOutcome → Type 0
-IsOutcomeOf Open outcome = IsOfOpening outcome
-IsOutcomeOf (Verify show) outcome = IsOfVerifying show outcome
-
-abbrev pub steps_of : Task → FileLine → List Step
-steps_of Open line = opening_steps line
-steps_of (Verify show) line = no_steps line
+abbrev pub IsOutcomeOf : Task → List ℕ → FileOutcome → Type 0
+IsOutcomeOf Open = IsOfOpening
+IsOutcomeOf (Verify show) = λ name. IsOfVerifying show
 
 -- What a writer of lines got: a beginning of them; with a status other than 2 all of them, and the status is theirs. At
 -- most one write failed, and then the status is 2: behind a failed write no other is tried.
@@ -138,15 +130,13 @@ pub record AreTold (status : ℕ) (lines : List FileLine) (old new : Option (Lis
   pub whole : status ≢ 2 → (status ≡ status_of_lines lines) × Appends old new (lines_text lines)
   pub stopped : (failures' ≡ failures) ⊎ ((status ≡ 2) × (failures' ≡ counted true failures))
 
--- Every file was worked, in order, each with an outcome that fits, and with its steps on the folder; their lines were
--- told; and what happened, where the folder tells it, is what goes with each line.
-pub record AreWorked (fits : FileOutcome → Type 0) (steps_for : FileLine → List Step)
-    (does : List ℕ → FileOutcome → List Event → Type 0) (names : List (List ℕ)) (status : ℕ)
-    (old new : Option (List ℕ)) (failures failures' : Option ℕ) (steps steps' : Option (List Step))
+-- Every file was worked, in order, each with an outcome that fits its name; their lines were told; and what happened,
+-- where the folder tells it, is what goes with each line.
+pub record AreWorked (fits : List ℕ → FileOutcome → Type 0) (does : List ℕ → FileOutcome → List Event → Type 0)
+    (names : List (List ℕ)) (status : ℕ) (old new : Option (List ℕ)) (failures failures' : Option ℕ)
     (events events' : Option (List Event)) : Type 0 where
   pub lines : List FileLine
   pub named : map (λ line. line.name) lines ≡ names
-  pub fitting : All (λ line. fits line.outcome) lines
+  pub fitting : All (λ line. fits line.name line.outcome) lines
   pub told : AreTold status lines old new failures failures'
-  pub stepwise : steps' ≡ stepped steps (flat_map steps_for lines)
   pub done : Does (AreDone does lines) events events'

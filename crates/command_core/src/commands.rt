@@ -3,18 +3,16 @@
 //! A file that fails keeps no other from being worked. Where a line can't be written no further line is tried, the
 //! files are still worked, and the exit status is 2.
 ghost use Rattle.std.specs.Prelude.{◌≡◌, ℕ, ◌<◌, ◌≤◌, List, [], ◌∷◌, ◌++◌, length, map, take, Option, Ok, Err, IfSome};
-ghost use Rattle.std.specs.Prelude.{Bool, if◌then◌else◌, option_map, codes, IfOk, IfErr};
+ghost use Rattle.std.specs.Prelude.{Bool, if◌then◌else◌, option_map, IfOk, IfErr, MatchOption};
 ghost use Rattle.container_core.specs.Container.{header_length};
 ghost use Rattle.container_core.specs.Opening.{opening};
 ghost use Rattle.engine_core.specs.Engine.{OpensTo};
 ghost use Rattle.command_core.specs.Facts.{IsOfHeader};
-ghost use Rattle.command_core.specs.Folder.{stepped};
 ghost use Rattle.command_core.specs.Labels.{IsLabelled};
 ghost use Rattle.command_core.specs.Lines.{FileLine, is_failed};
-ghost use Rattle.command_core.specs.Work.{output_of, IsOfOpening, IsOfVerifying, opening_steps, no_steps, IsOutcomeOf};
 ghost use Rattle.command_core.specs.Trace.{Does};
-ghost use Rattle.command_core.specs.Work.{output_steps, steps_of, AreTold, AreWorked, IsFaultOf, IsGood};
-ghost use Rattle.command_core.specs.Work.{Opening, Verifying, events_of};
+ghost use Rattle.command_core.specs.Work.{output_of, IsOfOpening, IsOfVerifying, IsOutcomeOf, IsSealedName};
+ghost use Rattle.command_core.specs.Work.{AreTold, AreWorked, IsFaultOf, IsGood, Opening, Verifying, events_of};
 
 use crate::facts::Facts;
 use crate::folder::{Folder, FolderFault, write_output};
@@ -78,7 +76,7 @@ enum Task {
 // The name of the output of a sealed file: at least one byte, before `.stm`.
 fn output_name(name: &str) -> Option<&str>
     ensures name { IfSome result (λ output. output.now ≡ output_of name.now) }
-    ensures suffix { IfSome result (λ output. name.now ≡ output.now ++ codes ".stm") }
+    ensures sealed { MatchOption result (¬ IsSealedName name.now) (λ output. IsSealedName name.now) }
 {
     let output = name.strip_suffix(SUFFIX)?;
     if output.is_empty() {
@@ -104,8 +102,8 @@ fn read_labelled<T: Threads + Sync, R: Source>(
         IsGood key.now max_bytes (option_map (λ b. b.now) label.entry) input plain.items)) }
     ensures exact { IfErr result (λ fault. IfSome (R.left reader.old) (λ input.
         IsFaultOf key.now max_bytes (option_map (λ b. b.now) label.entry) input fault)) }
-    ensures fault { IfErr result (λ fault. IsOfOpening (FileOutcome.Failed fault)) }
-    ensures unmade { IfErr result (λ fault. (output : List ℕ) → output_steps output (FileOutcome.Failed fault) ≡ []) }
+    ensures fault { IfErr result (λ fault. (name : List ℕ) → IsSealedName name
+        → IsOfOpening name (FileOutcome.Failed fault)) }
 {
     let (header, plain) = match run_read(rt, alloc, key, reader, max_bytes, workers, &Free) {
         Ok(read) => read,
@@ -160,9 +158,7 @@ fn open_file<T: Threads + Sync, F: Folder>(
 ) -> FileOutcome
     requires max_bytes { options.now.max_bytes ≤ MAX_OPENED_BYTES }
     requires workers { (0 < options.now.workers) × (options.now.workers ≤ MAX_WORKERS) }
-    ensures outcome { IsOfOpening result }
-    ensures steps { F.steps folder.new ≡ stepped (F.steps folder.old)
-        (opening_steps (record { name = name.now; outcome = result })) }
+    ensures outcome { IsOfOpening name.now result }
     ensures events { Does (Opening key.now options.now.max_bytes (option_map (λ b. b.now) options.now.label)
         name.now result) (F.told folder.old) (F.told folder.new) }
 {
@@ -193,7 +189,7 @@ fn open_file<T: Threads + Sync, F: Folder>(
     match write_output(folder, output, &mut writer, plain.as_slice()) {
         Ok(()) => FileOutcome::Opened(plain.len() as u64),
         Err(Failed) => {
-            let _ = folder.remove(output);
+            let _ = folder.discard(output, writer);
             FileOutcome::Failed(FileFault::Unopened(OpenFault::Write))
         }
     }
@@ -212,7 +208,6 @@ fn verify_file<T: Threads + Sync, F: Folder>(
     requires max_bytes { options.now.max_bytes ≤ MAX_OPENED_BYTES }
     requires workers { (0 < options.now.workers) × (options.now.workers ≤ MAX_WORKERS) }
     ensures outcome { IsOfVerifying show result }
-    ensures steps { F.steps folder.new ≡ F.steps folder.old }
     ensures events { Does (Verifying key.now options.now.max_bytes (option_map (λ b. b.now) options.now.label)
         name.now result) (F.told folder.old) (F.told folder.new) }
 {
@@ -289,9 +284,7 @@ fn work_file<T: Threads + Sync, F: Folder>(
 ) -> FileOutcome
     requires max_bytes { options.now.max_bytes ≤ MAX_OPENED_BYTES }
     requires workers { (0 < options.now.workers) × (options.now.workers ≤ MAX_WORKERS) }
-    ensures outcome { IsOutcomeOf task result }
-    ensures steps { F.steps folder.new ≡ stepped (F.steps folder.old)
-        (steps_of task (record { name = name.now; outcome = result })) }
+    ensures outcome { IsOutcomeOf task name.now result }
     ensures events { Does (events_of task key.now options.now.max_bytes (option_map (λ b. b.now) options.now.label)
         name.now result) (F.told folder.old) (F.told folder.new) }
 {
@@ -312,11 +305,11 @@ fn work_all<T: Threads + Sync, F: Folder, W: Sink>(
 ) -> u8
     requires max_bytes { options.now.max_bytes ≤ MAX_OPENED_BYTES }
     requires workers { (0 < options.now.workers) × (options.now.workers ≤ MAX_WORKERS) }
-    ensures { AreWorked (IsOutcomeOf task) (steps_of task)
+    ensures { AreWorked (IsOutcomeOf task)
         (events_of task key.now options.now.max_bytes (option_map (λ b. b.now) options.now.label))
         (map (λ name. name.now) options.now.files.now) result
-        (W.taken lines.old) (W.taken lines.new) (W.failures lines.old) (W.failures lines.new) (F.steps folder.old)
-        (F.steps folder.new) (F.told folder.old) (F.told folder.new) }
+        (W.taken lines.old) (W.taken lines.new) (W.failures lines.old) (W.failures lines.new)
+        (F.told folder.old) (F.told folder.new) }
 {
     let mut status = 0;
     for name in options.files {
@@ -342,11 +335,11 @@ pub fn open_all<T: Threads + Sync, F: Folder, L: Sink + Drop, E: Sink + Drop, J:
     requires workers { (0 < options.now.workers) × (options.now.workers ≤ MAX_WORKERS) }
     requires max_bytes { options.now.max_bytes ≤ MAX_OPENED_BYTES }
     ensures status { result ≤ 2 }
-    ensures files { AreWorked IsOfOpening opening_steps
+    ensures files { AreWorked IsOfOpening
         (Opening key.now options.now.max_bytes (option_map (λ b. b.now) options.now.label))
         (map (λ name. name.now) options.now.files.now) result
         (L.taken out.old.lines) (L.taken out.new.lines) (L.failures out.old.lines) (L.failures out.new.lines)
-        (F.steps folder.old) (F.steps folder.new) (F.told folder.old) (F.told folder.new) }
+        (F.told folder.old) (F.told folder.new) }
     ensures others { (out.new.faults ≡ out.old.faults) × (out.new.journal ≡ out.old.journal) }
 {
     work_all(rt, alloc, key, folder, options, &mut out.lines, Task::Open)
@@ -367,12 +360,11 @@ pub fn verify_all<T: Threads + Sync, F: Folder, L: Sink + Drop, E: Sink + Drop, 
     requires workers { (0 < options.now.workers) × (options.now.workers ≤ MAX_WORKERS) }
     requires max_bytes { options.now.max_bytes ≤ MAX_OPENED_BYTES }
     ensures status { result ≤ 2 }
-    ensures files { AreWorked (IsOfVerifying options.now.show) no_steps
+    ensures files { AreWorked (λ name. IsOfVerifying options.now.show)
         (Verifying key.now options.now.max_bytes (option_map (λ b. b.now) options.now.label))
         (map (λ name. name.now) options.now.files.now) result
         (L.taken out.old.lines) (L.taken out.new.lines) (L.failures out.old.lines) (L.failures out.new.lines)
-        (F.steps folder.old) (F.steps folder.new) (F.told folder.old) (F.told folder.new) }
-    ensures nothing_made { F.steps folder.new ≡ F.steps folder.old }
+        (F.told folder.old) (F.told folder.new) }
     ensures others { (out.new.faults ≡ out.old.faults) × (out.new.journal ≡ out.old.journal) }
 {
     work_all(

@@ -1,8 +1,7 @@
 //! Folders: what the commands read files from and create outputs in.
-ghost use Rattle.std.specs.Prelude.{◌≡◌, ◌≢◌, List, [], ◌∷◌, Option, None, Err, IfOk, OnOk, OnErr, is_ok, if◌then◌else◌};
+ghost use Rattle.std.specs.Prelude.{◌≡◌, ◌≢◌, List, Option, None, Err, IfOk, IfErr, OnOk, OnErr};
 ghost use Rattle.io_core.specs.Streams.{Appends, AppendsFront};
-ghost use Rattle.command_core.specs.Folder.{Step, Created, Finished, Removing, stepped};
-ghost use Rattle.command_core.specs.Trace.{Event, Creates, Does, Finishes, Nothing, Opens, Removes};
+ghost use Rattle.command_core.specs.Trace.{Event, Creates, Discards, Does, FailsToOpen, Finishes, Nothing, Opens, Refuses};
 
 use ledger_core::{Failed, Sink, Source, write_all};
 use thiserror::Error;
@@ -26,45 +25,37 @@ pub trait Folder {
     /// What writes an output into this folder. Where it is let go, without `finish`, no fault at closing is told.
     type Writer: Sink + Drop;
 
-    // The steps on outputs so far, where they are known.
-    ghost steps: { Self → Option (List Step) } = { λ _. None };
-
     // What happened so far, where it is known. A folder may forget.
     ghost told: { Self → Option (List Event) } = { λ _. None };
 
     /// Opens a file to be read from its beginning. Its only fault is `Failed`.
     fn open(&mut self, name: &str) -> Result<Self::Reader, FolderFault>
         ensures fault { result ≢ Err FolderFault.Exists }
-        ensures steps { steps self.new ≡ steps self.old }
         ensures opened { IfOk result (λ reader.
             Does (Opens name.now (Self.Reader.left reader)) (told self.old) (told self.new)) }
-        ensures unopened { OnErr result (Does Nothing (told self.old) (told self.new)) };
+        ensures unopened { OnErr result (Does (FailsToOpen name.now) (told self.old) (told self.new)) };
 
     /// Creates an empty output. It never replaces a file: `Exists` where the name is there, and any other cause is
     /// `Failed`.
     fn create(&mut self, name: &str) -> Result<Self::Writer, FolderFault>
-        ensures steps { steps self.new ≡ stepped (steps self.old)
-            (if is_ok result then Created name.now ∷ [] else []) }
         ensures created { IfOk result (λ output.
             Does (Creates name.now (Self.Writer.taken output)) (told self.old) (told self.new)) }
-        ensures uncreated { OnErr result (Does Nothing (told self.old) (told self.new)) };
+        ensures uncreated { IfErr result (λ fault.
+            Does (Refuses name.now fault) (told self.old) (told self.new)) };
 
     /// Nothing more is written to the output of this name: a folder over real files puts it on the disk where that was
     /// asked for. Its only fault is `Failed`. What was written stays as it is.
     fn finish(&mut self, name: &str, output: &mut Self::Writer) -> Result<(), FolderFault>
         ensures fault { result ≢ Err FolderFault.Exists }
-        ensures steps { steps self.new ≡ stepped (steps self.old)
-            (if is_ok result then Finished name.now ∷ [] else []) }
         ensures kept { Self.Writer.taken output.new ≡ Self.Writer.taken output.old }
         ensures finished { OnOk result
             (Does (Finishes name.now (Self.Writer.taken output.old)) (told self.old) (told self.new)) }
         ensures unfinished { OnErr result (Does Nothing (told self.old) (told self.new)) };
 
-    /// Removes a file. Its only fault is `Failed`.
-    fn remove(&mut self, name: &str) -> Result<(), FolderFault>
+    /// Gives an output up: its writer is let go, and its file removed. Its only fault is `Failed`.
+    fn discard(&mut self, name: &str, output: Self::Writer) -> Result<(), FolderFault>
         ensures fault { result ≢ Err FolderFault.Exists }
-        ensures steps { steps self.new ≡ stepped (steps self.old) (Removing name.now ∷ []) }
-        ensures tried { Does (Removes name.now) (told self.old) (told self.new) };
+        ensures discarded { Does (Discards name.now (Self.Writer.taken output)) (told self.old) (told self.new) };
 }
 
 /// Writes all of the output of this name, and finishes it. It fails where a write fails, or the finishing.
@@ -76,8 +67,6 @@ pub fn write_output<F: Folder>(
 ) -> Result<(), Failed>
     ensures ok { OnOk result (Appends (F.Writer.taken output.old) (F.Writer.taken output.new) bytes.now) }
     ensures err { OnErr result (AppendsFront (F.Writer.taken output.old) (F.Writer.taken output.new) bytes.now) }
-    ensures finished { OnOk result (F.steps folder.new ≡ stepped (F.steps folder.old) (Finished name.now ∷ [])) }
-    ensures unfinished { OnErr result (F.steps folder.new ≡ F.steps folder.old) }
     ensures told { OnOk result
         (Does (Finishes name.now (F.Writer.taken output.new)) (F.told folder.old) (F.told folder.new)) }
     ensures untold { OnErr result (Does Nothing (F.told folder.old) (F.told folder.new)) }

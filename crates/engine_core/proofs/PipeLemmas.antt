@@ -1,5 +1,5 @@
 -- A stream under the header of a shape is the shape's container, and so are its rounds.
-use Rattle.std.proofs.Common.{◌≡◌, ℕ, ◌+◌, ◌*◌, ◌<◌, ◌≤◌, false, List, [], ◌∷◌, ◌++◌, length, take, drop, Option, Some, None, IfSome, Result, Ok, Err, OnOk, OnErr, refl, sym, ap, ◌∙◌, subst, append_assoc, append-nil}
+use Rattle.std.proofs.Common.{◌≡◌, ℕ, ◌+◌, ◌*◌, ◌<◌, ◌≤◌, false, List, [], ◌∷◌, ◌++◌, length, take, drop, Option, Some, None, IfSome, Result, Ok, Err, OnOk, OnErr, refl, sym, ap, ◌∙◌, subst, append_assoc}
 use Rattle.std.proofs.lemmas.List.{take_at, drop_at}
 use Rattle.container_core.specs.Chunks.{chunks}
 use Rattle.container_core.specs.Container.{container, header_of, hint_of, label_bytes, size_in}
@@ -9,7 +9,7 @@ use Rattle.container_core.specs.declared.fault.SealFault.{SealFault}
 use Rattle.container_core.proofs.HeaderLemmas.{length-hint_of, size-header_of}
 use Rattle.engine_core.specs.Engine.{BeginsContainer, DropsRound, HasReadPlain, HasWrittenRounds, rounds_so_far, seal_read_failed, seal_write_failed}
 use Rattle.engine_core.specs.Piped.{HasPipedContainer}
-use Rattle.io_core.specs.Reads.{ConsumesExactly, ConsumesUpTo}
+use Rattle.io_core.specs.Reads.{ConsumesExactly}
 use Rattle.io_core.specs.Streams.{Appends, AppendsFront, counted}
 use Rattle.pipe_core.specs.Order.{HasBegun, chunks_so_far}
 use Rattle.pipe_core.specs.Rounds.{DropsInHand, HasSealedRounds}
@@ -73,22 +73,11 @@ piped-container key prefix header shape most left left' taken taken' failures fa
 
 -- ---- in rounds
 
--- what was written begins the container of what was read, and of what is left or may follow
-begins : (key prefix header : List ℕ) (shape : ShapeView) (n : ℕ) (left left' taken taken' : Option (List ℕ)) → header ≡ header_of key shape prefix
-    → ConsumesUpTo left left' n → HasBegun header key header left taken taken' → BeginsContainer key shape prefix left left' taken taken'
-begins key prefix header shape n None left' taken taken' named bound begun = (
-  begun.0,
-  [],
-  tt,
-  subst (AppendsFront taken taken') (whole-container key prefix header begun.0 shape named ∙ ap (container key shape prefix) (sym (append-nil begun.0))) begun.2,
-)
-begins key prefix header shape n (Some input) None taken taken' named bound begun = absurd bound.1
-begins key prefix header shape n (Some input) (Some rest) taken taken' named bound begun = (
-  bound.0,
-  rest,
-  bound.1,
-  subst (AppendsFront taken taken') (whole-container key prefix header begun.0 shape named ∙ ap (container key shape prefix) (sym begun.1 ∙ bound.1)) begun.2,
-)
+-- what was written begins the container of the input
+begins : (key prefix header : List ℕ) (shape : ShapeView) (left taken taken' : Option (List ℕ)) → header ≡ header_of key shape prefix
+    → HasBegun header key header left taken taken' → BeginsContainer key shape prefix left taken taken'
+begins key prefix header shape left taken taken' named begun =
+    (begun.0, begun.1, subst (AppendsFront taken taken') (whole-container key prefix header begun.0 shape named) begun.2)
 
 so_far : (key header header' past : List ℕ) (size : ℕ) → header ≡ header' → size_in header ≡ size
     → chunks_so_far header key header past ≡ rounds_so_far size key header' past
@@ -131,7 +120,7 @@ pub rounds-container : (key prefix header : List ℕ) (shape : ShapeView) (most 
 rounds-container key prefix header shape most window left left' taken taken' failures failures' refusals refusals' result named did = record {
   written = on_ok result (if_some left (λ input was. subst (Appends taken taken') (whole-container key prefix header input shape named) was)) did.written;
   within = did.within;
-  begun = on_err result (begins key prefix header shape (most + 1) left left' taken taken' named did.bound) did.begun;
+  begun = on_err result (begins key prefix header shape left taken taken' named) did.begun;
   dropped = λ e. drops key prefix header shape most window left left' taken taken' named (did.dropped e);
   unwritten = did.unwritten;
   write = same_writes refusals refusals' result did.write;

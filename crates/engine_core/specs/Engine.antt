@@ -88,11 +88,10 @@ pub record HasWrittenContainer (key : List ℕ) (shape : ShapeView) (prefix : Li
   -- the answer is the input's length
   pub length : IfOk result (λ n. IfSome left (λ input. n ≡ length input))
 
--- the container of some plaintext that begins with what was read begins with what was written
-abbrev pub BeginsContainer : List ℕ → ShapeView → List ℕ → Option (List ℕ) → Option (List ℕ) → Option (List ℕ)
-    → Option (List ℕ) → Type 0
-BeginsContainer key shape prefix left left' taken taken' = (read : List ℕ) × (more : List ℕ)
-    × Consumes left left' read × AppendsFront taken taken' (container key shape prefix (read ++ more))
+-- what was written begins the container of the input, or where it isn't told of some plaintext
+abbrev pub BeginsContainer : List ℕ → ShapeView → List ℕ → Option (List ℕ) → Option (List ℕ) → Option (List ℕ) → Type 0
+BeginsContainer key shape prefix left taken taken' = (plain : List ℕ) × IfSome left (λ input. input ≡ plain)
+    × AppendsFront taken taken' (container key shape prefix plain)
 
 -- what is written once these bytes are sealed in full rounds of chunks of a size, none of which is the last: nothing
 -- before the first
@@ -116,8 +115,8 @@ pub record HasWrittenRounds (key : List ℕ) (shape : ShapeView) (prefix : List 
   -- what was written is the container of the whole input
   pub written : OnOk result (IfSome left (λ input. Appends taken taken' (container key shape prefix input)))
   pub within : OnOk result (IfSome left (λ input. length input ≤ most))
-  -- at a fault it begins the container of some plaintext that begins with what was read
-  pub begun : OnErr result (BeginsContainer key shape prefix left left' taken taken')
+  -- at a fault a beginning of that was written
+  pub begun : OnErr result (BeginsContainer key shape prefix left taken taken')
   -- of an input that is too long the rounds before the one in hand were written
   pub dropped : result ≡ Err sealing_fault.TooLong → DropsRound key shape prefix most window left left' taken taken'
   -- memory is refused before anything was written

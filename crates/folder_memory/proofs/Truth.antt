@@ -4,7 +4,7 @@ use Rattle.std.specs.List.{position}
 use Rattle.std.proofs.lemmas.List.{map-append}
 use Rattle.std.proofs.lemmas.List.Quantifiers.{position-Some}
 use Rattle.std.proofs.lemmas.Slice.Eq.{bytes_eq-Decides}
-use Rattle.command_core.specs.Trace.{Event, Reading, Created, Finished, Removing, Does}
+use Rattle.command_core.specs.Trace.{Event, Finished, Discarded, Does}
 use Rattle.folder_memory.specs.Memory.{AreAsTold, FileView, IsEvent, bytes_of, event_of, file_of, left_after, left_by, told_of, whole_of}
 use Rattle.folder_memory.specs.declared.memory.File.{File}
 use Rattle.folder_memory.specs.declared.memory.Told.{Told}
@@ -32,21 +32,14 @@ goes_on files files' (Some before) (Some after) (Some t) event is does step was 
     let whole : after ≡ before ++ event ∷ [] = does.2 ∙ ap (λ l. before ++ l) (does.1 ∙ ap (λ e. e ∷ []) is) in
     subst (λ (events : List Event). (name : List ℕ) (bytes : List ℕ) → told_of events name ≡ Some bytes → bytes_of files' name ≡ Some bytes) (sym whole) (step before was)
 
-pub true_reading : (files : List FileView) (log log' : Option (List Event)) (told : Option Told) (name bytes : List ℕ) → IfSome told (λ t. event_of t ≡ Reading name bytes) → Does (IsEvent told) log log'
-    → AreAsTold files log → AreAsTold files log'
+-- an event that leaves each output as it was
+pub true_kept : (files : List FileView) (log log' : Option (List Event)) (told : Option Told) (event : Event) → IfSome told (λ t. event_of t ≡ event) → Does (IsEvent told) log log'
+    → ((name : List ℕ) (left : Option (List ℕ)) → left_by name left event ≡ left) → AreAsTold files log → AreAsTold files log'
 unfolding AreAsTold
-true_reading files log log' told name bytes is does was = goes_on files files log log' told (Reading name bytes) is does step was
+true_kept files log log' told event is does kept was = goes_on files files log log' told event is does step was
   where
-    step : (events : List Event) → AreAsTold files (Some events) → AreAsTold files (Some (events ++ Reading name bytes ∷ []))
-    step events was other whole told = was other whole (sym (left-push other None events (Reading name bytes)) ∙ told)
-
-pub true_created : (files : List FileView) (log log' : Option (List Event)) (told : Option Told) (name : List ℕ) → IfSome told (λ t. event_of t ≡ Created name) → Does (IsEvent told) log log'
-    → AreAsTold files log → AreAsTold files log'
-unfolding AreAsTold
-true_created files log log' told name is does was = goes_on files files log log' told (Created name) is does step was
-  where
-    step : (events : List Event) → AreAsTold files (Some events) → AreAsTold files (Some (events ++ Created name ∷ []))
-    step events was other whole told = was other whole (sym (left-push other None events (Created name)) ∙ told)
+    step : (events : List Event) → AreAsTold files (Some events) → AreAsTold files (Some (events ++ event ∷ []))
+    step events was other whole told = was other whole (sym (kept other (told_of events other)) ∙ sym (left-push other None events event) ∙ told)
 
 pub true_finished : (files files' : List FileView) (log log' : Option (List Event)) (told : Option Told) (name bytes : List ℕ) → IfSome told (λ t. event_of t ≡ Finished name bytes) → Does (IsEvent told) log log'
     → bytes_of files' name ≡ Some bytes → ((other : List ℕ) → bytes_eq name other ≡ false → bytes_of files' other ≡ bytes_of files other)
@@ -61,15 +54,15 @@ true_finished files files' log log' told name bytes is does held others was = go
         pick true same is = ap (bytes_of files') (sym (equal name other same)) ∙ held ∙ is
         pick false same is = others other same ∙ was other whole is
 
--- the removal of the file was tried, and whether it is there any more, nothing is said of it
-pub true_removed : (files files' : List FileView) (log log' : Option (List Event)) (told : Option Told) (name : List ℕ) → IfSome told (λ t. event_of t ≡ Removing name) → Does (IsEvent told) log log'
+-- the output was given up, and whether it is there any more, nothing is said of it
+pub true_discarded : (files files' : List FileView) (log log' : Option (List Event)) (told : Option Told) (name bytes : List ℕ) → IfSome told (λ t. event_of t ≡ Discarded name bytes) → Does (IsEvent told) log log'
     → ((other : List ℕ) → bytes_eq name other ≡ false → bytes_of files' other ≡ bytes_of files other)
     → AreAsTold files log → AreAsTold files' log'
 unfolding AreAsTold
-true_removed files files' log log' told name is does others was = goes_on files files' log log' told (Removing name) is does step was
+true_discarded files files' log log' told name bytes is does others was = goes_on files files' log log' told (Discarded name bytes) is does step was
   where
-    step : (events : List Event) → AreAsTold files (Some events) → AreAsTold files' (Some (events ++ Removing name ∷ []))
-    step events was other whole told = pick (bytes_eq name other) refl (sym (left-push other None events (Removing name)) ∙ told)
+    step : (events : List Event) → AreAsTold files (Some events) → AreAsTold files' (Some (events ++ Discarded name bytes ∷ []))
+    step events was other whole told = pick (bytes_eq name other) refl (sym (left-push other None events (Discarded name bytes)) ∙ told)
       where
         pick : (same : Bool) → bytes_eq name other ≡ same → (if same then None else told_of events other) ≡ Some whole → bytes_of files' other ≡ Some whole
         pick true same is = absurd (cc)
@@ -158,12 +151,12 @@ true_once_finished files files' log log' told i d file name bytes is does place 
     (true_finished (map file_of files) (map file_of (set files i file)) log log' told name bytes is does (set_same name files i d file found.0 same found.2 ∙ held)
     (λ other not. set_other other files i d file found.0 (other_named (get_or files i d) name other found.1 not) (other_named file name other same not)) was)
 
--- a file was removed
-pub true_once_removed : (files files' : List File) (log log' : Option (List Event)) (told : Option Told) (i : ℕ) (d : File) (name : List ℕ)
-    → IfSome told (λ t. event_of t ≡ Removing name) → Does (IsEvent told) log log' → IsPlace name files i
+-- an output was given up, and removed
+pub true_once_removed : (files files' : List File) (log log' : Option (List Event)) (told : Option Told) (i : ℕ) (d : File) (name bytes : List ℕ)
+    → IfSome told (λ t. event_of t ≡ Discarded name bytes) → Does (IsEvent told) log log' → IsPlace name files i
     → files' ≡ take i files ++ drop (suc i) files → AreAsTold (map file_of files) log → AreAsTold (map file_of files') log'
-true_once_removed files files' log log' told i d name is does place made was =
+true_once_removed files files' log log' told i d name bytes is does place made was =
     let found = position-Some (λ (file : File). bytes_eq (string_bytes file.name) name) files i d place in
     subst (λ (l : List File). AreAsTold (map file_of l) log') (sym made)
-    (true_removed (map file_of files) (map file_of (take i files ++ drop (suc i) files)) log log' told name is does
+    (true_discarded (map file_of files) (map file_of (take i files ++ drop (suc i) files)) log log' told name bytes is does
     (λ other not. removed_other other files i d found.0 (other_named (get_or files i d) name other found.1 not)) was)

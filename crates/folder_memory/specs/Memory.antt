@@ -8,7 +8,7 @@ use Rattle.folder_memory.specs.declared.memory.Content.TheVariants.{Whole, Writt
 use Rattle.folder_memory.specs.declared.memory.File.{File}
 use Rattle.folder_memory.specs.declared.memory.Pace.{Pace}
 use Rattle.folder_memory.specs.declared.memory.Told.{Told}
-use Rattle.folder_memory.specs.declared.memory.Told.TheVariants.{Reading, Created, Finished, Removing}
+use Rattle.folder_memory.specs.declared.memory.Told.TheVariants.{Reading, Unread, Created, Refused, Finished, Discarded}
 
 -- a file's name, and its bytes once it is whole: put into the folder, or finished
 pub record FileView : Type 0 where
@@ -45,31 +45,35 @@ memory_view files refused readers writers log =
 
 abbrev pub event_of : Told → Event
 event_of (Reading name bytes) = trace.Reading (string_bytes name) bytes.items
+event_of (Unread name) = trace.Unread (string_bytes name)
 event_of (Created name) = trace.Created (string_bytes name)
+event_of (Refused name fault) = trace.Refused (string_bytes name) fault
 event_of (Finished name bytes) = trace.Finished (string_bytes name) bytes.items
-event_of (Removing name) = trace.Removing (string_bytes name)
+event_of (Discarded name bytes) = trace.Discarded (string_bytes name) bytes.items
 
 -- this event is to be told, for which there was memory
 abbrev pub IsEvent : Option Told → List Event → Type 0
 IsEvent None events = ⊥
 IsEvent (Some told) events = events ≡ event_of told ∷ []
 
--- what an event leaves of the output of this name: its bytes where it was finished, nothing where its removal was tried
+-- what an event leaves of the output of this name: its bytes where it was finished, nothing where it was given up
 abbrev pub left_by : List ℕ → Option (List ℕ) → Event → Option (List ℕ)
 left_by name left (trace.Reading other bytes) = left
+left_by name left (trace.Unread other) = left
 left_by name left (trace.Created other) = left
+left_by name left (trace.Refused other fault) = left
 left_by name left (trace.Finished other bytes) = if bytes_eq other name then Some bytes else left
-left_by name left (trace.Removing other) = if bytes_eq other name then None else left
+left_by name left (trace.Discarded other bytes) = if bytes_eq other name then None else left
 
 abbrev pub left_after : List ℕ → Option (List ℕ) → List Event → Option (List ℕ)
 left_after name left [] = left
 left_after name left (event ∷ events) = left_after name (left_by name left event) events
 
--- the bytes with which the output of this name was finished, unless its removal was tried since
+-- the bytes with which the output of this name was finished, unless it was given up since
 abbrev pub told_of : List Event → List ℕ → Option (List ℕ)
 told_of events name = left_after name None events
 
--- What is told is true of the files: an output that was finished, and whose removal wasn't tried since, has those bytes.
+-- What is told is true of the files: an output that was finished, and wasn't given up since, has those bytes.
 unfoldable pub AreAsTold : List FileView → Option (List Event) → Type 0
 AreAsTold files None = ⊤
 AreAsTold files (Some events) =

@@ -1,10 +1,10 @@
 //! A folder in memory, whose calls, readers and writers fail where they are told to.
 //!
-//! It keeps what happened and tells it, and its readers and writers tell their bytes. Where memory for an event is
-//! refused it forgets, and tells nothing from then on.
+//! It keeps what happened and tells it, refused calls too, and its readers and writers tell their bytes. Where memory for
+//! an event is refused it forgets, and tells nothing from then on.
 ghost use Rattle.std.specs.Prelude.{◌≡◌, ◌<◌, [], ◌∷◌, ◌++◌, None, Some, IfSome, OnOk, OnErr, IfOk, length, string_bytes};
 ghost use Rattle.std.specs.Prelude.{is_some, map, option_map, position, bytes_eq};
-ghost use Rattle.command_core.specs.Trace.{Created, Does, Finished, Reading, Removing};
+ghost use Rattle.command_core.specs.Trace.{Created, Discarded, Does, Finished, Reading, Refused, Unread};
 ghost use Rattle.folder_memory.specs.Memory.{IsEvent, bytes_of, event_of, file_view, memory_view, told_of, whole_of};
 
 use command_core::{Folder, FolderFault};
@@ -35,12 +35,16 @@ pub const STEADY: Pace = Pace {
 pub enum Told {
     /// A file of this name was opened to be read, and these were its bytes.
     Reading(String, Vec<u8>),
+    /// A file could not be opened.
+    Unread(String),
     /// An output was created.
     Created(String),
+    /// An output could not be created, by this fault.
+    Refused(String, FolderFault),
     /// An output was finished, and these were all its bytes.
     Finished(String, Vec<u8>),
-    /// The removal of a file was tried.
-    Removing(String),
+    /// An output was given up with these bytes, and its removal was tried.
+    Discarded(String, Vec<u8>),
 }
 
 // What the writer of an output took so far, which it shows to the folder.
@@ -82,7 +86,7 @@ impl Model for MemoryFolder {
     ghost view = { λ f. memory_view (map file_of f.files.items) f.refused f.readers f.writers
         (option_map (λ told. map event_of told.items) f.told) };
 
-    // An output that was finished has the bytes that were told, until its removal is tried.
+    // An output that was finished has the bytes that were told, until it is given up.
     ghost invariant = { λ f. AreAsTold (map file_of f.files.items)
         (option_map (λ told. map event_of told.items) f.told) };
 }
@@ -174,7 +178,7 @@ impl MemoryFolder {
     pub fn bytes(&self, name: &str) -> Result<Vec<u8>, FolderFault>
         ensures held { IfOk result (λ bytes.
             IfSome (bytes_of self.now.files name.now) (λ whole. bytes.items ≡ whole)) }
-        // An output that was finished has the bytes that were told, until its removal is tried.
+        // An output that was finished has the bytes that were told, until it is given up.
         ensures told { IfOk result (λ bytes. IfSome self.now.log (λ events.
             IfSome (told_of events name.now) (λ whole. bytes.items ≡ whole))) }
     {
@@ -211,6 +215,39 @@ impl MemoryFolder {
         match self.files.push(File { name, content }) {
             Ok(()) => Ok(()),
             Err(_) => Err(FolderFault::Failed),
+        }
+    }
+
+    // The bytes of a file that is to be read, unless this call fails.
+    fn bytes_to_read(&mut self, name: &str) -> Option<Vec<u8>>
+        ensures { self.new ≡ record self.old { refused = self.new.refused } }
+    {
+        if self.is_refused() {
+            return None;
+        }
+        self.bytes(name).ok()
+    }
+
+    // A new output, which is in the folder, unless this call fails.
+    fn new_output(&mut self, name: &str) -> Result<MemoryWriter, FolderFault>
+        ensures empty { IfOk result (λ writer. (string_bytes writer.name ≡ name.now) × (writer.bytes.taken ≡ [])) }
+        ensures untold { self.new.log ≡ self.old.log }
+    {
+        if self.is_refused() {
+            return Err(FolderFault::Failed);
+        }
+        if self.has(name) {
+            return Err(FolderFault::Exists);
+        }
+        let Ok(writer) = new_writer(self.alloc, name, self.writers) else {
+            return Err(FolderFault::Failed);
+        };
+        let Ok(shown) = writer.shown.clone() else {
+            return Err(FolderFault::Failed);
+        };
+        match self.add(name, Content::Written(shown)) {
+            Ok(()) => Ok(writer),
+            Err(fault) => Err(fault),
         }
     }
 
@@ -293,11 +330,25 @@ fn reading(alloc: Global, name: &str, bytes: &[u8]) -> Option<Told>
     Some(Told::Reading(name, bytes))
 }
 
+fn unread(alloc: Global, name: &str) -> Option<Told>
+    ensures { IfSome result (λ told. event_of told ≡ Unread name.now) }
+{
+    let name = String::from_str(alloc, name).ok()?;
+    Some(Told::Unread(name))
+}
+
 fn created(alloc: Global, name: &str) -> Option<Told>
     ensures { IfSome result (λ told. event_of told ≡ Created name.now) }
 {
     let name = String::from_str(alloc, name).ok()?;
     Some(Told::Created(name))
+}
+
+fn refused(alloc: Global, name: &str, fault: FolderFault) -> Option<Told>
+    ensures { IfSome result (λ told. event_of told ≡ Refused name.now fault) }
+{
+    let name = String::from_str(alloc, name).ok()?;
+    Some(Told::Refused(name, fault))
 }
 
 fn finished(alloc: Global, name: &str, bytes: &[u8]) -> Option<Told>
@@ -308,11 +359,17 @@ fn finished(alloc: Global, name: &str, bytes: &[u8]) -> Option<Told>
     Some(Told::Finished(name, bytes))
 }
 
-fn removing(alloc: Global, name: &str) -> Option<Told>
-    ensures { IfSome result (λ told. event_of told ≡ Removing name.now) }
+// An output that is given up under its own name.
+fn discarded(alloc: Global, name: &str, output: &MemoryWriter) -> Option<Told>
+    ensures event { IfSome result (λ told. event_of told ≡ Discarded name.now output.now.bytes.taken) }
+    ensures own { IfSome result (λ _. string_bytes output.now.name ≡ name.now) }
 {
+    if output.name.as_str() != name {
+        return None;
+    }
     let name = String::from_str(alloc, name).ok()?;
-    Some(Told::Removing(name))
+    let bytes = Vec::from_slice(alloc, output.bytes.bytes()).ok()?;
+    Some(Told::Discarded(name, bytes))
 }
 
 impl Folder for MemoryFolder {
@@ -323,10 +380,9 @@ impl Folder for MemoryFolder {
     ghost told = { λ f. f.log };
 
     fn open(&mut self, name: &str) -> Result<MemoryReader, FolderFault> {
-        if self.is_refused() {
-            return Err(FolderFault::Failed);
-        }
-        let Ok(bytes) = self.bytes(name) else {
+        let Some(bytes) = self.bytes_to_read(name) else {
+            let event = unread(self.alloc, name);
+            tell(&mut self.told, event);
             return Err(FolderFault::Failed);
         };
         let event = reading(self.alloc, name, bytes.as_slice());
@@ -340,22 +396,18 @@ impl Folder for MemoryFolder {
     }
 
     fn create(&mut self, name: &str) -> Result<MemoryWriter, FolderFault> {
-        if self.is_refused() {
-            return Err(FolderFault::Failed);
+        match self.new_output(name) {
+            Ok(writer) => {
+                let event = created(self.alloc, name);
+                tell(&mut self.told, event);
+                Ok(writer)
+            }
+            Err(fault) => {
+                let event = refused(self.alloc, name, fault);
+                tell(&mut self.told, event);
+                Err(fault)
+            }
         }
-        if self.has(name) {
-            return Err(FolderFault::Exists);
-        }
-        let Ok(writer) = new_writer(self.alloc, name, self.writers) else {
-            return Err(FolderFault::Failed);
-        };
-        let Ok(shown) = writer.shown.clone() else {
-            return Err(FolderFault::Failed);
-        };
-        self.add(name, Content::Written(shown))?;
-        let event = created(self.alloc, name);
-        tell(&mut self.told, event);
-        Ok(writer)
     }
 
     // The output is finished under its own name alone.
@@ -375,10 +427,11 @@ impl Folder for MemoryFolder {
         Ok(())
     }
 
-    // The removal is tried, whatever becomes of it.
-    fn remove(&mut self, name: &str) -> Result<(), FolderFault> {
-        let is_refused = self.is_refused();
-        let event = removing(self.alloc, name);
+    // Told whatever becomes of the removal. An output is given up under its own name alone: under another the folder
+    // forgets what happened.
+    fn discard(&mut self, name: &str, output: MemoryWriter) -> Result<(), FolderFault> {
+        let is_refused = self.is_refused() || output.name.as_str() != name;
+        let event = discarded(self.alloc, name, &output);
         tell(&mut self.told, event);
         if is_refused {
             return Err(FolderFault::Failed);

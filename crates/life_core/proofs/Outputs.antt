@@ -213,6 +213,13 @@ one_place key runs one other this that are a b same =
     (one_alone (λ (o : Output). nat_eq this.number o.number) a.run.outputs one.output other.output this that a.once a.at_output in_it
     (eq-eqb this.number this.number refl) (eq-eqb this.number that.number numbers))
 
+pub one_prefix : (key : List ℕ) (runs : ℕ → List Written) (one other : Place) (this that : Output)
+    → AreRuns key one.device (runs one.device) → AreRuns key other.device (runs other.device)
+    → StandsAt runs one this → StandsAt runs other that
+    → prefix_of one.device this.number ≡ prefix_of other.device that.number → one ≡ other
+one_prefix key runs one other this that are also stands stood same =
+    one_place key runs one other this that are (standing key runs one this are stands) (standing key runs other that also stood) same
+
 pub one_chunk : (key : List ℕ) (runs : ℕ → List Written) (one other : Place) (this that : Output) (chunk another : ℕ) (nonce : List ℕ)
     → AreRuns key one.device (runs one.device) → AreRuns key other.device (runs other.device)
     → StandsAt runs one this → StandsAt runs other that

@@ -64,6 +64,15 @@ pub fn no_two_chunks_have_one_nonce()
         → (one ≡ other) × (chunk ≡ another) }
 {}
 
+/// No two outputs of the runs of one key have one prefix: each device's numbers are its own, each number is in one run's range, and
+/// stands there over one output.
+pub fn no_two_outputs_have_one_prefix()
+    ensures { (key : List ℕ) (runs : ℕ → List Written) (one other : Place) (this that : Output)
+        → AreRuns key one.device (runs one.device) → AreRuns key other.device (runs other.device)
+        → StandsAt runs one this → StandsAt runs other that
+        → prefix_of one.device this.number ≡ prefix_of other.device that.number → one ≡ other }
+{}
+
 /// What an output held is a beginning of the header and of its plaintext's chunks in order, each sealed by the AEAD under
 /// the nonce at its place.
 pub fn outputs_are_sealed_under_their_nonces()

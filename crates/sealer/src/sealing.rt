@@ -282,7 +282,6 @@ fn seal_from<
         × HasSealed (Happened key.now options.now.shape.now range.device (F.told folder.old) (F.told folder.new))
         (map (λ name. name.now) options.now.files.now) (terms_of range options.now.lanes) history told
         (L.taken out.old.lines) (L.taken out.new.lines) (L.failures out.old.lines) (L.failures out.new.lines)
-        (F.steps folder.old) (F.steps folder.new)
         × IsWritten J.taken (journal_text (terms_of range options.now.lanes) history) written
         out.old.journal out.new.journal
         × (r.0 ≡ (if written then told else 2))))) }
@@ -332,6 +331,7 @@ fn pipe_from<
         × (failures : Option ℕ)
         × FoldsFiles LedgerFile.Kept LedgerFile.Folded (sha256 key.now) options.now.device 1 (LedgerFile.Kept keeper)
         r.1 range
+        × IsLawfulRange range
         × HasSealedStream key.now options.now.shape.now options.now.max_chunks
         (R.left reader.old) (R.left reader.new) (R.failures reader.old) (R.failures reader.new)
         (W.taken writer.old) (W.taken writer.new) (W.failures writer.old) (W.failures writer.new)

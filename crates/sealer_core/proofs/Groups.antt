@@ -31,15 +31,13 @@ use Rattle.command_core.specs.declared.line.FileFault.{FileFault}
 use Rattle.command_core.specs.declared.line.FileOutcome.{FileOutcome}
 use Rattle.command_core.specs.declared.line.FileOutcome.TheVariants.{Sealed, Opened, Good, Shown, Failed}
 use Rattle.command_core.specs.Lines.{FileLine}
-use Rattle.command_core.specs.Folder.{Step, stepped}
 use Rattle.command_core.specs.Work.{AreTold}
-use Rattle.sealer_core.specs.Group.{holds, HasEnded, IsHeld, AreHeld, AreOwed, OwesAt, IsOwed, SettledAt, IsCounted, IsEnding, AreEnded, AreEnding, IsGroup, refused_lines, name_of, IsPrepared, made_for, read_of, left_by}
+use Rattle.sealer_core.specs.Group.{holds, HasEnded, IsHeld, AreHeld, AreOwed, OwesAt, IsOwed, SettledAt, IsCounted, IsEnding, AreEnded, AreEnding, IsGroup, refused_lines, name_of, IsPrepared, read_of, left_by, void_by, void_in, void_of}
 use Rattle.sealer_core.specs.declared.prepare.Prepared.{Prepared}
 use Rattle.sealer_core.specs.declared.prepare.Prepared.TheVariants.{Refused, Unread, Read}
 use Rattle.command_core.specs.declared.line.FileFault.TheVariants.{OutOfMemory}
-use Rattle.sealer_core.specs.Sealing.{Accounts, AreSealed, IsOfSealing, creations_of, endings_of, line_of, operations_of, created_as, ended_as, sealed_name, seals, voids, tells_of, times_sealed, times_voided}
-use Rattle.sealer_core.proofs.Numbering.{adds_failure, mine_of, told_push, sum_below_zeros, sum_below_first}
-use Rattle.command_core.proofs.Telling.{stepped-nil, stepped-stepped}
+use Rattle.sealer_core.specs.Sealing.{Accounts, AreSealed, IsOfSealing, line_of, operations_of, seals, spoils, tells_of, times_in, times_sealed, times_voided, void_at}
+use Rattle.sealer_core.proofs.Numbering.{adds_failure, in_append, in_push, mine_of, told_push, sum_below_zeros, sum_below_first}
 use Rattle.sealer_core.proofs.Sealings.{sealed_more}
 
 -- ---- one seat's operation among those of all
@@ -80,17 +78,19 @@ settled_at seats i d w number way below more = record {
 held_cons : (n : ℕ) (o : Outcome) (os : List Outcome) → count_by (holds n) (o ∷ os) ≡ cond (holds n o) 1 0 + count_by (holds n) os
 held_cons n o os = sum_by-cons (λ (x : Outcome). cond (holds n x) 1 0) o os
 
-pub held_failed : (lines : List FileLine) (os : List Outcome) (operations : List Entry) (name : List ℕ) (fault : FileFault) → AreHeld lines os operations
-    → AreHeld (lines ++ line_of name (Failed fault) ∷ []) os operations
-held_failed lines os operations name fault a = record {
+pub held_failed : (lines : List FileLine) (voids : List ℕ) (os : List Outcome) (operations : List Entry) (name : List ℕ) (fault : FileFault) → AreHeld lines voids os operations
+    → AreHeld (lines ++ line_of name (Failed fault) ∷ []) (voids ++ []) os operations
+held_failed lines voids os operations name fault a = record {
   told = λ n. let t = told_push n lines (line_of name (Failed fault)) in let h = a.told n in omega arith;
+  voided = λ n. let i = in_append n voids [] in let h = a.voided n in omega arith;
   granted = λ n. let t = told_push n lines (line_of name (Failed fault)) in let h = a.granted n in omega arith;
 }
 
-pub held_fewer : (lines : List FileLine) (o : Outcome) (os : List Outcome) (operations : List Entry) (seat : ℕ) (fault : IssueFault) → o ≡ job.Unissued seat fault
-    → AreHeld lines (o ∷ os) operations → AreHeld lines os operations
-held_fewer lines o os operations seat fault is a = record {
+pub held_fewer : (lines : List FileLine) (voids : List ℕ) (o : Outcome) (os : List Outcome) (operations : List Entry) (seat : ℕ) (fault : IssueFault) → o ≡ job.Unissued seat fault
+    → AreHeld lines voids (o ∷ os) operations → AreHeld lines voids os operations
+held_fewer lines voids o os operations seat fault is a = record {
   told = a.told;
+  voided = a.voided;
   granted = λ n.
       let c = held_cons n o os in
       let none : cond {A = ℕ} (holds n o) 1 0 ≡ 0 = ap (λ (x : Outcome). cond {A = ℕ} (holds n x) 1 0) is in
@@ -105,23 +105,28 @@ record Settling (k n : ℕ) (old new : List Entry) (sealed voided : ℕ) : Type 
 
 void_counts : (k n : ℕ) (old new : List Entry) → IsCounted old new (Settled k ended.Void) → Settling k n old new 0 (cond (nat_eq n k) 1 0)
 void_counts k n old new (seat, one) =
-    let s = one (seals n) in let v = one (voids n) in let g = one (grants n) in
+    let s = one (seals n) in let v = one (spoils n) in let g = one (grants n) in
     record { seal = s; void = v; grant = omega arith }
 
 seal_counts : (k n : ℕ) (old new : List Entry) → IsCounted old new (Settled k ended.Sealed) → Settling k n old new (cond (nat_eq n k) 1 0) 0
 seal_counts k n old new (seat, one) =
-    let s = one (seals n) in let v = one (voids n) in let g = one (grants n) in
+    let s = one (seals n) in let v = one (spoils n) in let g = one (grants n) in
     record { seal = s; void = v; grant = omega arith }
 
-module _ (lines : List FileLine) (o : Outcome) (os : List Outcome) (k : ℕ) (old new : List Entry) (name : List ℕ) (its : (n : ℕ) → holds n o ≡ nat_eq n k) (a : AreHeld lines (o ∷ os) old) where
+module _ (lines : List FileLine) (voids : List ℕ) (o : Outcome) (os : List Outcome) (k : ℕ) (old new : List Entry) (name : List ℕ) (its : (n : ℕ) → holds n o ≡ nat_eq n k)
+    (a : AreHeld lines voids (o ∷ os) old) where
   held_void : (outcome : FileOutcome) → ((n : ℕ) → tells_of n outcome ≡ false) → IsCounted old new (Settled k ended.Void)
-      → AreHeld (lines ++ line_of name outcome ∷ []) os new
+      → AreHeld (lines ++ line_of name outcome ∷ []) (voids ++ k ∷ []) os new
   held_void outcome none how = record {
     told = λ n.
         let t = told_push n lines (line_of name outcome) in
         let no : cond {A = ℕ} (tells_of n outcome) 1 0 ≡ 0 = ap (λ b. cond {A = ℕ} b 1 0) (none n) in
         let s = void_counts k n old new how in let seal = s.seal in
         let h = a.told n in omega arith;
+    voided = λ n.
+        let i = in_push n voids k in
+        let s = void_counts k n old new how in let void = s.void in
+        let h = a.voided n in omega arith;
     granted = λ n.
         let t = told_push n lines (line_of name outcome) in
         let no : cond {A = ℕ} (tells_of n outcome) 1 0 ≡ 0 = ap (λ b. cond {A = ℕ} b 1 0) (none n) in
@@ -131,12 +136,16 @@ module _ (lines : List FileLine) (o : Outcome) (os : List Outcome) (k : ℕ) (ol
         let h = a.granted n in omega arith;
   }
 
-  held_sealed : (bytes : ℕ) → IsCounted old new (Settled k ended.Sealed) → AreHeld (lines ++ line_of name (Sealed k bytes) ∷ []) os new
+  held_sealed : (bytes : ℕ) → IsCounted old new (Settled k ended.Sealed) → AreHeld (lines ++ line_of name (Sealed k bytes) ∷ []) (voids ++ []) os new
   held_sealed bytes how = record {
     told = λ n.
         let t = told_push n lines (line_of name (Sealed k bytes)) in
         let s = seal_counts k n old new how in let seal = s.seal in
         let h = a.told n in omega arith;
+    voided = λ n.
+        let i = in_append n voids [] in
+        let s = seal_counts k n old new how in let void = s.void in
+        let h = a.voided n in omega arith;
     granted = λ n.
         let t = told_push n lines (line_of name (Sealed k bytes)) in
         let s = seal_counts k n old new how in let void = s.void in let grant = s.grant in
@@ -146,21 +155,37 @@ module _ (lines : List FileLine) (o : Outcome) (os : List Outcome) (k : ℕ) (ol
   }
 
   -- the number of an outcome ends as its file's line tells
-  pub held_ended : (outcome : FileOutcome) → IsEnding k old new outcome → AreHeld (lines ++ line_of name outcome ∷ []) os new
-  held_ended (Sealed m bytes) (is, how) = subst (λ (x : ℕ). AreHeld (lines ++ line_of name (Sealed x bytes) ∷ []) os new) (sym is) (held_sealed bytes how)
+  pub held_ended : (outcome : FileOutcome) → IsEnding k old new outcome → AreHeld (lines ++ line_of name outcome ∷ []) (voids ++ void_at k outcome) os new
+  held_ended (Sealed m bytes) (is, how) = subst (λ (x : ℕ). AreHeld (lines ++ line_of name (Sealed x bytes) ∷ []) (voids ++ []) os new) (sym is) (held_sealed bytes how)
   held_ended (Opened bytes) how = held_void (Opened bytes) (λ n. refl) how
   held_ended (Good bytes) how = held_void (Good bytes) (λ n. refl) how
   held_ended (Shown bytes facts) how = held_void (Shown bytes facts) (λ n. refl) how
   held_ended (Failed fault) how = held_void (Failed fault) (λ n. refl) how
 
--- the same, of an outcome without a container
-pub held_spoiled : (lines : List FileLine) (others : List Outcome) (old new : List Entry) (name : List ℕ) (fault : FileFault) (seats device seat : ℕ) (spent : SpentView) (outcome : Outcome)
-    → outcome ≡ job.Spoiled seat spent → IsHeld seats device outcome → IsCounted old new (Settled spent.number spent.way) → AreHeld lines (outcome ∷ others) old
-    → AreHeld (lines ++ line_of name (Failed fault) ∷ []) others new
-held_spoiled lines others old new name fault seats device seat spent outcome is held counted a =
+-- the same, by the outcome of a job
+pub held_unissued : (lines : List FileLine) (voids : List ℕ) (others : List Outcome) (operations : List Entry) (name : List ℕ) (fault : FileFault) (seat : ℕ) (why : IssueFault) (outcome : Outcome)
+    → outcome ≡ job.Unissued seat why → AreHeld lines voids (outcome ∷ others) operations
+    → AreHeld (lines ++ line_of name (Failed fault) ∷ []) (voids ++ void_of outcome (Failed fault)) others operations
+held_unissued lines voids others operations name fault seat why outcome is a =
+    subst (λ (o : Outcome). AreHeld (lines ++ line_of name (Failed fault) ∷ []) (voids ++ void_of o (Failed fault)) others operations) (sym is)
+    (held_failed lines voids others operations name fault (held_fewer lines voids outcome others operations seat why is a))
+
+pub held_spoiled : (lines : List FileLine) (voids : List ℕ) (others : List Outcome) (old new : List Entry) (name : List ℕ) (fault : FileFault) (seats device seat : ℕ) (spent : SpentView) (outcome : Outcome)
+    → outcome ≡ job.Spoiled seat spent → IsHeld seats device outcome → IsCounted old new (Settled spent.number spent.way) → AreHeld lines voids (outcome ∷ others) old
+    → AreHeld (lines ++ line_of name (Failed fault) ∷ []) (voids ++ void_of outcome (Failed fault)) others new
+held_spoiled lines voids others old new name fault seats device seat spent outcome is held counted a =
     let way : spent.way ≡ ended.Void = (subst (IsHeld seats device) is held).1.1 in
-    held_ended lines (job.Spoiled seat spent) others spent.number old new name (λ n. refl)
-    (subst (λ (o : Outcome). AreHeld lines (o ∷ others) old) is a) (Failed fault) (subst (λ (w : Way). IsCounted old new (Settled spent.number w)) way counted)
+    subst (λ (o : Outcome). AreHeld (lines ++ line_of name (Failed fault) ∷ []) (voids ++ void_of o (Failed fault)) others new) (sym is)
+    (held_ended lines voids (job.Spoiled seat spent) others spent.number old new name (λ n. refl)
+    (subst (λ (o : Outcome). AreHeld lines voids (o ∷ others) old) is a) (Failed fault) (subst (λ (w : Way). IsCounted old new (Settled spent.number w)) way counted))
+
+pub held_put : (lines : List FileLine) (voids : List ℕ) (others : List Outcome) (old new : List Entry) (name : List ℕ) (seat : ℕ) (container : Vec ℕ Global) (spent : SpentView) (outcome : Outcome) (end : FileOutcome)
+    → outcome ≡ job.Sealed seat container spent → IsEnding spent.number old new end → AreHeld lines voids (outcome ∷ others) old
+    → AreHeld (lines ++ line_of name end ∷ []) (voids ++ void_of outcome end) others new
+held_put lines voids others old new name seat container spent outcome end is ending a =
+    subst (λ (o : Outcome). AreHeld (lines ++ line_of name end ∷ []) (voids ++ void_of o end) others new) (sym is)
+    (held_ended lines voids (job.Sealed seat container spent) others spent.number old new name (λ n. refl)
+    (subst (λ (o : Outcome). AreHeld lines voids (o ∷ others) old) is a) end ending)
 
 -- ---- numbers that are owed at each seat
 
@@ -276,16 +301,16 @@ issues_seals n t (job.Unissued seat NoNumber ∷ os) =
 issues_seals n t (job.Unissued seat SeatClosed ∷ os) = issues_seals n t os
 issues_seals n t (job.Unissued seat NoMemory ∷ os) = issues_seals n t os
 
-issues_voids : (n t : ℕ) (os : List Outcome) → count_by (voids n) (issues t os) ≡ 0
-issues_voids n t [] = refl
-issues_voids n t (job.Sealed seat bytes spent ∷ os) =
-    let r = issues_voids n t os in let c = sum_by-cons (λ (e : Entry). cond (voids n e) 1 0) (entry t (Granted spent.number)) (issues t os) in omega arith
-issues_voids n t (job.Spoiled seat spent ∷ os) =
-    let r = issues_voids n t os in let c = sum_by-cons (λ (e : Entry). cond (voids n e) 1 0) (entry t (Granted spent.number)) (issues t os) in omega arith
-issues_voids n t (job.Unissued seat NoNumber ∷ os) =
-    let r = issues_voids n t os in let c = sum_by-cons (λ (e : Entry). cond (voids n e) 1 0) (entry t Exhausted) (issues t os) in omega arith
-issues_voids n t (job.Unissued seat SeatClosed ∷ os) = issues_voids n t os
-issues_voids n t (job.Unissued seat NoMemory ∷ os) = issues_voids n t os
+issues_spoils : (n t : ℕ) (os : List Outcome) → count_by (spoils n) (issues t os) ≡ 0
+issues_spoils n t [] = refl
+issues_spoils n t (job.Sealed seat bytes spent ∷ os) =
+    let r = issues_spoils n t os in let c = sum_by-cons (λ (e : Entry). cond (spoils n e) 1 0) (entry t (Granted spent.number)) (issues t os) in omega arith
+issues_spoils n t (job.Spoiled seat spent ∷ os) =
+    let r = issues_spoils n t os in let c = sum_by-cons (λ (e : Entry). cond (spoils n e) 1 0) (entry t (Granted spent.number)) (issues t os) in omega arith
+issues_spoils n t (job.Unissued seat NoNumber ∷ os) =
+    let r = issues_spoils n t os in let c = sum_by-cons (λ (e : Entry). cond (spoils n e) 1 0) (entry t Exhausted) (issues t os) in omega arith
+issues_spoils n t (job.Unissued seat SeatClosed ∷ os) = issues_spoils n t os
+issues_spoils n t (job.Unissued seat NoMemory ∷ os) = issues_spoils n t os
 
 issues_grants : (n t : ℕ) (os : List Outcome) → count_by (grants n) (issues t os) ≡ count_by (holds n) os
 issues_grants n t [] = refl
@@ -336,16 +361,20 @@ shared h n (o ∷ os) below =
     step t false = omega arith
 
 -- behind a batch its numbers are held
-pub after_batch : (old new : List SeatView) (os : List Outcome) (lines : List FileLine) → length new ≡ length old
+pub after_batch : (old new : List SeatView) (os : List Outcome) (lines : List FileLine) (voids : List ℕ) → length new ≡ length old
     → ((j : ℕ) (o : Outcome) → slice_get os j ≡ Some o → seat_of o < length old) → AreIssued old new os
-    → Accounts lines (operations_of old) → AreHeld lines os (operations_of new)
-after_batch old new os lines long among issued a = record {
+    → Accounts lines voids (operations_of old) → AreHeld lines voids os (operations_of new)
+after_batch old new os lines voids long among issued a = record {
   told = λ n.
       let s = grown (seals n) (λ _. 0) (λ t l. issues_seals n t l) (λ i. of_seat i os) old new long issued in
       let z = sum_below_zeros (length old) in
       let h = a.told n in omega arith;
+  voided = λ n.
+      let v = grown (spoils n) (λ _. 0) (λ t l. issues_spoils n t l) (λ i. of_seat i os) old new long issued in
+      let z = sum_below_zeros (length old) in
+      let h = a.voided n in omega arith;
   granted = λ n.
-      let v = grown (voids n) (λ _. 0) (λ t l. issues_voids n t l) (λ i. of_seat i os) old new long issued in
+      let v = grown (spoils n) (λ _. 0) (λ t l. issues_spoils n t l) (λ i. of_seat i os) old new long issued in
       let z = sum_below_zeros (length old) in
       let g = grown (grants n) (count_by (holds n)) (λ t l. issues_grants n t l) (λ i. of_seat i os) old new long issued in
       let all = shared (holds n) (length old) os among in
@@ -371,8 +400,30 @@ owed_batch old new os long issued a = record {
 }
 
 -- the same, of an equal list
-pub held_as : (lines : List FileLine) (os os' : List Outcome) (operations : List Entry) → os ≡ os' → AreHeld lines os operations → AreHeld lines os' operations
-held_as lines os os' operations is a = subst (λ (l : List Outcome). AreHeld lines l operations) is a
+pub held_as : (lines : List FileLine) (voids : List ℕ) (os os' : List Outcome) (operations : List Entry) → os ≡ os' → AreHeld lines voids os operations → AreHeld lines voids os' operations
+held_as lines voids os os' operations is a = subst (λ (l : List Outcome). AreHeld lines voids l operations) is a
+
+-- a file ends by the first of the outcomes, or by none where there is none
+pub held_none : (lines : List FileLine) (voids : List ℕ) (old new : List Outcome) (operations : List Entry) (name : List ℕ) (fault : FileFault) → old ≡ [] → old ≡ new
+    → AreHeld lines voids old operations → AreHeld (lines ++ line_of name (Failed fault) ∷ []) (voids ++ void_by old (Failed fault)) new operations
+held_none lines voids old new operations name fault none same a =
+    subst (λ (os : List Outcome). AreHeld (lines ++ line_of name (Failed fault) ∷ []) (voids ++ void_by os (Failed fault)) new operations) (sym none)
+    (held_failed lines voids new operations name fault (held_as lines voids old new operations same a))
+
+-- it ends by its own fault
+pub held_refused : {W : Type 0} (lines : List FileLine) (voids : List ℕ) (os : List Outcome) (operations : List Entry) (file its : Prepared W) (name : List ℕ) (fault : FileFault) → file ≡ its
+    → void_in its os (Failed fault) ≡ [] → AreHeld lines voids os operations
+    → AreHeld (lines ++ line_of name (Failed fault) ∷ []) (voids ++ void_in file os (Failed fault)) os operations
+held_refused lines voids os operations file its name fault is none a =
+    subst (λ (v : List ℕ). AreHeld (lines ++ line_of name (Failed fault) ∷ []) (voids ++ v) os operations) (sym none ∙ ap (λ f. void_in f os (Failed fault)) (sym is))
+    (held_failed lines voids os operations name fault a)
+
+pub held_front : (lines : List FileLine) (voids : List ℕ) (old new : List Outcome) (operations operations' : List Entry) (outcome : Outcome) (name : List ℕ) (end : FileOutcome) → old ≡ outcome ∷ new
+    → (AreHeld lines voids (outcome ∷ new) operations → AreHeld (lines ++ line_of name end ∷ []) (voids ++ void_of outcome end) new operations')
+    → AreHeld lines voids old operations → AreHeld (lines ++ line_of name end ∷ []) (voids ++ void_by old end) new operations'
+held_front lines voids old new operations operations' outcome name end is more a =
+    subst (λ (os : List Outcome). AreHeld (lines ++ line_of name end ∷ []) (voids ++ void_by os end) new operations') (sym is)
+    (more (subst (λ (os : List Outcome). AreHeld lines voids os operations) is a))
 
 -- each outcome names one of the seats
 pub among_seats : (lanes seats : ℕ) (new : List SeatView) (os : List Outcome) → lanes ≤ seats → AreAmong lanes new os
@@ -380,12 +431,12 @@ pub among_seats : (lanes seats : ℕ) (new : List SeatView) (os : List Outcome) 
 among_seats lanes seats new os few among j o at = let below = (among j o at).0 in omega arith
 
 -- where there was no batch nothing is held
-pub nothing_held : (lines : List FileLine) (operations : List Entry) → Accounts lines operations → AreHeld lines [] operations
-nothing_held lines operations a = record { told = a.told; granted = λ n. let h = a.granted n in omega arith }
+pub nothing_held : (lines : List FileLine) (voids : List ℕ) (operations : List Entry) → Accounts lines voids operations → AreHeld lines voids [] operations
+nothing_held lines voids operations a = record { told = a.told; voided = a.voided; granted = λ n. let h = a.granted n in omega arith }
 
 -- where nothing is held any more no number is open
-pub let_go : (lines : List FileLine) (operations : List Entry) → AreHeld lines [] operations → Accounts lines operations
-let_go lines operations a = record { told = a.told; granted = λ n. let h = a.granted n in omega arith }
+pub let_go : (lines : List FileLine) (voids : List ℕ) (operations : List Entry) → AreHeld lines voids [] operations → Accounts lines voids operations
+let_go lines voids operations a = record { told = a.told; voided = a.voided; granted = λ n. let h = a.granted n in omega arith }
 
 has_ended : (key : List ℕ) (shape : ShapeView) (j : List ℕ) (o : Outcome) (device : ℕ) (seat : SeatView) → seat.terms.range.device ≡ device → IsAt seat o → IsOutcome key shape j o → HasEnded device o
 has_ended key shape j (job.Sealed place bytes spent) device seat same at is = (at.0 ∙ same, is.1)
@@ -432,7 +483,7 @@ few_left {W = W} items left file os os' is next few =
   where
     by : (f : Prepared W) → length (left_by f os) ≤ length os - length (read_of f)
     by (Refused name fault) = omega arith
-    by (Unread name output fault) = omega arith
+    by (Unread name output writer fault) = omega arith
     by (Read name output writer bytes) = let d = length-drop 1 os in omega arith
 
 pub none_left : {W : Type 0} (files : List (Prepared W)) (os : List Outcome) → files ≡ [] → length os ≤ length (flat_map read_of files) → os ≡ []
@@ -442,56 +493,58 @@ none_left files (o ∷ os) none few = let no = ap (λ l. length (flat_map read_o
 -- ---- files of a group that have their lines
 
 -- none has one yet
-pub nothing_ended : (happened : List FileLine → Type 0) (outcomes : List Outcome) (operations : List Entry) (status : ℕ) (taken : Option (List ℕ)) (failures : Option ℕ) (steps : Option (List Step)) → happened []
-    → AreEnded happened [] [] outcomes outcomes operations operations status status taken taken failures failures steps steps
-nothing_ended happened outcomes operations status taken failures steps done = record {
+pub nothing_ended : (happened : List FileLine → List ℕ → Type 0) (outcomes : List Outcome) (operations : List Entry) (status : ℕ) (taken : Option (List ℕ)) (failures : Option ℕ) → happened [] []
+    → AreEnded happened [] outcomes outcomes operations operations status status taken taken failures failures
+nothing_ended happened outcomes operations status taken failures done = record {
   lines = [];
+  voids = [];
   named = refl;
   fitting = All-nil (λ (l : FileLine). IsOfSealing l.outcome);
-  created = refl;
-  stepwise = stepped-nil steps;
   told = λ before first count t. subst (λ (l : List FileLine). AreTold status l first taken count failures) (sym (append-nil before)) t;
-  accounts = λ before a. subst (λ (l : List FileLine). AreHeld l outcomes operations) (sym (append-nil before)) a;
+  accounts = λ before earlier a.
+      subst (λ (l : List FileLine). AreHeld l (earlier ++ []) outcomes operations) (sym (append-nil before))
+      (subst (λ (v : List ℕ). AreHeld before v outcomes operations) (sym (append-nil earlier)) a);
   done = done;
 }
 
 -- one more has its line
-pub ended_more : (happened happened' : List FileLine → Type 0) (names : List (List ℕ)) (made made' : List Step) (line : FileLine) (outcomes outcomes' outcomes'' : List Outcome) (operations operations' operations'' : List Entry)
-    (status status' status'' : ℕ) (old mid new : Option (List ℕ)) (failures failures' failures'' : Option ℕ) (steps steps' steps'' : Option (List Step))
-    → (e : AreEnded happened names made outcomes outcomes' operations operations' status status' old mid failures failures' steps steps')
-    → IsOfSealing line.outcome → creations_of line ≡ made' → steps'' ≡ stepped steps' (endings_of line)
+pub ended_more : (happened happened' : List FileLine → List ℕ → Type 0) (names : List (List ℕ)) (line : FileLine) (void : List ℕ) (outcomes outcomes' outcomes'' : List Outcome)
+    (operations operations' operations'' : List Entry) (status status' status'' : ℕ) (old mid new : Option (List ℕ)) (failures failures' failures'' : Option ℕ)
+    → (e : AreEnded happened names outcomes outcomes' operations operations' status status' old mid failures failures')
+    → IsOfSealing line.outcome
     → ((told : List FileLine) (first : Option (List ℕ)) (count : Option ℕ) → AreTold status' told first mid count failures' → AreTold status'' (told ++ line ∷ []) first new count failures'')
-    → ((lines : List FileLine) → AreHeld lines outcomes' operations' → AreHeld (lines ++ line ∷ []) outcomes'' operations'') → happened' (e.lines ++ line ∷ [])
-    → AreEnded happened' (names ++ line.name ∷ []) (made ++ made') outcomes outcomes'' operations operations'' status status'' old new failures failures'' steps steps''
-ended_more happened happened' names made made' line outcomes outcomes' outcomes'' operations operations' operations'' status status' status'' old mid new failures failures' failures'' steps steps' steps'' e fit made_is stepwise told accounts done = record {
+    → ((lines : List FileLine) (voids : List ℕ) → AreHeld lines voids outcomes' operations' → AreHeld (lines ++ line ∷ []) (voids ++ void) outcomes'' operations'')
+    → happened' (e.lines ++ line ∷ []) (e.voids ++ void)
+    → AreEnded happened' (names ++ line.name ∷ []) outcomes outcomes'' operations operations'' status status'' old new failures failures''
+ended_more happened happened' names line void outcomes outcomes' outcomes'' operations operations' operations'' status status' status'' old mid new failures failures' failures'' e fit told accounts done = record {
   lines = e.lines ++ line ∷ [];
+  voids = e.voids ++ void;
   named = map-append (λ (l : FileLine). l.name) e.lines (line ∷ []) ∙ ap (λ l. l ++ line.name ∷ []) e.named;
   fitting = All-push (λ (l : FileLine). IsOfSealing l.outcome) e.lines line e.fitting fit;
-  created = flat_map-append creations_of e.lines (line ∷ []) ∙ ap (λ l. flat_map creations_of e.lines ++ l) (append-nil (creations_of line) ∙ made_is) ∙ ap (λ l. l ++ made') e.created;
-  stepwise = stepwise ∙ ap (λ s. stepped s (endings_of line)) e.stepwise ∙ stepped-stepped steps (flat_map endings_of e.lines) (endings_of line)
-      ∙ ap (stepped steps) (ap (λ l. flat_map endings_of e.lines ++ l) (sym (append-nil (endings_of line))) ∙ sym (flat_map-append endings_of e.lines (line ∷ [])));
   told = λ before first count t. subst (λ (l : List FileLine). AreTold status'' l first new count failures'') (append_assoc before e.lines (line ∷ []))
       (told (before ++ e.lines) first count (e.told before first count t));
-  accounts = λ before a. subst (λ (l : List FileLine). AreHeld l outcomes'' operations'') (append_assoc before e.lines (line ∷ []))
-      (accounts (before ++ e.lines) (e.accounts before a));
+  accounts = λ before earlier a.
+      subst (λ (l : List FileLine). AreHeld l (earlier ++ (e.voids ++ void)) outcomes'' operations'') (append_assoc before e.lines (line ∷ []))
+      (subst (λ (v : List ℕ). AreHeld ((before ++ e.lines) ++ line ∷ []) v outcomes'' operations'') (append_assoc earlier e.voids void)
+      (accounts (before ++ e.lines) (earlier ++ e.voids) (e.accounts before earlier a)));
   done = done;
 }
 
 -- the group was worked
-pub group_of : (happened happened' : List FileLine → Type 0) (names names' : List (List ℕ)) (made : List Step) (outcomes : List Outcome) (operations operations' operations'' : List Entry)
-    (status status' : ℕ) (old new : Option (List ℕ)) (failures failures' : Option ℕ) (steps steps' steps'' : Option (List Step))
-    → AreEnded happened names made outcomes [] operations' operations'' status status' old new failures failures' steps' steps''
-    → names ≡ names' → steps' ≡ stepped steps made → ((lines : List FileLine) → Accounts lines operations → AreHeld lines outcomes operations')
-    → ((lines : List FileLine) → happened lines → happened' lines)
-    → IsGroup happened' names' operations operations'' status status' old new failures failures' steps steps''
-group_of happened happened' names names' made outcomes operations operations' operations'' status status' old new failures failures' steps steps' steps'' e same stepping held also = record {
+pub group_of : (happened happened' : List FileLine → List ℕ → Type 0) (names names' : List (List ℕ)) (outcomes : List Outcome) (operations operations' operations'' : List Entry)
+    (status status' : ℕ) (old new : Option (List ℕ)) (failures failures' : Option ℕ)
+    → AreEnded happened names outcomes [] operations' operations'' status status' old new failures failures'
+    → names ≡ names' → ((lines : List FileLine) (voids : List ℕ) → Accounts lines voids operations → AreHeld lines voids outcomes operations')
+    → ((lines : List FileLine) (voids : List ℕ) → happened lines voids → happened' lines voids)
+    → IsGroup happened' names' operations operations'' status status' old new failures failures'
+group_of happened happened' names names' outcomes operations operations' operations'' status status' old new failures failures' e same held also = record {
   lines = e.lines;
+  voids = e.voids;
   named = e.named ∙ same;
   fitting = e.fitting;
-  stepwise = e.stepwise ∙ ap (λ s. stepped s (flat_map endings_of e.lines)) (stepping ∙ ap (stepped steps) (sym e.created)) ∙ stepped-stepped steps (flat_map creations_of e.lines) (flat_map endings_of e.lines);
   told = e.told;
-  accounts = λ before a. let_go (before ++ e.lines) operations'' (e.accounts before (held before a));
-  done = also e.lines e.done;
+  accounts = λ before earlier a. let_go (before ++ e.lines) (earlier ++ e.voids) operations'' (e.accounts before earlier (held before earlier a));
+  done = also e.lines e.voids e.done;
 }
 
 -- ---- files of a group before the sealing
@@ -502,12 +555,6 @@ module _ {W : Type 0} (items items' : List (Prepared W)) (file : Prepared W) (is
   prepared_names before after name so its longer =
       ap (map name_of) is ∙ map-append name_of items (file ∷ []) ∙ ap (λ l. l ++ name_of file ∷ []) so ∙ ap (λ n. before ++ n ∷ []) its ∙ longer
 
-  pub prepared_steps : (steps steps' steps'' : Option (List Step)) → steps' ≡ stepped steps (flat_map made_for items) → steps'' ≡ stepped steps' (made_for file)
-      → steps'' ≡ stepped steps (flat_map made_for items')
-  prepared_steps steps steps' steps'' so stepping =
-      stepping ∙ ap (λ s. stepped s (made_for file)) so ∙ stepped-stepped steps (flat_map made_for items) (made_for file)
-      ∙ ap (stepped steps) (ap (λ l. flat_map made_for items ++ l) (sym (append-nil (made_for file))) ∙ sym (flat_map-append made_for items (file ∷ [])) ∙ sym (ap (flat_map made_for) is))
-
   pub prepared_read : (jobs jobs' : List ℕ) → jobs ≡ flat_map read_of items → jobs' ≡ jobs ++ read_of file → jobs' ≡ flat_map read_of items'
   prepared_read jobs jobs' so more =
       more ∙ ap (λ l. l ++ read_of file) so ∙ ap (λ l. flat_map read_of items ++ l) (sym (append-nil (read_of file)))
@@ -516,55 +563,50 @@ module _ {W : Type 0} (items items' : List (Prepared W)) (file : Prepared W) (is
   pub prepared_all : All IsPrepared items → IsPrepared file → All IsPrepared items'
   prepared_all so its = subst (All IsPrepared) (sym is) (All-push IsPrepared items file so its)
 
-pub ending_none : {W : Type 0} (happened : List FileLine → Type 0) (files : List (Prepared W)) (outcomes : List Outcome) (operations : List Entry) (status : ℕ) (taken : Option (List ℕ)) (failures : Option ℕ)
-    (steps : Option (List Step)) → happened [] → AreEnding happened files files outcomes outcomes operations operations status status taken taken failures failures steps steps
-ending_none happened files outcomes operations status taken failures steps done = record {
+pub ending_none : {W : Type 0} (happened : List FileLine → List ℕ → Type 0) (files : List (Prepared W)) (outcomes : List Outcome) (operations : List Entry) (status : ℕ) (taken : Option (List ℕ)) (failures : Option ℕ)
+    → happened [] [] → AreEnding happened files files outcomes outcomes operations operations status status taken taken failures failures
+ending_none happened files outcomes operations status taken failures done = record {
   names = [];
-  made = [];
   named = refl;
-  created = refl;
-  ended = nothing_ended happened outcomes operations status taken failures steps done;
+  ended = nothing_ended happened outcomes operations status taken failures done;
 }
 
-pub ending_more : {W : Type 0} (happened happened' : List FileLine → Type 0) (files items left : List (Prepared W)) (file : Prepared W) (name : List ℕ) (outcome : FileOutcome) (outcomes outcomes' outcomes'' : List Outcome)
-    (operations operations' operations'' : List Entry) (status status' status'' : ℕ) (old mid new : Option (List ℕ)) (failures failures' failures'' : Option ℕ)
-    (steps steps' steps'' : Option (List Step)) → items ≡ file ∷ left → name ≡ name_of file
-    → (e : AreEnding happened files items outcomes outcomes' operations operations' status status' old mid failures failures' steps steps')
-    → IsOfSealing outcome → created_as (sealed_name (name_of file)) outcome ≡ made_for file → steps'' ≡ stepped steps' (ended_as (sealed_name (name_of file)) outcome)
+pub ending_more : {W : Type 0} (happened happened' : List FileLine → List ℕ → Type 0) (files items left : List (Prepared W)) (file : Prepared W) (name : List ℕ) (outcome : FileOutcome) (void : List ℕ)
+    (outcomes outcomes' outcomes'' : List Outcome) (operations operations' operations'' : List Entry) (status status' status'' : ℕ) (old mid new : Option (List ℕ)) (failures failures' failures'' : Option ℕ)
+    → items ≡ file ∷ left → name ≡ name_of file
+    → (e : AreEnding happened files items outcomes outcomes' operations operations' status status' old mid failures failures')
+    → IsOfSealing outcome
     → ((told : List FileLine) (first : Option (List ℕ)) (count : Option ℕ) → AreTold status' told first mid count failures'
     → AreTold status'' (told ++ line_of name outcome ∷ []) first new count failures'')
-    → ((lines : List FileLine) → AreHeld lines outcomes' operations' → AreHeld (lines ++ line_of (name_of file) outcome ∷ []) outcomes'' operations'') → happened' (e.ended.lines ++ line_of (name_of file) outcome ∷ [])
-    → AreEnding happened' files left outcomes outcomes'' operations operations'' status status'' old new failures failures'' steps steps''
-ending_more happened happened' files items left file name outcome outcomes outcomes' outcomes'' operations operations' operations'' status status' status'' old mid new failures failures' failures'' steps steps' steps'' is its e fit created stepwise told accounts done = record {
+    → ((lines : List FileLine) (voids : List ℕ) → AreHeld lines voids outcomes' operations' → AreHeld (lines ++ line_of (name_of file) outcome ∷ []) (voids ++ void) outcomes'' operations'')
+    → happened' (e.ended.lines ++ line_of (name_of file) outcome ∷ []) (e.ended.voids ++ void)
+    → AreEnding happened' files left outcomes outcomes'' operations operations'' status status'' old new failures failures''
+ending_more happened happened' files items left file name outcome void outcomes outcomes' outcomes'' operations operations' operations'' status status' status'' old mid new failures failures' failures'' is its e fit told accounts done = record {
   names = e.names ++ name_of file ∷ [];
-  made = e.made ++ made_for file;
   named = append_assoc e.names (name_of file ∷ []) (map name_of left) ∙ ap (λ l. e.names ++ map name_of l) (sym is) ∙ e.named;
-  created = append_assoc e.made (made_for file) (flat_map made_for left) ∙ ap (λ l. e.made ++ flat_map made_for l) (sym is) ∙ e.created;
-  ended = ended_more happened happened' e.names e.made (made_for file) (line_of (name_of file) outcome) outcomes outcomes' outcomes'' operations operations' operations'' status status' status'' old mid new
-      failures failures' failures'' steps steps' steps'' e.ended fit created stepwise
+  ended = ended_more happened happened' e.names (line_of (name_of file) outcome) void outcomes outcomes' outcomes'' operations operations' operations'' status status' status'' old mid new
+      failures failures' failures'' e.ended fit
       (λ before first count t. subst (λ (n : List ℕ). AreTold status'' (before ++ line_of n outcome ∷ []) first new count failures'') its (told before first count t)) accounts done;
 }
 
-pub ending_all : {W : Type 0} (happened happened' : List FileLine → Type 0) (files left : List (Prepared W)) (outcomes outcomes' : List Outcome) (operations operations' : List Entry) (status status' : ℕ)
-    (old new : Option (List ℕ)) (failures failures' : Option ℕ) (steps steps' : Option (List Step)) → left ≡ [] → length outcomes' ≤ length (flat_map read_of left)
-    → ((lines : List FileLine) → happened lines → happened' lines) → AreEnding happened files left outcomes outcomes' operations operations' status status' old new failures failures' steps steps'
-    → AreEnded happened' (map name_of files) (flat_map made_for files) outcomes [] operations operations' status status' old new failures failures' steps steps'
-ending_all happened happened' files left outcomes outcomes' operations operations' status status' old new failures failures' steps steps' none few also e =
-    subst (λ (n : List (List ℕ)). AreEnded happened' n (flat_map made_for files) outcomes [] operations operations' status status' old new failures failures' steps steps')
+pub ending_all : {W : Type 0} (happened happened' : List FileLine → List ℕ → Type 0) (files left : List (Prepared W)) (outcomes outcomes' : List Outcome) (operations operations' : List Entry) (status status' : ℕ)
+    (old new : Option (List ℕ)) (failures failures' : Option ℕ) → left ≡ [] → length outcomes' ≤ length (flat_map read_of left)
+    → ((lines : List FileLine) (voids : List ℕ) → happened lines voids → happened' lines voids)
+    → AreEnding happened files left outcomes outcomes' operations operations' status status' old new failures failures'
+    → AreEnded happened' (map name_of files) outcomes [] operations operations' status status' old new failures failures'
+ending_all happened happened' files left outcomes outcomes' operations operations' status status' old new failures failures' none few also e =
+    subst (λ (n : List (List ℕ)). AreEnded happened' n outcomes [] operations operations' status status' old new failures failures')
     (sym (append-nil e.names) ∙ ap (λ l. e.names ++ map name_of l) (sym none) ∙ e.named)
-    (subst (λ (m : List Step). AreEnded happened' e.names m outcomes [] operations operations' status status' old new failures failures' steps steps')
-    (sym (append-nil e.made) ∙ ap (λ l. e.made ++ flat_map made_for l) (sym none) ∙ e.created)
-    (subst (λ (os : List Outcome). AreEnded happened' e.names e.made outcomes os operations operations' status status' old new failures failures' steps steps')
+    (subst (λ (os : List Outcome). AreEnded happened' e.names outcomes os operations operations' status status' old new failures failures')
     (none_left left outcomes' none few) (record {
       lines = e.ended.lines;
+      voids = e.ended.voids;
       named = e.ended.named;
       fitting = e.ended.fitting;
-      created = e.ended.created;
-      stepwise = e.ended.stepwise;
       told = e.ended.told;
       accounts = e.ended.accounts;
-      done = also e.ended.lines e.ended.done;
-    })))
+      done = also e.ended.lines e.ended.voids e.ended.done;
+    }))
 
 -- ---- a group for which memory was refused
 
@@ -576,19 +618,15 @@ refused_fitting : (names : List (List ℕ)) → All (λ (l : FileLine). IsOfSeal
 refused_fitting [] = All-nil (λ (l : FileLine). IsOfSealing l.outcome)
 refused_fitting (name ∷ names) = All-cons (λ (l : FileLine). IsOfSealing l.outcome) (line_of name (Failed OutOfMemory)) (refused_lines names) tt (refused_fitting names)
 
-none_created : (names : List (List ℕ)) → flat_map creations_of (refused_lines names) ≡ []
-none_created [] = refl
-none_created (name ∷ names) = none_created names
-
-none_ended : (names : List (List ℕ)) → flat_map endings_of (refused_lines names) ≡ []
-none_ended [] = refl
-none_ended (name ∷ names) = none_ended names
-
-refused_accounts : (names : List (List ℕ)) (before : List FileLine) (operations : List Entry) → Accounts before operations → Accounts (before ++ refused_lines names) operations
-refused_accounts [] before operations a = subst (λ (l : List FileLine). Accounts l operations) (sym (append-nil before)) a
-refused_accounts (name ∷ names) before operations a =
-    subst (λ (l : List FileLine). Accounts l operations) (append_assoc before (line_of name (Failed OutOfMemory) ∷ []) (refused_lines names))
-    (refused_accounts names (before ++ line_of name (Failed OutOfMemory) ∷ []) operations (adds_failure before operations 0 name a OutOfMemory))
+refused_accounts : (names : List (List ℕ)) (before : List FileLine) (earlier : List ℕ) (operations : List Entry) → Accounts before earlier operations
+    → Accounts (before ++ refused_lines names) (earlier ++ []) operations
+refused_accounts [] before earlier operations a = subst (λ (l : List FileLine). Accounts l (earlier ++ []) operations) (sym (append-nil before))
+    (subst (λ (v : List ℕ). Accounts before v operations) (sym (append-nil earlier)) a)
+refused_accounts (name ∷ names) before earlier operations a =
+    let one : Accounts (before ++ line_of name (Failed OutOfMemory) ∷ []) earlier operations =
+    subst (λ (v : List ℕ). Accounts (before ++ line_of name (Failed OutOfMemory) ∷ []) v operations) (append-nil earlier) (adds_failure before earlier operations 0 name a OutOfMemory) in
+    subst (λ (l : List FileLine). Accounts l (earlier ++ []) operations) (append_assoc before (line_of name (Failed OutOfMemory) ∷ []) (refused_lines names))
+    (refused_accounts names (before ++ line_of name (Failed OutOfMemory) ∷ []) earlier operations one)
 
 pub refused_more : (names names' : List (List ℕ)) (name : List ℕ) (before : List FileLine) → names ++ name ∷ [] ≡ names'
     → (before ++ refused_lines names) ++ line_of name (Failed OutOfMemory) ∷ [] ≡ before ++ refused_lines names'
@@ -596,34 +634,33 @@ refused_more names names' name before longer =
     append_assoc before (refused_lines names) (line_of name (Failed OutOfMemory) ∷ [])
     ∙ ap (λ l. before ++ l) (sym (map-append (λ (n : List ℕ). line_of n (Failed OutOfMemory)) names (name ∷ [])) ∙ ap refused_lines longer)
 
-pub refused_group : (happened : List FileLine → Type 0) (names : List (List ℕ)) (operations : List Entry) (status status' : ℕ) (old new : Option (List ℕ)) (failures failures' : Option ℕ) (steps steps' : Option (List Step))
-    → steps' ≡ steps
+pub refused_group : (happened : List FileLine → List ℕ → Type 0) (names : List (List ℕ)) (operations : List Entry) (status status' : ℕ) (old new : Option (List ℕ)) (failures failures' : Option ℕ)
     → ((before : List FileLine) (first : Option (List ℕ)) (count : Option ℕ) → AreTold status before first old count failures
     → AreTold status' (before ++ refused_lines names) first new count failures')
-    → happened (refused_lines names) → IsGroup happened names operations operations status status' old new failures failures' steps steps'
-refused_group happened names operations status status' old new failures failures' steps steps' same told done = record {
+    → happened (refused_lines names) [] → IsGroup happened names operations operations status status' old new failures failures'
+refused_group happened names operations status status' old new failures failures' told done = record {
   lines = refused_lines names;
+  voids = [];
   named = refused_named names;
   fitting = refused_fitting names;
-  stepwise = same ∙ stepped-nil steps ∙ ap (stepped steps) (sym (ap (λ l. l ++ flat_map endings_of (refused_lines names)) (none_created names) ∙ none_ended names));
   told = told;
-  accounts = λ before a. refused_accounts names before operations a;
+  accounts = λ before earlier a. refused_accounts names before earlier operations a;
   done = done;
 }
 
 -- ---- groups
 
 -- one group more was sealed
-pub groups_more : (happened happened' : List (List FileLine) → Type 0) (also : List FileLine → Type 0) (lanes : ℕ) (names more names' : List (List ℕ)) (operations operations' : List Entry) (status status' : ℕ)
-    (old mid new : Option (List ℕ)) (failures failures' failures'' : Option ℕ) (steps steps' steps'' : Option (List Step))
-    → (s : AreSealed happened lanes names operations status old mid failures failures' steps steps') → All (λ (g : List FileLine). length g ≡ lanes) s.worked.groups
-    → (g : IsGroup also more operations operations' status status' mid new failures' failures'' steps' steps'') → length more ≤ lanes → names ++ more ≡ names'
-    → happened' (s.worked.groups ++ g.lines ∷ [])
-    → (t : AreSealed happened' lanes names' operations' status' old new failures failures'' steps steps'') × (length more ≡ lanes → All (λ (g : List FileLine). length g ≡ lanes) t.worked.groups)
-groups_more happened happened' also lanes names more names' operations operations' status status' old mid new failures failures' failures'' steps steps' steps'' s full g few longer done =
+pub groups_more : (happened happened' : List (List FileLine) → List ℕ → Type 0) (also : List FileLine → List ℕ → Type 0) (lanes : ℕ) (names more names' : List (List ℕ)) (operations operations' : List Entry) (status status' : ℕ)
+    (old mid new : Option (List ℕ)) (failures failures' failures'' : Option ℕ)
+    → (s : AreSealed happened lanes names operations status old mid failures failures') → All (λ (g : List FileLine). length g ≡ lanes) s.worked.groups
+    → (g : IsGroup also more operations operations' status status' mid new failures' failures'') → length more ≤ lanes → names ++ more ≡ names'
+    → happened' (s.worked.groups ++ g.lines ∷ []) (s.worked.voids ++ g.voids)
+    → (t : AreSealed happened' lanes names' operations' status' old new failures failures'') × (length more ≡ lanes → All (λ (g : List FileLine). length g ≡ lanes) t.worked.groups)
+groups_more happened happened' also lanes names more names' operations operations' status status' old mid new failures failures' failures'' s full g few longer done =
     let long : length more ≡ length g.lines = ap length (sym g.named) ∙ length-map g.lines (λ (l : FileLine). l.name) in
-    let (t, each) = sealed_more happened happened' lanes names more names' g.lines operations operations' status status' old mid new failures failures' failures'' steps steps' steps'' s full (omega arith)
-    g.named g.fitting g.stepwise (g.told s.worked.lines old failures s.worked.told) longer (g.accounts s.worked.lines s.accounts) done in
+    let (t, each) = sealed_more happened happened' lanes names more names' g.lines g.voids operations operations' status status' old mid new failures failures' failures'' s full (omega arith)
+    g.named g.fitting (g.told s.worked.lines old failures s.worked.told) longer (g.accounts s.worked.lines s.worked.voids s.accounts) done in
     (t, λ is. each (sym long ∙ is))
 
 pub rest_all : {X : Type 0} (P : X → Type 0) (xs ys : List X) (x : X) → xs ≡ x ∷ ys → All P xs → All P ys

@@ -1,89 +1,176 @@
 -- What happened in the folder: for one file that one lane sealed, and for the groups so far and one more.
-use Rattle.std.proofs.Common.{◌≡◌, ◌≢◌, ◌∙◌, ℕ, refl, sym, ap, subst, List, [], ◌∷◌, ◌++◌, length, map, append-nil, All, Option, IfSome}
+use Rattle.std.proofs.Common.{◌≡◌, ◌≢◌, ◌∙◌, ℕ, refl, sym, ap, subst, List, [], ◌∷◌, ◌++◌, length, map, append-nil, All, Option, Some, None, IfSome, Result, Ok, Err, IfOk, OnOk, OnErr}
+use Rattle.std.proofs.KnownBytes.{Appends-kept, Appends-nil, Keeps-refl}
 use Rattle.std.proofs.lemmas.Grind.{flat_map-append}
 use Rattle.std.proofs.lemmas.List.{map-append}
 use Rattle.std.proofs.lemmas.List.Elements.{All-nil, All-cons, All-append}
 use Rattle.container_core.specs.Container.{container}
 use Rattle.container_core.specs.Shape.{ShapeView}
-use Rattle.io_core.specs.Streams.{Appends}
+use Rattle.container_core.specs.declared.fault.SealFault.{SealFault}
+use Rattle.engine_core.specs.Engine.{BeginsContainer}
+use Rattle.io_core.specs.Streams.{Appends, AppendsFront, Keeps}
 use Rattle.journal_core.specs.Range.{prefix_of}
+use Rattle.command_core.specs.declared.folder.FolderFault.{FolderFault}
 use Rattle.command_core.specs.declared.line.FileFault.{FileFault}
 use Rattle.command_core.specs.declared.line.FileFault.TheVariants.{CannotOpen, NoSuffix, OutputExists, CannotCreate, OutOfMemory, NoNumber, AnotherLabel, Unopened, Unsealed}
 use Rattle.command_core.specs.declared.line.FileOutcome.{FileOutcome}
 use Rattle.command_core.specs.declared.line.FileOutcome.TheVariants.{Sealed, Opened, Good, Shown, Failed}
 use Rattle.command_core.specs.Lines.{FileLine}
-use Rattle.command_core.specs.Trace.{Event, Reading, Created, Finished, Removing, Does, Nothing, Opens, Creates, Removes}
-use Rattle.command_core.proofs.Traces.{nothing, weaken, chain, known, finished_as}
-use Rattle.sealer_core.specs.Sealing.{AreOfGroups, EndsBy, Happened, IfSealed, IsOfNumber, IsRemoved, IsUncreated, IsUnopened, Part, Sealing, group_events, line_of, prepared, sealed_name}
+use Rattle.command_core.specs.Trace.{Event, Reading, Unread, Created, Refused, Finished, Discarded, Does, Nothing, Opens, FailsToOpen, Creates, Refuses, Discards, tape}
+use Rattle.command_core.proofs.Traces.{nothing, weaken, chain, known, finished_as, discarded_as}
+use Rattle.sealer_core.specs.Group.{IsRefused}
+use Rattle.sealer_core.specs.Sealing.{AreOfGroups, EndsBy, Happened, HeldUnder, IfSealed, IsDiscarded, IsOfGrant, IsOfNumber, IsUncreated, Part, Puts, PutsUnder, Sealing, group_events, group_voids, line_of, prepared, sealed_name, void_at}
+
+-- ---- what a writer took
+
+pub kept_appends : (a b : Option (List ℕ)) → Keeps a b → Appends a b []
+kept_appends a b kept = Appends-kept a a b [] (Appends-nil a) kept
+
+pub of_grant : (outcome : FileOutcome) → IsOfGrant outcome → IsOfNumber outcome
+of_grant (Sealed number bytes) is = tt
+of_grant (Failed (Unsealed fault)) is = tt
+of_grant outcome is = absurd is
+
+module _ (key : List ℕ) (shape : ShapeView) where
+  -- nothing, where no number was issued
+  pub puts_nothing : (device : ℕ) (left taken : Option (List ℕ)) (fault : FileFault) → IsOfNumber (Failed fault) → Puts key shape device left taken taken (Failed fault) []
+  puts_nothing device left taken NoNumber is = (refl, Keeps-refl taken)
+  puts_nothing device left taken (Unsealed fault) is = Keeps-refl taken
+  puts_nothing device left taken fault is = absurd is
+
+  -- a beginning, where the engine ended with a fault
+  pub puts_begun : (device device' number : ℕ) (left taken taken' : Option (List ℕ)) (result : Result ℕ SealFault) (fault : SealFault) → result ≡ Err fault → device' ≡ device
+      → OnErr result (BeginsContainer key shape (prefix_of device' number) left taken taken') → Puts key shape device left taken taken' (Failed (Unsealed fault)) (number ∷ [])
+  puts_begun device device' number left taken taken' (Ok bytes) fault is same begun = absurd (cc)
+  puts_begun device device' number None taken taken' (Err why) fault is same begun = tt
+  puts_begun device device' number (Some input) taken taken' (Err why) fault is same begun =
+      subst (λ d. AppendsFront taken taken' (container key shape (prefix_of d number) input)) same
+      (subst (λ plain. AppendsFront taken taken' (container key shape (prefix_of device' number) plain)) (sym begun.1) begun.2)
+
+  -- all, where it sealed the input and the output was then finished; where it couldn't be finished that is a beginning too
+  pub puts_whole : (device device' number number' count : ℕ) (left taken mid taken' : Option (List ℕ)) (result : Result ℕ SealFault) (outcome : FileOutcome) → result ≡ Ok count → device' ≡ device
+      → number ≡ number' → taken' ≡ mid → OnOk result (IfSome left (λ input. Appends taken mid (container key shape (prefix_of device' number') input)))
+      → IfOk result (λ n. IfSome left (λ input. n ≡ length input)) → IsOfGrant outcome → IfSealed outcome (λ n bytes. (n ≡ number) × (bytes ≡ count))
+      → Puts key shape device left taken taken' outcome (void_at number outcome)
+  puts_whole device device' number number' count left taken mid taken' (Err fault) outcome is same named kept written long fit sealed = absurd (cc)
+  puts_whole device device' number number' count None taken mid taken' (Ok n) (Sealed m bytes) is same named kept written long fit sealed = (refl, tt)
+  puts_whole device device' number number' count None taken mid taken' (Ok n) (Failed (Unsealed fault)) is same named kept written long fit sealed = tt
+  puts_whole device device' number number' count (Some input) taken mid taken' (Ok n) (Sealed m bytes) is same named kept written long fit sealed =
+      let counted : n ≡ count = cc in (
+        refl,
+        (
+          sealed.1 ∙ sym counted ∙ long,
+          subst (λ t. Appends taken t (container key shape (prefix_of device m) input)) (sym kept)
+              (subst (λ k. Appends taken mid (container key shape (prefix_of device k) input)) (sym (sealed.0 ∙ named))
+              (subst (λ d. Appends taken mid (container key shape (prefix_of d number') input)) same written)),
+        ),
+      )
+  puts_whole device device' number number' count (Some input) taken mid taken' (Ok n) (Failed (Unsealed fault)) is same named kept written long fit sealed = (
+    container key shape (prefix_of device number) input,
+    ([], sym (append-nil (container key shape (prefix_of device number) input))),
+    subst (λ t. Appends taken t (container key shape (prefix_of device number) input)) (sym kept)
+        (subst (λ k. Appends taken mid (container key shape (prefix_of device k) input)) (sym named)
+        (subst (λ d. Appends taken mid (container key shape (prefix_of d number') input)) same written)),
+  )
+  puts_whole device device' number number' count left taken mid taken' (Ok n) outcome is same named kept written long fit sealed = absurd fit
+
+  -- what an output was given up with
+  pub discards_as : (device : ℕ) (name output input void : List ℕ) (taken taken' : Option (List ℕ)) (events : List Event) → output ≡ sealed_name name → taken ≡ Some (tape output [])
+      → PutsUnder key shape device (Some input) taken taken' void → Discards output taken' events
+      → (held : List ℕ) × HeldUnder key shape device input void held × (events ≡ Discarded (sealed_name name) held ∷ [])
+  discards_as device name output input [] taken taken' events named empty kept discards =
+      ([], refl, discarded_as output [] [] taken taken' events empty (kept_appends taken taken' kept) discards ∙ ap (λ o. Discarded o [] ∷ []) named)
+  discards_as device name output input (number ∷ []) taken taken' events named empty (front, of, grew) discards =
+      (front, of, discarded_as output [] front taken taken' events empty grew discards ∙ ap (λ o. Discarded o front ∷ []) named)
+  discards_as device name output input (number ∷ another ∷ numbers) taken taken' events named empty puts discards = absurd puts
 
 -- ---- groups
 
+-- what goes with a file's line
+abbrev pub IsPart : (List ℕ → FileOutcome → List ℕ → List Event → List Event → Type 0) → Part → Type 0
+IsPart does part = does part.line.name part.line.outcome part.void part.before part.after
+
 -- before the first
-pub nothing_happened : (does : List ℕ → FileOutcome → List Event → List Event → Type 0) (told : Option (List Event)) → Does (AreOfGroups does []) told told
+pub nothing_happened : (does : List ℕ → FileOutcome → List ℕ → List Event → List Event → Type 0) (told : Option (List Event)) → Does (AreOfGroups does [] []) told told
 nothing_happened does told = weaken (λ events none. record {
   parts = [];
   lined = refl;
-  each = All-nil (λ (group : List Part). All (λ (part : Part). does part.line.name part.line.outcome part.before part.after) group);
+  each = All-nil (λ (group : List Part). All (IsPart does) group);
+  numbers = refl;
   joined = none;
 }) told told (nothing told)
 
 -- one more
-pub more_happened : (does : List ℕ → FileOutcome → List Event → List Event → Type 0) (groups more : List (List FileLine)) (told told' told'' : Option (List Event))
-    → Does (AreOfGroups does groups) told told' → Does (AreOfGroups does more) told' told'' → Does (AreOfGroups does (groups ++ more)) told told''
-more_happened does groups more told told' told'' so next = chain (AreOfGroups does (groups ++ more)) (λ one two a b. record {
+pub more_happened : (does : List ℕ → FileOutcome → List ℕ → List Event → List Event → Type 0) (groups more : List (List FileLine)) (voids others : List ℕ) (told told' told'' : Option (List Event))
+    → Does (AreOfGroups does groups voids) told told' → Does (AreOfGroups does more others) told' told'' → Does (AreOfGroups does (groups ++ more) (voids ++ others)) told told''
+more_happened does groups more voids others told told' told'' so next = chain (AreOfGroups does (groups ++ more) (voids ++ others)) (λ one two a b. record {
   parts = a.parts ++ b.parts;
   lined = map-append (λ (group : List Part). map (λ (part : Part). part.line) group) a.parts b.parts ∙ (λ i. a.lined i ++ b.lined i);
-  each = All-append (λ (group : List Part). All (λ (part : Part). does part.line.name part.line.outcome part.before part.after) group) a.parts b.parts a.each b.each;
+  each = All-append (λ (group : List Part). All (IsPart does) group) a.parts b.parts a.each b.each;
+  numbers = (λ i. a.numbers i ++ b.numbers i) ∙ sym (flat_map-append group_voids a.parts b.parts);
   joined = (λ i. a.joined i ++ b.joined i) ∙ sym (flat_map-append group_events a.parts b.parts);
 }) told told' told'' so next
 
 -- a group's parts
-pub group_done : (does : List ℕ → FileOutcome → List Event → List Event → Type 0) (parts : List Part) (lines : List FileLine) (events : List Event) → map (λ (part : Part). part.line) parts ≡ lines
-    → All (λ (part : Part). does part.line.name part.line.outcome part.before part.after) parts → events ≡ group_events parts → AreOfGroups does (lines ∷ []) events
-group_done does parts lines events lined each joined = record {
+pub group_done : (does : List ℕ → FileOutcome → List ℕ → List Event → List Event → Type 0) (parts : List Part) (lines : List FileLine) (voids : List ℕ) (events : List Event)
+    → map (λ (part : Part). part.line) parts ≡ lines → All (IsPart does) parts → voids ≡ group_voids parts → events ≡ group_events parts → AreOfGroups does (lines ∷ []) voids events
+group_done does parts lines voids events lined each numbers joined = record {
   parts = parts ∷ [];
   lined = ap (λ l. l ∷ []) lined;
-  each = All-cons (λ (group : List Part). All (λ (part : Part). does part.line.name part.line.outcome part.before part.after) group) parts [] each
-      (All-nil (λ (group : List Part). All (λ (part : Part). does part.line.name part.line.outcome part.before part.after) group));
+  each = All-cons (λ (group : List Part). All (IsPart does) group) parts [] each (All-nil (λ (group : List Part). All (IsPart does) group));
+  numbers = numbers ∙ sym (append-nil (group_voids parts));
   joined = joined ∙ sym (append-nil (group_events parts));
 }
 
 -- ---- one file that one lane sealed
 
+-- its input was opened, and its output was refused
+pub refuses : (name output : List ℕ) (fault : FolderFault) (left : Option (List ℕ)) (one two three : Option (List Event)) → output ≡ sealed_name name
+    → Does (Opens name left) one two → Does (Refuses output fault) two three → Does (IsRefused name fault) one three
+refuses name output fault left one two three named opens refused = chain (IsRefused name fault)
+    (λ x y o r.
+    let both : x ++ y ≡ Reading name o.0 ∷ Refused output fault ∷ [] = (λ i. o.2 i ++ r i) in
+    (o.0, both ∙ ap (λ n. Reading name o.0 ∷ Refused n fault ∷ []) named)) one two three opens refused
+
 module _ (key : List ℕ) (shape : ShapeView) (device : ℕ) (name : List ℕ) where
-  alone : (outcome : FileOutcome) (events before after : List Event) → Sealing key shape device name outcome before after → events ≡ before ++ after
-      → AreOfGroups (Sealing key shape device) ((line_of name outcome ∷ []) ∷ []) events
-  alone outcome events before after is joined =
-      let part : Part = record { line = line_of name outcome; before = before; after = after } in
-      group_done (Sealing key shape device) (part ∷ []) (line_of name outcome ∷ []) events refl
-      (All-cons (λ (part : Part). Sealing key shape device part.line.name part.line.outcome part.before part.after) part [] is
-      (All-nil (λ (part : Part). Sealing key shape device part.line.name part.line.outcome part.before part.after)))
+  alone : (outcome : FileOutcome) (void : List ℕ) (events before after : List Event) → Sealing key shape device name outcome void before after → events ≡ before ++ after
+      → AreOfGroups (Sealing key shape device) ((line_of name outcome ∷ []) ∷ []) void events
+  alone outcome void events before after is joined =
+      let part : Part = record { line = line_of name outcome; void = void; before = before; after = after } in
+      group_done (Sealing key shape device) (part ∷ []) (line_of name outcome ∷ []) void events refl
+      (All-cons (IsPart (Sealing key shape device)) part [] is (All-nil (IsPart (Sealing key shape device))))
+      (sym (append-nil void))
       (joined ∙ sym (λ i. append-nil before i ++ append-nil after i))
 
+  -- nothing was done with it
+  pub was_unbegun : (told : Option (List Event)) → Happened key shape device told told ((line_of name (Failed OutOfMemory) ∷ []) ∷ []) []
+  was_unbegun told = weaken (λ events n. alone (Failed OutOfMemory) [] events [] [] (refl, (refl, refl)) n) told told (nothing told)
+
   -- it wasn't opened
-  pub was_unopened : (fault : FileFault) (told told' : Option (List Event)) → (IsUnopened [] [] → Sealing key shape device name (Failed fault) [] []) → Does Nothing told told'
-      → Happened key shape device told told' ((line_of name (Failed fault) ∷ []) ∷ [])
-  was_unopened fault told told' how none = weaken (λ events n. alone (Failed fault) events [] [] (how (refl, refl)) n) told told' none
+  pub was_unopened : (told told' : Option (List Event)) → Does (FailsToOpen name) told told' → Happened key shape device told told' ((line_of name (Failed CannotOpen) ∷ []) ∷ []) []
+  was_unopened told told' unread = weaken (λ events n. alone (Failed CannotOpen) [] events (Unread name ∷ []) [] (refl, (refl, refl)) n) told told' unread
 
   -- no output was created
-  pub was_uncreated : (fault : FileFault) (left : Option (List ℕ)) (one two three : Option (List Event))
-      → ((before : List Event) → IsUncreated name before [] → Sealing key shape device name (Failed fault) before []) → Does (Opens name left) one two → Does Nothing two three
-      → Happened key shape device one three ((line_of name (Failed fault) ∷ []) ∷ [])
-  was_uncreated fault left one two three how opens none =
-      chain (AreOfGroups (Sealing key shape device) ((line_of name (Failed fault) ∷ []) ∷ []))
-      (λ x y o n. alone (Failed fault) (x ++ y) (Reading name o.0 ∷ []) [] (how (Reading name o.0 ∷ []) (o.0, refl, refl)) (λ i. o.2 i ++ n i)) one two three opens none
+  pub was_uncreated : (fault : FileFault) (why : FolderFault) (output : List ℕ) (left : Option (List ℕ)) (one two three : Option (List Event))
+      → ((before : List Event) → IsUncreated name why before [] → Sealing key shape device name (Failed fault) [] before []) → output ≡ sealed_name name
+      → Does (Opens name left) one two → Does (Refuses output why) two three → Happened key shape device one three ((line_of name (Failed fault) ∷ []) ∷ []) []
+  was_uncreated fault why output left one two three how named opens refused =
+      weaken (λ events r.
+      alone (Failed fault) [] events (Reading name r.0 ∷ Refused (sealed_name name) why ∷ []) []
+      (how (Reading name r.0 ∷ Refused (sealed_name name) why ∷ []) (r.0, refl, refl)) r.1)
+      one three (refuses name output why left one two three named opens refused)
 
   -- it was sealed
-  was_sealed : (number count : ℕ) (output : List ℕ) (left taken taken' : Option (List ℕ)) (one two three four : Option (List Event)) → output ≡ sealed_name name
+  was_sealed : (number count : ℕ) (output void : List ℕ) (left taken taken' : Option (List ℕ)) (one two three four : Option (List Event)) → output ≡ sealed_name name
       → Does (Opens name left) one two → Does (Creates output taken) two three
-      → IfSome left (λ input. (count ≡ length input) × Appends taken taken' (container key shape (prefix_of device number) input))
-      → Does (EndsBy output taken' (Sealed number count)) three four → Happened key shape device one four ((line_of name (Sealed number count) ∷ []) ∷ [])
-  was_sealed number count output left taken taken' one two three four named opens creates put ends =
-      chain (AreOfGroups (Sealing key shape device) ((line_of name (Sealed number count) ∷ []) ∷ []))
+      → Puts key shape device left taken taken' (Sealed number count) void
+      → Does (EndsBy output taken' (Sealed number count)) three four → Happened key shape device one four ((line_of name (Sealed number count) ∷ []) ∷ []) void
+  was_sealed number count output void left taken taken' one two three four named opens creates (none, put) ends =
+      chain (AreOfGroups (Sealing key shape device) ((line_of name (Sealed number count) ∷ []) ∷ []) void)
       (λ x y o more.
       let facts = known (λ input. (count ≡ length input) × Appends taken taken' (container key shape (prefix_of device number) input)) left o.0 o.1 put in
-      alone (Sealed number count) (x ++ y) (prepared name o.0) (Finished (sealed_name name) (container key shape (prefix_of device number) o.0) ∷ [])
-      (o.0, facts.0, refl, refl) (λ i. o.2 i ++ more o.0 facts.1 i))
+      alone (Sealed number count) void (x ++ y) (prepared name o.0) (Finished (sealed_name name) (container key shape (prefix_of device number) o.0) ∷ [])
+      (o.0, none, facts.0, refl, refl) (λ i. o.2 i ++ more o.0 facts.1 i))
       one two four opens
       (chain (λ events. (input : List ℕ) → Appends taken taken' (container key shape (prefix_of device number) input)
       → events ≡ Created (sealed_name name) ∷ Finished (sealed_name name) (container key shape (prefix_of device number) input) ∷ [])
@@ -93,43 +180,51 @@ module _ (key : List ℕ) (shape : ShapeView) (device : ℕ) (name : List ℕ) w
       both ∙ ap (λ o. Created o ∷ Finished o (container key shape (prefix_of device number) input) ∷ []) named)
       two three four creates ends)
 
-  -- its output was removed
-  pub removed_as : (fault : FileFault) (before after : List Event) → IsOfNumber (Failed fault) → IsRemoved name before after → Sealing key shape device name (Failed fault) before after
-  removed_as CannotOpen before after fit is = absurd fit
-  removed_as NoSuffix before after fit is = absurd fit
-  removed_as OutputExists before after fit is = absurd fit
-  removed_as CannotCreate before after fit is = absurd fit
-  removed_as OutOfMemory before after fit is = absurd fit
-  removed_as NoNumber before after fit is = is
-  removed_as AnotherLabel before after fit is = absurd fit
-  removed_as (Unopened fault) before after fit is = absurd fit
-  removed_as (Unsealed fault) before after fit is = is
+  -- its output was given up
+  puts_under : (fault : FileFault) (void : List ℕ) (left taken taken' : Option (List ℕ)) → Puts key shape device left taken taken' (Failed fault) void
+      → PutsUnder key shape device left taken taken' void
+  puts_under NoNumber void left taken taken' (none, kept) = subst (PutsUnder key shape device left taken taken') (sym none) kept
+  puts_under (Unsealed fault) void left taken taken' puts = puts
+  puts_under fault void left taken taken' puts = absurd puts
 
-  pub was_removed : (outcome : FileOutcome) (fault : FileFault) (output : List ℕ) (left taken taken' : Option (List ℕ)) (one two three four five : Option (List Event)) → outcome ≡ Failed fault → output ≡ sealed_name name
-      → Does (Opens name left) one two → Does (Creates output taken) two three → IsOfNumber outcome → Does (EndsBy output taken' outcome) three four
-      → Does (Removes output) four five → Happened key shape device one five ((line_of name outcome ∷ []) ∷ [])
-  was_removed outcome fault output left taken taken' one two three four five is named opens creates fit ends removes =
-      let fits : IsOfNumber (Failed fault) = subst IsOfNumber is fit in
+  given_up_as : (fault : FileFault) (void : List ℕ) (left taken taken' : Option (List ℕ)) (before after : List Event) → Puts key shape device left taken taken' (Failed fault) void
+      → IsDiscarded key shape device name void before after → Sealing key shape device name (Failed fault) void before after
+  given_up_as NoNumber void left taken taken' before after (none, kept) is = (none, subst (λ v. IsDiscarded key shape device name v before after) none is)
+  given_up_as (Unsealed fault) void left taken taken' before after puts is = is
+  given_up_as fault void left taken taken' before after puts is = absurd puts
+
+  pub was_discarded : (outcome : FileOutcome) (fault : FileFault) (output void : List ℕ) (left taken taken' : Option (List ℕ)) (one two three four five : Option (List Event))
+      → outcome ≡ Failed fault → output ≡ sealed_name name → Does (Opens name left) one two → Does (Creates output taken) two three
+      → Puts key shape device left taken taken' outcome void → Does (EndsBy output taken' outcome) three four → Does (Discards output taken') four five
+      → Happened key shape device one five ((line_of name outcome ∷ []) ∷ []) void
+  was_discarded outcome fault output void left taken taken' one two three four five is named opens creates put ends discards =
+      let puts : Puts key shape device left taken taken' (Failed fault) void = subst (λ o. Puts key shape device left taken taken' o void) is put in
       let none : Does Nothing three four = subst (λ o. Does (EndsBy output taken' o) three four) is ends in
-      subst (λ o. Happened key shape device one five ((line_of name o ∷ []) ∷ [])) (sym is)
-      (chain (AreOfGroups (Sealing key shape device) ((line_of name (Failed fault) ∷ []) ∷ []))
-      (λ x y o e. alone (Failed fault) (x ++ y) (prepared name o.0) (Removing (sealed_name name) ∷ [])
-      (removed_as fault (prepared name o.0) (Removing (sealed_name name) ∷ []) fits (o.0, refl, refl)) (λ i. o.2 i ++ e i))
+      let last : Does (Discards output taken') three five = chain (Discards output taken') (λ x y n d. (d.0, d.1, (λ i. n i ++ d.2 i))) three four five none discards in
+      subst (λ o. Happened key shape device one five ((line_of name o ∷ []) ∷ []) void) (sym is)
+      (chain (AreOfGroups (Sealing key shape device) ((line_of name (Failed fault) ∷ []) ∷ []) void)
+      (λ x y o more.
+      let (held, under, so) = more o.0 o.1 in
+      alone (Failed fault) void (x ++ y) (prepared name o.0) (Discarded (sealed_name name) held ∷ [])
+      (given_up_as fault void left taken taken' (prepared name o.0) (Discarded (sealed_name name) held ∷ []) puts (o.0, held, under, refl, refl)) (λ i. o.2 i ++ so i))
       one two five opens
-      (chain (λ events. events ≡ Created (sealed_name name) ∷ Removing (sealed_name name) ∷ [])
-      (λ x y c e.
-      let both : x ++ y ≡ Created output ∷ Removing output ∷ [] = (λ i. c.1 i ++ e i) in
-      both ∙ ap (λ o. Created o ∷ Removing o ∷ []) named)
-      two three five creates (chain (Removes output) (λ x y n r. (λ i. n i ++ r i)) three four five none removes)))
+      (chain (λ events. (input : List ℕ) → left ≡ Some input → (held : List ℕ) × HeldUnder key shape device input void held
+      × (events ≡ Created (sealed_name name) ∷ Discarded (sealed_name name) held ∷ []))
+      (λ x y c d input told.
+      let (held, under, so) = discards_as key shape device name output input void taken taken' y named c.0
+      (subst (λ l. PutsUnder key shape device l taken taken' void) told (puts_under fault void left taken taken' puts)) d in
+      let both : x ++ y ≡ Created output ∷ Discarded (sealed_name name) held ∷ [] = (λ i. c.1 i ++ so i) in
+      (held, under, both ∙ ap (λ o. Created o ∷ Discarded (sealed_name name) held ∷ []) named))
+      two three five creates last))
 
   -- it ended otherwise than by a fault
-  pub was_not_failed : (outcome : FileOutcome) (output : List ℕ) (left taken taken' : Option (List ℕ)) (one two three four : Option (List Event)) → ((fault : FileFault) → outcome ≢ Failed fault) → IsOfNumber outcome
+  pub was_not_failed : (outcome : FileOutcome) (output void : List ℕ) (left taken taken' : Option (List ℕ)) (one two three four : Option (List Event)) → ((fault : FileFault) → outcome ≢ Failed fault)
       → output ≡ sealed_name name → Does (Opens name left) one two → Does (Creates output taken) two three
-      → IfSealed outcome (λ number count. IfSome left (λ input. (count ≡ length input) × Appends taken taken' (container key shape (prefix_of device number) input)))
-      → Does (EndsBy output taken' outcome) three four → Happened key shape device one four ((line_of name outcome ∷ []) ∷ [])
-  was_not_failed (Sealed number count) output left taken taken' one two three four other fit named opens creates put ends =
-      was_sealed number count output left taken taken' one two three four named opens creates put ends
-  was_not_failed (Opened count) output left taken taken' one two three four other fit named opens creates put ends = absurd fit
-  was_not_failed (Good count) output left taken taken' one two three four other fit named opens creates put ends = absurd fit
-  was_not_failed (Shown count facts) output left taken taken' one two three four other fit named opens creates put ends = absurd fit
-  was_not_failed (Failed fault) output left taken taken' one two three four other fit named opens creates put ends = absurd (other fault refl)
+      → Puts key shape device left taken taken' outcome void
+      → Does (EndsBy output taken' outcome) three four → Happened key shape device one four ((line_of name outcome ∷ []) ∷ []) void
+  was_not_failed (Sealed number count) output void left taken taken' one two three four other named opens creates put ends =
+      was_sealed number count output void left taken taken' one two three four named opens creates put ends
+  was_not_failed (Opened count) output void left taken taken' one two three four other named opens creates put ends = absurd put
+  was_not_failed (Good count) output void left taken taken' one two three four other named opens creates put ends = absurd put
+  was_not_failed (Shown count facts) output void left taken taken' one two three four other named opens creates put ends = absurd put
+  was_not_failed (Failed fault) output void left taken taken' one two three four other named opens creates put ends = absurd (other fault refl)

@@ -1,6 +1,6 @@
 -- What happened for a group: of each file before the sealing and behind it. A file that was read goes with the first of
 -- the inputs and with the first of the outcomes, and leaves the others to the files behind it.
-use Rattle.std.proofs.Common.{◌≡◌, ◌⊎◌, ◌∙◌, ℕ, suc, refl, sym, ap, subst, arith, List, [], ◌∷◌, ◌++◌, length, map, append-nil, append_assoc, All, Vec, Global, Option, Some, None, ⊎_elim}
+use Rattle.std.proofs.Common.{◌≡◌, ◌≢◌, ◌⊎◌, ◌∙◌, ℕ, suc, refl, sym, ap, subst, arith, List, [], ◌∷◌, ◌++◌, length, map, append-nil, append_assoc, All, Bor, Vec, Global, Option, Some, None, ⊎_elim}
 use Rattle.std.specs.Prelude.{⊤, drop, flat_map, slice_get}
 use Rattle.std.proofs.lemmas.List.{map-append}
 use Rattle.std.proofs.lemmas.List.Elements.{All-nil, All-cons, All-head, All-tail}
@@ -13,19 +13,20 @@ use Rattle.crew_core.specs.declared.outcome.Outcome.TheVariants as job
 use Rattle.journal_core.specs.Range.{prefix_of}
 use Rattle.ledger_core.specs.declared.fault.IssueFault.{IssueFault}
 use Rattle.ledger_core.specs.declared.fault.IssueFault.TheVariants as issue_fault
-use Rattle.io_core.specs.Streams.{Consumes, IsAtEnd}
+use Rattle.std.proofs.KnownBytes.{Keeps-refl}
+use Rattle.io_core.specs.Streams.{AppendsFront, Consumes, IsAtEnd}
 use Rattle.command_core.specs.declared.line.FileFault.{FileFault}
 use Rattle.command_core.specs.declared.line.FileFault.TheVariants.{CannotOpen, NoSuffix, OutputExists, CannotCreate, OutOfMemory, NoNumber, AnotherLabel, Unopened, Unsealed}
 use Rattle.command_core.specs.declared.line.FileOutcome.{FileOutcome}
 use Rattle.command_core.specs.declared.line.FileOutcome.TheVariants.{Sealed, Opened, Good, Shown, Failed}
 use Rattle.command_core.specs.Lines.{FileLine}
-use Rattle.command_core.specs.Trace.{Event, Reading, Created, Finished, Does, Opens, Creates, tape}
+use Rattle.command_core.specs.Trace.{Event, Reading, Created, Finished, Does, FailsToOpen, Opens, Creates, Discards, tape}
 use Rattle.command_core.proofs.Traces.{nothing, weaken, chain, finished_as}
 use Rattle.sealer_core.specs.declared.prepare.Prepared.{Prepared}
 use Rattle.sealer_core.specs.declared.prepare.Prepared.TheVariants.{Refused, Unread, Read}
-use Rattle.sealer_core.specs.Group.{AreBegun, EndsSoFar, HasEnded, IsBegun, IsBegunWith, IsClosed, IsEndBy, IsEndIn, IsEndOfAll, IsHeld, IsPut, IsRefusal, left_by, name_of, refused_lines}
-use Rattle.sealer_core.specs.Sealing.{AreOfGroups, Happened, IsRemoved, Part, Sealing, line_of, prepared, sealed_name, unissued_as}
-use Rattle.sealer_core.proofs.Happened.{group_done}
+use Rattle.sealer_core.specs.Group.{AreBegun, EndsSoFar, HasEnded, IsBegun, IsBegunWith, IsClosed, IsEndBy, IsEndIn, IsEndOfAll, IsHeld, IsPut, IsRefusal, left_by, name_of, refused_lines, void_by, void_in}
+use Rattle.sealer_core.specs.Sealing.{AreOfGroups, EndsBy, Happened, IsDiscarded, IsOfNumber, Part, PutsUnder, Sealing, group_voids, line_of, prepared, sealed_name, unissued_as, void_at}
+use Rattle.sealer_core.proofs.Happened.{IsPart, discards_as, group_done, kept_appends}
 
 -- ---- before the sealing
 
@@ -57,6 +58,24 @@ module _ {W : Type 0} (taken : W → Option (List ℕ)) where
     ap (λ l. l ++ first) chained ∙ append_assoc now rest first,
   )
 
+  -- no output was created for it
+  pub was_refused : {p : List Event → Type 0} → (jobs : List (List ℕ)) (name : Bor (List ℕ)) (fault : FileFault) → ((events : List Event) → p events → IsRefusal name.now fault events)
+      → (told told' : Option (List Event)) → Does p told told' → Does (IsBegunWith taken jobs jobs (Refused name fault)) told told'
+  was_refused jobs name fault how told told' d = weaken (λ events e. ([], sym (append-nil jobs), (refl, how events e))) told told' d
+
+  -- its input wasn't read whole
+  pub was_unread : (name output : List ℕ) (writer : W) (jobs jobs' : List (List ℕ)) (left : Option (List ℕ)) (one two three : Option (List Event)) → output ≡ sealed_name name → jobs' ≡ jobs
+      → Does (Opens name left) one two → Does (Creates output (taken writer)) two three
+      → Does (λ events. (inputs : List (List ℕ)) × (jobs' ≡ jobs ++ inputs)
+      × ((inputs ≡ []) × (taken writer ≡ Some (tape (sealed_name name) [])) × ((input : List ℕ) × (events ≡ prepared name input)))) one three
+  was_unread name output writer jobs jobs' left one two three named same opens creates =
+      chain (λ events. (inputs : List (List ℕ)) × (jobs' ≡ jobs ++ inputs)
+      × ((inputs ≡ []) × (taken writer ≡ Some (tape (sealed_name name) [])) × ((input : List ℕ) × (events ≡ prepared name input))))
+      (λ x y o m.
+      let both : x ++ y ≡ Reading name o.0 ∷ Created output ∷ [] = (λ i. o.2 i ++ m.1 i) in
+      ([], same ∙ sym (append-nil jobs), (refl, m.0 ∙ ap (λ n. Some (tape n [])) named, (o.0, both ∙ ap (λ n. Reading name o.0 ∷ Created n ∷ []) named))))
+      one two three opens creates
+
   -- a file was read, as the last of the jobs
   pub was_read : (name output : List ℕ) (writer : W) (bytes : ℕ) (left left' : Option (List ℕ)) (jobs jobs' : List (Vec ℕ Global)) (job : Vec ℕ Global) (one two three : Option (List Event)) → output ≡ sealed_name name
       → Does (Opens name left) one two → Does (Creates output (taken writer)) two three → jobs' ≡ jobs ++ job ∷ [] → bytes ≡ length job.items → Consumes left left' job.items → IsAtEnd left'
@@ -85,42 +104,75 @@ module _ {W : Type 0} (taken : W → Option (List ℕ)) where
 
 module _ {W : Type 0} (taken : W → Option (List ℕ)) where
   -- no file has ended
-  pub none_ended_yet : (files : List (Prepared W)) (outcomes : List Outcome) (told : Option (List Event)) → Does (EndsSoFar taken files files outcomes outcomes []) told told
-  none_ended_yet files outcomes told = weaken (λ events none. record { all = λ more rest so. subst (IsEndOfAll taken files outcomes more) (sym (ap (λ l. l ++ rest) none)) so })
+  pub none_ended_yet : (files : List (Prepared W)) (outcomes : List Outcome) (told : Option (List Event)) → Does (EndsSoFar taken files files outcomes outcomes [] []) told told
+  none_ended_yet files outcomes told = weaken (λ events none. record { all = λ more others rest so. subst (IsEndOfAll taken files outcomes more others) (sym (ap (λ l. l ++ rest) none)) so })
       told told (nothing told)
 
+  -- one that was read has, and its output was given up
+  pub ended_given_up : (outcomes : List Outcome) (file its : Prepared W) (name out mine : List ℕ) (old new : Option (List ℕ)) (bytes : ℕ) (end : FileOutcome) (fault : FileFault) (one two three : Option (List Event)) → file ≡ its
+      → ((events : List Event) → IsEndBy bytes old new outcomes end → IsClosed name new end events → IsEndIn taken outcomes its end events)
+      → mine ≡ name → end ≡ Failed fault → IsEndBy bytes old new outcomes end → Does (EndsBy out new end) one two → Does (Discards mine new) two three
+      → Does (IsEndIn taken outcomes file end) one three
+  ended_given_up outcomes file its name out mine old new bytes end fault one two three is how named failed by ends discards =
+      subst (λ f. Does (IsEndIn taken outcomes f end) one three) (sym is)
+      (chain (IsEndIn taken outcomes its end)
+      (λ x y n d.
+      let closed : IsClosed name new (Failed fault) (x ++ y) =
+      subst (λ o. Discards o new (x ++ y)) named (d.0, d.1, (λ i. n i ++ d.2 i)) in
+      how (x ++ y) by (subst (λ e. IsClosed name new e (x ++ y)) (sym failed) closed))
+      one two three (subst (λ e. Does (EndsBy out new e) one two) failed ends) discards)
+
+  -- or it wasn't
+  pub ended_as_it_was : (outcomes : List Outcome) (file its : Prepared W) (name out : List ℕ) (old new : Option (List ℕ)) (bytes : ℕ) (end : FileOutcome) (one two : Option (List Event)) → file ≡ its
+      → ((events : List Event) → IsEndBy bytes old new outcomes end → IsClosed name new end events → IsEndIn taken outcomes its end events)
+      → out ≡ name → ((fault : FileFault) → end ≢ Failed fault) → IsOfNumber end → IsEndBy bytes old new outcomes end → Does (EndsBy out new end) one two
+      → Does (IsEndIn taken outcomes file end) one two
+  ended_as_it_was outcomes file its name out old new bytes (Sealed number count) one two is how named other fit by ends =
+      subst (λ f. Does (IsEndIn taken outcomes f (Sealed number count)) one two) (sym is)
+      (weaken (λ events e. how events by (subst (λ o. IsClosed o new (Sealed number count) events) named e)) one two ends)
+  ended_as_it_was outcomes file its name out old new bytes (Opened count) one two is how named other fit by ends = absurd fit
+  ended_as_it_was outcomes file its name out old new bytes (Good count) one two is how named other fit by ends = absurd fit
+  ended_as_it_was outcomes file its name out old new bytes (Shown count facts) one two is how named other fit by ends = absurd fit
+  ended_as_it_was outcomes file its name out old new bytes (Failed fault) one two is how named other fit by ends = absurd (other fault refl)
+
   -- one more has
-  pub one_more_ended : (files items left : List (Prepared W)) (file : Prepared W) (outcomes outcomes' outcomes'' : List Outcome) (lines : List FileLine) (end : FileOutcome) (told told' told'' : Option (List Event))
-      → items ≡ file ∷ left → outcomes'' ≡ left_by file outcomes' → Does (EndsSoFar taken files items outcomes outcomes' lines) told told'
-      → Does (IsEndIn taken outcomes' file end) told' told'' → Does (EndsSoFar taken files left outcomes outcomes'' (lines ++ line_of (name_of file) end ∷ [])) told told''
-  one_more_ended files items left file outcomes outcomes' outcomes'' lines end told told' told'' is next so ends =
-      chain (EndsSoFar taken files left outcomes outcomes'' (lines ++ line_of (name_of file) end ∷ []))
+  pub one_more_ended : (files items left : List (Prepared W)) (file : Prepared W) (outcomes outcomes' outcomes'' : List Outcome) (lines : List FileLine) (voids : List ℕ) (end : FileOutcome) (told told' told'' : Option (List Event))
+      → items ≡ file ∷ left → outcomes'' ≡ left_by file outcomes' → Does (EndsSoFar taken files items outcomes outcomes' lines voids) told told'
+      → Does (IsEndIn taken outcomes' file end) told' told''
+      → Does (EndsSoFar taken files left outcomes outcomes'' (lines ++ line_of (name_of file) end ∷ []) (voids ++ void_in file outcomes' end)) told told''
+  one_more_ended files items left file outcomes outcomes' outcomes'' lines voids end told told' told'' is next so ends =
+      chain (EndsSoFar taken files left outcomes outcomes'' (lines ++ line_of (name_of file) end ∷ []) (voids ++ void_in file outcomes' end))
       (λ x y s e. record {
-        all = λ more rest after.
+        all = λ more others rest after.
             let line = line_of (name_of file) end in
-            let whole = s.all (line ∷ more) (y ++ rest) (subst (λ l. IsEndOfAll taken l outcomes' (line ∷ more) (y ++ rest)) (sym is)
-            (end, more, y, rest, e, subst (λ o. IsEndOfAll taken left o more rest) next after, refl, refl)) in
-            subst (λ l. IsEndOfAll taken files outcomes l ((x ++ y) ++ rest)) (sym (append_assoc lines (line ∷ []) more))
-            (subst (IsEndOfAll taken files outcomes (lines ++ line ∷ more)) (sym (append_assoc x y rest)) whole);
+            let void = void_in file outcomes' end in
+            let whole = s.all (line ∷ more) (void ++ others) (y ++ rest) (subst (λ l. IsEndOfAll taken l outcomes' (line ∷ more) (void ++ others) (y ++ rest)) (sym is)
+            (end, more, others, y, rest, e, subst (λ o. IsEndOfAll taken left o more others rest) next after, refl, refl, refl)) in
+            subst (λ l. IsEndOfAll taken files outcomes l ((voids ++ void) ++ others) ((x ++ y) ++ rest)) (sym (append_assoc lines (line ∷ []) more))
+            (subst (λ v. IsEndOfAll taken files outcomes (lines ++ line ∷ more) v ((x ++ y) ++ rest)) (sym (append_assoc voids void others))
+            (subst (IsEndOfAll taken files outcomes (lines ++ line ∷ more) (voids ++ (void ++ others))) (sym (append_assoc x y rest)) whole));
       }) told told' told'' so ends
 
   -- all have
-  pub all_ended : (files left : List (Prepared W)) (outcomes outcomes' : List Outcome) (lines : List FileLine) (told told' : Option (List Event)) → left ≡ []
-      → Does (EndsSoFar taken files left outcomes outcomes' lines) told told' → Does (IsEndOfAll taken files outcomes lines) told told'
-  all_ended files left outcomes outcomes' lines told told' none so = weaken (λ events s.
-      subst (λ l. IsEndOfAll taken files outcomes l events) (append-nil lines)
-      (subst (IsEndOfAll taken files outcomes (lines ++ [])) (append-nil events) (s.all [] [] (subst (λ l. IsEndOfAll taken l outcomes' [] []) (sym none) (refl, refl))))) told told' so
+  pub all_ended : (files left : List (Prepared W)) (outcomes outcomes' : List Outcome) (lines : List FileLine) (voids : List ℕ) (told told' : Option (List Event)) → left ≡ []
+      → Does (EndsSoFar taken files left outcomes outcomes' lines voids) told told' → Does (IsEndOfAll taken files outcomes lines voids) told told'
+  all_ended files left outcomes outcomes' lines voids told told' none so = weaken (λ events s.
+      subst (λ l. IsEndOfAll taken files outcomes l voids events) (append-nil lines)
+      (subst (λ v. IsEndOfAll taken files outcomes (lines ++ []) v events) (append-nil voids)
+      (subst (IsEndOfAll taken files outcomes (lines ++ []) (voids ++ [])) (append-nil events)
+      (s.all [] [] [] (subst (λ l. IsEndOfAll taken l outcomes' [] [] []) (sym none) (refl, refl, refl)))))) told told' so
 
 -- ---- a group for which memory was refused
 
-pub refused_happened : (key : List ℕ) (shape : ShapeView) (device : ℕ) (names : List (List ℕ)) (told told' : Option (List Event)) → told' ≡ told → Happened key shape device told told' (refused_lines names ∷ [])
+pub refused_happened : (key : List ℕ) (shape : ShapeView) (device : ℕ) (names : List (List ℕ)) (told told' : Option (List Event)) → told' ≡ told → Happened key shape device told told' (refused_lines names ∷ []) []
 refused_happened key shape device names told told' same =
-    subst (λ t. Happened key shape device told t (refused_lines names ∷ [])) (sym same)
-    (weaken (λ events none. group_done (Sealing key shape device) (parts names) (refused_lines names) events (lined names) (each names)
+    subst (λ t. Happened key shape device told t (refused_lines names ∷ []) []) (sym same)
+    (weaken (λ events none. group_done (Sealing key shape device) (parts names) (refused_lines names) [] events (lined names) (each names)
+    (sym (void names))
     (none ∙ sym (λ i. (empty (λ (part : Part). part.before) (λ n. refl) names) i ++ (empty (λ (part : Part). part.after) (λ n. refl) names) i))) told told (nothing told))
   where
     part_of : List ℕ → Part
-    part_of name = record { line = line_of name (Failed OutOfMemory); before = []; after = [] }
+    part_of name = record { line = line_of name (Failed OutOfMemory); void = []; before = []; after = [] }
 
     parts : List (List ℕ) → List Part
     parts names = map part_of names
@@ -129,13 +181,17 @@ refused_happened key shape device names told told' same =
     lined [] = refl
     lined (name ∷ names) = ap (λ l. line_of name (Failed OutOfMemory) ∷ l) (lined names)
 
-    each : (names : List (List ℕ)) → All (λ (part : Part). Sealing key shape device part.line.name part.line.outcome part.before part.after) (parts names)
-    each [] = All-nil (λ (part : Part). Sealing key shape device part.line.name part.line.outcome part.before part.after)
-    each (name ∷ names) = All-cons (λ (part : Part). Sealing key shape device part.line.name part.line.outcome part.before part.after) (part_of name) (parts names) (refl, refl) (each names)
+    each : (names : List (List ℕ)) → All (IsPart (Sealing key shape device)) (parts names)
+    each [] = All-nil (IsPart (Sealing key shape device))
+    each (name ∷ names) = All-cons (IsPart (Sealing key shape device)) (part_of name) (parts names) (refl, (refl, refl)) (each names)
 
     empty : (of : Part → List Event) → ((name : List ℕ) → of (part_of name) ≡ []) → (names : List (List ℕ)) → flat_map of (parts names) ≡ []
     empty of none [] = refl
     empty of none (name ∷ names) = ap (λ l. l ++ flat_map of (parts names)) (none name) ∙ empty of none names
+
+    void : (names : List (List ℕ)) → group_voids (parts names) ≡ []
+    void [] = refl
+    void (name ∷ names) = void names
 
 -- ---- both
 
@@ -158,11 +214,11 @@ module _ (key : List ℕ) (shape : ShapeView) (device : ℕ) where
   outcomes_fit : (seats : ℕ) (jobs : List (List ℕ)) (outcomes : List Outcome) → (outcomes ≡ []) ⊎ AreOutcomes key shape jobs outcomes → All (IsHeld seats device) outcomes → Fit jobs outcomes
   outcomes_fit seats jobs outcomes how held = ⊎_elim (λ (none : outcomes ≡ []). subst (Fit jobs) (sym none) tt) (λ (are : AreOutcomes key shape jobs outcomes). all_fit seats jobs outcomes are held) how
 
-  refused_as : (name : List ℕ) (fault : FileFault) (before after : List Event) → IsRefusal name fault before → after ≡ [] → Sealing key shape device name (Failed fault) before after
-  refused_as name CannotOpen before after is none = (is, none)
-  refused_as name OutOfMemory before after is none = (is, none)
-  refused_as name OutputExists before after is none = (is.0, is.1, none)
-  refused_as name CannotCreate before after is none = (is.0, is.1, none)
+  refused_as : (name : List ℕ) (fault : FileFault) (before after : List Event) → IsRefusal name fault before → after ≡ [] → Sealing key shape device name (Failed fault) [] before after
+  refused_as name CannotOpen before after is none = (refl, (is, none))
+  refused_as name OutOfMemory before after is none = (refl, (is, none))
+  refused_as name OutputExists before after is none = (refl, (is.0, is.1, none))
+  refused_as name CannotCreate before after is none = (refl, (is.0, is.1, none))
   refused_as name NoSuffix before after is none = absurd is
   refused_as name NoNumber before after is none = absurd is
   refused_as name AnotherLabel before after is none = absurd is
@@ -171,34 +227,43 @@ module _ (key : List ℕ) (shape : ShapeView) (device : ℕ) where
 
   module _ (name input : List ℕ) (bytes : ℕ) (old new : Option (List ℕ)) (before after : List Event)
       (count : bytes ≡ length input) (empty : old ≡ Some (tape (sealed_name name) [])) (begun : before ≡ prepared name input) where
-    failed_as : (fault : FileFault) (end : FileOutcome) → ((b a : List Event) → IsRemoved name b a → Sealing key shape device name (Failed fault) b a) → end ≡ Failed fault
-        → IsClosed (sealed_name name) new end after → Sealing key shape device name end before after
-    failed_as fault end how is closed = subst (λ o. Sealing key shape device name o before after) (sym is)
-        (how before after (input, begun, subst (λ o. IsClosed (sealed_name name) new o after) is closed))
+    given_up : (void : List ℕ) → PutsUnder key shape device (Some input) old new void → Discards (sealed_name name) new after → IsDiscarded key shape device name void before after
+    given_up void put discards =
+        let (held, under, is) = discards_as key shape device name (sealed_name name) input void old new after refl empty put discards in
+        (input, held, under, begun, is)
+
+    failed_as : (fault : FileFault) (void : List ℕ) (end : FileOutcome)
+        → (IsDiscarded key shape device name void before after → Sealing key shape device name (Failed fault) void before after) → end ≡ Failed fault
+        → PutsUnder key shape device (Some input) old new void → IsClosed (sealed_name name) new end after → Sealing key shape device name end void before after
+    failed_as fault void end how is put closed = subst (λ o. Sealing key shape device name o void before after) (sym is)
+        (how (given_up void put (subst (λ o. IsClosed (sealed_name name) new o after) is closed)))
 
     put_as : (all : List ℕ) (number : ℕ) (end : FileOutcome) → all ≡ container key shape (prefix_of device number) input → IsPut all number bytes old new end
-        → IsClosed (sealed_name name) new end after → Sealing key shape device name end before after
+        → IsClosed (sealed_name name) new end after → Sealing key shape device name end (void_at number end) before after
     put_as all number (Sealed n m) is (same, long, grew) closed =
         let put : all ≡ container key shape (prefix_of device n) input = is ∙ ap (λ k. container key shape (prefix_of device k) input) (sym same) in
         let finished = finished_as (sealed_name name) [] all old new after empty grew closed in
-        (input, long ∙ count, begun, finished ∙ ap (λ c. Finished (sealed_name name) c ∷ []) put)
+        (input, refl, long ∙ count, begun, finished ∙ ap (λ c. Finished (sealed_name name) c ∷ []) put)
     put_as all number (Opened n) is (wrong, front) closed = absurd (cc)
     put_as all number (Good n) is (wrong, front) closed = absurd (cc)
     put_as all number (Shown n facts) is (wrong, front) closed = absurd (cc)
-    put_as all number (Failed fault) is (wrong, front) closed = failed_as (Unsealed sealing_fault.Write) (Failed fault) (λ b a r. r) wrong closed
+    put_as all number (Failed fault) is (wrong, front) closed =
+        failed_as (Unsealed sealing_fault.Write) (number ∷ []) (Failed fault) (λ d. d) wrong (subst (AppendsFront old new) is front) closed
 
-    unissued : (fault : IssueFault) (b a : List Event) → IsRemoved name b a → Sealing key shape device name (Failed (unissued_as fault)) b a
-    unissued issue_fault.Exhausted b a r = r
-    unissued issue_fault.SeatClosed b a r = r
-    unissued issue_fault.OutOfMemory b a r = r
+    unissued : (fault : IssueFault) → IsDiscarded key shape device name [] before after → Sealing key shape device name (Failed (unissued_as fault)) [] before after
+    unissued issue_fault.Exhausted d = (refl, d)
+    unissued issue_fault.SeatClosed d = (refl, d)
+    unissued issue_fault.OutOfMemory d = d
 
     ended_as_job : (outcomes : List Outcome) (jobs : List (List ℕ)) (end : FileOutcome) → Fit (input ∷ jobs) outcomes → IsEndBy bytes old new outcomes end
-        → IsClosed (sealed_name name) new end after → Sealing key shape device name end before after
-    ended_as_job [] jobs end fit is closed = failed_as (Unsealed sealing_fault.OutOfMemory) end (λ b a r. r) is closed
+        → IsClosed (sealed_name name) new end after → Sealing key shape device name end (void_by outcomes end) before after
+    ended_as_job [] jobs end fit is closed = failed_as (Unsealed sealing_fault.OutOfMemory) [] end (λ d. d) is.0 is.1 closed
     ended_as_job (job.Sealed seat bytes spent ∷ outcomes) jobs end fit is closed =
         put_as bytes.items spent.number end (fit.0.0 ∙ ap (λ d. container key shape (prefix_of d spent.number) input) fit.1.0) is closed
-    ended_as_job (job.Spoiled seat spent ∷ outcomes) jobs end fit is closed = failed_as (Unsealed sealing_fault.OutOfMemory) end (λ b a r. r) is closed
-    ended_as_job (job.Unissued seat fault ∷ outcomes) jobs end fit is closed = failed_as (unissued_as fault) end (unissued fault) is closed
+    ended_as_job (job.Spoiled seat spent ∷ outcomes) jobs end fit is closed =
+        failed_as (Unsealed sealing_fault.OutOfMemory) (spent.number ∷ []) end (λ d. d) is.0
+        ([], (container key shape (prefix_of device spent.number) input, refl), kept_appends old new is.1) closed
+    ended_as_job (job.Unissued seat fault ∷ outcomes) jobs end fit is closed = failed_as (unissued_as fault) [] end (unissued fault) is.0 is.1 closed
 
     fit_left : (outcomes : List Outcome) (jobs : List (List ℕ)) → Fit (input ∷ jobs) outcomes → Fit jobs (drop 1 outcomes)
     fit_left [] jobs fit = tt
@@ -206,49 +271,55 @@ module _ (key : List ℕ) (shape : ShapeView) (device : ℕ) where
 
   module _ {W : Type 0} (taken : W → Option (List ℕ)) where
     -- the parts of a group's files
-    abbrev AreParts : List FileLine → List Event → List Event → Type 0
-    AreParts lines before after = (parts : List Part) × (map (λ (part : Part). part.line) parts ≡ lines)
-        × All (λ (part : Part). Sealing key shape device part.line.name part.line.outcome part.before part.after) parts
+    abbrev AreParts : List FileLine → List ℕ → List Event → List Event → Type 0
+    AreParts lines voids before after = (parts : List Part) × (map (λ (part : Part). part.line) parts ≡ lines)
+        × All (IsPart (Sealing key shape device)) parts × (voids ≡ group_voids parts)
         × (before ≡ flat_map (λ (part : Part). part.before) parts) × (after ≡ flat_map (λ (part : Part). part.after) parts)
 
-    part_more : (name : List ℕ) (end : FileOutcome) (first first' : List Event) (lines more : List FileLine) (before after rest rest' : List Event)
-        → Sealing key shape device name end first first' → AreParts more rest rest' → lines ≡ line_of name end ∷ more → before ≡ first ++ rest → after ≡ first' ++ rest'
-        → AreParts lines before after
-    part_more name end first first' lines more before after rest rest' is (parts, lined, each, joined, joined') so chained chained' =
-        let part : Part = record { line = line_of name end; before = first; after = first' } in (
+    part_more : (name : List ℕ) (end : FileOutcome) (void : List ℕ) (first first' : List Event) (lines more : List FileLine) (voids others : List ℕ) (before after rest rest' : List Event)
+        → Sealing key shape device name end void first first' → AreParts more others rest rest' → lines ≡ line_of name end ∷ more → voids ≡ void ++ others
+        → before ≡ first ++ rest → after ≡ first' ++ rest'
+        → AreParts lines voids before after
+    part_more name end void first first' lines more voids others before after rest rest' is (parts, lined, each, numbers, joined, joined') so also chained chained' =
+        let part : Part = record { line = line_of name end; void = void; before = first; after = first' } in (
           part ∷ parts,
           ap (λ l. line_of name end ∷ l) lined ∙ sym so,
-          All-cons (λ (part : Part). Sealing key shape device part.line.name part.line.outcome part.before part.after) part parts is each,
+          All-cons (IsPart (Sealing key shape device)) part parts is each,
+          also ∙ ap (λ l. void ++ l) numbers,
           chained ∙ ap (λ l. first ++ l) joined,
           chained' ∙ ap (λ l. first' ++ l) joined',
         )
 
-    matched : (files : List (Prepared W)) (jobs : List (List ℕ)) (outcomes : List Outcome) (lines : List FileLine) (before after : List Event) → AreBegun taken files jobs before → Fit jobs outcomes
-        → IsEndOfAll taken files outcomes lines after → AreParts lines before after
-    matched [] jobs outcomes lines before after (none, first) fit (nil, then) =
-        ([], sym nil, All-nil (λ (part : Part). Sealing key shape device part.line.name part.line.outcome part.before part.after), first, then)
-    matched (Refused name fault ∷ files) jobs outcomes lines before after (own, others, first, rest, (none, is), begun, joined, chained) fit (end, more, first', rest', (failed, nil), ended, lined, chained') =
+    matched : (files : List (Prepared W)) (jobs : List (List ℕ)) (outcomes : List Outcome) (lines : List FileLine) (voids : List ℕ) (before after : List Event) → AreBegun taken files jobs before → Fit jobs outcomes
+        → IsEndOfAll taken files outcomes lines voids after → AreParts lines voids before after
+    matched [] jobs outcomes lines voids before after (none, first) fit (nil, zero, then) =
+        ([], sym nil, All-nil (IsPart (Sealing key shape device)), zero, first, then)
+    matched (Refused name fault ∷ files) jobs outcomes lines voids before after (own, others, first, rest, (none, is), begun, joined, chained) fit
+        (end, more, later, first', rest', (failed, nil), ended, lined, void, chained') =
         let fits : Fit others outcomes = subst (λ j. Fit j outcomes) (joined ∙ ap (λ l. l ++ others) none) fit in
-        part_more name.now end first first' lines more before after rest rest'
-        (subst (λ o. Sealing key shape device name.now o first first') (sym failed) (refused_as name.now fault first first' is nil))
-        (matched files others outcomes more rest rest' begun fits ended) lined chained chained'
-    matched (Unread name output fault ∷ files) jobs outcomes lines before after (own, others, first, rest, (none, (input, is)), begun, joined, chained) fit (end, more, first', rest', (failed, removed), ended, lined, chained') =
+        part_more name.now end [] first first' lines more voids later before after rest rest'
+        (subst (λ o. Sealing key shape device name.now o [] first first') (sym failed) (refused_as name.now fault first first' is nil))
+        (matched files others outcomes more later rest rest' begun fits ended) lined void chained chained'
+    matched (Unread name output writer fault ∷ files) jobs outcomes lines voids before after (own, others, first, rest, (none, empty, (input, is)), begun, joined, chained) fit
+        (end, more, later, first', rest', (failed, discards), ended, lined, void, chained') =
         let fits : Fit others outcomes = subst (λ j. Fit j outcomes) (joined ∙ ap (λ l. l ++ others) none) fit in
-        part_more name.now end first first' lines more before after rest rest'
-        (subst (λ o. Sealing key shape device name.now o first first') (sym failed) (input, is, removed))
-        (matched files others outcomes more rest rest' begun fits ended) lined chained chained'
-    matched (Read name output writer bytes ∷ files) jobs outcomes lines before after (own, others, first, rest, (input, mine, count, empty, is), begun, joined, chained) fit (end, more, first', rest', (new, ends, closed), ended, lined, chained') =
+        let (held, under, so) = discards_as key shape device name.now (sealed_name name.now) input [] (taken writer) (taken writer) first' refl empty (Keeps-refl (taken writer)) discards in
+        part_more name.now end [] first first' lines more voids later before after rest rest'
+        (subst (λ o. Sealing key shape device name.now o [] first first') (sym failed) (input, held, under, is, so))
+        (matched files others outcomes more later rest rest' begun fits ended) lined void chained chained'
+    matched (Read name output writer bytes ∷ files) jobs outcomes lines voids before after (own, others, first, rest, (input, mine, count, empty, is), begun, joined, chained) fit
+        (end, more, later, first', rest', (new, ends, closed), ended, lined, void, chained') =
         let fits : Fit (input ∷ others) outcomes = subst (λ j. Fit j outcomes) (joined ∙ ap (λ l. l ++ others) mine) fit in
-        part_more name.now end first first' lines more before after rest rest'
+        part_more name.now end (void_by outcomes end) first first' lines more voids later before after rest rest'
         (ended_as_job name.now input bytes (taken writer) new first first' count empty is outcomes others end fits ends closed)
-        (matched files others (left_by (Read name output writer bytes) outcomes) more rest rest' begun
-        (fit_left name.now input bytes (taken writer) new first first' count empty is outcomes others fits) ended) lined chained chained'
+        (matched files others (left_by (Read name output writer bytes) outcomes) more later rest rest' begun
+        (fit_left name.now input bytes (taken writer) new first first' count empty is outcomes others fits) ended) lined void chained chained'
 
     -- what happened for a group goes with its lines
-    pub group_happened : (files : List (Prepared W)) (slice jobs : List (List ℕ)) (seats : ℕ) (outcomes : List Outcome) (lines : List FileLine) (told told' told'' : Option (List Event)) → slice ≡ jobs
+    pub group_happened : (files : List (Prepared W)) (slice jobs : List (List ℕ)) (seats : ℕ) (outcomes : List Outcome) (lines : List FileLine) (voids : List ℕ) (told told' told'' : Option (List Event)) → slice ≡ jobs
         → (outcomes ≡ []) ⊎ AreOutcomes key shape slice outcomes → All (IsHeld seats device) outcomes → Does (AreBegun taken files jobs) told told'
-        → Does (IsEndOfAll taken files outcomes lines) told' told'' → Happened key shape device told told'' (lines ∷ [])
-    group_happened files slice jobs seats outcomes lines told told' told'' same how held begun ended = chain (AreOfGroups (Sealing key shape device) (lines ∷ []))
+        → Does (IsEndOfAll taken files outcomes lines voids) told' told'' → Happened key shape device told told'' (lines ∷ []) voids
+    group_happened files slice jobs seats outcomes lines voids told told' told'' same how held begun ended = chain (AreOfGroups (Sealing key shape device) (lines ∷ []) voids)
         (λ x y b e.
-        let p = matched files jobs outcomes lines x y b (subst (λ j. Fit j outcomes) same (outcomes_fit seats slice outcomes how held)) e in
-        group_done (Sealing key shape device) p.0 lines (x ++ y) p.1 p.2 (λ i. p.3 i ++ p.4 i)) told told' told'' begun ended
+        let p = matched files jobs outcomes lines voids x y b (subst (λ j. Fit j outcomes) same (outcomes_fit seats slice outcomes how held)) e in
+        group_done (Sealing key shape device) p.0 lines voids (x ++ y) p.1 p.2 p.3 (λ i. p.4 i ++ p.5 i)) told told' told'' begun ended

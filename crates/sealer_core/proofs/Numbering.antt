@@ -25,69 +25,89 @@ use Rattle.crew_core.specs.Spending.{spent_as}
 use Rattle.command_core.specs.declared.line.FileFault.{FileFault}
 use Rattle.command_core.specs.declared.line.FileOutcome.TheVariants.{Sealed, Failed}
 use Rattle.command_core.specs.Lines.{FileLine}
-use Rattle.command_core.specs.Folder.{Step}
-use Rattle.sealer_core.specs.Sealing.{Accounts, AreNumbered, AreSealed, HasSealed, IsSettled, line_of, operations_of, seals, tells_of, times_told, voids}
+use Rattle.sealer_core.specs.Sealing.{Accounts, AreNumbered, AreSealed, HasSealed, IsSettled, line_of, operations_of, seals, spoils, tells_of, times_in, times_told}
 
 pub told_push : (n : ℕ) (lines : List FileLine) (line : FileLine) → times_told n (lines ++ line ∷ []) ≡ times_told n lines + cond (tells_of n line.outcome) 1 0
 told_push n lines line = sum_by_push (λ (x : FileLine). cond (tells_of n x.outcome) 1 0) lines line
 
-pub accounts_none : Accounts [] []
-accounts_none = record { told = λ n. omega arith; granted = λ n. omega arith }
+pub in_append : (n : ℕ) (one two : List ℕ) → times_in n (one ++ two) ≡ times_in n one + times_in n two
+in_append n one two = sum_by-append (λ (m : ℕ). cond (nat_eq n m) 1 0) one two
+
+pub in_push : (n : ℕ) (voids : List ℕ) (k : ℕ) → times_in n (voids ++ k ∷ []) ≡ times_in n voids + cond (nat_eq n k) 1 0
+in_push n voids k = sum_by_push (λ (m : ℕ). cond (nat_eq n m) 1 0) voids k
+
+pub accounts_none : Accounts [] [] []
+accounts_none = record { told = λ n. omega arith; voided = λ n. omega arith; granted = λ n. omega arith }
 
 -- ---- what one file adds
 
-module _ (lines : List FileLine) (before : List Entry) (seat : ℕ) (name : List ℕ) (a : Accounts lines before) where
+module _ (lines : List FileLine) (voids : List ℕ) (before : List Entry) (seat : ℕ) (name : List ℕ) (a : Accounts lines voids before) where
   -- nothing was granted
-  pub adds_failure : (fault : FileFault) → Accounts (lines ++ line_of name (Failed fault) ∷ []) before
+  pub adds_failure : (fault : FileFault) → Accounts (lines ++ line_of name (Failed fault) ∷ []) (voids ++ []) before
   adds_failure fault = record {
     told = λ n. let t = told_push n lines (line_of name (Failed fault)) in let h = a.told n in omega arith;
+    voided = λ n. let i = in_append n voids [] in let h = a.voided n in omega arith;
     granted = λ n. let t = told_push n lines (line_of name (Failed fault)) in let h = a.granted n in omega arith;
   }
 
   -- the range has met its end
-  pub adds_exhausted : (fault : FileFault) → Accounts (lines ++ line_of name (Failed fault) ∷ []) (before ++ entry seat Exhausted ∷ [])
+  pub adds_exhausted : (fault : FileFault) → Accounts (lines ++ line_of name (Failed fault) ∷ []) (voids ++ []) (before ++ entry seat Exhausted ∷ [])
   adds_exhausted fault = record {
     told = λ n.
         let t = told_push n lines (line_of name (Failed fault)) in
         let s = count_push (seals n) before (entry seat Exhausted) in
         let h = a.told n in omega arith;
+    voided = λ n.
+        let i = in_append n voids [] in
+        let v = count_push (spoils n) before (entry seat Exhausted) in
+        let h = a.voided n in omega arith;
     granted = λ n.
         let t = told_push n lines (line_of name (Failed fault)) in
-        let v = count_push (voids n) before (entry seat Exhausted) in
+        let v = count_push (spoils n) before (entry seat Exhausted) in
         let g = count_push (grants n) before (entry seat Exhausted) in
         let h = a.granted n in omega arith;
   }
 
   -- a number was granted and settled
   pub adds_void : (k : ℕ) (fault : FileFault)
-      → Accounts (lines ++ line_of name (Failed fault) ∷ []) ((before ++ entry seat (Granted k) ∷ []) ++ entry seat (Settled k ended.Void) ∷ [])
+      → Accounts (lines ++ line_of name (Failed fault) ∷ []) (voids ++ k ∷ []) ((before ++ entry seat (Granted k) ∷ []) ++ entry seat (Settled k ended.Void) ∷ [])
   adds_void k fault = record {
     told = λ n.
         let t = told_push n lines (line_of name (Failed fault)) in
         let s = count_push (seals n) before (entry seat (Granted k)) in
         let s' = count_push (seals n) (before ++ entry seat (Granted k) ∷ []) (entry seat (Settled k ended.Void)) in
         let h = a.told n in omega arith;
+    voided = λ n.
+        let i = in_push n voids k in
+        let v = count_push (spoils n) before (entry seat (Granted k)) in
+        let v' = count_push (spoils n) (before ++ entry seat (Granted k) ∷ []) (entry seat (Settled k ended.Void)) in
+        let h = a.voided n in omega arith;
     granted = λ n.
         let t = told_push n lines (line_of name (Failed fault)) in
-        let v = count_push (voids n) before (entry seat (Granted k)) in
-        let v' = count_push (voids n) (before ++ entry seat (Granted k) ∷ []) (entry seat (Settled k ended.Void)) in
+        let v = count_push (spoils n) before (entry seat (Granted k)) in
+        let v' = count_push (spoils n) (before ++ entry seat (Granted k) ∷ []) (entry seat (Settled k ended.Void)) in
         let g = count_push (grants n) before (entry seat (Granted k)) in
         let g' = count_push (grants n) (before ++ entry seat (Granted k) ∷ []) (entry seat (Settled k ended.Void)) in
         let h = a.granted n in omega arith;
   }
 
   pub adds_sealed : (k bytes : ℕ)
-      → Accounts (lines ++ line_of name (Sealed k bytes) ∷ []) ((before ++ entry seat (Granted k) ∷ []) ++ entry seat (Settled k ended.Sealed) ∷ [])
+      → Accounts (lines ++ line_of name (Sealed k bytes) ∷ []) (voids ++ []) ((before ++ entry seat (Granted k) ∷ []) ++ entry seat (Settled k ended.Sealed) ∷ [])
   adds_sealed k bytes = record {
     told = λ n.
         let t = told_push n lines (line_of name (Sealed k bytes)) in
         let s = count_push (seals n) before (entry seat (Granted k)) in
         let s' = count_push (seals n) (before ++ entry seat (Granted k) ∷ []) (entry seat (Settled k ended.Sealed)) in
         let h = a.told n in omega arith;
+    voided = λ n.
+        let i = in_append n voids [] in
+        let v = count_push (spoils n) before (entry seat (Granted k)) in
+        let v' = count_push (spoils n) (before ++ entry seat (Granted k) ∷ []) (entry seat (Settled k ended.Sealed)) in
+        let h = a.voided n in omega arith;
     granted = λ n.
         let t = told_push n lines (line_of name (Sealed k bytes)) in
-        let v = count_push (voids n) before (entry seat (Granted k)) in
-        let v' = count_push (voids n) (before ++ entry seat (Granted k) ∷ []) (entry seat (Settled k ended.Sealed)) in
+        let v = count_push (spoils n) before (entry seat (Granted k)) in
+        let v' = count_push (spoils n) (before ++ entry seat (Granted k) ∷ []) (entry seat (Settled k ended.Sealed)) in
         let g = count_push (grants n) before (entry seat (Granted k)) in
         let g' = count_push (grants n) (before ++ entry seat (Granted k) ∷ []) (entry seat (Settled k ended.Sealed)) in
         let h = a.granted n in omega arith;
@@ -107,11 +127,11 @@ not_granted SeatClosed old new h = inl h.1
 not_granted NotIssued old new h = inl h.1
 not_granted NoNumber old new h = inr h.1
 
-pub after_failure : (lines : List FileLine) (old new : SeatView) (name : List ℕ) (fault : FileFault) → (new ≡ old) ⊎ Extends old Exhausted new
-    → Accounts lines old.mine → Accounts (lines ++ line_of name (Failed fault) ∷ []) new.mine
-after_failure lines old new name fault how a = ⊎_elim
-    (λ (same : new ≡ old). subst (λ (v : SeatView). Accounts (lines ++ line_of name (Failed fault) ∷ []) v.mine) (sym same) (adds_failure lines old.mine 0 name a fault))
-    (λ (more : Extends old Exhausted new). subst (Accounts (lines ++ line_of name (Failed fault) ∷ [])) (sym (mine_of old new Exhausted more)) (adds_exhausted lines old.mine old.number name a fault))
+pub after_failure : (lines : List FileLine) (voids : List ℕ) (old new : SeatView) (name : List ℕ) (fault : FileFault) → (new ≡ old) ⊎ Extends old Exhausted new
+    → Accounts lines voids old.mine → Accounts (lines ++ line_of name (Failed fault) ∷ []) (voids ++ []) new.mine
+after_failure lines voids old new name fault how a = ⊎_elim
+    (λ (same : new ≡ old). subst (λ (v : SeatView). Accounts (lines ++ line_of name (Failed fault) ∷ []) (voids ++ []) v.mine) (sym same) (adds_failure lines voids old.mine 0 name a fault))
+    (λ (more : Extends old Exhausted new). subst (Accounts (lines ++ line_of name (Failed fault) ∷ []) (voids ++ [])) (sym (mine_of old new Exhausted more)) (adds_exhausted lines voids old.mine old.number name a fault))
     how
 
 -- the operations of a seat that was granted a number and then settled it
@@ -121,48 +141,50 @@ both_of old mid new k event one two =
     mine_of mid new event two ∙ ap (λ (l : List Entry). l ++ entry mid.number event ∷ []) (mine_of old mid (Granted k) one)
     ∙ ap (λ (t : ℕ). (old.mine ++ entry old.number (Granted k) ∷ []) ++ entry t event ∷ []) (number_of old mid (Granted k) one)
 
-pub after_sealing : (lines : List FileLine) (old mid new : SeatView) (name : List ℕ) (k bytes : ℕ) → Extends old (Granted k) mid
+pub after_sealing : (lines : List FileLine) (voids : List ℕ) (old mid new : SeatView) (name : List ℕ) (k bytes : ℕ) → Extends old (Granted k) mid
     → Extends mid (Settled k ended.Sealed) new
-    → Accounts lines old.mine → Accounts (lines ++ line_of name (Sealed k bytes) ∷ []) new.mine
-after_sealing lines old mid new name k bytes one two a =
-    subst (Accounts (lines ++ line_of name (Sealed k bytes) ∷ [])) (sym (both_of old mid new k (Settled k ended.Sealed) one two)) (adds_sealed lines old.mine old.number name a k bytes)
+    → Accounts lines voids old.mine → Accounts (lines ++ line_of name (Sealed k bytes) ∷ []) (voids ++ []) new.mine
+after_sealing lines voids old mid new name k bytes one two a =
+    subst (Accounts (lines ++ line_of name (Sealed k bytes) ∷ []) (voids ++ [])) (sym (both_of old mid new k (Settled k ended.Sealed) one two))
+    (adds_sealed lines voids old.mine old.number name a k bytes)
 
-pub after_spoiling : (lines : List FileLine) (old mid new : SeatView) (name : List ℕ) (k : ℕ) (fault : FileFault) → Extends old (Granted k) mid
+pub after_spoiling : (lines : List FileLine) (voids : List ℕ) (old mid new : SeatView) (name : List ℕ) (k : ℕ) (fault : FileFault) → Extends old (Granted k) mid
     → Extends mid (Settled k ended.Void) new
-    → Accounts lines old.mine → Accounts (lines ++ line_of name (Failed fault) ∷ []) new.mine
-after_spoiling lines old mid new name k fault one two a =
-    subst (Accounts (lines ++ line_of name (Failed fault) ∷ [])) (sym (both_of old mid new k (Settled k ended.Void) one two)) (adds_void lines old.mine old.number name a k fault)
+    → Accounts lines voids old.mine → Accounts (lines ++ line_of name (Failed fault) ∷ []) (voids ++ k ∷ []) new.mine
+after_spoiling lines voids old mid new name k fault one two a =
+    subst (Accounts (lines ++ line_of name (Failed fault) ∷ []) (voids ++ k ∷ [])) (sym (both_of old mid new k (Settled k ended.Void) one two))
+    (adds_void lines voids old.mine old.number name a k fault)
 
 -- the same, of what is left to be settled
-pub after_end : (lines : List FileLine) (old mid new : SeatView) (name : List ℕ) (spent : SpentView) (number bytes : ℕ)
+pub after_end : (lines : List FileLine) (voids : List ℕ) (old mid new : SeatView) (name : List ℕ) (spent : SpentView) (number bytes : ℕ)
     → Extends old (Granted spent.number) mid → spent.way ≡ ended.Sealed → number ≡ spent.number
     → Extends mid (Settled spent.number spent.way) new
-    → Accounts lines old.mine → Accounts (lines ++ line_of name (Sealed number bytes) ∷ []) new.mine
-after_end lines old mid new name spent number bytes one is same how a =
-    subst (λ (n : ℕ). Accounts (lines ++ line_of name (Sealed n bytes) ∷ []) new.mine) (sym same)
-    (after_sealing lines old mid new name spent.number bytes one
+    → Accounts lines voids old.mine → Accounts (lines ++ line_of name (Sealed number bytes) ∷ []) (voids ++ []) new.mine
+after_end lines voids old mid new name spent number bytes one is same how a =
+    subst (λ (n : ℕ). Accounts (lines ++ line_of name (Sealed n bytes) ∷ []) (voids ++ []) new.mine) (sym same)
+    (after_sealing lines voids old mid new name spent.number bytes one
     (subst (λ (w : Way). Extends mid (Settled spent.number w) new) is how) a)
 
 -- the same, of what a sealing gave back
-pub after_run : (lines : List FileLine) (old mid new : SeatView) (name : List ℕ) (grant : GrantView) (spent : SpentView) (number bytes : ℕ)
+pub after_run : (lines : List FileLine) (voids : List ℕ) (old mid new : SeatView) (name : List ℕ) (grant : GrantView) (spent : SpentView) (number bytes : ℕ)
     → Extends old (Granted grant.number) mid → spent ≡ spent_as grant ended.Sealed → number ≡ grant.number
     → Extends mid (Settled spent.number spent.way) new
-    → Accounts lines old.mine → Accounts (lines ++ line_of name (Sealed number bytes) ∷ []) new.mine
-after_run lines old mid new name grant spent number bytes one is same how a =
-    subst (λ (n : ℕ). Accounts (lines ++ line_of name (Sealed n bytes) ∷ []) new.mine) (sym same)
-    (after_sealing lines old mid new name grant.number bytes one
+    → Accounts lines voids old.mine → Accounts (lines ++ line_of name (Sealed number bytes) ∷ []) (voids ++ []) new.mine
+after_run lines voids old mid new name grant spent number bytes one is same how a =
+    subst (λ (n : ℕ). Accounts (lines ++ line_of name (Sealed n bytes) ∷ []) (voids ++ []) new.mine) (sym same)
+    (after_sealing lines voids old mid new name grant.number bytes one
     (subst (λ (s : SpentView). Extends mid (Settled s.number s.way) new) is how) a)
 
 pub granted_as : (old mid : SeatView) (grant : GrantView) (spent : SpentView) (way : Way) → spent ≡ spent_as grant way
     → Extends old (Granted grant.number) mid → Extends old (Granted spent.number) mid
 granted_as old mid grant spent way is one = subst (λ (s : SpentView). Extends old (Granted s.number) mid) (sym is) one
 
-pub after_fault : (lines : List FileLine) (old mid new : SeatView) (name : List ℕ) (grant : GrantView) (spent : SpentView) (fault : FileFault)
+pub after_fault : (lines : List FileLine) (voids : List ℕ) (old mid new : SeatView) (name : List ℕ) (grant : GrantView) (spent : SpentView) (fault : FileFault)
     → Extends old (Granted grant.number) mid → spent ≡ spent_as grant ended.Void
     → Extends mid (Settled spent.number spent.way) new
-    → Accounts lines old.mine → Accounts (lines ++ line_of name (Failed fault) ∷ []) new.mine
-after_fault lines old mid new name grant spent fault one is how a =
-    after_spoiling lines old mid new name grant.number fault one
+    → Accounts lines voids old.mine → Accounts (lines ++ line_of name (Failed fault) ∷ []) (voids ++ grant.number ∷ []) new.mine
+after_fault lines voids old mid new name grant spent fault one is how a =
+    after_spoiling lines voids old mid new name grant.number fault one
     (subst (λ (s : SpentView). Extends mid (Settled s.number s.way) new) is how) a
 
 -- ---- a number that is held is settled
@@ -230,12 +252,13 @@ same_count p terms ledger seats history all is whole =
     let count : length seats ≡ terms.seats = all.count ∙ ap (λ (t : Terms). t.seats) (sym is) in
     ours ∙ ap (λ (n : ℕ). sum_below n (λ t. count_by p (calls_of t history))) (sym count) ∙ sym theirs
 
-pub accounts_whole : (lines : List FileLine) (ledger : LedgerView) (seats : List SeatView) (history : List Entry)
-    → AreAllSeats ledger seats → IsWhole ledger.terms seats history → Accounts lines (operations_of seats) → Accounts lines history
-accounts_whole lines ledger seats history all whole a = record {
+pub accounts_whole : (lines : List FileLine) (voids : List ℕ) (ledger : LedgerView) (seats : List SeatView) (history : List Entry)
+    → AreAllSeats ledger seats → IsWhole ledger.terms seats history → Accounts lines voids (operations_of seats) → Accounts lines voids history
+accounts_whole lines voids ledger seats history all whole a = record {
   told = λ n. let s = same_count (seals n) ledger.terms ledger seats history all refl whole in let h = a.told n in omega arith;
+  voided = λ n. let v = same_count (spoils n) ledger.terms ledger seats history all refl whole in let h = a.voided n in omega arith;
   granted = λ n.
-      let v = same_count (voids n) ledger.terms ledger seats history all refl whole in
+      let v = same_count (spoils n) ledger.terms ledger seats history all refl whole in
       let g = same_count (grants n) ledger.terms ledger seats history all refl whole in
       let h = a.granted n in omega arith;
 }
@@ -340,7 +363,7 @@ sums_none limit all each history e is its so =
     omega arith
 
 abbrev Summed : ℕ → List Entry → Type 0
-Summed limit history = Sums limit is_granted grants history × Sums limit is_sealed seals history × Sums limit is_void voids history
+Summed limit history = Sums limit is_granted grants history × Sums limit is_sealed seals history × Sums limit is_void spoils history
 
 summed_more : (terms : Terms) (history : List Entry) (t : ℕ) (event : Event) → MayReply terms history t event → Legal terms history
     → Summed (terms.range.lo + terms.range.size) history → Summed (terms.range.lo + terms.range.size) (history ++ entry t event ∷ [])
@@ -348,24 +371,24 @@ summed_more terms history t (Granted m) may legal (g, s, v) = let L = terms.rang
     let is = may.0 in let few = may.1 in (
       sums_one L m is_granted grants history e (omega arith) refl (λ n. refl) g,
       sums_none L is_sealed seals history e refl (λ n. refl) s,
-      sums_none L is_void voids history e refl (λ n. refl) v,
+      sums_none L is_void spoils history e refl (λ n. refl) v,
     )
 summed_more terms history t Exhausted may legal (g, s, v) = let L = terms.range.lo + terms.range.size in let e : Entry = entry t Exhausted in (
   sums_none L is_granted grants history e refl (λ n. refl) g,
   sums_none L is_sealed seals history e refl (λ n. refl) s,
-  sums_none L is_void voids history e refl (λ n. refl) v,
+  sums_none L is_void spoils history e refl (λ n. refl) v,
 )
 summed_more terms history t (Settled m ended.Sealed) may legal (g, s, v) = let L = terms.range.lo + terms.range.size in let e : Entry = entry t (Settled m ended.Sealed) in
     let below = in_range terms history legal t m may.0 in let bound = (within terms history legal).0 in let top = below.1 in (
       sums_none L is_granted grants history e refl (λ n. refl) g,
       sums_one L m is_sealed seals history e (omega arith) refl (λ n. refl) s,
-      sums_none L is_void voids history e refl (λ n. refl) v,
+      sums_none L is_void spoils history e refl (λ n. refl) v,
     )
 summed_more terms history t (Settled m ended.Void) may legal (g, s, v) = let L = terms.range.lo + terms.range.size in let e : Entry = entry t (Settled m ended.Void) in
     let below = in_range terms history legal t m may.0 in let bound = (within terms history legal).0 in let top = below.1 in (
       sums_none L is_granted grants history e refl (λ n. refl) g,
       sums_none L is_sealed seals history e refl (λ n. refl) s,
-      sums_one L m is_void voids history e (omega arith) refl (λ n. refl) v,
+      sums_one L m is_void spoils history e (omega arith) refl (λ n. refl) v,
     )
 
 summed : (terms : Terms) (history : List Entry) → Legal terms history → Legal terms history → Summed (terms.range.lo + terms.range.size) history
@@ -375,12 +398,12 @@ summed terms = induct terms (λ (h : List Entry). Legal terms h → Summed (term
     let front = legal_front terms history (e ∷ []) legal in
     summed_more terms history e.seat e.event (reply_of terms history e may) front (so front))
 
-pub is_settled : (terms : Terms) (history : List Entry) (lines : List FileLine) → Legal terms history → Accounts lines history → IsSettled history
-is_settled terms history lines legal a =
+pub is_settled : (terms : Terms) (history : List Entry) (lines : List FileLine) (voids : List ℕ) → Legal terms history → Accounts lines voids history → IsSettled history
+is_settled terms history lines voids legal a =
     let limit = terms.range.lo + terms.range.size in
     let (g, s, v) = summed terms history legal legal in
-    let both = sum_below_both limit (λ n. count_by (seals n) history) (λ n. count_by (voids n) history) in
-    let same = sum_below_as limit (λ n. count_by (seals n) history + count_by (voids n) history) (λ n. times_granted n history)
+    let both = sum_below_both limit (λ n. count_by (seals n) history) (λ n. count_by (spoils n) history) in
+    let same = sum_below_as limit (λ n. count_by (seals n) history + count_by (spoils n) history) (λ n. times_granted n history)
     (λ n. let told = a.told n in let all = a.granted n in omega arith) in
     g ∙ same ∙ both ∙ (λ i. sym s i + sym v i)
 
@@ -414,8 +437,9 @@ told_twice (line ∷ lines) (suc i) (suc j) n bytes more name another less at al
     let two = told_twice lines i j n bytes more name another (omega arith) at also in
     let all = tells_cons n line lines in omega arith
 
-pub are_numbered : (terms : Terms) (history : List Entry) (lines : List FileLine) → Legal terms history → Accounts lines history → AreNumbered terms.range lines
-are_numbered terms history lines legal a = record {
+pub are_numbered : (terms : Terms) (history : List Entry) (lines : List FileLine) (voids : List ℕ) → Legal terms history → Accounts lines voids history
+    → AreNumbered terms.range lines
+are_numbered terms history lines voids legal a = record {
   inside = λ i number bytes name at.
       let told = told_at lines i number bytes name at in
       let has = a.granted number in
@@ -438,17 +462,17 @@ are_numbered terms history lines legal a = record {
 
 -- ---- a run
 
-pub has_sealed : (happened : List (List FileLine) → Type 0) (names : List (List ℕ)) (ledger : LedgerView) (seats : List SeatView) (history : List Entry) (status : ℕ) (old new : Option (List ℕ))
-    (failures failures' : Option ℕ) (steps steps' : Option (List Step)) → AreAllSeats ledger seats → IsWhole ledger.terms seats history
-    → AreSealed happened ledger.terms.seats names (operations_of seats) status old new failures failures' steps steps'
-    → HasSealed happened names ledger.terms history status old new failures failures' steps steps'
-has_sealed happened names ledger seats history status old new failures failures' steps steps' all whole s =
-    let accounts = accounts_whole s.worked.lines ledger seats history all whole s.accounts in record {
+pub has_sealed : (happened : List (List FileLine) → List ℕ → Type 0) (names : List (List ℕ)) (ledger : LedgerView) (seats : List SeatView) (history : List Entry) (status : ℕ) (old new : Option (List ℕ))
+    (failures failures' : Option ℕ) → AreAllSeats ledger seats → IsWhole ledger.terms seats history
+    → AreSealed happened ledger.terms.seats names (operations_of seats) status old new failures failures'
+    → HasSealed happened names ledger.terms history status old new failures failures'
+has_sealed happened names ledger seats history status old new failures failures' all whole s =
+    let accounts = accounts_whole s.worked.lines s.worked.voids ledger seats history all whole s.accounts in record {
       worked = s.worked;
-      numbered = are_numbered ledger.terms history s.worked.lines whole.legal accounts;
+      numbered = are_numbered ledger.terms history s.worked.lines s.worked.voids whole.legal accounts;
       legal = whole.legal;
       accounts = accounts;
-      settled = is_settled ledger.terms history s.worked.lines whole.legal accounts;
+      settled = is_settled ledger.terms history s.worked.lines s.worked.voids whole.legal accounts;
     }
 
 -- ---- new seats

@@ -7,7 +7,7 @@ use Rattle.journal_core.specs.declared.entry.Event.TheVariants.{Settled}
 use Rattle.journal_core.specs.declared.entry.Way.{Way}
 use Rattle.journal_core.specs.declared.entry.Way.TheVariants as ended
 use Rattle.journal_core.specs.History.{entry, times_granted, times_settled}
-use Rattle.io_core.specs.Streams.{Appends, AppendsFront}
+use Rattle.io_core.specs.Streams.{Appends, AppendsFront, Keeps}
 use Rattle.container_core.specs.declared.fault.SealFault.TheVariants as sealing_fault
 use Rattle.crew_core.specs.declared.outcome.Outcome.{Outcome}
 use Rattle.crew_core.specs.declared.outcome.Outcome.TheVariants as job
@@ -20,11 +20,12 @@ use Rattle.command_core.specs.declared.line.FileOutcome.TheVariants.{Sealed, Fai
 use Rattle.command_core.specs.declared.line.FileFault.{FileFault}
 use Rattle.command_core.specs.declared.line.FileFault.TheVariants.{CannotOpen, OutputExists, CannotCreate, OutOfMemory}
 use Rattle.command_core.specs.declared.line.FileFault.TheVariants.{Unsealed}
-use Rattle.command_core.specs.Folder.{Step, Created, stepped}
+use Rattle.command_core.specs.declared.folder.FolderFault.{FolderFault}
+use Rattle.command_core.specs.declared.folder.FolderFault.TheVariants as folder_fault
 use Rattle.command_core.specs.Lines.{FileLine}
-use Rattle.sealer_core.specs.Sealing.{IsOfSealing, Accounts, unissued_as, creations_of, endings_of, group_steps}
-use Rattle.sealer_core.specs.Sealing.{line_of, prepared, sealed_name, times_sealed, times_voided, times_told}
-use Rattle.command_core.specs.Trace.{Finishes, tape}
+use Rattle.sealer_core.specs.Sealing.{IsOfSealing, Accounts, unissued_as, line_of, prepared, sealed_name, void_at}
+use Rattle.sealer_core.specs.Sealing.{times_in, times_sealed, times_voided, times_told}
+use Rattle.command_core.specs.Trace.{Discards, Finishes, tape}
 use Rattle.command_core.specs.Trace as trace
 use Rattle.command_core.specs.Work.{AreTold}
 
@@ -40,43 +41,43 @@ IsUnmade _ = ⊥
 
 abbrev pub name_of : {W : Type 0} → Prepared W → List ℕ
 name_of (Refused name fault) = name.now
-name_of (Unread name output fault) = name.now
+name_of (Unread name output writer fault) = name.now
 name_of (Read name output writer bytes) = name.now
 
 -- its output has the name that is the file's
 abbrev pub IsPrepared : {W : Type 0} → Prepared W → Type 0
 IsPrepared (Refused name fault) = IsUnmade fault
-IsPrepared (Unread name output fault) = string_bytes output ≡ sealed_name name.now
+IsPrepared (Unread name output writer fault) = string_bytes output ≡ sealed_name name.now
 IsPrepared (Read name output writer bytes) = string_bytes output ≡ sealed_name name.now
-
--- the steps on outputs that have been made for it
-abbrev pub made_for : {W : Type 0} → Prepared W → List Step
-made_for (Refused name fault) = []
-made_for (Unread name output fault) = Created (sealed_name name.now) ∷ []
-made_for (Read name output writer bytes) = Created (sealed_name name.now) ∷ []
 
 -- how many bytes it has, where it was read
 abbrev pub read_of : {W : Type 0} → Prepared W → List ℕ
 read_of (Refused name fault) = []
-read_of (Unread name output fault) = []
+read_of (Unread name output writer fault) = []
 read_of (Read name output writer bytes) = bytes ∷ []
 
 -- ---- what happens before the sealing
 
+-- its input was opened, and its output was refused
+abbrev pub IsRefused : List ℕ → FolderFault → List trace.Event → Type 0
+IsRefused name fault events = (input : List ℕ)
+    × (events ≡ trace.Reading name input ∷ trace.Refused (sealed_name name) fault ∷ [])
+
 -- what happens for a file whose output isn't created
 abbrev pub IsRefusal : List ℕ → FileFault → List trace.Event → Type 0
-IsRefusal name CannotOpen events = events ≡ []
 IsRefusal name OutOfMemory events = events ≡ []
-IsRefusal name OutputExists events = (input : List ℕ) × (events ≡ trace.Reading name input ∷ [])
-IsRefusal name CannotCreate events = (input : List ℕ) × (events ≡ trace.Reading name input ∷ [])
+IsRefusal name CannotOpen events = events ≡ trace.Unread name ∷ []
+IsRefusal name OutputExists events = IsRefused name folder_fault.Exists events
+IsRefusal name CannotCreate events = IsRefused name folder_fault.Failed events
 IsRefusal name _ events = ⊥
 
 module _ {W : Type 0} (taken : W → Option (List ℕ)) where
-  -- What happens for a file before the sealing, and its input, where this was read: then its output took nothing so far.
+  -- What happens for a file before the sealing, and its input, where this was read. Its output took nothing so far.
   abbrev pub IsBegun : Prepared W → List (List ℕ) → List trace.Event → Type 0
   IsBegun (Refused name fault) inputs events = (inputs ≡ []) × IsRefusal name.now fault events
-  IsBegun (Unread name output fault) inputs events =
-      (inputs ≡ []) × ((input : List ℕ) × (events ≡ prepared name.now input))
+  IsBegun (Unread name output writer fault) inputs events =
+      (inputs ≡ []) × (taken writer ≡ Some (tape (sealed_name name.now) []))
+      × ((input : List ℕ) × (events ≡ prepared name.now input))
   IsBegun (Read name output writer bytes) inputs events = (input : List ℕ) × (inputs ≡ input ∷ [])
       × (bytes ≡ length input) × (taken writer ≡ Some (tape (sealed_name name.now) []))
       × (events ≡ prepared name.now input)
@@ -110,9 +111,11 @@ HasEnded device (job.Unissued seat fault) = ⊤
 abbrev pub IsHeld : ℕ → ℕ → Outcome → Type 0
 IsHeld seats device o = (seat_of o < seats) × HasEnded device o
 
--- Lines and operations of a ledger agree, where the numbers of these outcomes are granted and not settled yet.
-pub record AreHeld (lines : List FileLine) (outcomes : List Outcome) (operations : List Entry) : Type 0 where
+-- Lines, void numbers and operations of a ledger agree, where the numbers of these outcomes are granted and not settled yet.
+pub record AreHeld (lines : List FileLine) (voids : List ℕ) (outcomes : List Outcome) (operations : List Entry)
+    : Type 0 where
   pub told : (number : ℕ) → times_sealed number operations ≡ times_told number lines
+  pub voided : (number : ℕ) → times_voided number operations ≡ times_in number voids
   pub granted : (number : ℕ) → (times_told number lines + times_voided number operations)
       + count_by (holds number) outcomes ≡ times_granted number operations
 
@@ -158,51 +161,70 @@ IsPut container number bytes old new end = (end ≡ Failed (Unsealed sealing_fau
     × AppendsFront old new container
 
 -- A file of so many bytes ends by the outcome of its job: its output gets the container that was sealed, under the
--- number that this was sealed under; or the file failed as the outcome says.
+-- number that this was sealed under; or the file failed as the outcome says, and its output gets nothing.
 abbrev pub IsEndOf : ℕ → Option (List ℕ) → Option (List ℕ) → Outcome → FileOutcome → Type 0
 IsEndOf bytes old new (job.Sealed seat container spent) end = IsPut container.items spent.number bytes old new end
-IsEndOf bytes old new (job.Spoiled seat spent) end = end ≡ Failed (Unsealed sealing_fault.OutOfMemory)
-IsEndOf bytes old new (job.Unissued seat fault) end = end ≡ Failed (unissued_as fault)
+IsEndOf bytes old new (job.Spoiled seat spent) end =
+    (end ≡ Failed (Unsealed sealing_fault.OutOfMemory)) × Keeps old new
+IsEndOf bytes old new (job.Unissued seat fault) end = (end ≡ Failed (unissued_as fault)) × Keeps old new
 
 -- It ends by the first of the outcomes. Where there is none memory for them was refused.
 abbrev pub IsEndBy : ℕ → Option (List ℕ) → Option (List ℕ) → List Outcome → FileOutcome → Type 0
-IsEndBy bytes old new [] end = end ≡ Failed (Unsealed sealing_fault.OutOfMemory)
+IsEndBy bytes old new [] end = (end ≡ Failed (Unsealed sealing_fault.OutOfMemory)) × Keeps old new
 IsEndBy bytes old new (outcome ∷ outcomes) end = IsEndOf bytes old new outcome end
 
--- Its output was finished with what its writer tells, where the file was sealed; else its removal was tried.
+-- the void number of the file, where it has one: that of its outcome, unless the file was sealed
+abbrev pub void_of : Outcome → FileOutcome → List ℕ
+void_of (job.Sealed seat container spent) end = void_at spent.number end
+void_of (job.Spoiled seat spent) end = spent.number ∷ []
+void_of (job.Unissued seat fault) end = []
+
+abbrev pub void_by : List Outcome → FileOutcome → List ℕ
+void_by [] end = []
+void_by (outcome ∷ outcomes) end = void_of outcome end
+
+abbrev pub void_in : {W : Type 0} → Prepared W → List Outcome → FileOutcome → List ℕ
+void_in (Refused name fault) outcomes end = []
+void_in (Unread name output writer fault) outcomes end = []
+void_in (Read name output writer bytes) outcomes end = void_by outcomes end
+
+-- Its output was finished with what its writer tells, where the file was sealed; else it was given up with that.
 abbrev pub IsClosed : List ℕ → Option (List ℕ) → FileOutcome → List trace.Event → Type 0
 IsClosed output taken (Sealed number bytes) events = Finishes output taken events
-IsClosed output taken _ events = trace.Removes output events
+IsClosed output taken _ events = Discards output taken events
 
 -- A file ends by its own fault, or where it was read by the first of the outcomes; and so its output is closed.
 abbrev pub IsEndIn : {W : Type 0} → (W → Option (List ℕ)) → List Outcome → Prepared W → FileOutcome → List trace.Event
     → Type 0
 IsEndIn taken outcomes (Refused name fault) end events = (end ≡ Failed fault) × (events ≡ [])
-IsEndIn taken outcomes (Unread name output fault) end events =
-    (end ≡ Failed (Unsealed fault)) × trace.Removes (sealed_name name.now) events
+IsEndIn taken outcomes (Unread name output writer fault) end events =
+    (end ≡ Failed (Unsealed fault)) × Discards (sealed_name name.now) (taken writer) events
 IsEndIn taken outcomes (Read name output writer bytes) end events = (new : Option (List ℕ))
     × IsEndBy bytes (taken writer) new outcomes end × IsClosed (sealed_name name.now) new end events
 
 -- the outcomes that are left for the files behind it: a file that was read has the first one, and no other file has any
 abbrev pub left_by : {W : Type 0} → Prepared W → List Outcome → List Outcome
 left_by (Refused name fault) outcomes = outcomes
-left_by (Unread name output fault) outcomes = outcomes
+left_by (Unread name output writer fault) outcomes = outcomes
 left_by (Read name output writer bytes) outcomes = drop 1 outcomes
 
--- Files end in turn: with these lines, and these events.
-abbrev pub IsEndOfAll : {W : Type 0} → (W → Option (List ℕ)) → List (Prepared W) → List Outcome → List FileLine
+-- Files end in turn: with these lines, these void numbers, and these events.
+abbrev pub IsEndOfAll : {W : Type 0} → (W → Option (List ℕ)) → List (Prepared W) → List Outcome → List FileLine → List ℕ
     → List trace.Event → Type 0
-IsEndOfAll taken [] outcomes lines events = (lines ≡ []) × (events ≡ [])
-IsEndOfAll taken (file ∷ files) outcomes lines events = (end : FileOutcome) × (more : List FileLine)
-    × (first : List trace.Event) × (rest : List trace.Event) × IsEndIn taken outcomes file end first
-    × IsEndOfAll taken files (left_by file outcomes) more rest
-    × (lines ≡ line_of (name_of file) end ∷ more) × (events ≡ first ++ rest)
+IsEndOfAll taken [] outcomes lines voids events = (lines ≡ []) × (voids ≡ []) × (events ≡ [])
+IsEndOfAll taken (file ∷ files) outcomes lines voids events = (end : FileOutcome) × (more : List FileLine)
+    × (others : List ℕ) × (first : List trace.Event) × (rest : List trace.Event) × IsEndIn taken outcomes file end first
+    × IsEndOfAll taken files (left_by file outcomes) more others rest
+    × (lines ≡ line_of (name_of file) end ∷ more) × (voids ≡ void_in file outcomes end ++ others)
+    × (events ≡ first ++ rest)
 
 -- So far they did, and where the files that are left do so too all of them do.
 pub record EndsSoFar {W : Type 0} (taken : W → Option (List ℕ)) (files left : List (Prepared W))
-    (outcomes outcomes' : List Outcome) (lines : List FileLine) (events : List trace.Event) : Type 0 where
-  pub all : (more : List FileLine) (rest : List trace.Event) → IsEndOfAll taken left outcomes' more rest
-      → IsEndOfAll taken files outcomes (lines ++ more) (events ++ rest)
+    (outcomes outcomes' : List Outcome) (lines : List FileLine) (voids : List ℕ) (events : List trace.Event)
+    : Type 0 where
+  pub all : (more : List FileLine) (others : List ℕ) (rest : List trace.Event)
+      → IsEndOfAll taken left outcomes' more others rest
+      → IsEndOfAll taken files outcomes (lines ++ more) (voids ++ others) (events ++ rest)
 
 -- ---- the lines of a group
 
@@ -210,43 +232,42 @@ pub record EndsSoFar {W : Type 0} (taken : W → Option (List ℕ)) (files left 
 abbrev pub refused_lines : List (List ℕ) → List FileLine
 refused_lines names = map (λ name. line_of name (Failed OutOfMemory)) names
 
--- Files of a group have their lines: those, in order; and so stand status, operations and steps behind them, where they
--- stood so before.
-pub record AreEnded (happened : List FileLine → Type 0) (names : List (List ℕ)) (made : List Step) (outcomes outcomes' : List Outcome)
+-- Files of a group have their lines: those, in order; and so stand status and operations behind them, where they stood so
+-- before.
+pub record AreEnded (happened : List FileLine → List ℕ → Type 0) (names : List (List ℕ)) (outcomes outcomes' : List Outcome)
     (operations operations' : List Entry) (status status' : ℕ)
-    (old new : Option (List ℕ)) (failures failures' : Option ℕ) (steps steps' : Option (List Step)) : Type 0 where
+    (old new : Option (List ℕ)) (failures failures' : Option ℕ) : Type 0 where
   pub lines : List FileLine
+  pub voids : List ℕ
   pub named : map (λ line. line.name) lines ≡ names
   pub fitting : All (λ line. IsOfSealing line.outcome) lines
-  pub created : flat_map creations_of lines ≡ made
-  pub stepwise : steps' ≡ stepped steps (flat_map endings_of lines)
   pub told : (before : List FileLine) (first : Option (List ℕ)) (count : Option ℕ)
       → AreTold status before first old count failures
       → AreTold status' (before ++ lines) first new count failures'
-  pub accounts : (before : List FileLine) → AreHeld before outcomes operations
-      → AreHeld (before ++ lines) outcomes' operations'
-  pub done : happened lines
+  pub accounts : (before : List FileLine) (earlier : List ℕ) → AreHeld before earlier outcomes operations
+      → AreHeld (before ++ lines) (earlier ++ voids) outcomes' operations'
+  pub done : happened lines voids
 
 -- So far it stands with these files, of which the latter have no line yet.
-pub record AreEnding {W : Type 0} (happened : List FileLine → Type 0) (files left : List (Prepared W)) (outcomes outcomes' : List Outcome)
-    (operations operations' : List Entry) (status status' : ℕ)
-    (old new : Option (List ℕ)) (failures failures' : Option ℕ) (steps steps' : Option (List Step)) : Type 0 where
+pub record AreEnding {W : Type 0} (happened : List FileLine → List ℕ → Type 0) (files left : List (Prepared W))
+    (outcomes outcomes' : List Outcome) (operations operations' : List Entry) (status status' : ℕ)
+    (old new : Option (List ℕ)) (failures failures' : Option ℕ) : Type 0 where
   pub names : List (List ℕ)
-  pub made : List Step
   pub named : names ++ map name_of left ≡ map name_of files
-  pub created : made ++ flat_map made_for left ≡ flat_map made_for files
-  pub ended : AreEnded happened names made outcomes outcomes' operations operations' status status'
-      old new failures failures' steps steps'
+  pub ended : AreEnded happened names outcomes outcomes' operations operations' status status'
+      old new failures failures'
 
--- A group was worked: its files have their lines, and so stand status, operations and steps behind them.
-pub record IsGroup (happened : List FileLine → Type 0) (names : List (List ℕ)) (operations operations' : List Entry) (status status' : ℕ)
-    (old new : Option (List ℕ)) (failures failures' : Option ℕ) (steps steps' : Option (List Step)) : Type 0 where
+-- A group was worked: its files have their lines, and so stand status and operations behind them.
+pub record IsGroup (happened : List FileLine → List ℕ → Type 0) (names : List (List ℕ))
+    (operations operations' : List Entry) (status status' : ℕ)
+    (old new : Option (List ℕ)) (failures failures' : Option ℕ) : Type 0 where
   pub lines : List FileLine
+  pub voids : List ℕ
   pub named : map (λ line. line.name) lines ≡ names
   pub fitting : All (λ line. IsOfSealing line.outcome) lines
-  pub stepwise : steps' ≡ stepped steps (group_steps lines)
   pub told : (before : List FileLine) (first : Option (List ℕ)) (count : Option ℕ)
       → AreTold status before first old count failures
       → AreTold status' (before ++ lines) first new count failures'
-  pub accounts : (before : List FileLine) → Accounts before operations → Accounts (before ++ lines) operations'
-  pub done : happened lines
+  pub accounts : (before : List FileLine) (earlier : List ℕ) → Accounts before earlier operations
+      → Accounts (before ++ lines) (earlier ++ voids) operations'
+  pub done : happened lines voids

@@ -1,10 +1,10 @@
 -- What `pipe_all` does with a stream, and how its line stands to the operations of the ledger.
-use Rattle.std.specs.Prelude.{◌≡◌, ◌⊎◌, ℕ, ◌<◌, List, [], ◌∷◌, codes, Option, Ok, Err}
+use Rattle.std.specs.Prelude.{◌≡◌, ℕ, List, [], ◌∷◌, codes, Option, Ok, Err}
 use Rattle.container_core.specs.Shape.{ShapeView}
 use Rattle.engine_core.specs.Piped.{HasPipedContainer}
 use Rattle.journal_core.specs.declared.entry.Entry.{Entry}
 use Rattle.journal_core.specs.declared.terms.Terms.{Terms}
-use Rattle.journal_core.specs.History.{Legal, times_granted}
+use Rattle.journal_core.specs.History.{Legal}
 use Rattle.journal_core.specs.Range.{prefix_of}
 use Rattle.command_core.specs.declared.line.FileFault.TheVariants.{NoNumber, Unsealed}
 use Rattle.command_core.specs.declared.line.FileOutcome.{FileOutcome}
@@ -23,19 +23,19 @@ module _ (key : List ℕ) (shape : ShapeView) (most : ℕ) (left left' : Option 
     pub read : (left' ≡ left) × (failures' ≡ failures)
     pub written : (taken' ≡ taken) × (refusals' ≡ refusals)
 
-  -- With `sealed` the engine sealed the whole stream under the number in the line, and its length is in the line; with a fault of
-  -- the sealing nothing was touched, or the engine ended with this fault under a number that was granted; without a number nothing
-  -- was touched.
-  abbrev pub WorksStream : ℕ → List Entry → FileOutcome → Type 0
-  WorksStream device operations (Sealed number bytes) =
-      HasPipedContainer key shape (prefix_of device number) most left left' failures failures' taken taken' refusals refusals'
-      (Ok bytes)
-  WorksStream device operations (Failed (Unsealed fault)) =
-      IsUntouched ⊎ ((number : ℕ) × (0 < times_granted number operations)
-      × HasPipedContainer key shape (prefix_of device number) most left left' failures failures' taken taken' refusals refusals'
-      (Err fault))
-  WorksStream device operations (Failed NoNumber) = IsUntouched
-  WorksStream device operations _ = ⊥
+  -- With `sealed` the engine sealed the whole stream under the number in the line, and its length is in the line. With a fault
+  -- of the sealing the engine ended with this fault under a number that is void; where none is, nothing was touched, and so
+  -- it is without a number. No stream has more than one.
+  abbrev pub WorksStream : ℕ → FileOutcome → List ℕ → Type 0
+  WorksStream device (Sealed number bytes) voids = (voids ≡ [])
+      × HasPipedContainer key shape (prefix_of device number) most left left' failures failures' taken taken'
+      refusals refusals' (Ok bytes)
+  WorksStream device (Failed NoNumber) voids = (voids ≡ []) × IsUntouched
+  WorksStream device (Failed (Unsealed fault)) [] = IsUntouched
+  WorksStream device (Failed (Unsealed fault)) (number ∷ []) =
+      HasPipedContainer key shape (prefix_of device number) most left left' failures failures' taken taken'
+      refusals refusals' (Err fault)
+  WorksStream device _ voids = ⊥
 
 -- ---- the line and the numbers
 
@@ -43,12 +43,14 @@ module _ (key : List ℕ) (shape : ShapeView) (most : ℕ) (left left' : Option 
 abbrev pub stream_name : List ℕ
 stream_name = codes "-"
 
--- A stream was worked, and these operations of a ledger go with its line.
+-- A stream was worked, and these void numbers and these operations of a ledger go with its line.
 pub record IsPiped (key : List ℕ) (shape : ShapeView) (most : ℕ) (left left' : Option (List ℕ)) (failures failures' : Option ℕ)
     (taken taken' : Option (List ℕ)) (refusals refusals' : Option ℕ) (device : ℕ) (operations : List Entry)
     (outcome : FileOutcome) : Type 0 where
-  pub works : WorksStream key shape most left left' failures failures' taken taken' refusals refusals' device operations outcome
-  pub accounts : Accounts (line_of stream_name outcome ∷ []) operations
+  pub voids : List ℕ
+  pub works : WorksStream key shape most left left' failures failures' taken taken' refusals refusals' device outcome
+      voids
+  pub accounts : Accounts (line_of stream_name outcome ∷ []) voids operations
 
 -- So it was, over one legal history, with a number of the range, and none is open; and its line was told, by a writer that had
 -- taken `old` and has `new` now, with so many failures.

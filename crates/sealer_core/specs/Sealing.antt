@@ -1,6 +1,6 @@
 -- What `seal_all` does with a list of files, and how its lines stand to the operations of the ledger.
 use Rattle.std.specs.Prelude.{⊤, ◌≡◌, ◌≢◌, ℕ, ◌+◌, ◌-◌, ◌<◌, ◌≤◌, ◌⊎◌, IsTrue, Bool, true, false, nat_eq, List, []}
-use Rattle.std.specs.Prelude.{◌∷◌, ◌++◌, count_by, slice_get, length, take, map, All, codes, Option, Some, None}
+use Rattle.std.specs.Prelude.{◌∷◌, ◌++◌, count_by, slice_get, length, take, map, All, codes, Option, Some, None, IfSome}
 use Rattle.std.specs.Prelude.{flat_map}
 use Rattle.journal_core.specs.declared.entry.Entry.{Entry}
 use Rattle.journal_core.specs.declared.entry.Event.TheVariants.{Granted, Exhausted, Settled}
@@ -10,7 +10,7 @@ use Rattle.journal_core.specs.History.{Legal, tally_of, times_granted}
 use Rattle.journal_core.specs.Range.{Numbers, prefix_of}
 use Rattle.container_core.specs.Container.{container}
 use Rattle.container_core.specs.Shape.{ShapeView}
-use Rattle.io_core.specs.Streams.{Appends, AppendsFront}
+use Rattle.io_core.specs.Streams.{Appends, AppendsFront, IsFront, Keeps}
 use Rattle.container_core.specs.declared.fault.SealFault.TheVariants as sealing_fault
 use Rattle.ledger_core.specs.declared.fault.IssueFault.{IssueFault}
 use Rattle.ledger_core.specs.declared.fault.IssueFault.TheVariants as issue_fault
@@ -33,7 +33,8 @@ use Rattle.command_core.specs.declared.line.FileFault.TheVariants.{CannotOpen, O
 use Rattle.command_core.specs.declared.line.FileFault.TheVariants.{NoNumber, Unsealed}
 use Rattle.command_core.specs.declared.line.FileOutcome.{FileOutcome}
 use Rattle.command_core.specs.declared.line.FileOutcome.TheVariants.{Sealed, Opened, Good, Shown, Failed}
-use Rattle.command_core.specs.Folder.{Step, Created, Finished, Removing, stepped}
+use Rattle.command_core.specs.declared.folder.FolderFault.{FolderFault}
+use Rattle.command_core.specs.declared.folder.FolderFault.TheVariants as folder_fault
 use Rattle.command_core.specs.Lines.{FileLine}
 use Rattle.command_core.specs.Trace.{Event, Does}
 use Rattle.command_core.specs.Trace as trace
@@ -63,41 +64,17 @@ IsOfNumber (Failed NoNumber) = ⊤
 IsOfNumber (Failed (Unsealed fault)) = ⊤
 IsOfNumber _ = ⊥
 
+-- one that it can have once a number was granted
+abbrev pub IsOfGrant : FileOutcome → Type 0
+IsOfGrant (Sealed number bytes) = ⊤
+IsOfGrant (Failed (Unsealed fault)) = ⊤
+IsOfGrant _ = ⊥
+
 -- the fault of a file for which no number was issued
 abbrev pub unissued_as : IssueFault → FileFault
 unissued_as issue_fault.Exhausted = NoNumber
 unissued_as issue_fault.SeatClosed = NoNumber
 unissued_as issue_fault.OutOfMemory = Unsealed sealing_fault.OutOfMemory
-
--- the steps on outputs that sealing a file makes: its output is created where the input was opened; then it is finished
--- where the file is sealed, and where the file fails its removal is tried
-abbrev pub created_as : List ℕ → FileOutcome → List Step
-created_as output (Sealed number bytes) = Created output ∷ []
-created_as output (Failed NoNumber) = Created output ∷ []
-created_as output (Failed (Unsealed fault)) = Created output ∷ []
-created_as output _ = []
-
-abbrev pub ended_as : List ℕ → FileOutcome → List Step
-ended_as output (Sealed number bytes) = Finished output ∷ []
-ended_as output (Failed NoNumber) = Removing output ∷ []
-ended_as output (Failed (Unsealed fault)) = Removing output ∷ []
-ended_as output _ = []
-
-abbrev pub creations_of : FileLine → List Step
-creations_of line = created_as (sealed_name line.name) line.outcome
-
-abbrev pub endings_of : FileLine → List Step
-endings_of line = ended_as (sealed_name line.name) line.outcome
-
--- the steps of files that are sealed side by side: all outputs are created, in order, before the first of them is
--- finished or removed
-abbrev pub group_steps : List FileLine → List Step
-group_steps group = flat_map creations_of group ++ flat_map endings_of group
-
--- the steps so far, and that the output of this name was finished where its file was sealed
-abbrev pub finished_after : Option (List Step) → List ℕ → FileOutcome → Option (List Step)
-finished_after steps output (Sealed number bytes) = stepped steps (Finished output ∷ [])
-finished_after steps output _ = steps
 
 -- ---- what happens in the folder for one file
 
@@ -106,38 +83,79 @@ abbrev pub prepared : List ℕ → List ℕ → List Event
 prepared name input = trace.Reading name input ∷ trace.Created (sealed_name name) ∷ []
 
 -- nothing
-abbrev pub IsUnopened : List Event → List Event → Type 0
-IsUnopened before after = (before ≡ []) × (after ≡ [])
+abbrev pub IsUnbegun : List Event → List Event → Type 0
+IsUnbegun before after = (before ≡ []) × (after ≡ [])
 
--- its input was read, and no output created
-abbrev pub IsUncreated : List ℕ → List Event → List Event → Type 0
-IsUncreated name before after = (input : List ℕ) × (before ≡ trace.Reading name input ∷ []) × (after ≡ [])
+-- its input was not opened
+abbrev pub IsUnopened : List ℕ → List Event → List Event → Type 0
+IsUnopened name before after = (before ≡ trace.Unread name ∷ []) × (after ≡ [])
 
--- its output's removal was tried
-abbrev pub IsRemoved : List ℕ → List Event → List Event → Type 0
-IsRemoved name before after =
-    (input : List ℕ) × (before ≡ prepared name input) × (after ≡ trace.Removing (sealed_name name) ∷ [])
+-- its input was opened, and its output was refused
+abbrev pub IsUncreated : List ℕ → FolderFault → List Event → List Event → Type 0
+IsUncreated name fault before after = (input : List ℕ)
+    × (before ≡ trace.Reading name input ∷ trace.Refused (sealed_name name) fault ∷ []) × (after ≡ [])
 
--- What goes with the line of a file of this name that is to be sealed under a key, in a shape, by a device: what happens
--- before the files of its group are sealed, and what behind that. A line that says `sealed` goes with an output that was
--- created once and finished once, with the container of the input that was read as this name, under the number in the
--- line.
-abbrev pub Sealing : List ℕ → ShapeView → ℕ → List ℕ → FileOutcome → List Event → List Event → Type 0
-Sealing key shape device name (Sealed number bytes) before after = (input : List ℕ) × (bytes ≡ length input)
-    × (before ≡ prepared name input)
+-- What an output held that was given up. Where no number is void it held nothing; under a void number it held a beginning
+-- of its input's container. No output has more than one.
+abbrev pub HeldUnder : List ℕ → ShapeView → ℕ → List ℕ → List ℕ → List ℕ → Type 0
+HeldUnder key shape device input [] held = held ≡ []
+HeldUnder key shape device input (number ∷ []) held = IsFront held (container key shape (prefix_of device number) input)
+HeldUnder key shape device input (number ∷ another ∷ numbers) held = ⊥
+
+-- its output was given up
+abbrev pub IsDiscarded : List ℕ → ShapeView → ℕ → List ℕ → List ℕ → List Event → List Event → Type 0
+IsDiscarded key shape device name void before after = (input : List ℕ) × (held : List ℕ)
+    × HeldUnder key shape device input void held × (before ≡ prepared name input)
+    × (after ≡ trace.Discarded (sealed_name name) held ∷ [])
+
+-- What goes with the line of a file of this name that is to be sealed under a key, in a shape, by a device: the number
+-- that was granted for it and is void, in a list of one at most; what happens before the files of its group are sealed;
+-- and what behind that. A line that says `sealed` goes with an output that was created once and finished once, with the
+-- container of the input that was read as this name, under the number in the line.
+abbrev pub Sealing : List ℕ → ShapeView → ℕ → List ℕ → FileOutcome → List ℕ → List Event → List Event → Type 0
+Sealing key shape device name (Sealed number bytes) void before after = (input : List ℕ) × (void ≡ [])
+    × (bytes ≡ length input) × (before ≡ prepared name input)
     × (after ≡ trace.Finished (sealed_name name) (container key shape (prefix_of device number) input) ∷ [])
-Sealing key shape device name (Failed CannotOpen) before after = IsUnopened before after
-Sealing key shape device name (Failed OutOfMemory) before after = IsUnopened before after
-Sealing key shape device name (Failed OutputExists) before after = IsUncreated name before after
-Sealing key shape device name (Failed CannotCreate) before after = IsUncreated name before after
-Sealing key shape device name (Failed NoNumber) before after = IsRemoved name before after
-Sealing key shape device name (Failed (Unsealed fault)) before after = IsRemoved name before after
-Sealing key shape device name _ before after = ⊥
+Sealing key shape device name (Failed OutOfMemory) void before after = (void ≡ []) × IsUnbegun before after
+Sealing key shape device name (Failed CannotOpen) void before after = (void ≡ []) × IsUnopened name before after
+Sealing key shape device name (Failed OutputExists) void before after =
+    (void ≡ []) × IsUncreated name folder_fault.Exists before after
+Sealing key shape device name (Failed CannotCreate) void before after =
+    (void ≡ []) × IsUncreated name folder_fault.Failed before after
+Sealing key shape device name (Failed NoNumber) void before after =
+    (void ≡ []) × IsDiscarded key shape device name [] before after
+Sealing key shape device name (Failed (Unsealed fault)) void before after =
+    IsDiscarded key shape device name void before after
+Sealing key shape device name _ void before after = ⊥
 
 -- its output was finished with what its writer tells, where the file was sealed; else nothing
 abbrev pub EndsBy : List ℕ → Option (List ℕ) → FileOutcome → List Event → Type 0
 EndsBy output taken (Sealed number bytes) events = trace.Finishes output taken events
 EndsBy output taken _ events = trace.Nothing events
+
+-- What the writer of an output took, whose input was `left` to be read. Where no number is void it took nothing; under a
+-- void number it took a beginning of the input's container.
+abbrev pub PutsUnder : List ℕ → ShapeView → ℕ → Option (List ℕ) → Option (List ℕ) → Option (List ℕ) → List ℕ → Type 0
+PutsUnder key shape device left taken taken' [] = Keeps taken taken'
+PutsUnder key shape device left taken taken' (number ∷ []) =
+    IfSome left (λ input. AppendsFront taken taken' (container key shape (prefix_of device number) input))
+PutsUnder key shape device left taken taken' (number ∷ another ∷ numbers) = ⊥
+
+-- A file that is sealed has no void number, and its output took the whole container of its input.
+abbrev pub Puts : List ℕ → ShapeView → ℕ → Option (List ℕ) → Option (List ℕ) → Option (List ℕ) → FileOutcome → List ℕ
+    → Type 0
+Puts key shape device left taken taken' (Sealed number bytes) void =
+    (void ≡ []) × IfSome left (λ input. (bytes ≡ length input)
+    × Appends taken taken' (container key shape (prefix_of device number) input))
+Puts key shape device left taken taken' (Failed NoNumber) void = (void ≡ []) × Keeps taken taken'
+Puts key shape device left taken taken' (Failed (Unsealed fault)) void =
+    PutsUnder key shape device left taken taken' void
+Puts key shape device left taken taken' _ void = ⊥
+
+-- the void number of a file whose sealing was granted this one: it has none where the file was sealed
+abbrev pub void_at : ℕ → FileOutcome → List ℕ
+void_at number (Sealed n bytes) = []
+void_at number _ = number ∷ []
 
 -- a fact of a file that was sealed
 abbrev pub IfSealed : FileOutcome → (ℕ → ℕ → Type 0) → Type 0
@@ -172,8 +190,8 @@ seals number e = elim e.event [
   | Settled n way ↦ elim way [ ended.Sealed ↦ nat_eq number n | ended.Void ↦ false ]
 ]
 
-abbrev pub voids : ℕ → Entry → Bool
-voids number e = elim e.event [
+abbrev pub spoils : ℕ → Entry → Bool
+spoils number e = elim e.event [
   | Granted n ↦ false
   | Exhausted ↦ false
   | Settled n way ↦ elim way [ ended.Sealed ↦ false | ended.Void ↦ nat_eq number n ]
@@ -183,17 +201,23 @@ abbrev pub times_sealed : ℕ → List Entry → ℕ
 times_sealed number history = count_by (seals number) history
 
 abbrev pub times_voided : ℕ → List Entry → ℕ
-times_voided number history = count_by (voids number) history
+times_voided number history = count_by (spoils number) history
+
+-- how often a number stands among these
+abbrev pub times_in : ℕ → List ℕ → ℕ
+times_in number numbers = count_by (λ other. nat_eq number other) numbers
 
 -- the operations of some seats, each seat's in order
 abbrev pub operations_of : List SeatView → List Entry
 operations_of seats = flat_map (λ seat. seat.mine) seats
 
--- The lines and the operations of a ledger agree: each number was settled as sealed as often as a line says so, and granted as
--- often as that and as it was settled as void. So no number is open, and where none is granted twice, each that was granted
--- was settled once: as sealed where a line says so, and as void where none does.
-pub record Accounts (lines : List FileLine) (operations : List Entry) : Type 0 where
+-- The lines, the void numbers of their files and the operations of a ledger agree: each number was settled as sealed as
+-- often as a line says so, as void as often as it is the void number of a file, and granted as often as both together. So
+-- no number is open, and where none is granted twice, each that was granted was settled once: as sealed where a line says
+-- so, and as void where it is the void number of a file.
+pub record Accounts (lines : List FileLine) (voids : List ℕ) (operations : List Entry) : Type 0 where
   pub told : (number : ℕ) → times_sealed number operations ≡ times_told number lines
+  pub voided : (number : ℕ) → times_voided number operations ≡ times_in number voids
   pub granted : (number : ℕ)
       → times_told number lines + times_voided number operations ≡ times_granted number operations
 
@@ -259,9 +283,11 @@ abbrev pub FoldsFiles : {D F : Type 0} {g : disk.Ghosts D} → (Held (FileStore 
 FoldsFiles {g} kept folded =
     FoldsARange over_files kept folded (λ store left. AreClean g left.log left.db → AreFolded store left)
 
--- a file's line, and what happened for it: before the files of its group were sealed, and behind that
+-- a file's line, its void number where it has one, and what happened for it: before the files of its group were sealed,
+-- and behind that
 pub record Part : Type 0 where
   pub line : FileLine
+  pub void : List ℕ
   pub before : List Event
   pub after : List Event
 
@@ -269,58 +295,71 @@ pub record Part : Type 0 where
 abbrev pub group_events : List Part → List Event
 group_events parts = flat_map (λ part. part.before) parts ++ flat_map (λ part. part.after) parts
 
--- These events are those of the groups of lines, one group behind the other: each line goes with its own.
-pub record AreOfGroups (does : List ℕ → FileOutcome → List Event → List Event → Type 0) (groups : List (List FileLine))
-    (events : List Event) : Type 0 where
+-- the void numbers of a group, in the order of its files
+abbrev pub group_voids : List Part → List ℕ
+group_voids parts = flat_map (λ part. part.void) parts
+
+-- These events are those of the groups of lines, one group behind the other, and these numbers are void: each line goes
+-- with its own.
+pub record AreOfGroups (does : List ℕ → FileOutcome → List ℕ → List Event → List Event → Type 0)
+    (groups : List (List FileLine)) (voids : List ℕ) (events : List Event) : Type 0 where
   pub parts : List (List Part)
   pub lined : map (λ group. map (λ part. part.line) group) parts ≡ groups
-  pub each : All (λ group. All (λ part. does part.line.name part.line.outcome part.before part.after) group) parts
+  pub each : All (λ group. All (λ part. does part.line.name part.line.outcome part.void part.before part.after) group)
+      parts
+  pub numbers : voids ≡ flat_map group_voids parts
   pub joined : events ≡ flat_map group_events parts
 
--- What happened in the folder, where it is known, goes with the lines of these groups.
-abbrev pub Happened : List ℕ → ShapeView → ℕ → Option (List Event) → Option (List Event) → List (List FileLine) → Type 0
-Happened key shape device events events' groups = Does (AreOfGroups (Sealing key shape device) groups) events events'
+-- What happened in the folder, where it is known, goes with the lines of these groups and with these void numbers.
+abbrev pub Happened : List ℕ → ShapeView → ℕ → Option (List Event) → Option (List Event) → List (List FileLine)
+    → List ℕ → Type 0
+Happened key shape device events events' groups voids =
+    Does (AreOfGroups (Sealing key shape device) groups voids) events events'
 
--- the bytes of the outputs that were finished, in order
-abbrev pub finished_in : List Event → List (List ℕ)
-finished_in [] = []
-finished_in (trace.Reading name bytes ∷ events) = finished_in events
-finished_in (trace.Created name ∷ events) = finished_in events
-finished_in (trace.Finished name bytes ∷ events) = bytes ∷ finished_in events
-finished_in (trace.Removing name ∷ events) = finished_in events
+-- an output's bytes, where it holds any
+abbrev pub held_in : List ℕ → List (List ℕ)
+held_in [] = []
+held_in (byte ∷ bytes) = (byte ∷ bytes) ∷ []
+
+-- the bytes of the outputs that were finished or given up, in order, of those that hold any
+abbrev pub written_in : List Event → List (List ℕ)
+written_in [] = []
+written_in (trace.Reading name bytes ∷ events) = written_in events
+written_in (trace.Unread name ∷ events) = written_in events
+written_in (trace.Created name ∷ events) = written_in events
+written_in (trace.Refused name fault ∷ events) = written_in events
+written_in (trace.Finished name bytes ∷ events) = held_in bytes ++ written_in events
+written_in (trace.Discarded name bytes ∷ events) = held_in bytes ++ written_in events
 
 -- Every file was worked, in order and in groups of so many, the last of at most so many; their lines were told, and what
--- happened goes with the groups.
-pub record AreGrouped (happened : List (List FileLine) → Type 0) (lanes : ℕ) (names : List (List ℕ)) (status : ℕ) (old new : Option (List ℕ))
-    (failures failures' : Option ℕ)
-    (steps steps' : Option (List Step)) : Type 0 where
+-- happened goes with the groups and with the void numbers.
+pub record AreGrouped (happened : List (List FileLine) → List ℕ → Type 0) (lanes : ℕ) (names : List (List ℕ))
+    (status : ℕ) (old new : Option (List ℕ)) (failures failures' : Option ℕ) : Type 0 where
   pub groups : List (List FileLine)
   pub few : All (λ group. length group ≤ lanes) groups
   pub full : All (λ group. length group ≡ lanes) (take (length groups - 1) groups)
   pub lines : List FileLine
+  pub voids : List ℕ
   pub joined : lines ≡ flat_map (λ group. group) groups
   pub named : map (λ line. line.name) lines ≡ names
   pub fitting : All (λ line. IsOfSealing line.outcome) lines
   pub told : AreTold status lines old new failures failures'
-  pub stepwise : steps' ≡ stepped steps (flat_map group_steps groups)
-  pub done : happened groups
+  pub done : happened groups voids
 
--- So they were, and these operations of a ledger go with the lines.
-pub record AreSealed (happened : List (List FileLine) → Type 0) (lanes : ℕ) (names : List (List ℕ)) (operations : List Entry) (status : ℕ)
-    (old new : Option (List ℕ))
-    (failures failures' : Option ℕ) (steps steps' : Option (List Step)) : Type 0 where
-  pub worked : AreGrouped happened lanes names status old new failures failures' steps steps'
-  pub accounts : Accounts worked.lines operations
+-- So they were, and these operations of a ledger go with the lines and the void numbers.
+pub record AreSealed (happened : List (List FileLine) → List ℕ → Type 0) (lanes : ℕ) (names : List (List ℕ))
+    (operations : List Entry) (status : ℕ) (old new : Option (List ℕ)) (failures failures' : Option ℕ) : Type 0 where
+  pub worked : AreGrouped happened lanes names status old new failures failures'
+  pub accounts : Accounts worked.lines worked.voids operations
 
 -- So they were, with a group for as many files as the ledger has seats, over one legal history; no number stands in two
 -- lines, and none is open.
-pub record HasSealed (happened : List (List FileLine) → Type 0) (names : List (List ℕ)) (terms : Terms) (history : List Entry) (status : ℕ)
-    (old new : Option (List ℕ))
-    (failures failures' : Option ℕ) (steps steps' : Option (List Step)) : Type 0 where
-  pub worked : AreGrouped happened terms.seats names status old new failures failures' steps steps'
+pub record HasSealed (happened : List (List FileLine) → List ℕ → Type 0) (names : List (List ℕ)) (terms : Terms)
+    (history : List Entry) (status : ℕ) (old new : Option (List ℕ)) (failures failures' : Option ℕ) : Type 0 where
+  pub worked : AreGrouped happened terms.seats names status old new failures failures'
   pub numbered : AreNumbered terms.range worked.lines
   pub legal : Legal terms history
-  pub accounts : Accounts worked.lines history
+  pub accounts : Accounts worked.lines worked.voids history
   pub settled : IsSettled history
 
 -- what a journal got, where one was asked for: this text, or a beginning of it

@@ -5,9 +5,9 @@ ghost use Rattle.std.specs.Prelude.{flat_map};
 ghost use Rattle.journal_core.specs.declared.entry.Event.TheVariants.{Settled};
 ghost use Rattle.journal_core.specs.declared.entry.Way.TheVariants.{Sealed};
 ghost use Rattle.ledger_core.specs.Closing.{AreAllSeats};
-ghost use Rattle.command_core.specs.Folder.{stepped};
-ghost use Rattle.sealer_core.specs.Group.{name_of, IsPrepared, made_for, IsHeld, IsCounted, IsEnding, IsPut, IsEndOf};
+ghost use Rattle.sealer_core.specs.Group.{name_of, IsPrepared, IsHeld, IsCounted, IsEnding, IsPut, IsEndOf, void_by};
 ghost use Rattle.sealer_core.specs.Group.{IsEndBy, IsEndIn, left_by, read_of, AreHeld, AreOwed, OwesAt, IsOwed, SettledAt};
+ghost use Rattle.sealer_core.specs.Group.{void_in, void_of};
 ghost use Rattle.sealer_core.specs.Group.{AreEnded, IsEndOfAll, IsGroup, refused_lines};
 ghost use Rattle.command_core.specs.Lines.{FileLine};
 ghost use Rattle.command_core.specs.Trace.{Does};
@@ -15,7 +15,7 @@ ghost use Rattle.command_core.specs.Work.{AreTold};
 ghost use Rattle.crew_core.specs.Batch.{AreOutcomes};
 ghost use Rattle.crew_core.specs.declared.outcome.Outcome.{Outcome};
 ghost use Rattle.sealer_core.specs.Sealing.{Accounts, AreSealed, IsOfNumber, IsOfSealing, line_of, operations_of};
-ghost use Rattle.sealer_core.specs.Sealing.{EndsBy, Happened, created_as, ended_as, finished_after, sealed_name};
+ghost use Rattle.sealer_core.specs.Sealing.{EndsBy, Happened};
 
 use crate::lane::{fault_of, settle_of_file};
 use crate::prepare::{Prepared, prepare_group};
@@ -62,11 +62,11 @@ fn end_job<F: Folder>(
     ensures count { length seats.new ≡ length seats.old }
     ensures outcome { IsOfNumber result }
     ensures end { IsEndOf bytes (F.Writer.taken writer.old) (F.Writer.taken writer.new) outcome result }
-    ensures steps { F.steps folder.new ≡ finished_after (F.steps folder.old) output.now result }
     ensures told { Does (EndsBy output.now (F.Writer.taken writer.new) result) (F.told folder.old) (F.told folder.new) }
-    ensures accounts { (name : List ℕ) (lines : List FileLine) (others : List Outcome)
-        → AreHeld lines (outcome ∷ others) (operations_of seats.old)
-        → AreHeld (lines ++ line_of name result ∷ []) others (operations_of seats.new) }
+    ensures accounts { (name : List ℕ) (lines : List FileLine) (voids : List ℕ) (others : List Outcome)
+        → AreHeld lines voids (outcome ∷ others) (operations_of seats.old)
+        → AreHeld (lines ++ line_of name result ∷ []) (voids ++ void_of outcome result) others
+        (operations_of seats.new) }
     ensures owed { (others : List Outcome) → AreOwed seats.old (outcome ∷ others) → AreOwed seats.new others }
 {
     match outcome {
@@ -113,11 +113,11 @@ fn end_next<F: Folder>(
     ensures outcome { IsOfNumber result }
     ensures next { outcomes.new.items ≡ drop 1 outcomes.old.items }
     ensures end { IsEndBy bytes (F.Writer.taken writer.old) (F.Writer.taken writer.new) outcomes.old.items result }
-    ensures steps { F.steps folder.new ≡ finished_after (F.steps folder.old) output.now result }
     ensures told { Does (EndsBy output.now (F.Writer.taken writer.new) result) (F.told folder.old) (F.told folder.new) }
-    ensures accounts { (name : List ℕ) (lines : List FileLine)
-        → AreHeld lines outcomes.old.items (operations_of seats.old)
-        → AreHeld (lines ++ line_of name result ∷ []) outcomes.new.items (operations_of seats.new) }
+    ensures accounts { (name : List ℕ) (lines : List FileLine) (voids : List ℕ)
+        → AreHeld lines voids outcomes.old.items (operations_of seats.old)
+        → AreHeld (lines ++ line_of name result ∷ []) (voids ++ void_by outcomes.old.items result) outcomes.new.items
+        (operations_of seats.new) }
 {
     match outcomes.pop_front() {
         Some(outcome) => end_job(ledger, seats, folder, outcome, output, writer, bytes),
@@ -146,7 +146,6 @@ fn write_container<F: Folder>(
     ensures count { length seats.new ≡ length seats.old }
     ensures outcome { IsOfNumber result }
     ensures written { IsPut container.now spent.number bytes (F.Writer.taken writer.old) (F.Writer.taken writer.new) result }
-    ensures steps { F.steps folder.new ≡ finished_after (F.steps folder.old) output.now result }
     ensures told { Does (EndsBy output.now (F.Writer.taken writer.new) result) (F.told folder.old) (F.told folder.new) }
     ensures accounts { IsEnding spent.number (operations_of seats.old) (operations_of seats.new) result }
     ensures made { SettledAt place spent.number seats.old seats.new }
@@ -164,7 +163,7 @@ fn write_container<F: Folder>(
     }
 }
 
-// Ends one file of a group: where it was sealed its container is written. An output whose file failed is removed.
+// Ends one file of a group: where it was sealed its container is written. An output whose file failed is given up.
 fn end_file<F: Folder>(
     ledger: &Ledger,
     seats: &mut [Seat],
@@ -184,16 +183,20 @@ fn end_file<F: Folder>(
     ensures next { outcomes.new.items ≡ left_by file.entry outcomes.old.items }
     ensures end { Does (IsEndIn F.Writer.taken outcomes.old.items file.entry result) (F.told folder.old)
         (F.told folder.new) }
-    ensures created { created_as (sealed_name (name_of file.entry)) result ≡ made_for file.entry }
-    ensures stepwise { F.steps folder.new ≡ stepped (F.steps folder.old)
-        (ended_as (sealed_name (name_of file.entry)) result) }
-    ensures accounts { (lines : List FileLine) → AreHeld lines outcomes.old.items (operations_of seats.old)
-        → AreHeld (lines ++ line_of (name_of file.entry) result ∷ []) outcomes.new.items (operations_of seats.new) }
+    ensures accounts { (lines : List FileLine) (voids : List ℕ)
+        → AreHeld lines voids outcomes.old.items (operations_of seats.old)
+        → AreHeld (lines ++ line_of (name_of file.entry) result ∷ [])
+        (voids ++ void_in file.entry outcomes.old.items result) outcomes.new.items (operations_of seats.new) }
 {
     match file {
         Prepared::Refused { fault, .. } => FileOutcome::Failed(fault),
-        Prepared::Unread { output, fault, .. } => {
-            let _ = folder.remove(output.as_str());
+        Prepared::Unread {
+            output,
+            writer,
+            fault,
+            ..
+        } => {
+            let _ = folder.discard(output.as_str(), writer);
             FileOutcome::Failed(FileFault::Unsealed(fault))
         }
         Prepared::Read {
@@ -212,7 +215,7 @@ fn end_file<F: Folder>(
                 bytes,
             );
             if let FileOutcome::Failed(_) = outcome {
-                let _ = folder.remove(output.as_str());
+                let _ = folder.discard(output.as_str(), writer);
             }
             outcome
         }
@@ -238,11 +241,10 @@ fn end_group<F: Folder, L: Sink>(
     ensures all { AreAllSeats ledger.now seats.new }
     ensures count { length seats.new ≡ length seats.old }
     ensures owed { AreOwed seats.new [] }
-    ensures ended { AreEnded (λ lines. Does (IsEndOfAll F.Writer.taken files.entry.items outcomes.items lines)
-        (F.told folder.old) (F.told folder.new)) (map name_of files.entry.items) (flat_map made_for files.entry.items) outcomes.items []
+    ensures ended { AreEnded (λ lines voids. Does (IsEndOfAll F.Writer.taken files.entry.items outcomes.items lines voids)
+        (F.told folder.old) (F.told folder.new)) (map name_of files.entry.items) outcomes.items []
         (operations_of seats.old) (operations_of seats.new) start result
-        (L.taken lines.old) (L.taken lines.new) (L.failures lines.old) (L.failures lines.new) (F.steps folder.old)
-        (F.steps folder.new) }
+        (L.taken lines.old) (L.taken lines.new) (L.failures lines.old) (L.failures lines.new) }
 {
     let mut status = start;
     while let Some(file) = files.pop_front() {
@@ -292,8 +294,8 @@ fn seal_jobs<T: Threads + Sync>(
     ensures held { All (IsHeld (length seats.old) ledger.now.terms.range.device) result.items }
     ensures owed { AreOwed seats.new result.items }
     ensures outcomes { (result.items ≡ []) ⊎ AreOutcomes key.now shape.now (map (λ job. job.items) jobs.now) result.items }
-    ensures accounts { (lines : List FileLine) → Accounts lines (operations_of seats.old)
-        → AreHeld lines result.items (operations_of seats.new) }
+    ensures accounts { (lines : List FileLine) (voids : List ℕ) → Accounts lines voids (operations_of seats.old)
+        → AreHeld lines voids result.items (operations_of seats.new) }
 {
     let lanes = lanes_for(jobs);
     if lanes == 0 {
@@ -350,8 +352,7 @@ fn seal_group<T: Threads + Sync, F: Folder, L: Sink>(
     ensures group { IsGroup (λ lines. Happened key.now shape.now ledger.now.terms.range.device (F.told folder.old)
         (F.told folder.new) (lines ∷ [])) (map (λ name. name.now) names.now) (operations_of seats.old)
         (operations_of seats.new) status result
-        (L.taken lines.old) (L.taken lines.new) (L.failures lines.old) (L.failures lines.new) (F.steps folder.old)
-        (F.steps folder.new) }
+        (L.taken lines.old) (L.taken lines.new) (L.failures lines.old) (L.failures lines.new) }
 {
     let Ok((files, jobs)) = prepare_group(alloc, folder, names, max_bytes) else {
         return refuse_group(alloc, names, lines, status);
@@ -379,8 +380,7 @@ pub(crate) fn seal_groups<T: Threads + Sync, F: Folder, L: Sink>(
     ensures sealed { AreSealed (Happened key.now options.now.shape.now ledger.now.terms.range.device
         (F.told folder.old) (F.told folder.new)) (length seats.old) (map (λ name. name.now) options.now.files.now)
         (operations_of seats.new) result
-        (L.taken lines.old) (L.taken lines.new) (L.failures lines.old) (L.failures lines.new) (F.steps folder.old)
-        (F.steps folder.new) }
+        (L.taken lines.old) (L.taken lines.new) (L.failures lines.old) (L.failures lines.new) }
 {
     let mut status = 0;
     let mut done = 0;

@@ -1,20 +1,15 @@
 //! Files sealed one after another by one seat of a ledger, each by as many workers as are asked for. An output is
 //! finished before its number is settled, so that the number of one that can't be is void.
-ghost use Rattle.std.specs.Prelude.{◌≡◌, ◌⊎◌, ℕ, ◌<◌, ◌≤◌, List, [], ◌∷◌, ◌++◌, length, map, IfOk, IfErr, IfSome, Err};
-ghost use Rattle.std.specs.Prelude.{Ok};
-ghost use Rattle.container_core.specs.Container.{container};
+ghost use Rattle.std.specs.Prelude.{◌≡◌, ◌⊎◌, ℕ, ◌<◌, ◌≤◌, List, [], ◌∷◌, ◌++◌, map, IfOk, IfErr, Err, Ok};
 ghost use Rattle.journal_core.specs.declared.entry.Event.TheVariants.{Granted, Exhausted, Settled};
 ghost use Rattle.journal_core.specs.declared.entry.Way.{Way};
 ghost use Rattle.journal_core.specs.declared.entry.Way.TheVariants.{Sealed};
-ghost use Rattle.journal_core.specs.Range.{prefix_of};
-ghost use Rattle.io_core.specs.Streams.{Appends};
 ghost use Rattle.ledger_core.specs.Shared.{Extends, Holds, IsSameSeat, SeatView, spent_as};
-ghost use Rattle.command_core.specs.Folder.{stepped};
 ghost use Rattle.command_core.specs.Lines.{FileLine};
 ghost use Rattle.command_core.specs.declared.line.FileOutcome.TheVariants.{Failed};
 ghost use Rattle.command_core.specs.Trace.{Does};
-ghost use Rattle.sealer_core.specs.Sealing.{Accounts, AreSealed, EndsBy, Happened, IfSealed, IsOfNumber, IsOfSealing, unissued_as};
-ghost use Rattle.sealer_core.specs.Sealing.{line_of, creations_of, endings_of, finished_after};
+ghost use Rattle.sealer_core.specs.Sealing.{Accounts, AreSealed, EndsBy, Happened, IfSealed, IsOfGrant, IsOfNumber};
+ghost use Rattle.sealer_core.specs.Sealing.{IsOfSealing, Puts, line_of, unissued_as, void_at};
 
 use crate::sealing::SealOptions;
 use command_core::{FileFault, FileOutcome, Folder, FolderFault, MAX_BYTES, tell};
@@ -76,15 +71,14 @@ fn end_sealed<F: Folder>(
     requires ours { seat.old.ledger ≡ ledger.now.ledger }
     requires sealed { spent.way ≡ Sealed }
     requires held { Holds seat.old spent }
-    ensures outcome { IsOfNumber result }
+    ensures outcome { IsOfGrant result }
     ensures sealed { IfSealed result (λ number count. (number ≡ spent.number) × (count ≡ bytes)) }
     ensures kept { F.Writer.taken writer.new ≡ F.Writer.taken writer.old }
-    ensures steps { F.steps folder.new ≡ finished_after (F.steps folder.old) output.now result }
     ensures told { Does (EndsBy output.now (F.Writer.taken writer.new) result) (F.told folder.old) (F.told folder.new) }
     ensures same { IsSameSeat seat.old seat.new }
     ensures accounts { (granted : SeatView) → Extends granted (Granted spent.number) seat.old
-        → (name : List ℕ) (lines : List FileLine) → Accounts lines granted.mine
-        → Accounts (lines ++ line_of name result ∷ []) seat.new.mine }
+        → (name : List ℕ) (lines : List FileLine) (voids : List ℕ) → Accounts lines voids granted.mine
+        → Accounts (lines ++ line_of name result ∷ []) (voids ++ void_at spent.number result) seat.new.mine }
 {
     let number = spent.number();
     match folder.finish(output, writer) {
@@ -120,14 +114,12 @@ fn seal_next<T: Threads + Wait + Sync, R: Source, F: Folder>(
     requires workers { (0 < workers) × (workers ≤ MAX_WORKERS) }
     requires window { (0 < window) × (window ≤ MAX_WINDOW) }
     ensures outcome { IsOfNumber result }
-    ensures sealed { IfSealed result (λ number bytes. IfSome (R.left reader.old) (λ input. (bytes ≡ length input)
-        × Appends (F.Writer.taken writer.old) (F.Writer.taken writer.new)
-        (container key.now shape.now (prefix_of seat.old.terms.range.device number) input))) }
-    ensures steps { F.steps folder.new ≡ finished_after (F.steps folder.old) output.now result }
     ensures told { Does (EndsBy output.now (F.Writer.taken writer.new) result) (F.told folder.old) (F.told folder.new) }
     ensures same { IsSameSeat seat.old seat.new }
-    ensures accounts { (name : List ℕ) (lines : List FileLine) → Accounts lines seat.old.mine
-        → Accounts (lines ++ line_of name result ∷ []) seat.new.mine }
+    ensures done { (void : List ℕ) × Puts key.now shape.now seat.old.terms.range.device (R.left reader.old)
+        (F.Writer.taken writer.old) (F.Writer.taken writer.new) result void
+        × ((name : List ℕ) (lines : List FileLine) (voids : List ℕ) → Accounts lines voids seat.old.mine
+        → Accounts (lines ++ line_of name result ∷ []) (voids ++ void) seat.new.mine) }
 {
     let grant = match issue_to_file(ledger, seat) {
         Ok(grant) => grant,
@@ -146,7 +138,7 @@ fn seal_next<T: Threads + Wait + Sync, R: Source, F: Folder>(
 }
 
 // Seals one file: its input is opened, its output created, and its number issued, in this order. An output whose file
-// failed is removed.
+// failed is given up.
 fn seal_file<T: Threads + Wait + Sync, F: Folder>(
     rt: &T,
     alloc: Global,
@@ -165,13 +157,11 @@ fn seal_file<T: Threads + Wait + Sync, F: Folder>(
     requires workers { (0 < workers) × (workers ≤ MAX_WORKERS) }
     requires window { (0 < window) × (window ≤ MAX_WINDOW) }
     ensures outcome { IsOfSealing result }
-    ensures steps { F.steps folder.new ≡ stepped (F.steps folder.old)
-        (creations_of (line_of name.now result) ++ endings_of (line_of name.now result)) }
-    ensures happened { Happened key.now shape.now seat.old.terms.range.device (F.told folder.old) (F.told folder.new)
-        ((line_of name.now result ∷ []) ∷ []) }
     ensures same { IsSameSeat seat.old seat.new }
-    ensures accounts { (lines : List FileLine) → Accounts lines seat.old.mine
-        → Accounts (lines ++ line_of name.now result ∷ []) seat.new.mine }
+    ensures done { (void : List ℕ) × Happened key.now shape.now seat.old.terms.range.device (F.told folder.old)
+        (F.told folder.new) ((line_of name.now result ∷ []) ∷ []) void
+        × ((lines : List FileLine) (voids : List ℕ) → Accounts lines voids seat.old.mine
+        → Accounts (lines ++ line_of name.now result ∷ []) (voids ++ void) seat.new.mine) }
 {
     let Ok(sealed) = format!(in alloc; "{name}.stm") else {
         return FileOutcome::Failed(FileFault::OutOfMemory);
@@ -201,7 +191,7 @@ fn seal_file<T: Threads + Wait + Sync, F: Folder>(
         shape,
     );
     if let FileOutcome::Failed(_) = outcome {
-        let _ = folder.remove(output);
+        let _ = folder.discard(output, writer);
     }
     outcome
 }
@@ -225,8 +215,7 @@ pub(crate) fn seal_one_lane<T: Threads + Wait + Sync, F: Folder, W: Sink>(
     ensures same { IsSameSeat seat.old seat.new }
     ensures sealed { AreSealed (Happened key.now options.now.shape.now seat.old.terms.range.device
         (F.told folder.old) (F.told folder.new)) 1 (map (λ name. name.now) options.now.files.now) seat.new.mine result
-        (W.taken lines.old) (W.taken lines.new) (W.failures lines.old) (W.failures lines.new) (F.steps folder.old)
-        (F.steps folder.new) }
+        (W.taken lines.old) (W.taken lines.new) (W.failures lines.old) (W.failures lines.new) }
 {
     let mut status = 0;
     for name in options.files {

@@ -5,7 +5,7 @@ ghost use Rattle.sha2.specs.Sha256.{sha256};
 ghost use Rattle.sqlite.specs.Held.{Held};
 ghost use Rattle.journal_core.specs.declared.entry.Entry.{Entry};
 ghost use Rattle.journal_core.specs.Journal.{terms_of};
-ghost use Rattle.journal_core.specs.Range.{Numbers};
+ghost use Rattle.journal_core.specs.Range.{IsLawfulRange, Numbers};
 ghost use Rattle.journal_core.specs.Text.{journal_text};
 ghost use Rattle.ledger_core.specs.Closing.{AreAllSeats};
 ghost use Rattle.ledger_core.specs.Shared.{fresh_seats, IsSameSeat};
@@ -204,6 +204,7 @@ pub fn pipe_all<
         × (failures : Option ℕ)
         × FoldsARange S.Store LedgerFile.Kept LedgerFile.Folded S.is_folded (sha256 key.now) options.now.device 1
         file.old file.new range
+        × IsLawfulRange range
         × HasSealedStream key.now options.now.shape.now options.now.max_chunks
         (R.left reader.old) (R.left reader.new) (R.failures reader.old) (R.failures reader.new)
         (W.taken writer.old) (W.taken writer.new) (W.failures writer.old) (W.failures writer.new)

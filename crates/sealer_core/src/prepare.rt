@@ -1,9 +1,8 @@
 //! Files of a group before they are sealed: of each in turn its input is opened, its output created and its input read.
 ghost use Rattle.std.specs.Prelude.{◌≡◌, ◌+◌, ◌≤◌, [], ◌∷◌, ◌++◌, length, map, All, flat_map, vec_len, IfOk, OnErr};
 ghost use Rattle.io_core.specs.Streams.{Consumes, IsAtEnd};
-ghost use Rattle.command_core.specs.Folder.{stepped};
 ghost use Rattle.command_core.specs.Trace.{Does};
-ghost use Rattle.sealer_core.specs.Group.{AreBegun, IsBegunWith, name_of, IsPrepared, made_for, read_of};
+ghost use Rattle.sealer_core.specs.Group.{AreBegun, IsBegunWith, name_of, IsPrepared, read_of};
 
 use command_core::{FileFault, Folder, FolderFault, MAX_BYTES};
 use container_core::SealFault;
@@ -24,6 +23,7 @@ pub(crate) enum Prepared<'a, W: Drop> {
     Unread {
         name: &'a str,
         output: String,
+        writer: W,
         fault: SealFault,
     },
     /// Its output was created, and its plaintext of so many bytes is among the jobs.
@@ -64,7 +64,6 @@ fn prepare_file<'a, F: Folder>(
         ≡ map (λ job. length job.items) jobs.old.items ++ read_of result }
     ensures name { name_of result ≡ name.now }
     ensures prepared { IsPrepared result }
-    ensures steps { F.steps folder.new ≡ stepped (F.steps folder.old) (made_for result) }
     ensures told { Does (IsBegunWith F.Writer.taken (map (λ job. job.items) jobs.old.items)
         (map (λ job. job.items) jobs.new.items) result) (F.told folder.old) (F.told folder.new) }
 {
@@ -105,6 +104,7 @@ fn prepare_file<'a, F: Folder>(
         Err(fault) => Prepared::Unread {
             name,
             output,
+            writer,
             fault,
         },
     }
@@ -147,8 +147,6 @@ pub(crate) fn prepare_group<'a, F: Folder>(
     requires max_bytes { max_bytes ≤ MAX_BYTES }
     ensures names { IfOk result (λ group. map name_of group.0.items ≡ map (λ name. name.now) names.now) }
     ensures prepared { IfOk result (λ group. All IsPrepared group.0.items) }
-    ensures steps { IfOk result (λ group. F.steps folder.new ≡ stepped (F.steps folder.old)
-        (flat_map made_for group.0.items)) }
     ensures told { IfOk result (λ group. Does (AreBegun F.Writer.taken group.0.items
         (map (λ job. job.items) group.1.items)) (F.told folder.old) (F.told folder.new)) }
     ensures short { IfOk result (λ group. All (λ job. length job.items ≤ MAX_BYTES) group.1.items) }

@@ -1,6 +1,5 @@
 //! What the runs of one ledger file are to each other.
 ghost use Rattle.std.specs.Prelude.{◌≡◌, ◌⊎◌, ◌+◌, ◌++◌, ◌≤◌, ℕ, List, [], Option, Some, map};
-ghost use Rattle.command_core.specs.Folder.{Step};
 ghost use Rattle.command_core.specs.Trace.{Event};
 ghost use Rattle.container_core.specs.Shape.{IsShape, ShapeView};
 ghost use Rattle.journal_core.specs.declared.entry.Entry.{Entry};
@@ -12,7 +11,8 @@ ghost use Rattle.sqlite_wal.specs.Files.{outcomes};
 ghost use Rattle.sqlite_wal.specs.Reads.{AreClean};
 ghost use Rattle.sqlite_wal.specs.Recovery.{Image};
 ghost use Rattle.reserve_core.specs.NextRun.{IsFound, PassInTurn};
-ghost use Rattle.sealer_core.specs.Sealing.{FoldsFiles, Happened, HasSealed, finished_in};
+ghost use Rattle.sealer_core.specs.Piping.{HasSealedStream};
+ghost use Rattle.sealer_core.specs.Sealing.{FoldsFiles, Happened, HasSealed, held_in, written_in};
 
 use reserve_core::LedgerFile;
 use sqlite::Files;
@@ -35,18 +35,32 @@ pub fn runs_are_apart<D: Disk + Drop, E: Disk + Drop>()
         → one.lo + one.size ≤ other.lo }
 {}
 
-/// What a run of `seal_all` wrote is what the law on outputs asks for (`laws::no_two_chunks_have_one_nonce`): the outputs that it
-/// finished hold, one by one and in order, whole containers under the key and in the shape, each under a number of its own that
-/// was granted in this run. Each premise is a clause of `seal_all`, over a folder
-/// that tells what happened, but that the shape is one, which the shape of the options is.
+/// What a run of `seal_all` wrote is what the law on outputs asks for (`laws::no_two_chunks_have_one_nonce`): each output that it
+/// finished or gave up, and that holds any byte, holds a beginning of a container under the key and in the shape, under a
+/// number of its own that was granted in this run; a finished one holds the whole container. Each premise is a clause of
+/// `seal_all`, over a folder that tells what happened, but that the shape is one, which the shape of the options is.
 pub fn a_run_has_written()
     ensures { (key : List ℕ) (shape : ShapeView) (names : List (List ℕ)) (terms : Terms) (history : List Entry) (status : ℕ)
-        (old new : Option (List ℕ)) (failures later : Option ℕ) (steps steps_then : Option (List Step))
-        (before after : List Event)
+        (old new : Option (List ℕ)) (failures later : Option ℕ) (before after : List Event)
         → IsShape shape → IsLawfulRange terms.range
         → HasSealed (Happened key shape terms.range.device (Some before) (Some after)) names terms history status old new
-        failures later steps steps_then
+        failures later
         → (events : List Event) × (outputs : List Output) × (after ≡ before ++ events)
-        × (finished_in events ≡ map (λ output. output.held) outputs)
+        × (written_in events ≡ map (λ output. output.held) outputs)
+        × HasWritten key terms.range.device (record { terms = terms; history = history; outputs = outputs }) }
+{}
+
+/// The same of a run of `pipe_all`: what its writer took, where that is any byte, is a beginning of one container under the key
+/// and in the shape, under a number that was granted in this run. Each premise is a clause of `pipe_all`, over a reader
+/// that tells what it has left to give and a writer that tells what it took.
+pub fn a_stream_has_written()
+    ensures { (key : List ℕ) (shape : ShapeView) (most : ℕ) (input : List ℕ) (left : Option (List ℕ))
+        (failures failures_then : Option ℕ) (old new : List ℕ) (refusals refusals_then : Option ℕ) (terms : Terms)
+        (history : List Entry) (status : ℕ) (lines lines_then : Option (List ℕ)) (faults faults_then : Option ℕ)
+        → IsShape shape → IsLawfulRange terms.range
+        → HasSealedStream key shape most (Some input) left failures failures_then (Some old) (Some new) refusals
+        refusals_then terms history status lines lines_then faults faults_then
+        → (held : List ℕ) × (outputs : List Output) × (new ≡ old ++ held)
+        × (held_in held ≡ map (λ output. output.held) outputs)
         × HasWritten key terms.range.device (record { terms = terms; history = history; outputs = outputs }) }
 {}

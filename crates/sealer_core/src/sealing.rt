@@ -150,8 +150,7 @@ fn seal_files<T: Threads + Wait + Sync, F: Folder, W: Sink>(
     ensures sealed { AreSealed (Happened key.now options.now.shape.now ledger.now.terms.range.device
         (F.told folder.old) (F.told folder.new)) ledger.now.terms.seats (map (λ name. name.now) options.now.files.now)
         (operations_of seats.new) result
-        (W.taken lines.old) (W.taken lines.new) (W.failures lines.old) (W.failures lines.new) (F.steps folder.old)
-        (F.steps folder.new) }
+        (W.taken lines.old) (W.taken lines.new) (W.failures lines.old) (W.failures lines.new) }
 {
     if options.lanes == 1 {
         let seat = &mut seats[0];
@@ -183,8 +182,7 @@ fn work_ledger<T: Threads + Wait + Sync, F: Folder, W: Sink, J: Sink>(
     ensures { (history : List Entry)
         × HasSealed (Happened key.now options.now.shape.now ledger.terms.range.device (F.told folder.old)
         (F.told folder.new)) (map (λ name. name.now) options.now.files.now) ledger.terms history result.0
-        (W.taken lines.old) (W.taken lines.new) (W.failures lines.old) (W.failures lines.new) (F.steps folder.old)
-        (F.steps folder.new)
+        (W.taken lines.old) (W.taken lines.new) (W.failures lines.old) (W.failures lines.new)
         × IsWritten J.taken (journal_text ledger.terms history) (is_ok result.1) journal.old journal.new }
 {
     let told = seal_files(
@@ -204,7 +202,8 @@ fn work_ledger<T: Threads + Wait + Sync, F: Folder, W: Sink, J: Sink>(
 /// own. The answer is the exit status: 0 where every file was sealed, 1 where one failed, 2 where no range was reserved, the ledger file not
 /// folded or no ledger opened (then no file was touched), where a line couldn't be written (no further line is tried,
 /// and the files and the journal are still worked), or where the journal couldn't be written whole. Each of these but a
-/// line has a text on standard error. An output whose file failed is removed.
+/// line has a text on standard error. An output whose file failed is given up: it is removed, and what it held begins the
+/// container of its input under a number that is void, or is nothing.
 ///
 /// One range is reserved at most, with as many numbers as there are files, and for good: what it leaves unused is given
 /// up. Before the first file is opened the ledger file is folded, so that it has the range without its log; after that
@@ -243,7 +242,6 @@ pub fn seal_all<
         × HasSealed (Happened key.now options.now.shape.now range.device (F.told folder.old) (F.told folder.new))
         (map (λ name. name.now) options.now.files.now) (terms_of range options.now.lanes) history told
         (L.taken out.old.lines) (L.taken out.new.lines) (L.failures out.old.lines) (L.failures out.new.lines)
-        (F.steps folder.old) (F.steps folder.new)
         × IsWritten J.taken (journal_text (terms_of range options.now.lanes) history) written
         out.old.journal out.new.journal
         × (result ≡ (if written then told else 2))) }

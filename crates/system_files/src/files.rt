@@ -205,7 +205,9 @@ impl<'p, 'r, R: Files + AllocGlobal + Clock + Eprint> Folder for SystemFiles<'p,
         }
     }
 
-    fn remove(&mut self, name: &str) -> Result<(), FolderFault> {
+    // The file is closed before it is removed.
+    fn discard(&mut self, name: &str, output: Self::Writer) -> Result<(), FolderFault> {
+        drop(output);
         let Some(folder) = self.into else {
             return remove_at(self.rt, name);
         };

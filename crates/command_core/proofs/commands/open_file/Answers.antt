@@ -9,5 +9,5 @@ returns-in-Ok-write_output-clause-events g c =
 
 pub returns-clause-events : goal.returns-clause-events
 returns-clause-events g c =
-    not_written _ _ _ _ _ _ _ _ _ _ _ _ _ c.in-Some.ensures.name c.in-Ok.ensures.opened c.in-Ok-read_labelled.ensures.plaintext
-    c.in-Ok-create.ensures.created c.in-Err-write_output.ensures.untold c.remove.ensures.tried
+    not_written _ _ _ _ _ _ _ _ _ _ _ _ _ _ c.in-Some.ensures.name c.in-Ok.ensures.opened c.in-Ok-read_labelled.ensures.plaintext
+    c.in-Ok-create.ensures.created (rw (← c.as_slice.ensures.value) c.in-Err-write_output.ensures.err) c.in-Err-write_output.ensures.untold c.discard.ensures.discarded

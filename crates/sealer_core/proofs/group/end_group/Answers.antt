@@ -5,7 +5,7 @@ use Rattle.sealer_core.proofs.Matches.{all_ended, none_ended_yet, one_more_ended
 use Rattle.sealer_core.proofs.group.end_group.Goals as goal
 
 pub loop-file-init : goal.loop-file-init
-loop-file-init g c = record { all = c.requires.all; count = refl; prepared = c.requires.prepared; held = c.requires.held; owed = c.requires.owed; few = c.requires.few; ending = ending_none _ _ _ _ _ _ _ _ (none_ended_yet _ _ _ _) }
+loop-file-init g c = record { all = c.requires.all; count = refl; prepared = c.requires.prepared; held = c.requires.held; owed = c.requires.owed; few = c.requires.few; ending = ending_none _ _ _ _ _ _ _ (none_ended_yet _ _ _ _) }
 
 pub loop-file-preserved : goal.loop-file-preserved
 loop-file-preserved g c =
@@ -17,8 +17,8 @@ loop-file-preserved g c =
       held = held_at _ _ _ _ i.count e.held;
       owed = e.owed;
       few = few_left _ _ c.in-Some.file _ _ c.in-Some.ensures.items e.next i.few;
-      ending = ending_more _ _ _ _ _ c.in-Some.file _ _ _ _ _ _ _ _ _ _ _ _ _ _ _ _ _ _ _ _ c.in-Some.ensures.items c.name-name.ensures i.ending e.outcome e.created e.stepwise c.tell-status.ensures e.accounts
-          (one_more_ended _ _ _ _ c.in-Some.file _ _ _ _ _ _ _ _ c.in-Some.ensures.items e.next i.ending.ended.done e.end);
+      ending = ending_more _ _ _ _ _ c.in-Some.file _ _ _ _ _ _ _ _ _ _ _ _ _ _ _ _ _ _ c.in-Some.ensures.items c.name-name.ensures i.ending e.outcome c.tell-status.ensures e.accounts
+          (one_more_ended _ _ _ _ c.in-Some.file _ _ _ _ _ _ _ _ _ c.in-Some.ensures.items e.next i.ending.ended.done e.end);
     }
 
 pub returns-clause-owed : goal.returns-clause-owed
@@ -29,5 +29,5 @@ returns-clause-owed g c =
 pub returns-clause-ended : goal.returns-clause-ended
 returns-clause-ended g c =
     let none : c.loop-file.files.items ≡ [] = search rules in
-    ending_all _ _ _ c.loop-file.files.items _ _ _ _ _ _ _ _ _ _ _ _ none c.loop-file.invariant.few
-    (λ lines. all_ended _ _ _ _ _ lines _ _ none) c.loop-file.invariant.ending
+    ending_all _ _ _ c.loop-file.files.items _ _ _ _ _ _ _ _ _ _ none c.loop-file.invariant.few
+    (λ lines voids. all_ended _ _ _ _ _ lines voids _ _ none) c.loop-file.invariant.ending

@@ -14,10 +14,9 @@ invariant-loop-file g l = record {
   held : All (IsHeld (length l.initial.seats) l.ledger.terms.range.device) l.outcomes.items;
   owed : AreOwed l.seats l.outcomes.items;
   few : length l.outcomes.items ≤ length (flat_map read_of l.files.items);
-  ending : AreEnding (λ lines. Does (EndsSoFar g.F.Writer.Sink.taken l.initial.files.items l.files.items l.initial.outcomes.items l.outcomes.items lines)
+  ending : AreEnding (λ lines voids. Does (EndsSoFar g.F.Writer.Sink.taken l.initial.files.items l.files.items l.initial.outcomes.items l.outcomes.items lines voids)
       (g.F.Folder.told l.initial.folder) (g.F.Folder.told l.folder)) l.initial.files.items l.files.items l.initial.outcomes.items l.outcomes.items (operations_of l.initial.seats) (operations_of l.seats) l.start l.status
-      (g.L.Sink.taken l.initial.lines) (g.L.Sink.taken l.lines) (g.L.Sink.failures l.initial.lines) (g.L.Sink.failures l.lines)
-      (g.F.Folder.steps l.initial.folder) (g.F.Folder.steps l.folder);
+      (g.L.Sink.taken l.initial.lines) (g.L.Sink.taken l.lines) (g.L.Sink.failures l.initial.lines) (g.L.Sink.failures l.lines);
 }
 
 abbrev pub decreases-loop-file : goal.decreases-loop-file

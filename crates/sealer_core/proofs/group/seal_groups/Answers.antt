@@ -10,8 +10,8 @@ use Rattle.sealer_core.proofs.group.seal_groups.Goals as goal
 
 pub loop-done-init : goal.loop-done-init
 loop-done-init g c =
-    let none = nothing_sealed (Happened c.args.key.now c.args.options.now.shape.now c.args.ledger.now.terms.range.device (g.F.Folder.told c.args.folder.now) (g.F.Folder.told c.args.folder.now)) (length c.args.seats.now) _ (g.L.Sink.taken c.args.lines.now) (g.L.Sink.failures c.args.lines.now) (g.F.Folder.steps c.args.folder.now)
-    (subst (λ (l : List Entry). Accounts [] l) (sym c.requires.fresh) accounts_none) (nothing_happened _ _) in record {
+    let none = nothing_sealed (Happened c.args.key.now c.args.options.now.shape.now c.args.ledger.now.terms.range.device (g.F.Folder.told c.args.folder.now) (g.F.Folder.told c.args.folder.now)) (length c.args.seats.now) _ (g.L.Sink.taken c.args.lines.now) (g.L.Sink.failures c.args.lines.now)
+    (subst (λ (l : List Entry). Accounts [] [] l) (sym c.requires.fresh) accounts_none) (nothing_happened _ _) in record {
       all = c.requires.all;
       count = refl;
       owed = owed_none _ c.requires.fresh;
@@ -31,9 +31,9 @@ loop-done-preserved g c =
     let count = i.count in
     let within = i.within in
     let long = length-map group (λ (name : Bor (List ℕ)). name.now) in
-    let more = groups_more _ _ _ (length c.args.seats.now) _ (map (λ (name : Bor (List ℕ)). name.now) group) _ _ _ _ _ _ _ _ _ _ _ _ _ _ i.sealed.0 (i.sealed.1 c.loop-done-test.true) s.group (omega arith)
+    let more = groups_more _ _ _ (length c.args.seats.now) _ (map (λ (name : Bor (List ℕ)). name.now) group) _ _ _ _ _ _ _ _ _ _ _ i.sealed.0 (i.sealed.1 c.loop-done-test.true) s.group (omega arith)
     (group_names files group c.loop-done.done _ (c.split_at-in-loop-done.ensures.front ∙ ap (take c.min.result) c.split_at.ensures.back) short)
-    (more_happened _ _ _ _ _ _ i.sealed.0.worked.done s.group.done) in record {
+    (more_happened _ _ _ _ _ _ _ _ i.sealed.0.worked.done s.group.done) in record {
       all = s.all;
       count = s.count ∙ i.count;
       owed = s.owed;
@@ -45,6 +45,5 @@ pub returns-clause-sealed : goal.returns-clause-sealed
 returns-clause-sealed g c =
     subst (λ (f : List (Bor (List ℕ))). AreSealed (Happened c.args.key.now c.args.options.now.shape.now c.args.ledger.now.terms.range.device
     (g.F.Folder.told c.args.folder.now) (g.F.Folder.told c.loop-done.folder)) (length c.args.seats.now) (map (λ (name : Bor (List ℕ)). name.now) f) (operations_of c.loop-done.seats) c.loop-done.status
-    (g.L.Sink.taken c.args.lines.now) (g.L.Sink.taken c.loop-done.lines) (g.L.Sink.failures c.args.lines.now) (g.L.Sink.failures c.loop-done.lines)
-    (g.F.Folder.steps c.args.folder.now) (g.F.Folder.steps c.loop-done.folder))
+    (g.L.Sink.taken c.args.lines.now) (g.L.Sink.taken c.loop-done.lines) (g.L.Sink.failures c.args.lines.now) (g.L.Sink.failures c.loop-done.lines))
     (take_all c.loop-done.done c.args.options.now.files.now c.loop-done-test.false) c.loop-done.invariant.sealed.0

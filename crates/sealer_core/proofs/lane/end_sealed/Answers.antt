@@ -3,10 +3,10 @@ use Rattle.sealer_core.proofs.Numbering.{after_fault, after_end}
 use Rattle.sealer_core.proofs.lane.end_sealed.Goals as goal
 
 pub returns-in-Ok-clause-accounts : goal.returns-in-Ok-clause-accounts
-returns-in-Ok-clause-accounts g c = λ granted one name lines a.
-    after_end lines granted _ _ name c.args.spent _ _ one c.requires.sealed (search rules) c.settle_of_file.ensures.settled a
+returns-in-Ok-clause-accounts g c = λ granted one name lines voids a.
+    after_end lines voids granted _ _ name c.args.spent _ _ one c.requires.sealed (search rules) c.settle_of_file.ensures.settled a
 
 pub returns-in-Err-clause-accounts : goal.returns-in-Err-clause-accounts
-returns-in-Err-clause-accounts g c = λ granted one name lines a.
-    after_fault lines granted _ _ name (record { device = c.args.spent.device; number = c.args.spent.number }) c.spoil.result _ one (search rules)
+returns-in-Err-clause-accounts g c = λ granted one name lines voids a.
+    after_fault lines voids granted _ _ name (record { device = c.args.spent.device; number = c.args.spent.number }) c.spoil.result _ one (search rules)
     c.settle_of_file-in-Err.ensures.settled a

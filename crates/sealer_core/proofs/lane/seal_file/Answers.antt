@@ -1,39 +1,44 @@
-use Rattle.std.proofs.Common.{◌∙◌, rules}
-use Rattle.command_core.proofs.Traces.{nothing}
-use Rattle.sealer_core.proofs.Happened.{was_not_failed, was_removed, was_uncreated, was_unopened}
+use Rattle.std.proofs.Common.{[], refl, ◌∙◌, rules}
+use Rattle.sealer_core.proofs.Happened.{was_discarded, was_not_failed, was_unbegun, was_uncreated, was_unopened}
 use Rattle.sealer_core.proofs.Numbering.{adds_failure}
 use Rattle.sealer_core.proofs.lane.seal_file.Goals as goal
 use Rattle.sealer_core.proofs.lane.seal_file.Goals.{in-Failed, in_default-outcome}
 
-pub returns-in_default-clause-accounts : goal.returns-in_default-clause-accounts
-returns-in_default-clause-accounts g c = λ lines a. adds_failure lines _ 0 _ a _
+pub returns-in_default-clause-done : goal.returns-in_default-clause-done
+returns-in_default-clause-done g c = ([], was_unbegun _ _ _ _ _, λ lines voids a. adds_failure lines voids _ 0 _ a _)
 
-pub returns-in_default-open-clause-accounts : goal.returns-in_default-open-clause-accounts
-returns-in_default-open-clause-accounts g c = λ lines a. adds_failure lines _ 0 _ a _
+pub returns-in_default-open-clause-done : goal.returns-in_default-open-clause-done
+returns-in_default-open-clause-done g c =
+    ([], was_unopened _ _ _ _ _ _ c.in_default-open.ensures.unopened, λ lines voids a. adds_failure lines voids _ 0 _ a _)
 
-pub returns-in-Err-Exists-clause-accounts : goal.returns-in-Err-Exists-clause-accounts
-returns-in-Err-Exists-clause-accounts g c = λ lines a. adds_failure lines _ 0 _ a _
+pub returns-in-Err-Exists-clause-done : goal.returns-in-Err-Exists-clause-done
+returns-in-Err-Exists-clause-done g c = (
+  [],
+  was_uncreated _ _ _ _ _ _ _ _ _ _ _ (λ before is. (refl, is)) (c.as_str-output.ensures.value ∙ c.in-Ok.ensures.ok) c.in-Ok-open.ensures.opened (rw c.in-Err-Exists.field-0-is at c.in-Err-Exists.ensures.uncreated),
+  λ lines voids a. adds_failure lines voids _ 0 _ a _,
+)
 
-pub returns-in-Err-Failed-clause-accounts : goal.returns-in-Err-Failed-clause-accounts
-returns-in-Err-Failed-clause-accounts g c = λ lines a. adds_failure lines _ 0 _ a _
+pub returns-in-Err-Failed-clause-done : goal.returns-in-Err-Failed-clause-done
+returns-in-Err-Failed-clause-done g c = (
+  [],
+  was_uncreated _ _ _ _ _ _ _ _ _ _ _ (λ before is. (refl, is)) (c.as_str-output.ensures.value ∙ c.in-Ok.ensures.ok) c.in-Ok-open.ensures.opened (rw c.in-Err-Failed.field-0-is at c.in-Err-Failed.ensures.uncreated),
+  λ lines voids a. adds_failure lines voids _ 0 _ a _,
+)
 
-pub returns-in_default-clause-happened : goal.returns-in_default-clause-happened
-returns-in_default-clause-happened g c = was_unopened _ _ _ _ _ _ _ (λ is. is) (nothing _)
-
-pub returns-in_default-open-clause-happened : goal.returns-in_default-open-clause-happened
-returns-in_default-open-clause-happened g c = was_unopened _ _ _ _ _ _ _ (λ is. is) c.in_default-open.ensures.unopened
-
-pub returns-in-Err-Exists-clause-happened : goal.returns-in-Err-Exists-clause-happened
-returns-in-Err-Exists-clause-happened g c = was_uncreated _ _ _ _ _ _ _ _ _ (λ before is. is) c.in-Ok-open.ensures.opened c.in-Err-Exists.ensures.uncreated
-
-pub returns-in-Err-Failed-clause-happened : goal.returns-in-Err-Failed-clause-happened
-returns-in-Err-Failed-clause-happened g c = was_uncreated _ _ _ _ _ _ _ _ _ (λ before is. is) c.in-Ok-open.ensures.opened c.in-Err-Failed.ensures.uncreated
-
-pub returns-clause-happened : goal.returns-clause-happened
-returns-clause-happened g c =
+pub returns-clause-done : goal.returns-clause-done
+returns-clause-done g c =
+    let (void, puts, more) = c.seal_next-outcome.ensures.done in
     elim c.match-outcome.branch [
-      | in-Failed w ↦ rw w.folder-is (was_removed _ _ _ _ _ _ _ _ _ _ _ _ _ _ _ w.in-Failed.is (c.as_str-output.ensures.value ∙ c.in-Ok.ensures.ok) c.in-Ok-open.ensures.opened
-          c.in-Ok-create.ensures.created c.seal_next-outcome.ensures.outcome c.seal_next-outcome.ensures.told w.remove.ensures.tried)
-      | in_default-outcome w ↦ rw w.folder-is (was_not_failed _ _ _ _ _ _ _ _ _ _ _ _ _ (search rules) c.seal_next-outcome.ensures.outcome (c.as_str-output.ensures.value ∙ c.in-Ok.ensures.ok) c.in-Ok-open.ensures.opened
-          c.in-Ok-create.ensures.created c.seal_next-outcome.ensures.sealed c.seal_next-outcome.ensures.told)
+      | in-Failed w ↦ rw w.folder-is (
+        void,
+        was_discarded _ _ _ _ _ _ _ _ _ _ _ _ _ _ _ _ w.in-Failed.is (c.as_str-output.ensures.value ∙ c.in-Ok.ensures.ok) c.in-Ok-open.ensures.opened c.in-Ok-create.ensures.created puts
+            c.seal_next-outcome.ensures.told w.discard.ensures.discarded,
+        λ lines voids a. more _ lines voids a,
+      )
+      | in_default-outcome w ↦ rw w.folder-is (
+        void,
+        was_not_failed _ _ _ _ _ _ _ _ _ _ _ _ _ _ (search rules) (c.as_str-output.ensures.value ∙ c.in-Ok.ensures.ok) c.in-Ok-open.ensures.opened c.in-Ok-create.ensures.created puts
+            c.seal_next-outcome.ensures.told,
+        λ lines voids a. more _ lines voids a,
+      )
     ]

@@ -1,19 +1,36 @@
-use Rattle.std.proofs.Common.{rules}
+use Rattle.std.proofs.Common.{[], ◌∷◌, rules}
 use Rattle.journal_core.specs.declared.entry.Way.TheVariants.{Sealed}
+use Rattle.sealer_core.proofs.Happened.{of_grant, puts_begun, puts_nothing, puts_whole}
 use Rattle.sealer_core.proofs.Numbering.{after_failure, after_fault, granted_as, spent_held}
 use Rattle.sealer_core.proofs.lane.seal_next.Goals as goal
 
-pub returns-in-Err-clause-accounts : goal.returns-in-Err-clause-accounts
-returns-in-Err-clause-accounts g c = λ name lines a. after_failure lines _ _ name _ c.in-Err.ensures.refused.1 a
+pub returns-in-Err-clause-done : goal.returns-in-Err-clause-done
+returns-in-Err-clause-done g c = (
+  [],
+  puts_nothing _ _ _ _ _ c.in-Err.fault c.in-Err.ensures.refused.0,
+  λ name lines voids a. after_failure lines voids _ _ name _ c.in-Err.ensures.refused.1 a,
+)
 
-pub returns-in-Ok-sealed-clause-accounts : goal.returns-in-Ok-sealed-clause-accounts
-returns-in-Ok-sealed-clause-accounts g c = λ name lines a.
-    c.end_sealed.ensures.accounts c.args.seat.now (granted_as _ _ c.in-Ok.grant c.run_seal_by-sealed.result.1 Sealed (search rules) c.in-Ok.ensures.granted.0) name lines a
+pub returns-in-Ok-sealed-clause-outcome : goal.returns-in-Ok-sealed-clause-outcome
+returns-in-Ok-sealed-clause-outcome g c = of_grant _ c.end_sealed.ensures.outcome
 
-pub returns-in-Err-sealed-clause-accounts : goal.returns-in-Err-sealed-clause-accounts
-returns-in-Err-sealed-clause-accounts g c = λ name lines a.
-    after_fault lines c.args.seat.now _ _ name c.in-Ok.grant c.run_seal_by-sealed.result.1 _ c.in-Ok.ensures.granted.0 (search rules)
-    c.settle_of_file.ensures.settled a
+pub returns-in-Ok-sealed-clause-done : goal.returns-in-Ok-sealed-clause-done
+returns-in-Ok-sealed-clause-done g c = (
+  _,
+  puts_whole _ _ _ _ c.run_seal_by-sealed.result.1.number c.in-Ok.grant.number c.in-Ok-sealed.bytes _ _ _ _ c.run_seal_by-sealed.result.0 c.end_sealed.result c.in-Ok-sealed.is c.in-Ok.ensures.granted.1
+      (search rules) c.end_sealed.ensures.kept c.run_seal_by-sealed.ensures.writes.written c.run_seal_by-sealed.ensures.writes.length c.end_sealed.ensures.outcome c.end_sealed.ensures.sealed,
+  λ name lines voids a.
+      c.end_sealed.ensures.accounts c.args.seat.now (granted_as _ _ c.in-Ok.grant c.run_seal_by-sealed.result.1 Sealed (search rules) c.in-Ok.ensures.granted.0) name lines voids a,
+)
+
+pub returns-in-Err-sealed-clause-done : goal.returns-in-Err-sealed-clause-done
+returns-in-Err-sealed-clause-done g c = (
+  c.in-Ok.grant.number ∷ [],
+  puts_begun _ _ _ _ _ _ _ _ c.run_seal_by-sealed.result.0 c.in-Err-sealed.fault c.in-Err-sealed.is c.in-Ok.ensures.granted.1 c.run_seal_by-sealed.ensures.writes.begun,
+  λ name lines voids a.
+      after_fault lines voids c.args.seat.now _ _ name c.in-Ok.grant c.run_seal_by-sealed.result.1 _ c.in-Ok.ensures.granted.0 (search rules)
+      c.settle_of_file.ensures.settled a,
+)
 
 pub end_sealed-requires-clause-held : goal.end_sealed-requires-clause-held
 end_sealed-requires-clause-held g c = spent_held c.issue_to_file.new.seat _ c.in-Ok.grant _ c.run_seal_by-sealed.ensures.sealed c.run_seal_by-sealed.ensures.void c.in-Ok.ensures.held

@@ -1,5 +1,5 @@
 use Rattle.std.proofs.Common.{arith, rules}
-use Rattle.sealer_core.proofs.Groups.{prepared_names, prepared_steps, prepared_read, prepared_all}
+use Rattle.sealer_core.proofs.Groups.{prepared_names, prepared_read, prepared_all}
 use Rattle.command_core.proofs.Telling.{names-step}
 use Rattle.sealer_core.proofs.Matches.{begun_more, none_begun}
 use Rattle.sealer_core.proofs.prepare.prepare_group.Goals as goal
@@ -10,7 +10,6 @@ loop-name-init g c = record {
   room = search rules;
   names = search rules;
   prepared = search rules;
-  steps = search rules;
   told = none_begun _ _ _ _ (search rules) (search rules);
   short = search rules;
   few = search rules;
@@ -32,7 +31,6 @@ loop-name-preserved g c =
       room = omega arith;
       names = prepared_names _ _ _ b.items _ _ _ i.names p.name (names-step _ _ _ c.loop-name-test.true);
       prepared = prepared_all _ _ _ b.items i.prepared p.prepared;
-      steps = prepared_steps _ _ _ b.items _ _ _ i.steps p.steps;
       told = begun_more _ _ _ _ _ _ _ _ _ b.items i.told p.told;
       short = p.short;
       few = omega arith;

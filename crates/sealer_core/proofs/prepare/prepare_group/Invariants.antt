@@ -1,9 +1,8 @@
 -- The files so far were prepared.
 use Rattle.std.proofs.Common.{◌≡◌, ◌≤◌, length, map, take, flat_map, All, vec_len}
 use Rattle.std.specs.VecDeque.{deque_len, deque_capacity}
-use Rattle.command_core.specs.Folder.{stepped}
 use Rattle.command_core.specs.Trace.{Does}
-use Rattle.sealer_core.specs.Group.{AreBegun, name_of, IsPrepared, made_for, read_of}
+use Rattle.sealer_core.specs.Group.{AreBegun, name_of, IsPrepared, read_of}
 use Rattle.sealer_core.proofs.prepare.prepare_group.Given as goal
 
 abbrev pub invariant-loop-name : goal.invariant-loop-name
@@ -12,7 +11,6 @@ invariant-loop-name g l = record {
   room : length l.names ≤ deque_capacity l.files;
   names : map name_of l.files.items ≡ map (λ name. name.now) (take l.name-index l.names);
   prepared : All IsPrepared l.files.items;
-  steps : g.F.Folder.steps l.folder ≡ stepped (g.F.Folder.steps l.initial.folder) (flat_map made_for l.files.items);
   told : Does (AreBegun g.F.Writer.Sink.taken l.files.items (map (λ job. job.items) l.jobs.items)) (g.F.Folder.told l.initial.folder) (g.F.Folder.told l.folder);
   short : All (λ job. length job.items ≤ 1099511627776) l.jobs.items;
   few : vec_len l.jobs ≤ l.name-index;

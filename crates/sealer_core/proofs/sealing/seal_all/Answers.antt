@@ -15,8 +15,7 @@ returns-in-Ok-ended-clause-run g c =
     let Written : Terms → Bool → Type 0 = λ t ok. IsWritten g.J.Sink.taken (journal_text t history) ok c.args.out.now.journal c.work_ledger-told.new.journal in
     let Sealed : Terms → Type 0 = λ t. HasSealed (Happened c.args.key.now c.args.options.now.shape.now range.device (g.F.Folder.told c.args.folder.now) (g.F.Folder.told c.work_ledger-told.new.folder)) (map (λ name. name.now) c.args.options.now.files.now) t history told
     (g.L.Sink.taken c.args.out.now.lines) (g.L.Sink.taken c.work_ledger-told.new.lines)
-    (g.L.Sink.failures c.args.out.now.lines) (g.L.Sink.failures c.work_ledger-told.new.lines)
-    (g.F.Folder.steps c.args.folder.now) (g.F.Folder.steps c.work_ledger-told.new.folder) in
+    (g.L.Sink.failures c.args.out.now.lines) (g.L.Sink.failures c.work_ledger-told.new.lines) in
     let ok : is_ok c.work_ledger-told.result.1 ≡ true = ap is_ok c.in-Ok-ended.is in
     inr (range, history, told, true, c.in-Ok.ensures.reserved, c.in-Ok.ensures.lawful, subst Sealed terms sealed, subst (λ t. Written t true) terms (subst (Written ledger.terms) ok written), refl)
 
@@ -30,7 +29,6 @@ returns-in-Err-ended-clause-run g c =
     let Written : Terms → Bool → Type 0 = λ t ok. IsWritten g.J.Sink.taken (journal_text t history) ok c.args.out.now.journal c.work_ledger-told.new.journal in
     let Sealed : Terms → Type 0 = λ t. HasSealed (Happened c.args.key.now c.args.options.now.shape.now range.device (g.F.Folder.told c.args.folder.now) (g.F.Folder.told c.work_ledger-told.new.folder)) (map (λ name. name.now) c.args.options.now.files.now) t history told
     (g.L.Sink.taken c.args.out.now.lines) (g.L.Sink.taken c.work_ledger-told.new.lines)
-    (g.L.Sink.failures c.args.out.now.lines) (g.L.Sink.failures c.work_ledger-told.new.lines)
-    (g.F.Folder.steps c.args.folder.now) (g.F.Folder.steps c.work_ledger-told.new.folder) in
+    (g.L.Sink.failures c.args.out.now.lines) (g.L.Sink.failures c.work_ledger-told.new.lines) in
     let ok : is_ok c.work_ledger-told.result.1 ≡ false = ap is_ok c.in-Err-ended.is in
     inr (range, history, told, false, c.in-Ok.ensures.reserved, c.in-Ok.ensures.lawful, subst Sealed terms sealed, subst (λ t. Written t false) terms (subst (Written ledger.terms) ok written), refl)

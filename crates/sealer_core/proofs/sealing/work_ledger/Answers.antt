@@ -10,7 +10,7 @@ returns g c =
     let back : take c.args.seats.len (seats ++ drop (length seats) c.args.seats.items) ≡ seats = written_back c.args.seats.len seats _ (omega arith) in
     let (history, whole, written) = c.end_ledger.ensures in (
       history,
-      has_sealed _ _ c.args.ledger seats history _ _ _ _ _ _ _ c.seal_files-told.ensures.all
+      has_sealed _ _ c.args.ledger seats history _ _ _ _ _ c.seal_files-told.ensures.all
           (subst (λ (s : List SeatView). IsWhole c.args.ledger.terms s history) back whole) c.seal_files-told.ensures.sealed,
       written,
     )
