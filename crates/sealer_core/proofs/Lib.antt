@@ -1,8 +1,11 @@
 mod Apart
+pub mod Calls
 pub mod Groups
 pub mod Happened
+pub mod Life
 pub mod Matches
 pub mod Numbering
+pub mod Openings
 pub mod Sealings
 pub mod Streams
 pub mod Outputs

@@ -1,3 +1,4 @@
 pub mod Group
 pub mod Piping
 pub mod Sealing
+pub mod Theorem

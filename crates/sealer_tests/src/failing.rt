@@ -95,12 +95,13 @@ impl<'a> Folder for Failing<'a> {
         self.folder.finish(name, &mut output.writer)
     }
 
-    fn remove(&mut self, name: &str) -> Result<(), FolderFault> {
+    fn discard(&mut self, name: &str, output: FailingWriter<'a>) -> Result<(), FolderFault> {
         if self.calls.fails() {
             self.calls.unremoved.store(1, Ordering::SeqCst);
             return Err(FolderFault::Failed);
         }
-        self.folder.remove(name)
+        let FailingWriter { writer, calls: _ } = output;
+        self.folder.discard(name, writer)
     }
 }
 

@@ -1,20 +1,25 @@
 //! What happened in a folder while `open_all`, `verify_all` and `seal_all` worked its files: what was read, created,
-//! finished and removed, by name and with all its bytes. The short containers are those of Python's `cryptography`.
+//! finished and given up, by name and with all its bytes, and what was refused. The short containers are those of
+//! Python's `cryptography`.
 use crate::cases::{Case, Left, Trouble, Work, ends_in};
 use crate::runs::{COUNTING, CUT, EMPTY, LABELLED, SECRET, folder_of};
 use container_core::{Key, Shape, seal};
 use folder_memory::{MemoryFolder, Pace, Told};
 use io_memory::Schedule;
+use sealer_core::FolderFault;
 use std::alloc::Global;
+use std::sync::Wait;
 use std::thread::Threads;
 
 // What has to be told.
 #[derive(Clone, Copy)]
 enum Seen<'a> {
     Reading(&'a str, &'a [u8]),
+    Unread(&'a str),
     Created(&'a str),
+    Refused(&'a str, FolderFault),
     Finished(&'a str, &'a [u8]),
-    Removing(&'a str),
+    Discarded(&'a str, &'a [u8]),
 }
 
 fn is_seen(told: &Told, seen: Seen) -> bool {
@@ -23,16 +28,24 @@ fn is_seen(told: &Told, seen: Seen) -> bool {
             Told::Reading(own, read) => own.as_str() == name && read.as_slice() == bytes,
             _ => false,
         },
+        Seen::Unread(name) => match told {
+            Told::Unread(own) => own.as_str() == name,
+            _ => false,
+        },
         Seen::Created(name) => match told {
             Told::Created(own) => own.as_str() == name,
+            _ => false,
+        },
+        Seen::Refused(name, fault) => match told {
+            Told::Refused(own, cause) => own.as_str() == name && *cause == fault,
             _ => false,
         },
         Seen::Finished(name, bytes) => match told {
             Told::Finished(own, all) => own.as_str() == name && all.as_slice() == bytes,
             _ => false,
         },
-        Seen::Removing(name) => match told {
-            Told::Removing(own) => own.as_str() == name,
+        Seen::Discarded(name, bytes) => match told {
+            Told::Discarded(own, all) => own.as_str() == name && all.as_slice() == bytes,
             _ => false,
         },
     }
@@ -55,7 +68,7 @@ fn tells(folder: &MemoryFolder, seen: &[Seen]) -> bool {
 }
 
 // Whether the run ends as the case says, over the case's folder, and this happened there.
-fn goes<R: AllocGlobal + Threads + Sync>(rt: &R, case: &Case, seen: &[Seen]) -> bool {
+fn goes<R: AllocGlobal + Threads + Wait + Sync>(rt: &R, case: &Case, seen: &[Seen]) -> bool {
     match folder_of(rt.alloc(), case.folder) {
         Some(mut folder) => ends_in(rt, &mut folder, case) && tells(&folder, seen),
         None => false,
@@ -87,11 +100,13 @@ static OPENED: Case = Case {
     left: &[("a", Left::Is(b"a secret")), ("d", Left::Absent)],
 };
 
-static OPENED_SEEN: [Seen; 8] = [
+static OPENED_SEEN: [Seen; 10] = [
     Seen::Reading("a.stm", &SECRET),
     Seen::Created("a"),
     Seen::Finished("a", b"a secret"),
+    Seen::Unread("m.stm"),
     Seen::Reading("c.stm", &EMPTY),
+    Seen::Refused("c", FolderFault::Exists),
     Seen::Reading("d.stm", &CUT),
     Seen::Reading("e.stm", &EMPTY),
     Seen::Created("e"),
@@ -122,14 +137,14 @@ static UNWRITTEN: Case = Case {
 static UNWRITTEN_SEEN: [Seen; 6] = [
     Seen::Reading("a.stm", &SECRET),
     Seen::Created("a"),
-    Seen::Removing("a"),
+    Seen::Discarded("a", b"a sec"),
     Seen::Reading("b.stm", &EMPTY),
     Seen::Created("b"),
     Seen::Finished("b", b""),
 ];
 
 #[test]
-fn an_output_that_was_not_written_whole_is_not_finished(rt: HostRuntime) {
+fn an_output_that_was_not_written_whole_is_given_up(rt: HostRuntime) {
     assert!(rt; goes(&rt, &UNWRITTEN, &UNWRITTEN_SEEN));
 }
 
@@ -150,12 +165,59 @@ static UNFINISHED: Case = Case {
 static UNFINISHED_SEEN: [Seen; 3] = [
     Seen::Reading("a.stm", &SECRET),
     Seen::Created("a"),
-    Seen::Removing("a"),
+    Seen::Discarded("a", b"a secret"),
 ];
 
 #[test]
-fn an_output_that_could_not_be_finished_is_removed(rt: HostRuntime) {
+fn an_output_that_could_not_be_finished_is_given_up(rt: HostRuntime) {
     assert!(rt; goes(&rt, &UNFINISHED, &UNFINISHED_SEEN));
+}
+
+// The calls are the opening and the creation.
+static UNCREATED: Case = Case {
+    folder: &[("a.stm", &SECRET)],
+    trouble: Trouble::Call(1),
+    work: Work::Open,
+    files: &["a.stm"],
+    max_bytes: 8,
+    status: 1,
+    lines: b"failed a.stm: cannot create\n",
+    faults: b"",
+    journal: b"",
+    left: &[("a", Left::Absent)],
+};
+
+static UNCREATED_SEEN: [Seen; 2] = [
+    Seen::Reading("a.stm", &SECRET),
+    Seen::Refused("a", FolderFault::Failed),
+];
+
+#[test]
+fn an_output_that_could_not_be_created_is_refused(rt: HostRuntime) {
+    assert!(rt; goes(&rt, &UNCREATED, &UNCREATED_SEEN));
+}
+
+static UNREADABLE: Case = Case {
+    folder: &[("a.stm", &SECRET)],
+    trouble: Trouble::Readers(Pace {
+        most: 3,
+        schedule: Schedule::Bytes(30),
+    }),
+    work: Work::Open,
+    files: &["a.stm"],
+    max_bytes: 8,
+    status: 1,
+    lines: b"failed a.stm: read failed\n",
+    faults: b"",
+    journal: b"",
+    left: &[("a", Left::Absent)],
+};
+
+static UNREADABLE_SEEN: [Seen; 1] = [Seen::Reading("a.stm", &SECRET)];
+
+#[test]
+fn a_file_whose_reading_fails_is_opened_and_nothing_is_created(rt: HostRuntime) {
+    assert!(rt; goes(&rt, &UNREADABLE, &UNREADABLE_SEEN));
 }
 
 static VERIFIED: Case = Case {
@@ -180,9 +242,10 @@ static VERIFIED: Case = Case {
     left: &[],
 };
 
-static VERIFIED_SEEN: [Seen; 4] = [
+static VERIFIED_SEEN: [Seen; 5] = [
     Seen::Reading("a.stm", &LABELLED),
     Seen::Reading("b.stm", &SECRET),
+    Seen::Unread("m.stm"),
     Seen::Reading("c.stm", &CUT),
     Seen::Reading("d", &LABELLED),
 ];
@@ -245,11 +308,13 @@ fn sealed_by(lanes: u32) -> Case<'static> {
 }
 
 // Each file in turn.
-static SEALED_SEEN: [Seen; 13] = [
+static SEALED_SEEN: [Seen; 15] = [
     Seen::Reading("a", b"a secret"),
     Seen::Created("a.stm"),
     Seen::Finished("a.stm", &SECRET),
+    Seen::Unread("m"),
     Seen::Reading("c", b"x"),
+    Seen::Refused("c.stm", FolderFault::Exists),
     Seen::Reading("d", b""),
     Seen::Created("d.stm"),
     Seen::Finished("d.stm", &NONE_UNDER_1),
@@ -258,7 +323,7 @@ static SEALED_SEEN: [Seen; 13] = [
     Seen::Finished("e.stm", &MORE_UNDER_2),
     Seen::Reading("long", b"nine more"),
     Seen::Created("long.stm"),
-    Seen::Removing("long.stm"),
+    Seen::Discarded("long.stm", b""),
 ];
 
 #[test]
@@ -267,10 +332,12 @@ fn one_lane_finishes_each_output_with_the_container_of_its_input(rt: HostRuntime
 }
 
 // The first three files, and then the others.
-static GROUPS_SEEN: [Seen; 13] = [
+static GROUPS_SEEN: [Seen; 15] = [
     Seen::Reading("a", b"a secret"),
     Seen::Created("a.stm"),
+    Seen::Unread("m"),
     Seen::Reading("c", b"x"),
+    Seen::Refused("c.stm", FolderFault::Exists),
     Seen::Finished("a.stm", &SECRET),
     Seen::Reading("d", b""),
     Seen::Created("d.stm"),
@@ -280,7 +347,7 @@ static GROUPS_SEEN: [Seen; 13] = [
     Seen::Created("long.stm"),
     Seen::Finished("d.stm", &NONE_UNDER_1),
     Seen::Finished("e.stm", &MORE_UNDER_2),
-    Seen::Removing("long.stm"),
+    Seen::Discarded("long.stm", b""),
 ];
 
 #[test]
@@ -327,7 +394,7 @@ fn of_three(work: Work, status: u8, lines: &'static [u8]) -> Case<'static> {
 }
 
 // Whether a container is opened and found good, with what happens then.
-fn is_opened<'a, R: AllocGlobal + Threads + Sync>(
+fn is_opened<'a, R: AllocGlobal + Threads + Wait + Sync>(
     rt: &R,
     sealed: &'a [u8],
     plain: &'a [u8],
@@ -351,7 +418,11 @@ fn is_opened<'a, R: AllocGlobal + Threads + Sync>(
 }
 
 // Whether neither command takes a container with this fault: it is only read.
-fn is_refused<R: AllocGlobal + Threads + Sync>(rt: &R, sealed: &[u8], line: &'static [u8]) -> bool {
+fn is_refused<R: AllocGlobal + Threads + Wait + Sync>(
+    rt: &R,
+    sealed: &[u8],
+    line: &'static [u8],
+) -> bool {
     let opened = of_three(Work::Open, 1, line);
     let verified = of_three(Work::Verify, 1, line);
     let Some(mut folder) = folder_of(rt.alloc(), &[("a.stm", sealed)]) else {
@@ -369,7 +440,7 @@ fn is_refused<R: AllocGlobal + Threads + Sync>(rt: &R, sealed: &[u8], line: &'st
 }
 
 // The same of a container whose byte at a place is altered.
-fn is_refused_at<R: AllocGlobal + Threads + Sync>(
+fn is_refused_at<R: AllocGlobal + Threads + Wait + Sync>(
     rt: &R,
     plain: &[u8],
     place: usize,
@@ -392,7 +463,7 @@ static NOT_1: [u8; 37] = *b"failed a.stm: chunk 1 does not check\n";
 static NOT_2: [u8; 37] = *b"failed a.stm: chunk 2 does not check\n";
 
 // The first and the last byte of each sealed chunk.
-fn refuses_each_chunk<R: AllocGlobal + Threads + Sync>(rt: &R, plain: &[u8]) -> bool {
+fn refuses_each_chunk<R: AllocGlobal + Threads + Wait + Sync>(rt: &R, plain: &[u8]) -> bool {
     is_refused_at(rt, plain, 25, &NOT_0)
         && is_refused_at(rt, plain, 4136, &NOT_0)
         && is_refused_at(rt, plain, 4137, &NOT_1)
@@ -401,7 +472,7 @@ fn refuses_each_chunk<R: AllocGlobal + Threads + Sync>(rt: &R, plain: &[u8]) -> 
         && is_refused_at(rt, plain, 8269, &NOT_2)
 }
 
-fn works_three_chunks<R: AllocGlobal + Threads + Sync>(rt: &R) -> bool {
+fn works_three_chunks<R: AllocGlobal + Threads + Wait + Sync>(rt: &R) -> bool {
     let Some(plain) = plain_of_three(rt.alloc()) else {
         return false;
     };

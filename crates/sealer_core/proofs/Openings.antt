@@ -1,0 +1,68 @@
+-- A container opens to the plaintext that was sealed.
+use Rattle.std.proofs.Common.{◌≡◌, ℕ, ◌+◌, ◌<◌, ◌≤◌, ◌++◌, List, [], ◌∷◌, length, Option, Some, Ok, refl, sym, ap, ◌∙◌, subst, arith, length-append}
+use Rattle.std.proofs.lemmas.List.{append_cancel_left}
+use Rattle.container_core.specs.Chunks.{chunks}
+use Rattle.container_core.specs.Container.{container, header_of, label_bytes, shape_in}
+use Rattle.container_core.specs.Opening.{opening}
+use Rattle.container_core.specs.Shape.{IsShape, ShapeView, size_of}
+use Rattle.container_core.specs.Stream.{prefix_in, stream}
+use Rattle.container_core.proofs.HeaderLemmas.{length-header_of, length-prefix_in}
+use Rattle.command_core.specs.declared.line.FileOutcome.TheVariants.{Opened, Sealed}
+use Rattle.command_core.specs.Trace.{Event}
+use Rattle.command_core.specs.Work.{Opening}
+use Rattle.journal_core.specs.Range.{prefix_of}
+use Rattle.sealer_core.specs.Piping.{WorksStream}
+use Rattle.sealer_core.specs.Sealing.{Sealing}
+use Rattle.sealer_core.specs.Theorem.{finished_in, read_in}
+
+long_enough : (key : List ℕ) (shape : ShapeView) (prefix plain : List ℕ) → length prefix ≡ 7 → 17 ≤ length (container key shape prefix plain)
+unfolding container
+long_enough key shape prefix plain seven =
+    let header = length-header_of key prefix shape seven in
+    let all = length-append (header_of key shape prefix) (stream key (header_of key shape prefix) 0 (chunks (size_of shape) plain)) in omega arith
+
+one_of : {A : Type 0} (x y : A) → x ∷ [] ≡ y ∷ [] → x ≡ y
+one_of x y same = cc
+
+-- what the two laws of containers say of a key
+abbrev pub Opens : List ℕ → Type 0
+Opens key = (bytes plain : List ℕ) (most : ℕ) → opening key most bytes ≡ Ok plain
+    → IsShape (shape_in bytes) × (bytes ≡ container key (shape_in bytes) (prefix_in bytes) plain)
+
+abbrev pub Differ : List ℕ → Type 0
+Differ key = (prefix other plain another : List ℕ) (shape form : ShapeView) → IsShape shape → IsShape form → length prefix ≡ 7 → length other ≡ 7
+    → container key shape prefix plain ≡ container key form other another → plain ≡ another
+
+module _ (key : List ℕ) (opens : Opens key) (differ : Differ key) (shape : ShapeView) (is_shape : IsShape shape) where
+  opened_is : (prefix input plain : List ℕ) (most : ℕ) → length prefix ≡ 7 → opening key most (container key shape prefix input) ≡ Ok plain → plain ≡ input
+  opened_is prefix input plain most seven opened =
+      let whole = container key shape prefix input in
+      let (is, same) = opens whole plain most opened in
+      sym (differ prefix (prefix_in whole) input plain shape (shape_in whole) is_shape is seven
+      (length-prefix_in whole (long_enough key shape prefix input seven)) same)
+
+  -- what was opened of these bytes
+  opened_of : (prefix input : List ℕ) (most n : ℕ) (label : Option (List ℕ)) (other : List ℕ) (events : List Event) → length prefix ≡ 7
+      → Opening key most label other (Opened n) events → read_in events ≡ container key shape prefix input ∷ []
+      → (finished_in events ≡ input ∷ []) × (n ≡ length input)
+  opened_of prefix input most n label other events seven (read, plain, good, long, did) same =
+      let read_is : read ≡ container key shape prefix input = one_of read (container key shape prefix input) (sym (ap read_in did) ∙ same) in
+      let plain_is = opened_is prefix input plain most seven (subst (λ (b : List ℕ). opening key most b ≡ Ok plain) read_is good.0) in
+      (ap finished_in did ∙ ap (λ (b : List ℕ). b ∷ []) plain_is, long ∙ ap length plain_is)
+
+  pub of_files : (device number bytes most n : ℕ) (label : Option (List ℕ)) (name other void : List ℕ) (before after events : List Event)
+      → Sealing key shape device name (Sealed number bytes) void before after → Opening key most label other (Opened n) events
+      → read_in events ≡ finished_in after → (finished_in events ≡ read_in before) × (n ≡ bytes)
+  of_files device number bytes most n label name other void before after events (input, none, long, begun, ended) opened same =
+      let (finished, count) = opened_of (prefix_of device number) input most n label other events refl opened (same ∙ ap finished_in ended) in
+      (finished ∙ sym (ap read_in begun), count ∙ sym long)
+
+  pub of_streams : (device number bytes chunks most n : ℕ) (label left : Option (List ℕ)) (failures later refusals more : Option ℕ)
+      (input taken written other void : List ℕ) (events : List Event)
+      → WorksStream key shape chunks (Some input) left failures later (Some taken) (Some (taken ++ written)) refusals more device (Sealed number bytes) void
+      → Opening key most label other (Opened n) events → read_in events ≡ written ∷ [] → (finished_in events ≡ input ∷ []) × (n ≡ bytes)
+  of_streams device number bytes chunks most n label left failures later refusals more input taken written other void events (none, works) opened same =
+      let whole = container key shape (prefix_of device number) input in
+      let written_is : written ≡ whole = append_cancel_left taken written whole works.written in
+      let (finished, count) = opened_of (prefix_of device number) input most n label other events refl opened (same ∙ ap (λ (b : List ℕ). b ∷ []) written_is) in
+      (finished, count ∙ sym works.answer)
