@@ -1,6 +1,7 @@
 #!/bin/bash
 # Runs the built program on small inputs under valgrind: memcheck finds no read or write of what isn't the program's, no use of what was
-# never written, and nothing lost; helgrind and drd find no race of workers and lanes, and there is nothing that they are told to pass over.
+# never written, and nothing lost; helgrind and drd find no race of lanes, nor of workers that open or check, and there is nothing that they are
+# told to pass over.
 # Status, lines and files are those of a run without them. Prints 'N runs under valgrind as they should be', or what differs. Where valgrind
 # isn't there it says so and ends well, and under CI it fails. The program is crates/sealer/out/sealer, or $SEALER.
 set -u
@@ -71,13 +72,15 @@ piping=(pipe --key "$key" --ledger ledger --device 1 --journal journal --exponen
 input=$room/given/a limited pipe memcheck 0 "${piping[@]}"
 input=$room/given/a limited pipe-of-too-many-chunks memcheck 1 "${piping[@]}" --depth 2 --max-chunks 9
 input=$room/given limited pipe-of-a-folder memcheck 1 "${piping[@]}" --workers 2
-# What a stream's workers share goes through two queues without locks, whose order helgrind and drd don't see in their plain loads and
-# stores: they take each job and piece for a race. So of these memcheck alone.
+# What the workers of a stream share, or of a file that is sealed, goes through two queues without locks, whose order helgrind and drd don't
+# see in their plain loads and stores: they take each job and piece for a race. So of these memcheck alone.
 for depth in 1 3; do
     input=$room/given/plain limited pipe-by-workers-$depth memcheck 0 "${piping[@]}" --workers 2 --depth $depth
 done
+for window in 1 2; do
+    limited seal-by-workers-$window memcheck 0 "${sealing[@]}" --workers 2 --window $window plain small
+done
 for tool in memcheck helgrind drd; do
-    limited seal-by-workers-$tool $tool 0 "${sealing[@]}" --workers 2 --window 2 plain small
     limited seal-by-lanes-$tool $tool 1 "${sealing[@]}" --lanes 2 a none b c
     limited open-by-workers-$tool $tool 1 open --key "$key" --workers 2 long.stm damaged.stm
     limited verify-by-workers-$tool $tool 1 verify --key "$key" --workers 2 damaged.stm long.stm

@@ -1,6 +1,6 @@
 -- A trace that goes on, where it is known.
-use Rattle.std.proofs.Common.{◌≡◌, ℕ, refl, sym, ap, subst, ◌∙◌, List, [], ◌∷◌, ◌++◌, length, drop, append-nil, append_assoc, Option, None, Some, IfSome}
-use Rattle.std.proofs.Math.Seq.{drop-append_seam}
+use Rattle.std.proofs.Common.{◌≡◌, ℕ, refl, sym, ap, subst, ◌∙◌, List, [], ◌∷◌, ◌++◌, length, get_or, take, drop, append-nil, append_assoc, Option, None, Some, IfSome}
+use Rattle.std.proofs.Math.Seq.{drop-append_seam, take-append_seam}
 use Rattle.io_core.specs.Streams.{Appends}
 use Rattle.command_core.specs.Trace.{Event, Finished, Discarded, Does, Nothing, Finishes, Discards, tape}
 
@@ -26,28 +26,38 @@ chain r f (Some before) (Some mid) (Some after) d e = (d.0 ++ e.0, f d.0 e.0 d.1
 some_same : (a b : List ℕ) → Some a ≡ Some b → a ≡ b
 some_same a b same = cc
 
--- under one name the bytes are told from the tape
-tape_same : (name bytes more : List ℕ) → tape name bytes ≡ tape name more → bytes ≡ more
-tape_same name bytes more is = sym (drop-append_seam name bytes) ∙ ap (λ l. drop (length name) (drop 1 l)) is ∙ drop-append_seam name more
+-- name and bytes are told from the tape
+pub tape_same : (name other bytes more : List ℕ) → tape name bytes ≡ tape other more → (name ≡ other) × (bytes ≡ more)
+tape_same name other bytes more is =
+    let long : length name ≡ length other = ap (λ l. get_or l 0 0) is in
+    let rest : name ++ bytes ≡ other ++ more = ap (drop 1) is in (
+      sym (take-append_seam name bytes) ∙ ap (take (length name)) rest ∙ ap (λ n. take n (other ++ more)) long ∙ take-append_seam other more,
+      sym (drop-append_seam name bytes) ∙ ap (drop (length name)) rest ∙ ap (λ n. drop n (other ++ more)) long ∙ drop-append_seam other more,
+    )
 
 -- what a writer tells behind these bytes, once more were written
-bytes_as : (name bytes more all : List ℕ) (taken taken' : Option (List ℕ)) → taken ≡ Some (tape name bytes) → Appends taken taken' more → taken' ≡ Some (tape name all) → all ≡ bytes ++ more
-bytes_as name bytes more all None taken' is grew tells = absurd (cc)
-bytes_as name bytes more all (Some before) None is grew tells = absurd grew
-bytes_as name bytes more all (Some before) (Some after) is grew tells =
-    let whole : tape name all ≡ tape name (bytes ++ more) =
-    sym (some_same after (tape name all) tells) ∙ grew ∙ ap (λ l. l ++ more) (some_same before (tape name bytes) is) ∙ ap (λ l. length name ∷ l) (append_assoc name bytes more) in
-    tape_same name all (bytes ++ more) whole
+tape_as : (name other bytes more all : List ℕ) (taken taken' : Option (List ℕ)) → taken ≡ Some (tape name bytes) → Appends taken taken' more → taken' ≡ Some (tape other all)
+    → (other ≡ name) × (all ≡ bytes ++ more)
+tape_as name other bytes more all None taken' is grew tells = absurd (cc)
+tape_as name other bytes more all (Some before) None is grew tells = absurd grew
+tape_as name other bytes more all (Some before) (Some after) is grew tells =
+    let whole : tape other all ≡ tape name (bytes ++ more) =
+    sym (some_same after (tape other all) tells) ∙ grew ∙ ap (λ l. l ++ more) (some_same before (tape name bytes) is) ∙ ap (λ l. length name ∷ l) (append_assoc name bytes more) in
+    tape_same other name all (bytes ++ more) whole
 
--- what was written behind the bytes of an output is what it is finished with
-pub finished_as : (name bytes more : List ℕ) (taken taken' : Option (List ℕ)) (events : List Event) → taken ≡ Some (tape name bytes) → Appends taken taken' more → Finishes name taken' events
+-- what was written behind the bytes of an output is what it is finished with, under its own name
+pub finished_as : (name bytes more : List ℕ) (taken taken' : Option (List ℕ)) (events : List Event) → taken ≡ Some (tape name bytes) → Appends taken taken' more → Finishes taken' events
     → events ≡ Finished name (bytes ++ more) ∷ []
-finished_as name bytes more taken taken' events is grew f = f.2 ∙ ap (λ b. Finished name b ∷ []) (bytes_as name bytes more f.0 taken taken' is grew f.1)
+finished_as name bytes more taken taken' events is grew (other, all, tells, f) =
+    let same = tape_as name other bytes more all taken taken' is grew tells in
+    f ∙ ap (λ n. Finished n all ∷ []) same.0 ∙ ap (λ b. Finished name b ∷ []) same.1
 
 -- and what it is given up with
-pub discarded_as : (name bytes more : List ℕ) (taken taken' : Option (List ℕ)) (events : List Event) → taken ≡ Some (tape name bytes) → Appends taken taken' more → Discards name taken' events
+pub discarded_as : (name bytes more : List ℕ) (taken taken' : Option (List ℕ)) (events : List Event) → taken ≡ Some (tape name bytes) → Appends taken taken' more → Discards taken' events
     → events ≡ Discarded name (bytes ++ more) ∷ []
-discarded_as name bytes more taken taken' events is grew d = d.2 ∙ ap (λ b. Discarded name b ∷ []) (bytes_as name bytes more d.0 taken taken' is grew d.1)
+discarded_as name bytes more taken taken' events is grew (other, all, tells, d) =
+    let same = tape_as name other bytes more all taken taken' is grew tells in
+    d ∙ ap (λ n. Discarded n all ∷ []) same.0 ∙ ap (λ b. Discarded name b ∷ []) same.1
 
 pub known : (P : List ℕ → Type 0) (left : Option (List ℕ)) (bytes : List ℕ) → left ≡ Some bytes → IfSome left P → P bytes
 known P None bytes is p = absurd (cc)

@@ -45,12 +45,12 @@ Creates name taken events = (taken ≡ Some (tape name [])) × (events ≡ Creat
 abbrev pub Refuses : List ℕ → FolderFault → List Event → Type 0
 Refuses name fault events = events ≡ Refused name fault ∷ []
 
--- the output of this name was finished, with the bytes that its writer tells
-abbrev pub Finishes : List ℕ → Option (List ℕ) → List Event → Type 0
-Finishes name taken events =
-    (bytes : List ℕ) × (taken ≡ Some (tape name bytes)) × (events ≡ Finished name bytes ∷ [])
+-- An output was finished, under the name and with the bytes that its writer tells.
+abbrev pub Finishes : Option (List ℕ) → List Event → Type 0
+Finishes taken events =
+    (name : List ℕ) × (bytes : List ℕ) × (taken ≡ Some (tape name bytes)) × (events ≡ Finished name bytes ∷ [])
 
--- the output of this name was given up, with the bytes that its writer tells
-abbrev pub Discards : List ℕ → Option (List ℕ) → List Event → Type 0
-Discards name taken events =
-    (bytes : List ℕ) × (taken ≡ Some (tape name bytes)) × (events ≡ Discarded name bytes ∷ [])
+-- An output was given up, under the name and with the bytes that its writer tells.
+abbrev pub Discards : Option (List ℕ) → List Event → Type 0
+Discards taken events =
+    (name : List ℕ) × (bytes : List ℕ) × (taken ≡ Some (tape name bytes)) × (events ≡ Discarded name bytes ∷ [])

@@ -15,7 +15,7 @@ ghost use Rattle.command_core.specs.Work.{output_of, IsOfOpening, IsOfVerifying,
 ghost use Rattle.command_core.specs.Work.{AreTold, AreWorked, IsFaultOf, IsGood, Opening, Verifying, events_of};
 
 use crate::facts::Facts;
-use crate::folder::{Folder, FolderFault, write_output};
+use crate::folder::{Folder, FolderFault, write_or_discard};
 use crate::label::is_labelled;
 use crate::line::{FileFault, FileOutcome, Line};
 use container_core::{Key, MAX_OPENED, MAX_PLAIN, OpenFault};
@@ -181,17 +181,14 @@ fn open_file<T: Threads + Sync, F: Folder>(
         Ok(plain) => plain,
         Err(fault) => return FileOutcome::Failed(fault),
     };
-    let mut writer = match folder.create(output) {
+    let writer = match folder.create(output) {
         Ok(writer) => writer,
         Err(FolderFault::Exists) => return FileOutcome::Failed(FileFault::OutputExists),
         Err(FolderFault::Failed) => return FileOutcome::Failed(FileFault::CannotCreate),
     };
-    match write_output(folder, output, &mut writer, plain.as_slice()) {
+    match write_or_discard(folder, writer, plain.as_slice()) {
         Ok(()) => FileOutcome::Opened(plain.len() as u64),
-        Err(Failed) => {
-            let _ = folder.discard(output, writer);
-            FileOutcome::Failed(FileFault::Unopened(OpenFault::Write))
-        }
+        Err(Failed) => FileOutcome::Failed(FileFault::Unopened(OpenFault::Write)),
     }
 }
 

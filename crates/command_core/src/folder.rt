@@ -1,5 +1,5 @@
 //! Folders: what the commands read files from and create outputs in.
-ghost use Rattle.std.specs.Prelude.{◌≡◌, ◌≢◌, List, Option, None, Err, IfOk, IfErr, OnOk, OnErr};
+ghost use Rattle.std.specs.Prelude.{◌≡◌, ◌≢◌, ℕ, List, Option, None, Err, IfOk, IfErr, OnOk, OnErr};
 ghost use Rattle.io_core.specs.Streams.{Appends, AppendsFront};
 ghost use Rattle.command_core.specs.Trace.{Event, Creates, Discards, Does, FailsToOpen, Finishes, Nothing, Opens, Refuses};
 
@@ -43,37 +43,55 @@ pub trait Folder {
         ensures uncreated { IfErr result (λ fault.
             Does (Refuses name.now fault) (told self.old) (told self.new)) };
 
-    /// Nothing more is written to the output of this name: a folder over real files puts it on the disk where that was
-    /// asked for. Its only fault is `Failed`. What was written stays as it is.
-    fn finish(&mut self, name: &str, output: &mut Self::Writer) -> Result<(), FolderFault>
-        ensures fault { result ≢ Err FolderFault.Exists }
-        ensures kept { Self.Writer.taken output.new ≡ Self.Writer.taken output.old }
+    /// Nothing more is written to the output: a folder over real files puts it on the disk where that was asked for. Where
+    /// that fails the output comes back, to be given up.
+    fn finish(&mut self, output: Self::Writer) -> Result<(), Self::Writer>
         ensures finished { OnOk result
-            (Does (Finishes name.now (Self.Writer.taken output.old)) (told self.old) (told self.new)) }
+            (Does (Finishes (Self.Writer.taken output)) (told self.old) (told self.new)) }
+        ensures back { IfErr result (λ back. Self.Writer.taken back ≡ Self.Writer.taken output) }
         ensures unfinished { OnErr result (Does Nothing (told self.old) (told self.new)) };
 
     /// Gives an output up: its writer is let go, and its file removed. Its only fault is `Failed`.
-    fn discard(&mut self, name: &str, output: Self::Writer) -> Result<(), FolderFault>
+    fn discard(&mut self, output: Self::Writer) -> Result<(), FolderFault>
         ensures fault { result ≢ Err FolderFault.Exists }
-        ensures discarded { Does (Discards name.now (Self.Writer.taken output)) (told self.old) (told self.new) };
+        ensures discarded { Does (Discards (Self.Writer.taken output)) (told self.old) (told self.new) };
 }
 
-/// Writes all of the output of this name, and finishes it. It fails where a write fails, or the finishing.
+/// Writes all of an output, and finishes it. Where a write fails, or the finishing, the output comes back, to be given up.
 pub fn write_output<F: Folder>(
     folder: &mut F,
-    name: &str,
-    output: &mut F::Writer,
+    output: F::Writer,
     bytes: &[u8],
-) -> Result<(), Failed>
-    ensures ok { OnOk result (Appends (F.Writer.taken output.old) (F.Writer.taken output.new) bytes.now) }
-    ensures err { OnErr result (AppendsFront (F.Writer.taken output.old) (F.Writer.taken output.new) bytes.now) }
-    ensures told { OnOk result
-        (Does (Finishes name.now (F.Writer.taken output.new)) (F.told folder.old) (F.told folder.new)) }
+) -> Result<(), F::Writer>
+    ensures ok { OnOk result ((taken : Option (List ℕ)) × Appends (F.Writer.taken output) taken bytes.now
+        × Does (Finishes taken) (F.told folder.old) (F.told folder.new)) }
+    ensures err { IfErr result (λ back. AppendsFront (F.Writer.taken output) (F.Writer.taken back) bytes.now) }
     ensures untold { OnErr result (Does Nothing (F.told folder.old) (F.told folder.new)) }
 {
-    write_all(output, bytes)?;
-    match folder.finish(name, output) {
+    let mut output = output;
+    match write_all(&mut output, bytes) {
+        Ok(()) => folder.finish(output),
+        Err(Failed) => Err(output),
+    }
+}
+
+// Writes all of an output, and finishes it. Where that fails the output is given up.
+pub(crate) fn write_or_discard<F: Folder>(
+    folder: &mut F,
+    output: F::Writer,
+    bytes: &[u8],
+) -> Result<(), Failed>
+    ensures ok { OnOk result ((taken : Option (List ℕ)) × Appends (F.Writer.taken output) taken bytes.now
+        × Does (Finishes taken) (F.told folder.old) (F.told folder.new)) }
+    ensures err { OnErr result ((taken : Option (List ℕ)) × (between : Option (List Event))
+        × AppendsFront (F.Writer.taken output) taken bytes.now × Does Nothing (F.told folder.old) between
+        × Does (Discards taken) between (F.told folder.new)) }
+{
+    match write_output(folder, output, bytes) {
         Ok(()) => Ok(()),
-        Err(_) => Err(Failed),
+        Err(output) => {
+            let _ = folder.discard(output);
+            Err(Failed)
+        }
     }
 }

@@ -2,9 +2,10 @@
 //!
 //! It keeps what happened and tells it, refused calls too, and its readers and writers tell their bytes. Where memory for
 //! an event is refused it forgets, and tells nothing from then on.
-ghost use Rattle.std.specs.Prelude.{◌≡◌, ◌<◌, [], ◌∷◌, ◌++◌, None, Some, IfSome, OnOk, OnErr, IfOk, length, string_bytes};
+ghost use Rattle.std.specs.Prelude.{◌≡◌, ◌≢◌, Err, ◌<◌, [], ◌∷◌, ◌++◌, None, Some, IfSome, OnOk, OnErr, IfOk, length, string_bytes};
 ghost use Rattle.std.specs.Prelude.{is_some, map, option_map, position, bytes_eq};
-ghost use Rattle.command_core.specs.Trace.{Created, Discarded, Does, Finished, Reading, Refused, Unread};
+ghost use Rattle.command_core.specs.Trace.{Created, Discarded, Does, FailsToOpen, Finished, Opens, Reading, Refused};
+ghost use Rattle.command_core.specs.Trace.{Unread};
 ghost use Rattle.folder_memory.specs.Memory.{IsEvent, bytes_of, event_of, file_view, memory_view, told_of, whole_of};
 
 use command_core::{Folder, FolderFault};
@@ -220,7 +221,9 @@ impl MemoryFolder {
 
     // The bytes of a file that is to be read, unless this call fails.
     fn bytes_to_read(&mut self, name: &str) -> Option<Vec<u8>>
-        ensures { self.new ≡ record self.old { refused = self.new.refused } }
+        ensures same { self.new ≡ record self.old { refused = self.new.refused } }
+        ensures held { IfSome result (λ bytes.
+            IfSome (bytes_of self.old.files name.now) (λ whole. bytes.items ≡ whole)) }
     {
         if self.is_refused() {
             return None;
@@ -231,6 +234,7 @@ impl MemoryFolder {
     // A new output, which is in the folder, unless this call fails.
     fn new_output(&mut self, name: &str) -> Result<MemoryWriter, FolderFault>
         ensures empty { IfOk result (λ writer. (string_bytes writer.name ≡ name.now) × (writer.bytes.taken ≡ [])) }
+        ensures added { OnOk result (self.new.files ≡ self.old.files ++ file_view name.now None ∷ []) }
         ensures untold { self.new.log ≡ self.old.log }
     {
         if self.is_refused() {
@@ -359,16 +363,11 @@ fn finished(alloc: Global, name: &str, bytes: &[u8]) -> Option<Told>
     Some(Told::Finished(name, bytes))
 }
 
-// An output that is given up under its own name.
-fn discarded(alloc: Global, name: &str, output: &MemoryWriter) -> Option<Told>
-    ensures event { IfSome result (λ told. event_of told ≡ Discarded name.now output.now.bytes.taken) }
-    ensures own { IfSome result (λ _. string_bytes output.now.name ≡ name.now) }
+fn discarded(alloc: Global, name: &str, bytes: &[u8]) -> Option<Told>
+    ensures { IfSome result (λ told. event_of told ≡ Discarded name.now bytes.now) }
 {
-    if output.name.as_str() != name {
-        return None;
-    }
     let name = String::from_str(alloc, name).ok()?;
-    let bytes = Vec::from_slice(alloc, output.bytes.bytes()).ok()?;
+    let bytes = Vec::from_slice(alloc, bytes).ok()?;
     Some(Told::Discarded(name, bytes))
 }
 
@@ -379,7 +378,13 @@ impl Folder for MemoryFolder {
 
     ghost told = { λ f. f.log };
 
-    fn open(&mut self, name: &str) -> Result<MemoryReader, FolderFault> {
+    fn open(&mut self, name: &str) -> Result<MemoryReader, FolderFault>
+        ensures fault { result ≢ Err FolderFault.Exists }
+        ensures opened { IfOk result (λ reader. Does (Opens name.now (Some reader)) self.old.log self.new.log) }
+        // What its reader has to give is what the file holds, where that is whole.
+        ensures held { IfOk result (λ reader. IfSome (bytes_of self.old.files name.now) (λ whole. reader ≡ whole)) }
+        ensures unopened { OnErr result (Does (FailsToOpen name.now) self.old.log self.new.log) }
+    {
         let Some(bytes) = self.bytes_to_read(name) else {
             let event = unread(self.alloc, name);
             tell(&mut self.told, event);
@@ -410,28 +415,27 @@ impl Folder for MemoryFolder {
         }
     }
 
-    // The output is finished under its own name alone.
-    fn finish(&mut self, name: &str, output: &mut MemoryWriter) -> Result<(), FolderFault> {
-        if self.is_refused() || output.name.as_str() != name {
-            return Err(FolderFault::Failed);
+    fn finish(&mut self, output: MemoryWriter) -> Result<(), MemoryWriter> {
+        if self.is_refused() {
+            return Err(output);
         }
-        let Some(place) = place_of(self.files.as_slice(), name) else {
-            return Err(FolderFault::Failed);
+        let Some(place) = place_of(self.files.as_slice(), output.name.as_str()) else {
+            return Err(output);
         };
         let Ok(bytes) = Vec::from_slice(self.alloc, output.bytes.bytes()) else {
-            return Err(FolderFault::Failed);
+            return Err(output);
         };
         self.files[place].content = Content::Whole(bytes);
-        let event = finished(self.alloc, name, output.bytes.bytes());
+        let event = finished(self.alloc, output.name.as_str(), output.bytes.bytes());
         tell(&mut self.told, event);
         Ok(())
     }
 
-    // Told whatever becomes of the removal. An output is given up under its own name alone: under another the folder
-    // forgets what happened.
-    fn discard(&mut self, name: &str, output: MemoryWriter) -> Result<(), FolderFault> {
-        let is_refused = self.is_refused() || output.name.as_str() != name;
-        let event = discarded(self.alloc, name, &output);
+    // Told whatever becomes of the removal.
+    fn discard(&mut self, output: MemoryWriter) -> Result<(), FolderFault> {
+        let is_refused = self.is_refused();
+        let name = output.name.as_str();
+        let event = discarded(self.alloc, name, output.bytes.bytes());
         tell(&mut self.told, event);
         if is_refused {
             return Err(FolderFault::Failed);

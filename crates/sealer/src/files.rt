@@ -89,7 +89,6 @@ pub(crate) fn outputs_of<'p, 'r, R: Files + AllocGlobal + Clock + Eprint>(
         rt,
         into,
         sync,
-        room: String::new(rt.alloc()),
         progress,
     })
 }

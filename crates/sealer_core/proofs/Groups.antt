@@ -483,8 +483,8 @@ few_left {W = W} items left file os os' is next few =
   where
     by : (f : Prepared W) → length (left_by f os) ≤ length os - length (read_of f)
     by (Refused name fault) = omega arith
-    by (Unread name output writer fault) = omega arith
-    by (Read name output writer bytes) = let d = length-drop 1 os in omega arith
+    by (Unread name writer fault) = omega arith
+    by (Read name writer bytes) = let d = length-drop 1 os in omega arith
 
 pub none_left : {W : Type 0} (files : List (Prepared W)) (os : List Outcome) → files ≡ [] → length os ≤ length (flat_map read_of files) → os ≡ []
 none_left files [] none few = refl

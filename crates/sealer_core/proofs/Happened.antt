@@ -1,5 +1,5 @@
 -- What happened in the folder: for one file that one lane sealed, and for the groups so far and one more.
-use Rattle.std.proofs.Common.{◌≡◌, ◌≢◌, ◌∙◌, ℕ, refl, sym, ap, subst, List, [], ◌∷◌, ◌++◌, length, map, append-nil, All, Option, Some, None, IfSome, Result, Ok, Err, IfOk, OnOk, OnErr}
+use Rattle.std.proofs.Common.{◌≡◌, ◌∙◌, ℕ, refl, sym, ap, subst, List, [], ◌∷◌, ◌++◌, length, map, append-nil, All, Option, Some, None, IfSome, Result, Ok, Err, IfOk, OnOk, OnErr}
 use Rattle.std.proofs.KnownBytes.{Appends-kept, Appends-nil, Keeps-refl}
 use Rattle.std.proofs.lemmas.Grind.{flat_map-append}
 use Rattle.std.proofs.lemmas.List.{map-append}
@@ -19,7 +19,7 @@ use Rattle.command_core.specs.Lines.{FileLine}
 use Rattle.command_core.specs.Trace.{Event, Reading, Unread, Created, Refused, Finished, Discarded, Does, Nothing, Opens, FailsToOpen, Creates, Refuses, Discards, tape}
 use Rattle.command_core.proofs.Traces.{nothing, weaken, chain, known, finished_as, discarded_as}
 use Rattle.sealer_core.specs.Group.{IsRefused}
-use Rattle.sealer_core.specs.Sealing.{AreOfGroups, EndsBy, Happened, HeldUnder, IfSealed, IsDiscarded, IsOfGrant, IsOfNumber, IsUncreated, Part, Puts, PutsUnder, Sealing, group_events, group_voids, line_of, prepared, sealed_name, void_at}
+use Rattle.sealer_core.specs.Sealing.{AreOfGroups, IsClosed, Happened, HeldUnder, IfSealed, IsDiscarded, IsOfGrant, IsOfNumber, IsUncreated, Part, Puts, PutsUnder, Sealing, group_events, group_voids, line_of, prepared, sealed_name, void_at}
 
 -- ---- what a writer took
 
@@ -30,6 +30,11 @@ pub of_grant : (outcome : FileOutcome) → IsOfGrant outcome → IsOfNumber outc
 of_grant (Sealed number bytes) is = tt
 of_grant (Failed (Unsealed fault)) is = tt
 of_grant outcome is = absurd is
+
+-- behind nothing, an output that came back is given up with what it took
+pub discards_behind : (taken taken' : Option (List ℕ)) (one two three : Option (List Event)) → taken' ≡ taken → Does Nothing one two → Does (Discards taken') two three → Does (Discards taken) one three
+discards_behind taken taken' one two three back none discards = chain (Discards taken)
+    (λ x y n d. subst (Discards taken) (sym (ap (λ l. l ++ y) n)) (subst (λ t. Discards t y) back d)) one two three none discards
 
 module _ (key : List ℕ) (shape : ShapeView) where
   -- nothing, where no number was issued
@@ -48,35 +53,33 @@ module _ (key : List ℕ) (shape : ShapeView) where
       (subst (λ plain. AppendsFront taken taken' (container key shape (prefix_of device' number) plain)) (sym begun.1) begun.2)
 
   -- all, where it sealed the input and the output was then finished; where it couldn't be finished that is a beginning too
-  pub puts_whole : (device device' number number' count : ℕ) (left taken mid taken' : Option (List ℕ)) (result : Result ℕ SealFault) (outcome : FileOutcome) → result ≡ Ok count → device' ≡ device
-      → number ≡ number' → taken' ≡ mid → OnOk result (IfSome left (λ input. Appends taken mid (container key shape (prefix_of device' number') input)))
+  pub puts_whole : (device device' number number' count : ℕ) (left taken taken' : Option (List ℕ)) (result : Result ℕ SealFault) (outcome : FileOutcome) → result ≡ Ok count → device' ≡ device
+      → number ≡ number' → OnOk result (IfSome left (λ input. Appends taken taken' (container key shape (prefix_of device' number') input)))
       → IfOk result (λ n. IfSome left (λ input. n ≡ length input)) → IsOfGrant outcome → IfSealed outcome (λ n bytes. (n ≡ number) × (bytes ≡ count))
       → Puts key shape device left taken taken' outcome (void_at number outcome)
-  puts_whole device device' number number' count left taken mid taken' (Err fault) outcome is same named kept written long fit sealed = absurd (cc)
-  puts_whole device device' number number' count None taken mid taken' (Ok n) (Sealed m bytes) is same named kept written long fit sealed = (refl, tt)
-  puts_whole device device' number number' count None taken mid taken' (Ok n) (Failed (Unsealed fault)) is same named kept written long fit sealed = tt
-  puts_whole device device' number number' count (Some input) taken mid taken' (Ok n) (Sealed m bytes) is same named kept written long fit sealed =
+  puts_whole device device' number number' count left taken taken' (Err fault) outcome is same named written long fit sealed = absurd (cc)
+  puts_whole device device' number number' count None taken taken' (Ok n) (Sealed m bytes) is same named written long fit sealed = (refl, tt)
+  puts_whole device device' number number' count None taken taken' (Ok n) (Failed (Unsealed fault)) is same named written long fit sealed = tt
+  puts_whole device device' number number' count (Some input) taken taken' (Ok n) (Sealed m bytes) is same named written long fit sealed =
       let counted : n ≡ count = cc in (
         refl,
         (
           sealed.1 ∙ sym counted ∙ long,
-          subst (λ t. Appends taken t (container key shape (prefix_of device m) input)) (sym kept)
-              (subst (λ k. Appends taken mid (container key shape (prefix_of device k) input)) (sym (sealed.0 ∙ named))
-              (subst (λ d. Appends taken mid (container key shape (prefix_of d number') input)) same written)),
+          subst (λ k. Appends taken taken' (container key shape (prefix_of device k) input)) (sym (sealed.0 ∙ named))
+              (subst (λ d. Appends taken taken' (container key shape (prefix_of d number') input)) same written),
         ),
       )
-  puts_whole device device' number number' count (Some input) taken mid taken' (Ok n) (Failed (Unsealed fault)) is same named kept written long fit sealed = (
+  puts_whole device device' number number' count (Some input) taken taken' (Ok n) (Failed (Unsealed fault)) is same named written long fit sealed = (
     container key shape (prefix_of device number) input,
     ([], sym (append-nil (container key shape (prefix_of device number) input))),
-    subst (λ t. Appends taken t (container key shape (prefix_of device number) input)) (sym kept)
-        (subst (λ k. Appends taken mid (container key shape (prefix_of device k) input)) (sym named)
-        (subst (λ d. Appends taken mid (container key shape (prefix_of d number') input)) same written)),
+    subst (λ k. Appends taken taken' (container key shape (prefix_of device k) input)) (sym named)
+        (subst (λ d. Appends taken taken' (container key shape (prefix_of d number') input)) same written),
   )
-  puts_whole device device' number number' count left taken mid taken' (Ok n) outcome is same named kept written long fit sealed = absurd fit
+  puts_whole device device' number number' count left taken taken' (Ok n) outcome is same named written long fit sealed = absurd fit
 
   -- what an output was given up with
   pub discards_as : (device : ℕ) (name output input void : List ℕ) (taken taken' : Option (List ℕ)) (events : List Event) → output ≡ sealed_name name → taken ≡ Some (tape output [])
-      → PutsUnder key shape device (Some input) taken taken' void → Discards output taken' events
+      → PutsUnder key shape device (Some input) taken taken' void → Discards taken' events
       → (held : List ℕ) × HeldUnder key shape device input void held × (events ≡ Discarded (sealed_name name) held ∷ [])
   discards_as device name output input [] taken taken' events named empty kept discards =
       ([], refl, discarded_as output [] [] taken taken' events empty (kept_appends taken taken' kept) discards ∙ ap (λ o. Discarded o [] ∷ []) named)
@@ -164,7 +167,7 @@ module _ (key : List ℕ) (shape : ShapeView) (device : ℕ) (name : List ℕ) w
   was_sealed : (number count : ℕ) (output void : List ℕ) (left taken taken' : Option (List ℕ)) (one two three four : Option (List Event)) → output ≡ sealed_name name
       → Does (Opens name left) one two → Does (Creates output taken) two three
       → Puts key shape device left taken taken' (Sealed number count) void
-      → Does (EndsBy output taken' (Sealed number count)) three four → Happened key shape device one four ((line_of name (Sealed number count) ∷ []) ∷ []) void
+      → Does (IsClosed taken' (Sealed number count)) three four → Happened key shape device one four ((line_of name (Sealed number count) ∷ []) ∷ []) void
   was_sealed number count output void left taken taken' one two three four named opens creates (none, put) ends =
       chain (AreOfGroups (Sealing key shape device) ((line_of name (Sealed number count) ∷ []) ∷ []) void)
       (λ x y o more.
@@ -193,21 +196,17 @@ module _ (key : List ℕ) (shape : ShapeView) (device : ℕ) (name : List ℕ) w
   given_up_as (Unsealed fault) void left taken taken' before after puts is = is
   given_up_as fault void left taken taken' before after puts is = absurd puts
 
-  pub was_discarded : (outcome : FileOutcome) (fault : FileFault) (output void : List ℕ) (left taken taken' : Option (List ℕ)) (one two three four five : Option (List Event))
-      → outcome ≡ Failed fault → output ≡ sealed_name name → Does (Opens name left) one two → Does (Creates output taken) two three
-      → Puts key shape device left taken taken' outcome void → Does (EndsBy output taken' outcome) three four → Does (Discards output taken') four five
-      → Happened key shape device one five ((line_of name outcome ∷ []) ∷ []) void
-  was_discarded outcome fault output void left taken taken' one two three four five is named opens creates put ends discards =
-      let puts : Puts key shape device left taken taken' (Failed fault) void = subst (λ o. Puts key shape device left taken taken' o void) is put in
-      let none : Does Nothing three four = subst (λ o. Does (EndsBy output taken' o) three four) is ends in
-      let last : Does (Discards output taken') three five = chain (Discards output taken') (λ x y n d. (d.0, d.1, (λ i. n i ++ d.2 i))) three four five none discards in
-      subst (λ o. Happened key shape device one five ((line_of name o ∷ []) ∷ []) void) (sym is)
-      (chain (AreOfGroups (Sealing key shape device) ((line_of name (Failed fault) ∷ []) ∷ []) void)
+  was_discarded : (fault : FileFault) (output void : List ℕ) (left taken taken' : Option (List ℕ)) (one two three four : Option (List Event)) → output ≡ sealed_name name
+      → Does (Opens name left) one two → Does (Creates output taken) two three
+      → Puts key shape device left taken taken' (Failed fault) void
+      → Does (Discards taken') three four → Happened key shape device one four ((line_of name (Failed fault) ∷ []) ∷ []) void
+  was_discarded fault output void left taken taken' one two three four named opens creates puts discards =
+      chain (AreOfGroups (Sealing key shape device) ((line_of name (Failed fault) ∷ []) ∷ []) void)
       (λ x y o more.
       let (held, under, so) = more o.0 o.1 in
       alone (Failed fault) void (x ++ y) (prepared name o.0) (Discarded (sealed_name name) held ∷ [])
       (given_up_as fault void left taken taken' (prepared name o.0) (Discarded (sealed_name name) held ∷ []) puts (o.0, held, under, refl, refl)) (λ i. o.2 i ++ so i))
-      one two five opens
+      one two four opens
       (chain (λ events. (input : List ℕ) → left ≡ Some input → (held : List ℕ) × HeldUnder key shape device input void held
       × (events ≡ Created (sealed_name name) ∷ Discarded (sealed_name name) held ∷ []))
       (λ x y c d input told.
@@ -215,16 +214,17 @@ module _ (key : List ℕ) (shape : ShapeView) (device : ℕ) (name : List ℕ) w
       (subst (λ l. PutsUnder key shape device l taken taken' void) told (puts_under fault void left taken taken' puts)) d in
       let both : x ++ y ≡ Created output ∷ Discarded (sealed_name name) held ∷ [] = (λ i. c.1 i ++ so i) in
       (held, under, both ∙ ap (λ o. Created o ∷ Discarded (sealed_name name) held ∷ []) named))
-      two three five creates last))
+      two three four creates discards)
 
-  -- it ended otherwise than by a fault
-  pub was_not_failed : (outcome : FileOutcome) (output void : List ℕ) (left taken taken' : Option (List ℕ)) (one two three four : Option (List Event)) → ((fault : FileFault) → outcome ≢ Failed fault)
-      → output ≡ sealed_name name → Does (Opens name left) one two → Does (Creates output taken) two three
+  -- its output was closed
+  pub was_closed : (outcome : FileOutcome) (output void : List ℕ) (left taken taken' : Option (List ℕ)) (one two three four : Option (List Event)) → output ≡ sealed_name name
+      → Does (Opens name left) one two → Does (Creates output taken) two three
       → Puts key shape device left taken taken' outcome void
-      → Does (EndsBy output taken' outcome) three four → Happened key shape device one four ((line_of name outcome ∷ []) ∷ []) void
-  was_not_failed (Sealed number count) output void left taken taken' one two three four other named opens creates put ends =
-      was_sealed number count output void left taken taken' one two three four named opens creates put ends
-  was_not_failed (Opened count) output void left taken taken' one two three four other named opens creates put ends = absurd put
-  was_not_failed (Good count) output void left taken taken' one two three four other named opens creates put ends = absurd put
-  was_not_failed (Shown count facts) output void left taken taken' one two three four other named opens creates put ends = absurd put
-  was_not_failed (Failed fault) output void left taken taken' one two three four other named opens creates put ends = absurd (other fault refl)
+      → Does (IsClosed taken' outcome) three four → Happened key shape device one four ((line_of name outcome ∷ []) ∷ []) void
+  was_closed (Sealed number count) output void left taken taken' one two three four named opens creates puts closed =
+      was_sealed number count output void left taken taken' one two three four named opens creates puts closed
+  was_closed (Failed fault) output void left taken taken' one two three four named opens creates puts closed =
+      was_discarded fault output void left taken taken' one two three four named opens creates puts closed
+  was_closed (Opened count) output void left taken taken' one two three four named opens creates puts closed = absurd puts
+  was_closed (Good count) output void left taken taken' one two three four named opens creates puts closed = absurd puts
+  was_closed (Shown count facts) output void left taken taken' one two three four named opens creates puts closed = absurd puts

@@ -1,5 +1,6 @@
 mod Apart
 pub mod Calls
+pub mod Chunks
 pub mod Groups
 pub mod Happened
 pub mod Life

@@ -1,9 +1,12 @@
 -- The theorem on nonces. What a run wrote are outputs as the laws of `life_core` ask for; the ranges of a device's runs rise,
 -- since each next one lies behind; and bytes that begin two containers have one prefix, which stands in them.
-use Rattle.std.proofs.Common.{◌≡◌, ℕ, zero, suc, ◌+◌, ◌<◌, ◌≤◌, Bool, List, [], ◌∷◌, ◌++◌, length, take, drop, map, Some, refl, sym, ap, ◌∙◌, subst, arith, length-drop}
+use Rattle.std.proofs.Common.{◌≡◌, ℕ, zero, suc, ◌+◌, ◌<◌, ◌≤◌, Bool, cond, nat_eq, List, [], ◌∷◌, ◌++◌, count_by, length, take, drop, map, Some, refl, sym, ap, ◌∙◌, subst, arith, eq-eqb, ne_eqb, length-drop}
+use mathlib.Core.Logic.{dite}
+use native.Mathlib.Decide.{ℕ_discrete}
 use Rattle.std.specs.Prelude.{slice_get}
 use Rattle.std.specs.List.{AllByRecursion}
 use Rattle.std.proofs.lemmas.List.{take-append-le, drop-append-le}
+use Rattle.std.proofs.lemmas.List.Sums.{sum_by-cons}
 use Rattle.io_core.specs.Streams.{IsFront}
 use Rattle.container_core.specs.Chunks.{chunks}
 use Rattle.container_core.specs.Container.{container, header_of}
@@ -13,13 +16,14 @@ use Rattle.container_core.proofs.HeaderLemmas.{length-header_of, prefix_in-heade
 use Rattle.container_core.proofs.LawLemmas.{nonce_of-injective}
 use Rattle.journal_core.specs.declared.entry.Entry.{Entry}
 use Rattle.journal_core.specs.declared.terms.Terms.{Terms}
-use Rattle.journal_core.specs.Range.{IsLawfulRange, prefix_of}
-use Rattle.life_core.specs.Outputs.{AreRuns, HasWritten, IsOutput, Output, Place, StandsAt, Written}
+use Rattle.journal_core.specs.Range.{IsLawfulRange, Numbers, prefix_of}
+use Rattle.journal_core.specs.declared.entry.Event.{Event}
+use Rattle.journal_core.specs.declared.entry.Event.TheVariants.{Granted, Exhausted, Settled}
+use Rattle.journal_core.specs.History.{entry, grants, times_granted}
+use Rattle.journal_core.proofs.Prefixes.{numbers_once}
+use Rattle.life_core.specs.Outputs.{AreRuns, HasWritten, IsOutput, Output, Place, StandsAt, Written, times_used}
 use Rattle.life_core.proofs.Lives.{nonce_at, header_prefix}
-use Rattle.sqlite_disk.specs.declared.Disk.{Ghosts}
-use Rattle.sqlite_disk.specs.declared.Files.{Files}
-use Rattle.sqlite_store.specs.declared.store.FileStore.{FileStore}
-use Rattle.sqlite.specs.Held.{Held}
+use Rattle.reserve_core.proofs.NextRun.{passed}
 use Rattle.sealer_core.specs.Theorem.{AreInTurn, AreRunsOf, BeginsContainer, Follows, HasChunk, HeldAt, IsRun, Run, Wrote}
 
 -- ---- what a run wrote
@@ -100,6 +104,61 @@ held_at [] i bytes at = absurd (cc)
 held_at (o ∷ outputs) zero bytes at = (o, refl, cc)
 held_at (o ∷ outputs) (suc i) bytes at = held_at outputs i bytes at
 
+-- ---- the number of an output lies in the range
+
+abbrev pub IsInside : Numbers → ℕ → Type 0
+IsInside range number = (range.lo ≤ number) × (number < range.lo + range.size)
+
+count_first : {A : Type 0} (p : A → Bool) (x : A) (xs : List A) → count_by p (x ∷ xs) ≡ cond (p x) 1 0 + count_by p xs
+count_first p x xs = sum_by-cons (λ y. cond (p y) 1 0) x xs
+
+-- one that stands there is counted
+used_there : (outputs : List Output) (i : ℕ) (output : Output) → slice_get outputs i ≡ Some output → 0 < times_used output.number outputs
+used_there [] i output at = absurd (cc)
+used_there (o ∷ outputs) zero output at =
+    let same : output ≡ o = cc in
+    let all = count_first (λ (y : Output). nat_eq output.number y.number) o outputs in
+    let one : cond {A = ℕ} (nat_eq output.number o.number) 1 0 ≡ 1 = ap (λ b. cond {A = ℕ} b 1 0) (eq-eqb output.number o.number (ap (λ (y : Output). y.number) same)) in
+    omega arith
+used_there (o ∷ outputs) (suc i) output at =
+    let all = count_first (λ (y : Output). nat_eq output.number y.number) o outputs in
+    let more = used_there outputs i output at in omega arith
+
+-- where it was granted
+abbrev IsGranted : ℕ → List Entry → Type 0
+IsGranted number history = (i seat : ℕ) × (slice_get history i ≡ Some (entry seat (Granted number)))
+
+behind_first : (number : ℕ) (e : Entry) (history : List Entry) → IsGranted number history → IsGranted number (e ∷ history)
+behind_first number e history (i, seat, at) = (suc i, seat, at)
+
+granted_by : (number seat : ℕ) (event : Event) (history : List Entry) → (0 < times_granted number history → IsGranted number history)
+    → 0 < times_granted number (entry seat event ∷ history) → IsGranted number (entry seat event ∷ history)
+granted_by number seat (Granted n) history rest some =
+    let all = count_first (grants number) (entry seat (Granted n)) history in
+    dite (ℕ_discrete number n)
+    (λ same. (0, seat, ap (λ (m : ℕ). Some (entry seat (Granted m))) (sym same)))
+    (λ other.
+    let miss : cond {A = ℕ} (nat_eq number n) 1 0 ≡ 0 = ap (λ b. cond {A = ℕ} b 1 0) (ne_eqb number n other) in
+    behind_first number (entry seat (Granted n)) history (rest (omega arith)))
+granted_by number seat Exhausted history rest some =
+    let all = count_first (grants number) (entry seat Exhausted) history in
+    behind_first number (entry seat Exhausted) history (rest (omega arith))
+granted_by number seat (Settled n way) history rest some =
+    let all = count_first (grants number) (entry seat (Settled n way)) history in
+    behind_first number (entry seat (Settled n way)) history (rest (omega arith))
+
+granted_there : (number : ℕ) (history : List Entry) → 0 < times_granted number history → IsGranted number history
+granted_there number [] some = absurd (omega arith)
+granted_there number (e ∷ history) some = granted_by number e.seat e.event history (granted_there number history) some
+
+inside : (key : List ℕ) (device : ℕ) (run : Written) → HasWritten key device run → (i : ℕ) (output : Output)
+    → slice_get run.outputs i ≡ Some output → IsInside run.terms.range output.number
+inside key device run has i output at =
+    let used = used_there run.outputs i output at in
+    let granted = has.granted output.number in
+    let (index, seat, there) = granted_there output.number run.history (omega arith) in
+    (numbers_once run.terms run.history has.legal).inside index output.number seat there
+
 -- ---- the prefix stands in the bytes
 
 early : (bytes rest : List ℕ) → 17 ≤ length bytes → prefix_in (bytes ++ rest) ≡ prefix_in bytes
@@ -118,109 +177,117 @@ prefix_shown key bytes shape prefix plain seven long (rest, is) =
 
 -- ---- the runs of a device
 
-module _ {D F : Type 0} {g : Ghosts D} (kept : Held (FileStore D g) → F) (folded : Files D → F) (key : List ℕ)
+module _ (key : List ℕ)
     (wrote : (terms : Terms) (history : List Entry) (held : List (List ℕ)) → IsLawfulRange terms.range → Wrote key terms history held → AreHeld key terms history held) where
-  abbrev Ours : ℕ → Run g → Type 0
-  Ours device run = IsRun kept folded key device run
+  abbrev Ours : ℕ → Run → Type 0
+  Ours device run = IsRun key device run
 
-  of_run : (device : ℕ) (run : Run g) → Ours device run → Writing key device run.terms run.history run.outputs
+  of_run : (device : ℕ) (run : Run) → Ours device run → Writing key device run.terms run.history run.outputs
   of_run device run is =
-      let (was, mid, left, old, new, reserved, still, by) = is.reserved in
       let (outputs, held, has) = wrote run.terms run.history run.outputs is.lawful is.wrote in
-      subst (λ (d : ℕ). Writing key d run.terms run.history run.outputs) reserved.asked.0
+      subst (λ (d : ℕ). Writing key d run.terms run.history run.outputs) is.of_device
       (record { outputs = outputs; held_are = held; written = has })
 
-  abbrev written_by : (device : ℕ) (run : Run g) → Ours device run → Written
+  abbrev written_by : (device : ℕ) (run : Run) → Ours device run → Written
   written_by device run is = record { terms = run.terms; history = run.history; outputs = (of_run device run is).outputs }
 
-  -- what the law on two runs says of one and the next
-  abbrev pub RangesRise : Type 0
-  RangesRise = (device : ℕ) (one other : Run g) → Ours device one → Ours device other → Follows one other
+  -- what one run left, the next one found, and its range lies behind
+  rise : (device : ℕ) (one other : Run) → Ours device one → Ours device other → Follows one other
       → one.terms.range.lo + one.terms.range.size ≤ other.terms.range.lo
+  rise device one other is was (between, on) =
+      let (lists, are, ends) = is.stands in
+      let begins = was.behind lists (passed one.files other.start between on lists are) in omega arith
 
-  written : (device : ℕ) (runs : List (Run g)) → AllByRecursion (Ours device) runs → List Written
+  written : (device : ℕ) (runs : List Run) → AllByRecursion (Ours device) runs → List Written
   written device runs all = made (Ours device) (written_by device) runs all
 
-  module _ (rise : RangesRise) where
-    are_runs : (device : ℕ) (runs : List (Run g)) (all : AllByRecursion (Ours device) runs) → AreInTurn Follows runs → AreRuns key device (written device runs all)
-    unfolding written
-    are_runs device runs all turn = record {
-      each = all_made (Ours device) (written_by device) (HasWritten key device) (λ run is. (of_run device run is).written) runs all;
-      rise = λ i j one other less at also.
-          let (first, is, at_first, same) = made_of (Ours device) (written_by device) runs all i one at in
-          let (second, was, at_second, so) = made_of (Ours device) (written_by device) runs all j other also in
-          let behind = all_behind (Ours device) Follows (λ (r : Run g). r.terms.range.lo) (λ (r : Run g). r.terms.range.lo + r.terms.range.size)
-          (λ r. omega arith) (rise device) runs all turn i j first second less at_first at_second in
-          subst (λ (w : Written). one.terms.range.lo + one.terms.range.size ≤ w.terms.range.lo) so
-          (subst (λ (w : Written). w.terms.range.lo + w.terms.range.size ≤ second.terms.range.lo) same behind);
-    }
+  are_runs : (device : ℕ) (runs : List Run) (all : AllByRecursion (Ours device) runs) → AreInTurn Follows runs → AreRuns key device (written device runs all)
+  unfolding written
+  are_runs device runs all turn = record {
+    each = all_made (Ours device) (written_by device) (HasWritten key device) (λ run is. (of_run device run is).written) runs all;
+    rise = λ i j one other less at also.
+        let (first, is, at_first, same) = made_of (Ours device) (written_by device) runs all i one at in
+        let (second, was, at_second, so) = made_of (Ours device) (written_by device) runs all j other also in
+        let behind = all_behind (Ours device) Follows (λ (r : Run). r.terms.range.lo) (λ (r : Run). r.terms.range.lo + r.terms.range.size)
+        (λ r. omega arith) (rise device) runs all turn i j first second less at_first at_second in
+        subst (λ (w : Written). one.terms.range.lo + one.terms.range.size ≤ w.terms.range.lo) so
+        (subst (λ (w : Written). w.terms.range.lo + w.terms.range.size ≤ second.terms.range.lo) same behind);
+  }
 
-    module _ (runs : ℕ → List (Run g)) (are : AreRunsOf kept folded key runs) where
-      lives : ℕ → List Written
-      lives device = written device (runs device) (are.each device)
+  module _ (runs : ℕ → List Run) (are : AreRunsOf key runs) where
+    lives : ℕ → List Written
+    lives device = written device (runs device) (are.each device)
 
-      -- the output of which an output's bytes tell
-      output_at : (place : Place) (bytes : List ℕ) → HeldAt runs place bytes
-          → (output : Output) × StandsAt lives place output × (output.held ≡ bytes) × IsOutput key place.device output
-      unfolding lives written
-      output_at place bytes held =
-          let (is, at) = made_at (Ours place.device) (written_by place.device) (runs place.device) (are.each place.device) place.run held.run held.at_run in
-          let writing = of_run place.device held.run is in
-          let (output, there, same) = held_at writing.outputs place.output bytes (sym (ap (λ (l : List (List ℕ)). slice_get l place.output) writing.held_are) ∙ held.at_output) in (
-            output,
-            record { run = written_by place.device held.run is; at_run = at; at_output = there },
-            same,
-            all_at (IsOutput key place.device) writing.outputs place.output output writing.written.each there,
-          )
+    -- the output of which an output's bytes tell
+    output_at : (place : Place) (bytes : List ℕ) (held : HeldAt runs place bytes)
+        → (output : Output) × StandsAt lives place output × (output.held ≡ bytes) × IsOutput key place.device output
+        × (held.run.terms.range.device ≡ place.device) × IsInside held.run.terms.range output.number
+    unfolding lives written
+    output_at place bytes held =
+        let (is, at) = made_at (Ours place.device) (written_by place.device) (runs place.device) (are.each place.device) place.run held.run held.at_run in
+        let writing = of_run place.device held.run is in
+        let (output, there, same) = held_at writing.outputs place.output bytes (sym (ap (λ (l : List (List ℕ)). slice_get l place.output) writing.held_are) ∙ held.at_output) in (
+          output,
+          record { run = written_by place.device held.run is; at_run = at; at_output = there },
+          same,
+          all_at (IsOutput key place.device) writing.outputs place.output output writing.written.each there,
+          is.of_device,
+          inside key place.device (written_by place.device held.run is) writing.written place.output output there,
+        )
 
-      pub begins : (place : Place) (bytes : List ℕ) → HeldAt runs place bytes → BeginsContainer key place.device bytes
-      begins place bytes held =
-          let (output, stands, same, is) = output_at place bytes held in
+    pub begins : (place : Place) (bytes : List ℕ) (held : HeldAt runs place bytes)
+        → (held.run.terms.range.device ≡ place.device) × BeginsContainer key held.run.terms.range bytes
+    begins place bytes held =
+        let (output, stands, same, is, device, lies) = output_at place bytes held in
+        let front = subst (λ (b : List ℕ). IsFront b (container key output.shape (prefix_of place.device output.number) output.plain)) same is.begins in (
+          device,
           record {
             number = output.number;
+            inside = lies;
             shape = output.shape;
             is_shape = is.shape;
             plain = output.plain;
-            begins = subst (λ (b : List ℕ). IsFront b (container key output.shape (prefix_of place.device output.number) output.plain)) same is.begins;
-          }
+            begins = subst (λ (d : ℕ). IsFront bytes (container key output.shape (prefix_of d output.number) output.plain)) (sym device) front;
+          },
+        )
 
-      -- what the law on prefixes says of these runs
-      abbrev pub OnePrefix : Type 0
-      OnePrefix = (runs : ℕ → List Written) (one other : Place) (this that : Output) → AreRuns key one.device (runs one.device)
-          → AreRuns key other.device (runs other.device) → StandsAt runs one this → StandsAt runs other that
-          → prefix_of one.device this.number ≡ prefix_of other.device that.number → one ≡ other
+    -- what the law on prefixes says of these runs
+    abbrev pub OnePrefix : Type 0
+    OnePrefix = (runs : ℕ → List Written) (one other : Place) (this that : Output) → AreRuns key one.device (runs one.device)
+        → AreRuns key other.device (runs other.device) → StandsAt runs one this → StandsAt runs other that
+        → prefix_of one.device this.number ≡ prefix_of other.device that.number → one ≡ other
 
-      -- an output has the prefix of each chunk of it
-      prefix_is : (place : Place) (bytes : List ℕ) (chunk : ℕ) (nonce : List ℕ) (output : Output) → output.held ≡ bytes
-          → IsOutput key place.device output → (has : HasChunk key bytes chunk nonce) → prefix_of place.device output.number ≡ has.prefix
-      prefix_is place bytes chunk nonce output same is has =
-          let header = length-header_of key has.prefix has.shape has.seven in
-          let reached = has.reached in
-          let long : 17 ≤ length bytes = omega arith in
-          let front = subst (λ (b : List ℕ). IsFront b (container key output.shape (prefix_of place.device output.number) output.plain)) same is.begins in
-          sym (prefix_shown key bytes output.shape (prefix_of place.device output.number) output.plain refl long front)
-          ∙ prefix_shown key bytes has.shape has.prefix has.plain has.seven long has.begins
+    -- an output has the prefix of each chunk of it
+    prefix_is : (place : Place) (bytes : List ℕ) (chunk : ℕ) (nonce : List ℕ) (output : Output) → output.held ≡ bytes
+        → IsOutput key place.device output → (has : HasChunk key bytes chunk nonce) → prefix_of place.device output.number ≡ has.prefix
+    prefix_is place bytes chunk nonce output same is has =
+        let header = length-header_of key has.prefix has.shape has.seven in
+        let reached = has.reached in
+        let long : 17 ≤ length bytes = omega arith in
+        let front = subst (λ (b : List ℕ). IsFront b (container key output.shape (prefix_of place.device output.number) output.plain)) same is.begins in
+        sym (prefix_shown key bytes output.shape (prefix_of place.device output.number) output.plain refl long front)
+        ∙ prefix_shown key bytes has.shape has.prefix has.plain has.seven long has.begins
 
-      nonce_is : (bytes : List ℕ) (chunk : ℕ) (nonce : List ℕ) (has : HasChunk key bytes chunk nonce)
-          → (last : Bool) × (nonce ≡ nonce_of has.prefix (0 + chunk) last)
-      nonce_is bytes chunk nonce has =
-          let (last, small, is) = nonce_at (header_of key has.shape has.prefix) 0 (chunks (size_of has.shape) has.plain) chunk nonce has.nonce_is in
-          (last, is ∙ ap (λ (p : List ℕ). nonce_of p (0 + chunk) last) (header_prefix key has.prefix has.shape has.seven))
+    nonce_is : (bytes : List ℕ) (chunk : ℕ) (nonce : List ℕ) (has : HasChunk key bytes chunk nonce)
+        → (last : Bool) × (nonce ≡ nonce_of has.prefix (0 + chunk) last)
+    nonce_is bytes chunk nonce has =
+        let (last, small, is) = nonce_at (header_of key has.shape has.prefix) 0 (chunks (size_of has.shape) has.plain) chunk nonce has.nonce_is in
+        (last, is ∙ ap (λ (p : List ℕ). nonce_of p (0 + chunk) last) (header_prefix key has.prefix has.shape has.seven))
 
-      pub once : OnePrefix → (one other : Place) (this that : List ℕ) (chunk another : ℕ) (nonce : List ℕ) → HeldAt runs one this → HeldAt runs other that
-          → HasChunk key this chunk nonce → HasChunk key that another nonce → (one ≡ other) × (chunk ≡ another)
-      unfolding lives
-      once law one other this that chunk another nonce held also has had =
-          let (output, standing, same, is) = output_at one this held in
-          let (mate, staying, so, was) = output_at other that also in
-          let (last, first) = nonce_is this chunk nonce has in
-          let (end, second) = nonce_is that another nonce had in
-          let few = has.numbered in
-          let rare = had.numbered in
-          let (prefixes, numbers, flags) = nonce_of-injective has.prefix had.prefix (0 + chunk) (0 + another) last end (has.seven ∙ sym had.seven)
-          (omega arith) (omega arith) (sym first ∙ second) in (
-            law lives one other output mate (are_runs one.device (runs one.device) (are.each one.device) (are.in_turn one.device))
-                (are_runs other.device (runs other.device) (are.each other.device) (are.in_turn other.device)) standing staying
-                (prefix_is one this chunk nonce output same is has ∙ prefixes ∙ sym (prefix_is other that another nonce mate so was had)),
-            omega arith,
-          )
+    pub once : OnePrefix → (one other : Place) (this that : List ℕ) (chunk another : ℕ) (nonce : List ℕ) → HeldAt runs one this → HeldAt runs other that
+        → HasChunk key this chunk nonce → HasChunk key that another nonce → (one ≡ other) × (chunk ≡ another)
+    unfolding lives
+    once law one other this that chunk another nonce held also has had =
+        let (output, standing, same, is, device, lies) = output_at one this held in
+        let (mate, staying, so, was, its, lies_too) = output_at other that also in
+        let (last, first) = nonce_is this chunk nonce has in
+        let (end, second) = nonce_is that another nonce had in
+        let few = has.numbered in
+        let rare = had.numbered in
+        let (prefixes, numbers, flags) = nonce_of-injective has.prefix had.prefix (0 + chunk) (0 + another) last end (has.seven ∙ sym had.seven)
+        (omega arith) (omega arith) (sym first ∙ second) in (
+          law lives one other output mate (are_runs one.device (runs one.device) (are.each one.device) (are.in_turn one.device))
+              (are_runs other.device (runs other.device) (are.each other.device) (are.in_turn other.device)) standing staying
+              (prefix_is one this chunk nonce output same is has ∙ prefixes ∙ sym (prefix_is other that another nonce mate so was had)),
+          omega arith,
+        )

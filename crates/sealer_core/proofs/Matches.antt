@@ -1,32 +1,34 @@
 -- What happened for a group: of each file before the sealing and behind it. A file that was read goes with the first of
 -- the inputs and with the first of the outcomes, and leaves the others to the files behind it.
-use Rattle.std.proofs.Common.{◌≡◌, ◌≢◌, ◌⊎◌, ◌∙◌, ℕ, suc, refl, sym, ap, subst, arith, List, [], ◌∷◌, ◌++◌, length, map, append-nil, append_assoc, All, Bor, Vec, Global, Option, Some, None, ⊎_elim}
+use Rattle.std.proofs.Common.{◌≡◌, ◌⊎◌, ◌∙◌, ℕ, suc, refl, sym, ap, subst, arith, List, [], ◌∷◌, ◌++◌, length, map, append-nil, append_assoc, All, Bor, Vec, Global, Option, Some, None, ⊎_elim}
 use Rattle.std.specs.Prelude.{⊤, drop, flat_map, slice_get}
 use Rattle.std.proofs.lemmas.List.{map-append}
 use Rattle.std.proofs.lemmas.List.Elements.{All-nil, All-cons, All-head, All-tail}
 use Rattle.container_core.specs.Shape.{ShapeView}
 use Rattle.container_core.specs.Container.{container}
+use Rattle.container_core.specs.declared.fault.SealFault.{SealFault}
 use Rattle.container_core.specs.declared.fault.SealFault.TheVariants as sealing_fault
 use Rattle.crew_core.specs.Batch.{AreOutcomes, IsOutcome}
 use Rattle.crew_core.specs.declared.outcome.Outcome.{Outcome}
 use Rattle.crew_core.specs.declared.outcome.Outcome.TheVariants as job
 use Rattle.journal_core.specs.Range.{prefix_of}
 use Rattle.ledger_core.specs.declared.fault.IssueFault.{IssueFault}
+use Rattle.ledger_core.specs.Shared.{SpentView}
 use Rattle.ledger_core.specs.declared.fault.IssueFault.TheVariants as issue_fault
 use Rattle.std.proofs.KnownBytes.{Keeps-refl}
-use Rattle.io_core.specs.Streams.{AppendsFront, Consumes, IsAtEnd}
+use Rattle.io_core.specs.Streams.{Appends, AppendsFront, Consumes, IsAtEnd}
 use Rattle.command_core.specs.declared.line.FileFault.{FileFault}
 use Rattle.command_core.specs.declared.line.FileFault.TheVariants.{CannotOpen, NoSuffix, OutputExists, CannotCreate, OutOfMemory, NoNumber, AnotherLabel, Unopened, Unsealed}
 use Rattle.command_core.specs.declared.line.FileOutcome.{FileOutcome}
 use Rattle.command_core.specs.declared.line.FileOutcome.TheVariants.{Sealed, Opened, Good, Shown, Failed}
 use Rattle.command_core.specs.Lines.{FileLine}
-use Rattle.command_core.specs.Trace.{Event, Reading, Created, Finished, Does, FailsToOpen, Opens, Creates, Discards, tape}
+use Rattle.command_core.specs.Trace.{Event, Reading, Created, Finished, Does, Nothing, FailsToOpen, Opens, Creates, Discards, Finishes, tape}
 use Rattle.command_core.proofs.Traces.{nothing, weaken, chain, finished_as}
 use Rattle.sealer_core.specs.declared.prepare.Prepared.{Prepared}
 use Rattle.sealer_core.specs.declared.prepare.Prepared.TheVariants.{Refused, Unread, Read}
-use Rattle.sealer_core.specs.Group.{AreBegun, EndsSoFar, HasEnded, IsBegun, IsBegunWith, IsClosed, IsEndBy, IsEndIn, IsEndOfAll, IsHeld, IsPut, IsRefusal, left_by, name_of, refused_lines, void_by, void_in}
-use Rattle.sealer_core.specs.Sealing.{AreOfGroups, EndsBy, Happened, IsDiscarded, IsOfNumber, Part, PutsUnder, Sealing, group_voids, line_of, prepared, sealed_name, unissued_as, void_at}
-use Rattle.sealer_core.proofs.Happened.{IsPart, discards_as, group_done, kept_appends}
+use Rattle.sealer_core.specs.Group.{AreBegun, EndsSoFar, HasEnded, IsBegun, IsBegunWith, IsEnd, IsEndBy, IsEndIn, IsEndOfAll, IsHeld, IsPut, IsPutIn, IsRefusal, left_by, name_of, refused_lines, void_by, void_in}
+use Rattle.sealer_core.specs.Sealing.{AreOfGroups, Happened, IsClosed, IsDiscarded, Part, PutsUnder, Sealing, group_voids, line_of, prepared, sealed_name, unissued_as, void_at}
+use Rattle.sealer_core.proofs.Happened.{IsPart, discards_as, discards_behind, group_done, kept_appends}
 
 -- ---- before the sealing
 
@@ -102,38 +104,62 @@ module _ {W : Type 0} (taken : W → Option (List ℕ)) where
 
 -- ---- behind the sealing
 
+-- an output got a container whole, and was finished
+pub put_whole : (container : List ℕ) (number number' bytes : ℕ) (old new : Option (List ℕ)) (one two : Option (List Event)) → number' ≡ number → Appends old new container
+    → Does (Finishes new) one two → Does (IsPutIn container number bytes old (Sealed number' bytes)) one two
+put_whole container number number' bytes old new one two same grew finishes = weaken (λ events f. (new, (same, refl, grew), f)) one two finishes
+
+-- or it didn't, or couldn't be finished, and was given up
+pub put_front : (container : List ℕ) (number bytes : ℕ) (old new : Option (List ℕ)) (one two three : Option (List Event)) → AppendsFront old new container
+    → Does Nothing one two → Does (Discards new) two three → Does (IsPutIn container number bytes old (Failed (Unsealed sealing_fault.Write))) one three
+put_front container number bytes old new one two three front none discards =
+    weaken (λ events d. (new, (refl, front), d)) one three (discards_behind new new one two three refl none discards)
+
+module _ (bytes : ℕ) (old : Option (List ℕ)) (one two : Option (List Event)) where
+  -- a file whose number wasn't issued was given up
+  pub ended_unissued : (outcome : Outcome) (seat : ℕ) (fault : IssueFault) (why : FileFault) → outcome ≡ job.Unissued seat fault → why ≡ unissued_as fault → Does (Discards old) one two
+      → Does (IsEnd bytes old (outcome ∷ []) (Failed why)) one two
+  ended_unissued outcome seat fault why is same discards = subst (λ o. Does (IsEnd bytes old (o ∷ []) (Failed why)) one two) (sym is)
+      (weaken (λ events d. (old, (ap Failed same, Keeps-refl old), d)) one two discards)
+
+  -- so was one for whose container there was no memory
+  pub ended_spoiled : (outcome : Outcome) (seat : ℕ) (spent : SpentView) → outcome ≡ job.Spoiled seat spent → Does (Discards old) one two
+      → Does (IsEnd bytes old (outcome ∷ []) (Failed (Unsealed sealing_fault.OutOfMemory))) one two
+  ended_spoiled outcome seat spent is discards = subst (λ o. Does (IsEnd bytes old (o ∷ []) (Failed (Unsealed sealing_fault.OutOfMemory))) one two) (sym is)
+      (weaken (λ events d. (old, (refl, Keeps-refl old), d)) one two discards)
+
+  -- and one of a group without outcomes
+  pub ended_none : (outcomes : List Outcome) → outcomes ≡ [] → Does (Discards old) one two → Does (IsEnd bytes old outcomes (Failed (Unsealed sealing_fault.OutOfMemory))) one two
+  ended_none outcomes none discards = subst (λ l. Does (IsEnd bytes old l (Failed (Unsealed sealing_fault.OutOfMemory))) one two) (sym none)
+      (weaken (λ events d. (old, (refl, Keeps-refl old), d)) one two discards)
+
+  -- one that was sealed got its container
+  pub ended_put : (outcome : Outcome) (seat : ℕ) (container : Vec ℕ Global) (spent : SpentView) (all : List ℕ) (end : FileOutcome) → outcome ≡ job.Sealed seat container spent → all ≡ container.items
+      → Does (IsPutIn all spent.number bytes old end) one two → Does (IsEnd bytes old (outcome ∷ []) end) one two
+  ended_put outcome seat container spent all end is same put = subst (λ o. Does (IsEnd bytes old (o ∷ []) end) one two) (sym is)
+      (subst (λ a. Does (IsPutIn a spent.number bytes old end) one two) same put)
+
+  -- a file ends by the first of the outcomes
+  pub ended_first : (outcomes : List Outcome) (outcome : Outcome) (others : List Outcome) (end : FileOutcome) → outcomes ≡ outcome ∷ others
+      → Does (IsEnd bytes old (outcome ∷ []) end) one two → Does (IsEnd bytes old outcomes end) one two
+  ended_first outcomes outcome others end is ends = subst (λ l. Does (IsEnd bytes old l end) one two) (sym is) ends
+
 module _ {W : Type 0} (taken : W → Option (List ℕ)) where
   -- no file has ended
   pub none_ended_yet : (files : List (Prepared W)) (outcomes : List Outcome) (told : Option (List Event)) → Does (EndsSoFar taken files files outcomes outcomes [] []) told told
   none_ended_yet files outcomes told = weaken (λ events none. record { all = λ more others rest so. subst (IsEndOfAll taken files outcomes more others) (sym (ap (λ l. l ++ rest) none)) so })
       told told (nothing told)
 
-  -- one that was read has, and its output was given up
-  pub ended_given_up : (outcomes : List Outcome) (file its : Prepared W) (name out mine : List ℕ) (old new : Option (List ℕ)) (bytes : ℕ) (end : FileOutcome) (fault : FileFault) (one two three : Option (List Event)) → file ≡ its
-      → ((events : List Event) → IsEndBy bytes old new outcomes end → IsClosed name new end events → IsEndIn taken outcomes its end events)
-      → mine ≡ name → end ≡ Failed fault → IsEndBy bytes old new outcomes end → Does (EndsBy out new end) one two → Does (Discards mine new) two three
-      → Does (IsEndIn taken outcomes file end) one three
-  ended_given_up outcomes file its name out mine old new bytes end fault one two three is how named failed by ends discards =
-      subst (λ f. Does (IsEndIn taken outcomes f end) one three) (sym is)
-      (chain (IsEndIn taken outcomes its end)
-      (λ x y n d.
-      let closed : IsClosed name new (Failed fault) (x ++ y) =
-      subst (λ o. Discards o new (x ++ y)) named (d.0, d.1, (λ i. n i ++ d.2 i)) in
-      how (x ++ y) by (subst (λ e. IsClosed name new e (x ++ y)) (sym failed) closed))
-      one two three (subst (λ e. Does (EndsBy out new e) one two) failed ends) discards)
+  -- one whose input wasn't read whole has
+  pub ended_unread : (outcomes : List Outcome) (file : Prepared W) (name : Bor (List ℕ)) (writer : W) (fault : SealFault) (one two : Option (List Event)) → file ≡ Unread name writer fault
+      → Does (Discards (taken writer)) one two → Does (IsEndIn taken outcomes file (Failed (Unsealed fault))) one two
+  ended_unread outcomes file name writer fault one two is discards =
+      subst (λ f. Does (IsEndIn taken outcomes f (Failed (Unsealed fault))) one two) (sym is) (weaken (λ events d. (refl, d)) one two discards)
 
-  -- or it wasn't
-  pub ended_as_it_was : (outcomes : List Outcome) (file its : Prepared W) (name out : List ℕ) (old new : Option (List ℕ)) (bytes : ℕ) (end : FileOutcome) (one two : Option (List Event)) → file ≡ its
-      → ((events : List Event) → IsEndBy bytes old new outcomes end → IsClosed name new end events → IsEndIn taken outcomes its end events)
-      → out ≡ name → ((fault : FileFault) → end ≢ Failed fault) → IsOfNumber end → IsEndBy bytes old new outcomes end → Does (EndsBy out new end) one two
-      → Does (IsEndIn taken outcomes file end) one two
-  ended_as_it_was outcomes file its name out old new bytes (Sealed number count) one two is how named other fit by ends =
-      subst (λ f. Does (IsEndIn taken outcomes f (Sealed number count)) one two) (sym is)
-      (weaken (λ events e. how events by (subst (λ o. IsClosed o new (Sealed number count) events) named e)) one two ends)
-  ended_as_it_was outcomes file its name out old new bytes (Opened count) one two is how named other fit by ends = absurd fit
-  ended_as_it_was outcomes file its name out old new bytes (Good count) one two is how named other fit by ends = absurd fit
-  ended_as_it_was outcomes file its name out old new bytes (Shown count facts) one two is how named other fit by ends = absurd fit
-  ended_as_it_was outcomes file its name out old new bytes (Failed fault) one two is how named other fit by ends = absurd (other fault refl)
+  -- one that was read has
+  pub ended_read : (outcomes : List Outcome) (file : Prepared W) (name : Bor (List ℕ)) (writer : W) (bytes : ℕ) (end : FileOutcome) (one two : Option (List Event)) → file ≡ Read name writer bytes
+      → Does (IsEnd bytes (taken writer) outcomes end) one two → Does (IsEndIn taken outcomes file end) one two
+  ended_read outcomes file name writer bytes end one two is ends = subst (λ f. Does (IsEndIn taken outcomes f end) one two) (sym is) ends
 
   -- one more has
   pub one_more_ended : (files items left : List (Prepared W)) (file : Prepared W) (outcomes outcomes' outcomes'' : List Outcome) (lines : List FileLine) (voids : List ℕ) (end : FileOutcome) (told told' told'' : Option (List Event))
@@ -227,19 +253,19 @@ module _ (key : List ℕ) (shape : ShapeView) (device : ℕ) where
 
   module _ (name input : List ℕ) (bytes : ℕ) (old new : Option (List ℕ)) (before after : List Event)
       (count : bytes ≡ length input) (empty : old ≡ Some (tape (sealed_name name) [])) (begun : before ≡ prepared name input) where
-    given_up : (void : List ℕ) → PutsUnder key shape device (Some input) old new void → Discards (sealed_name name) new after → IsDiscarded key shape device name void before after
+    given_up : (void : List ℕ) → PutsUnder key shape device (Some input) old new void → Discards new after → IsDiscarded key shape device name void before after
     given_up void put discards =
         let (held, under, is) = discards_as key shape device name (sealed_name name) input void old new after refl empty put discards in
         (input, held, under, begun, is)
 
     failed_as : (fault : FileFault) (void : List ℕ) (end : FileOutcome)
         → (IsDiscarded key shape device name void before after → Sealing key shape device name (Failed fault) void before after) → end ≡ Failed fault
-        → PutsUnder key shape device (Some input) old new void → IsClosed (sealed_name name) new end after → Sealing key shape device name end void before after
+        → PutsUnder key shape device (Some input) old new void → IsClosed new end after → Sealing key shape device name end void before after
     failed_as fault void end how is put closed = subst (λ o. Sealing key shape device name o void before after) (sym is)
-        (how (given_up void put (subst (λ o. IsClosed (sealed_name name) new o after) is closed)))
+        (how (given_up void put (subst (λ o. IsClosed new o after) is closed)))
 
     put_as : (all : List ℕ) (number : ℕ) (end : FileOutcome) → all ≡ container key shape (prefix_of device number) input → IsPut all number bytes old new end
-        → IsClosed (sealed_name name) new end after → Sealing key shape device name end (void_at number end) before after
+        → IsClosed new end after → Sealing key shape device name end (void_at number end) before after
     put_as all number (Sealed n m) is (same, long, grew) closed =
         let put : all ≡ container key shape (prefix_of device n) input = is ∙ ap (λ k. container key shape (prefix_of device k) input) (sym same) in
         let finished = finished_as (sealed_name name) [] all old new after empty grew closed in
@@ -256,7 +282,7 @@ module _ (key : List ℕ) (shape : ShapeView) (device : ℕ) where
     unissued issue_fault.OutOfMemory d = d
 
     ended_as_job : (outcomes : List Outcome) (jobs : List (List ℕ)) (end : FileOutcome) → Fit (input ∷ jobs) outcomes → IsEndBy bytes old new outcomes end
-        → IsClosed (sealed_name name) new end after → Sealing key shape device name end (void_by outcomes end) before after
+        → IsClosed new end after → Sealing key shape device name end (void_by outcomes end) before after
     ended_as_job [] jobs end fit is closed = failed_as (Unsealed sealing_fault.OutOfMemory) [] end (λ d. d) is.0 is.1 closed
     ended_as_job (job.Sealed seat bytes spent ∷ outcomes) jobs end fit is closed =
         put_as bytes.items spent.number end (fit.0.0 ∙ ap (λ d. container key shape (prefix_of d spent.number) input) fit.1.0) is closed
@@ -300,19 +326,19 @@ module _ (key : List ℕ) (shape : ShapeView) (device : ℕ) where
         part_more name.now end [] first first' lines more voids later before after rest rest'
         (subst (λ o. Sealing key shape device name.now o [] first first') (sym failed) (refused_as name.now fault first first' is nil))
         (matched files others outcomes more later rest rest' begun fits ended) lined void chained chained'
-    matched (Unread name output writer fault ∷ files) jobs outcomes lines voids before after (own, others, first, rest, (none, empty, (input, is)), begun, joined, chained) fit
+    matched (Unread name writer fault ∷ files) jobs outcomes lines voids before after (own, others, first, rest, (none, empty, (input, is)), begun, joined, chained) fit
         (end, more, later, first', rest', (failed, discards), ended, lined, void, chained') =
         let fits : Fit others outcomes = subst (λ j. Fit j outcomes) (joined ∙ ap (λ l. l ++ others) none) fit in
         let (held, under, so) = discards_as key shape device name.now (sealed_name name.now) input [] (taken writer) (taken writer) first' refl empty (Keeps-refl (taken writer)) discards in
         part_more name.now end [] first first' lines more voids later before after rest rest'
         (subst (λ o. Sealing key shape device name.now o [] first first') (sym failed) (input, held, under, is, so))
         (matched files others outcomes more later rest rest' begun fits ended) lined void chained chained'
-    matched (Read name output writer bytes ∷ files) jobs outcomes lines voids before after (own, others, first, rest, (input, mine, count, empty, is), begun, joined, chained) fit
+    matched (Read name writer bytes ∷ files) jobs outcomes lines voids before after (own, others, first, rest, (input, mine, count, empty, is), begun, joined, chained) fit
         (end, more, later, first', rest', (new, ends, closed), ended, lined, void, chained') =
         let fits : Fit (input ∷ others) outcomes = subst (λ j. Fit j outcomes) (joined ∙ ap (λ l. l ++ others) mine) fit in
         part_more name.now end (void_by outcomes end) first first' lines more voids later before after rest rest'
         (ended_as_job name.now input bytes (taken writer) new first first' count empty is outcomes others end fits ends closed)
-        (matched files others (left_by (Read name output writer bytes) outcomes) more later rest rest' begun
+        (matched files others (left_by (Read name writer bytes) outcomes) more later rest rest' begun
         (fit_left name.now input bytes (taken writer) new first first' count empty is outcomes others fits) ended) lined void chained chained'
 
     -- what happened for a group goes with its lines

@@ -1,8 +1,8 @@
 -- A container opens to the plaintext that was sealed.
-use Rattle.std.proofs.Common.{◌≡◌, ℕ, ◌+◌, ◌<◌, ◌≤◌, ◌++◌, List, [], ◌∷◌, length, Option, Some, Ok, refl, sym, ap, ◌∙◌, subst, arith, length-append}
+use Rattle.std.proofs.Common.{◌≡◌, ℕ, ◌≤◌, ◌++◌, List, [], ◌∷◌, length, Option, Some, Ok, refl, sym, ap, ◌∙◌, subst, arith, length-append}
 use Rattle.std.proofs.lemmas.List.{append_cancel_left}
 use Rattle.container_core.specs.Chunks.{chunks}
-use Rattle.container_core.specs.Container.{container, header_of, label_bytes, shape_in}
+use Rattle.container_core.specs.Container.{container, header_of, shape_in}
 use Rattle.container_core.specs.Opening.{opening}
 use Rattle.container_core.specs.Shape.{IsShape, ShapeView, size_of}
 use Rattle.container_core.specs.Stream.{prefix_in, stream}

@@ -1,6 +1,6 @@
 -- Inside: files that are sealed in a group, by several lanes: before the sealing, and between it and their lines.
 use Rattle.std.specs.Prelude.{⊤, ◌≡◌, ◌≢◌, ℕ, ◌+◌, ◌<◌, Bool, false, nat_eq, if◌then◌else◌, List, [], ◌∷◌, ◌++◌}
-use Rattle.std.specs.Prelude.{drop, length, map, All, count_by, flat_map, slice_get, Option, Some, string_bytes}
+use Rattle.std.specs.Prelude.{drop, length, map, All, count_by, slice_get, Option, Some}
 use Rattle.journal_core.specs.declared.entry.Entry.{Entry}
 use Rattle.journal_core.specs.declared.entry.Event.{Event}
 use Rattle.journal_core.specs.declared.entry.Event.TheVariants.{Settled}
@@ -24,8 +24,8 @@ use Rattle.command_core.specs.declared.folder.FolderFault.{FolderFault}
 use Rattle.command_core.specs.declared.folder.FolderFault.TheVariants as folder_fault
 use Rattle.command_core.specs.Lines.{FileLine}
 use Rattle.sealer_core.specs.Sealing.{IsOfSealing, Accounts, unissued_as, line_of, prepared, sealed_name, void_at}
-use Rattle.sealer_core.specs.Sealing.{times_in, times_sealed, times_voided, times_told}
-use Rattle.command_core.specs.Trace.{Discards, Finishes, tape}
+use Rattle.sealer_core.specs.Sealing.{IsClosed, times_in, times_sealed, times_voided, times_told}
+use Rattle.command_core.specs.Trace.{Discards, tape}
 use Rattle.command_core.specs.Trace as trace
 use Rattle.command_core.specs.Work.{AreTold}
 
@@ -41,20 +41,20 @@ IsUnmade _ = ⊥
 
 abbrev pub name_of : {W : Type 0} → Prepared W → List ℕ
 name_of (Refused name fault) = name.now
-name_of (Unread name output writer fault) = name.now
-name_of (Read name output writer bytes) = name.now
+name_of (Unread name writer fault) = name.now
+name_of (Read name writer bytes) = name.now
 
--- its output has the name that is the file's
+-- where no output was created, it has such a fault
 abbrev pub IsPrepared : {W : Type 0} → Prepared W → Type 0
 IsPrepared (Refused name fault) = IsUnmade fault
-IsPrepared (Unread name output writer fault) = string_bytes output ≡ sealed_name name.now
-IsPrepared (Read name output writer bytes) = string_bytes output ≡ sealed_name name.now
+IsPrepared (Unread name writer fault) = ⊤
+IsPrepared (Read name writer bytes) = ⊤
 
 -- how many bytes it has, where it was read
 abbrev pub read_of : {W : Type 0} → Prepared W → List ℕ
 read_of (Refused name fault) = []
-read_of (Unread name output writer fault) = []
-read_of (Read name output writer bytes) = bytes ∷ []
+read_of (Unread name writer fault) = []
+read_of (Read name writer bytes) = bytes ∷ []
 
 -- ---- what happens before the sealing
 
@@ -75,10 +75,10 @@ module _ {W : Type 0} (taken : W → Option (List ℕ)) where
   -- What happens for a file before the sealing, and its input, where this was read. Its output took nothing so far.
   abbrev pub IsBegun : Prepared W → List (List ℕ) → List trace.Event → Type 0
   IsBegun (Refused name fault) inputs events = (inputs ≡ []) × IsRefusal name.now fault events
-  IsBegun (Unread name output writer fault) inputs events =
+  IsBegun (Unread name writer fault) inputs events =
       (inputs ≡ []) × (taken writer ≡ Some (tape (sealed_name name.now) []))
       × ((input : List ℕ) × (events ≡ prepared name.now input))
-  IsBegun (Read name output writer bytes) inputs events = (input : List ℕ) × (inputs ≡ input ∷ [])
+  IsBegun (Read name writer bytes) inputs events = (input : List ℕ) × (inputs ≡ input ∷ [])
       × (bytes ≡ length input) × (taken writer ≡ Some (tape (sealed_name name.now) []))
       × (events ≡ prepared name.now input)
 
@@ -111,7 +111,8 @@ HasEnded device (job.Unissued seat fault) = ⊤
 abbrev pub IsHeld : ℕ → ℕ → Outcome → Type 0
 IsHeld seats device o = (seat_of o < seats) × HasEnded device o
 
--- Lines, void numbers and operations of a ledger agree, where the numbers of these outcomes are granted and not settled yet.
+-- Lines, void numbers and operations of a ledger agree, where the numbers of these outcomes are granted and not settled
+-- yet.
 pub record AreHeld (lines : List FileLine) (voids : List ℕ) (outcomes : List Outcome) (operations : List Entry)
     : Type 0 where
   pub told : (number : ℕ) → times_sealed number operations ≡ times_told number lines
@@ -173,6 +174,16 @@ abbrev pub IsEndBy : ℕ → Option (List ℕ) → Option (List ℕ) → List Ou
 IsEndBy bytes old new [] end = (end ≡ Failed (Unsealed sealing_fault.OutOfMemory)) × Keeps old new
 IsEndBy bytes old new (outcome ∷ outcomes) end = IsEndOf bytes old new outcome end
 
+-- So an output gets a container, and is then closed.
+abbrev pub IsPutIn : List ℕ → ℕ → ℕ → Option (List ℕ) → FileOutcome → List trace.Event → Type 0
+IsPutIn container number bytes old end events =
+    (new : Option (List ℕ)) × IsPut container number bytes old new end × IsClosed new end events
+
+-- So a file ends by the first of the outcomes, and its output is closed.
+abbrev pub IsEnd : ℕ → Option (List ℕ) → List Outcome → FileOutcome → List trace.Event → Type 0
+IsEnd bytes old outcomes end events =
+    (new : Option (List ℕ)) × IsEndBy bytes old new outcomes end × IsClosed new end events
+
 -- the void number of the file, where it has one: that of its outcome, unless the file was sealed
 abbrev pub void_of : Outcome → FileOutcome → List ℕ
 void_of (job.Sealed seat container spent) end = void_at spent.number end
@@ -185,28 +196,22 @@ void_by (outcome ∷ outcomes) end = void_of outcome end
 
 abbrev pub void_in : {W : Type 0} → Prepared W → List Outcome → FileOutcome → List ℕ
 void_in (Refused name fault) outcomes end = []
-void_in (Unread name output writer fault) outcomes end = []
-void_in (Read name output writer bytes) outcomes end = void_by outcomes end
-
--- Its output was finished with what its writer tells, where the file was sealed; else it was given up with that.
-abbrev pub IsClosed : List ℕ → Option (List ℕ) → FileOutcome → List trace.Event → Type 0
-IsClosed output taken (Sealed number bytes) events = Finishes output taken events
-IsClosed output taken _ events = Discards output taken events
+void_in (Unread name writer fault) outcomes end = []
+void_in (Read name writer bytes) outcomes end = void_by outcomes end
 
 -- A file ends by its own fault, or where it was read by the first of the outcomes; and so its output is closed.
 abbrev pub IsEndIn : {W : Type 0} → (W → Option (List ℕ)) → List Outcome → Prepared W → FileOutcome → List trace.Event
     → Type 0
 IsEndIn taken outcomes (Refused name fault) end events = (end ≡ Failed fault) × (events ≡ [])
-IsEndIn taken outcomes (Unread name output writer fault) end events =
-    (end ≡ Failed (Unsealed fault)) × Discards (sealed_name name.now) (taken writer) events
-IsEndIn taken outcomes (Read name output writer bytes) end events = (new : Option (List ℕ))
-    × IsEndBy bytes (taken writer) new outcomes end × IsClosed (sealed_name name.now) new end events
+IsEndIn taken outcomes (Unread name writer fault) end events =
+    (end ≡ Failed (Unsealed fault)) × Discards (taken writer) events
+IsEndIn taken outcomes (Read name writer bytes) end events = IsEnd bytes (taken writer) outcomes end events
 
 -- the outcomes that are left for the files behind it: a file that was read has the first one, and no other file has any
 abbrev pub left_by : {W : Type 0} → Prepared W → List Outcome → List Outcome
 left_by (Refused name fault) outcomes = outcomes
-left_by (Unread name output writer fault) outcomes = outcomes
-left_by (Read name output writer bytes) outcomes = drop 1 outcomes
+left_by (Unread name writer fault) outcomes = outcomes
+left_by (Read name writer bytes) outcomes = drop 1 outcomes
 
 -- Files end in turn: with these lines, these void numbers, and these events.
 abbrev pub IsEndOfAll : {W : Type 0} → (W → Option (List ℕ)) → List (Prepared W) → List Outcome → List FileLine → List ℕ
@@ -232,10 +237,10 @@ pub record EndsSoFar {W : Type 0} (taken : W → Option (List ℕ)) (files left 
 abbrev pub refused_lines : List (List ℕ) → List FileLine
 refused_lines names = map (λ name. line_of name (Failed OutOfMemory)) names
 
--- Files of a group have their lines: those, in order; and so stand status and operations behind them, where they stood so
--- before.
-pub record AreEnded (happened : List FileLine → List ℕ → Type 0) (names : List (List ℕ)) (outcomes outcomes' : List Outcome)
-    (operations operations' : List Entry) (status status' : ℕ)
+-- Files of a group have their lines: those, in order; and so stand status and operations behind them, where they stood
+-- so before.
+pub record AreEnded (happened : List FileLine → List ℕ → Type 0) (names : List (List ℕ))
+    (outcomes outcomes' : List Outcome) (operations operations' : List Entry) (status status' : ℕ)
     (old new : Option (List ℕ)) (failures failures' : Option ℕ) : Type 0 where
   pub lines : List FileLine
   pub voids : List ℕ

@@ -23,9 +23,9 @@ module _ (key : List ℕ) (shape : ShapeView) (most : ℕ) (left left' : Option 
     pub read : (left' ≡ left) × (failures' ≡ failures)
     pub written : (taken' ≡ taken) × (refusals' ≡ refusals)
 
-  -- With `sealed` the engine sealed the whole stream under the number in the line, and its length is in the line. With a fault
-  -- of the sealing the engine ended with this fault under a number that is void; where none is, nothing was touched, and so
-  -- it is without a number. No stream has more than one.
+  -- With `sealed` the engine sealed the whole stream under the number in the line, and its length is in the line. With
+  -- a fault of the sealing the engine ended with this fault under a number that is void; where none is, nothing was
+  -- touched, and so it is without a number. No stream has more than one.
   abbrev pub WorksStream : ℕ → FileOutcome → List ℕ → Type 0
   WorksStream device (Sealed number bytes) voids = (voids ≡ [])
       × HasPipedContainer key shape (prefix_of device number) most left left' failures failures' taken taken'

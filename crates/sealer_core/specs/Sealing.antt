@@ -95,8 +95,8 @@ abbrev pub IsUncreated : List ℕ → FolderFault → List Event → List Event 
 IsUncreated name fault before after = (input : List ℕ)
     × (before ≡ trace.Reading name input ∷ trace.Refused (sealed_name name) fault ∷ []) × (after ≡ [])
 
--- What an output held that was given up. Where no number is void it held nothing; under a void number it held a beginning
--- of its input's container. No output has more than one.
+-- What an output held that was given up. Where no number is void it held nothing; under a void number it held a
+-- beginning of its input's container. No output has more than one.
 abbrev pub HeldUnder : List ℕ → ShapeView → ℕ → List ℕ → List ℕ → List ℕ → Type 0
 HeldUnder key shape device input [] held = held ≡ []
 HeldUnder key shape device input (number ∷ []) held = IsFront held (container key shape (prefix_of device number) input)
@@ -128,13 +128,13 @@ Sealing key shape device name (Failed (Unsealed fault)) void before after =
     IsDiscarded key shape device name void before after
 Sealing key shape device name _ void before after = ⊥
 
--- its output was finished with what its writer tells, where the file was sealed; else nothing
-abbrev pub EndsBy : List ℕ → Option (List ℕ) → FileOutcome → List Event → Type 0
-EndsBy output taken (Sealed number bytes) events = trace.Finishes output taken events
-EndsBy output taken _ events = trace.Nothing events
+-- Its output was finished with what its writer tells, where the file was sealed; else it was given up with that.
+abbrev pub IsClosed : Option (List ℕ) → FileOutcome → List Event → Type 0
+IsClosed taken (Sealed number bytes) events = trace.Finishes taken events
+IsClosed taken _ events = trace.Discards taken events
 
--- What the writer of an output took, whose input was `left` to be read. Where no number is void it took nothing; under a
--- void number it took a beginning of the input's container.
+-- What the writer of an output took, whose input was `left` to be read. Where no number is void it took nothing; under
+-- a void number it took a beginning of the input's container.
 abbrev pub PutsUnder : List ℕ → ShapeView → ℕ → Option (List ℕ) → Option (List ℕ) → Option (List ℕ) → List ℕ → Type 0
 PutsUnder key shape device left taken taken' [] = Keeps taken taken'
 PutsUnder key shape device left taken taken' (number ∷ []) =
@@ -211,10 +211,10 @@ times_in number numbers = count_by (λ other. nat_eq number other) numbers
 abbrev pub operations_of : List SeatView → List Entry
 operations_of seats = flat_map (λ seat. seat.mine) seats
 
--- The lines, the void numbers of their files and the operations of a ledger agree: each number was settled as sealed as
--- often as a line says so, as void as often as it is the void number of a file, and granted as often as both together. So
--- no number is open, and where none is granted twice, each that was granted was settled once: as sealed where a line says
--- so, and as void where it is the void number of a file.
+-- The lines, the void numbers of their files and the operations of a ledger agree: each number was settled as sealed
+-- as often as a line says so, as void as often as it is the void number of a file, and granted as often as both
+-- together. So no number is open, and where none is granted twice, each that was granted was settled once: as sealed
+-- where a line says so, and as void where it is the void number of a file.
 pub record Accounts (lines : List FileLine) (voids : List ℕ) (operations : List Entry) : Type 0 where
   pub told : (number : ℕ) → times_sealed number operations ≡ times_told number lines
   pub voided : (number : ℕ) → times_voided number operations ≡ times_in number voids
@@ -331,8 +331,8 @@ written_in (trace.Refused name fault ∷ events) = written_in events
 written_in (trace.Finished name bytes ∷ events) = held_in bytes ++ written_in events
 written_in (trace.Discarded name bytes ∷ events) = held_in bytes ++ written_in events
 
--- Every file was worked, in order and in groups of so many, the last of at most so many; their lines were told, and what
--- happened goes with the groups and with the void numbers.
+-- Every file was worked, in order and in groups of so many, the last of at most so many; their lines were told, and
+-- what happened goes with the groups and with the void numbers.
 pub record AreGrouped (happened : List (List FileLine) → List ℕ → Type 0) (lanes : ℕ) (names : List (List ℕ))
     (status : ℕ) (old new : Option (List ℕ)) (failures failures' : Option ℕ) : Type 0 where
   pub groups : List (List FileLine)

@@ -1,18 +1,20 @@
 -- No nonce is used twice: what the runs under one key did, and the chunks that their outputs held.
 --
--- A run is a call of `seal_all` or of `pipe_all` that reserved numbers of the key and a device. It ended, or it was killed. A
--- killed run did what a run does whose every later call fails, of its folder, its reader, its writers and its disk; that run
--- ends, and its clauses say what its outputs held. So the definitions here speak of a run that was killed at any moment too.
--- A run that reserved no such numbers, or that was killed before the fold, wrote nothing under the key and device: it is one
--- of those between two runs.
+-- A run is a call of `seal_all` or of `pipe_all` that reserved numbers of the key and a device. It ended, or it was
+-- killed. A killed run did what a run does whose every later call fails, of its folder, its reader, its writers and its
+-- disk; that run ends, and its clauses say what its outputs held. So the definitions here speak of a run that was
+-- killed at any moment too. (This is read, and not proved. So is that such a run ends: a call that waits for threads,
+-- or joins them, owes no return.) A run that reserved no such numbers, or that was killed before the fold, wrote
+-- nothing under the key and device: it is one of those between two runs.
 --
--- What is asked of a run is what a clause promises, which is named at each part (`theorem::a_call_is_a_run` has all of it in the
--- clauses' own words), but for four premises:
+-- A run names no disk: what is asked of it is said of the bytes of two files. So each may be over a disk of its own
+-- type, as the runs of the program are. All of it is what a call promises, over its own disk
+-- (`theorem::a_call_is_a_run` has that in the clauses' own words), but for four premises:
 -- - Folder, reader and writer tell what they did. (What a folder told, and what reader and writer had, is `Some`.)
 -- - Nobody else writes a ledger file. (`Follows`: a run finds what those before it left.)
--- - Its disk returns what was written to it. (`honest`)
+-- - Its disk returns what was written to it. (`AreClean`, there.)
 -- - No two ledger files share key and device. (All runs of a device stand in one list.)
-use Rattle.std.specs.Prelude.{⊤, ◌≡◌, ◌⊎◌, ℕ, ◌+◌, ◌*◌, ◌^◌, ◌<◌, List, [], ◌∷◌, ◌++◌, length, slice_get, Option, Some}
+use Rattle.std.specs.Prelude.{⊤, ◌≡◌, ◌⊎◌, ℕ, ◌+◌, ◌*◌, ◌^◌, ◌<◌, ◌≤◌, List, [], ◌∷◌, ◌++◌, length, slice_get, Option, Some}
 use Rattle.std.specs.List.{AllByRecursion}
 use Rattle.sha2.specs.Sha256.{sha256}
 use Rattle.io_core.specs.Streams.{IsFront}
@@ -21,26 +23,23 @@ use Rattle.container_core.specs.Container.{container, header_of}
 use Rattle.container_core.specs.Shape.{IsShape, ShapeView, size_of}
 use Rattle.journal_core.specs.declared.entry.Entry.{Entry}
 use Rattle.journal_core.specs.declared.terms.Terms.{Terms}
-use Rattle.journal_core.specs.Range.{IsLawfulRange, prefix_of}
+use Rattle.journal_core.specs.Range.{IsLawfulRange, Numbers, prefix_of}
 use Rattle.life_core.specs.Life.{stream_nonces}
 use Rattle.life_core.specs.Outputs.{Place}
-use Rattle.sqlite.specs.Files.{over_files}
-use Rattle.sqlite.specs.Held.{Held}
 use Rattle.sqlite_disk.specs.declared.Disk.{Ghosts}
 use Rattle.sqlite_disk.specs.declared.Files.{Files}
-use Rattle.sqlite_store.specs.declared.store.FileStore.{FileStore}
 use Rattle.sqlite_wal.specs.Files.{outcomes}
-use Rattle.sqlite_wal.specs.Reads.{AreClean}
 use Rattle.sqlite_wal.specs.Recovery.{Image}
-use Rattle.reserve_core.specs.NextRun.{IsFound, PassInTurn}
+use Rattle.ranges_core.specs.Reservations.{Lists, next_of}
+use Rattle.reserve_core.specs.NextRun.{AreIn, PassInTurn}
 use Rattle.command_core.specs.Trace.{Event, Reading, Unread, Created, Refused, Finished, Discarded}
 use Rattle.sealer_core.specs.Piping.{HasSealedStream}
-use Rattle.sealer_core.specs.Sealing.{FoldsFiles, Happened, HasSealed, held_in, written_in}
+use Rattle.sealer_core.specs.Sealing.{Happened, HasSealed, held_in, written_in}
 
 -- ---- what a run wrote
 
--- A run of `seal_all` (its clause `run`), over a folder that told these events: the outputs are those that it finished or gave
--- up, and that held any byte.
+-- A run of `seal_all` (its clause `run`), over a folder that told these events: the outputs are those that it finished
+-- or gave up, and that held any byte.
 pub record WroteFiles (key : List ℕ) (terms : Terms) (history : List Entry) (outputs : List (List ℕ)) : Type 0 where
   -- every `Shape` is one
   pub shape : ShapeView
@@ -53,8 +52,8 @@ pub record WroteFiles (key : List ℕ) (terms : Terms) (history : List Entry) (o
       old new failures later
   pub held : outputs ≡ written_in events
 
--- A run of `pipe_all` (its clause `run`), over a reader that had this input and a writer that took these bytes: they are its
--- one output, where there are any.
+-- A run of `pipe_all` (its clause `run`), over a reader that had this input and a writer that took these bytes: they
+-- are its one output, where there are any.
 pub record WroteStream (key : List ℕ) (terms : Terms) (history : List Entry) (outputs : List (List ℕ)) : Type 0 where
   pub shape : ShapeView
   pub is_shape : IsShape shape
@@ -74,37 +73,36 @@ Wrote key terms history outputs = WroteFiles key terms history outputs ⊎ Wrote
 
 -- ---- a run
 
--- What is told of a run: the ledger's two files as it found them, and the keeper that it made of them; for how many files it
--- reserved numbers, and the two files as it left them; its range and seats, what its ledger did, and the bytes that each of
--- its outputs held.
-pub record Run {D : Type 0} (g : Ghosts D) : Type 0 where
+-- What is told of a run, over a disk of whatever type: the ledger's two files as it found them, and as a crash left
+-- them behind it; its range and seats, what its ledger did, and the bytes that each of its outputs held.
+pub record Run : Type 0 where
   pub start : Image
-  pub keeper : Held (FileStore D g)
-  pub count : ℕ
-  pub left : Files D
+  pub files : Image
   pub terms : Terms
   pub history : List Entry
   pub outputs : List (List ℕ)
 
-module _ {D F : Type 0} {g : Ghosts D} (kept : Held (FileStore D g) → F) (folded : Files D → F) where
-  -- A run under the key as a device. `kept` and `folded` are what a `LedgerFile` is before and behind the fold.
-  pub record IsRun (key : List ℕ) (device : ℕ) (run : Run g) : Type 0 where
-    -- by `Keeper::open`, of what a connection found in the files
-    pub found : IsFound (over_files {g = g}) run.start run.keeper
-    -- its range was reserved, and stood in the ledger file itself before anything was read or written, and it is a lawful
-    -- one: clause `run` of `seal_all` and `pipe_all`
-    pub reserved : FoldsFiles kept folded (sha256 key) device run.count (kept run.keeper) (folded run.left) run.terms.range
-    pub lawful : IsLawfulRange run.terms.range
-    pub honest : AreClean g run.left.log run.left.db
-    pub wrote : Wrote key run.terms run.history run.outputs
+-- A run under the key as a device.
+pub record IsRun (key : List ℕ) (device : ℕ) (run : Run) : Type 0 where
+  -- its range is a lawful one of the device, and lies behind all that the files held before it
+  pub of_device : run.terms.range.device ≡ device
+  pub lawful : IsLawfulRange run.terms.range
+  pub behind : (lists : Lists) → AreIn lists run.start → next_of (lists (sha256 key) device) ≤ run.terms.range.lo
+  -- and behind it they hold lists over which the next range begins no earlier than where it ends
+  pub stands : (lists : Lists) × AreIn lists run.files
+      × (run.terms.range.lo + run.terms.range.size ≤ next_of (lists (sha256 key) device))
+  pub wrote : Wrote key run.terms run.history run.outputs
 
--- A run found what an earlier one left. A crash left of the two files what the disk's contract allows, or their log was lost;
--- and the runs between, if any, passed on one after another the ranges that they found, as `reserve_core::laws` says of them.
-pub record Follows {D : Type 0} {g : Ghosts D} (one other : Run g) : Type 0 where
-  pub files : Image
-  pub may : outcomes g one.left.log one.left.db files
-  pub between : List Image
-  pub passed : PassInTurn files between other.start ⊎ PassInTurn (record files { log = [] }) between other.start
+-- A crash left this of the two files that a run folded, as the contract of their disk allows; or this, without their
+-- log.
+abbrev pub IsLeftOf : {D : Type 0} → Ghosts D → Files D → Image → Type 0
+IsLeftOf g left files = (crashed : Image) × outcomes g left.log left.db crashed
+    × ((files ≡ crashed) ⊎ (files ≡ record crashed { log = [] }))
+
+-- A run found what an earlier one left: the runs between, if any, passed on one after another the ranges that they
+-- found, as `reserve_core::laws` says of them.
+abbrev pub Follows : Run → Run → Type 0
+Follows one other = (between : List Image) × PassInTurn one.files between other.start
 
 -- in a list each stands so to the next
 abbrev pub AreInTurn : {A : Type 0} → (A → A → Type 0) → List A → Type 0
@@ -113,30 +111,30 @@ AreInTurn next (x ∷ []) = ⊤
 AreInTurn next (x ∷ y ∷ more) = next x y × AreInTurn next (y ∷ more)
 
 -- All runs under the key: those of each device in order, on its ledger file.
-pub record AreRunsOf {D F : Type 0} {g : Ghosts D} (kept : Held (FileStore D g) → F) (folded : Files D → F) (key : List ℕ)
-    (runs : ℕ → List (Run g)) : Type 0 where
-  pub each : (device : ℕ) → AllByRecursion (IsRun kept folded key device) (runs device)
+pub record AreRunsOf (key : List ℕ) (runs : ℕ → List Run) : Type 0 where
+  pub each : (device : ℕ) → AllByRecursion (IsRun key device) (runs device)
   pub in_turn : (device : ℕ) → AreInTurn Follows (runs device)
 
 -- ---- outputs and chunks
 
 -- this output of this run of this device held these bytes
-pub record HeldAt {D : Type 0} {g : Ghosts D} (runs : ℕ → List (Run g)) (place : Place) (bytes : List ℕ) : Type 0 where
-  pub run : Run g
+pub record HeldAt (runs : ℕ → List Run) (place : Place) (bytes : List ℕ) : Type 0 where
+  pub run : Run
   pub at_run : slice_get (runs place.device) place.run ≡ Some run
   pub at_output : slice_get run.outputs place.output ≡ Some bytes
 
--- Bytes begin the container of some plaintext under the key, under some number of the device. So they are its header and its
--- chunks in order, the last perhaps cut, each sealed by the AEAD under the nonce at its place.
-pub record BeginsContainer (key : List ℕ) (device : ℕ) (bytes : List ℕ) : Type 0 where
+-- Bytes begin the container of some plaintext under the key, under some number of the range. So they are its header and
+-- its chunks in order, the last perhaps cut, each sealed by the AEAD under the nonce at its place.
+pub record BeginsContainer (key : List ℕ) (range : Numbers) (bytes : List ℕ) : Type 0 where
   pub number : ℕ
+  pub inside : (range.lo ≤ number) × (number < range.lo + range.size)
   pub shape : ShapeView
   pub is_shape : IsShape shape
   pub plain : List ℕ
-  pub begins : IsFront bytes (container key shape (prefix_of device number) plain)
+  pub begins : IsFront bytes (container key shape (prefix_of range.device number) plain)
 
--- The bytes have some of this chunk, and this is its nonce: of whatever container under the key they begin. Its number has
--- 32 bits, as all that the format has.
+-- The bytes have some of this chunk, and this is its nonce: of whatever container under the key they begin. Its number
+-- has 32 bits, as all that the format has.
 pub record HasChunk (key bytes : List ℕ) (chunk : ℕ) (nonce : List ℕ) : Type 0 where
   pub shape : ShapeView
   pub prefix : List ℕ

@@ -5,9 +5,9 @@ ghost use Rattle.std.specs.Prelude.{flat_map};
 ghost use Rattle.journal_core.specs.declared.entry.Event.TheVariants.{Settled};
 ghost use Rattle.journal_core.specs.declared.entry.Way.TheVariants.{Sealed};
 ghost use Rattle.ledger_core.specs.Closing.{AreAllSeats};
-ghost use Rattle.sealer_core.specs.Group.{name_of, IsPrepared, IsHeld, IsCounted, IsEnding, IsPut, IsEndOf, void_by};
-ghost use Rattle.sealer_core.specs.Group.{IsEndBy, IsEndIn, left_by, read_of, AreHeld, AreOwed, OwesAt, IsOwed, SettledAt};
-ghost use Rattle.sealer_core.specs.Group.{void_in, void_of};
+ghost use Rattle.sealer_core.specs.Group.{name_of, IsPrepared, IsHeld, IsCounted, IsEnding, IsPutIn, void_by};
+ghost use Rattle.sealer_core.specs.Group.{IsEnd, IsEndIn, left_by, read_of, AreHeld, AreOwed, OwesAt, IsOwed};
+ghost use Rattle.sealer_core.specs.Group.{SettledAt, void_in, void_of};
 ghost use Rattle.sealer_core.specs.Group.{AreEnded, IsEndOfAll, IsGroup, refused_lines};
 ghost use Rattle.command_core.specs.Lines.{FileLine};
 ghost use Rattle.command_core.specs.Trace.{Does};
@@ -15,15 +15,15 @@ ghost use Rattle.command_core.specs.Work.{AreTold};
 ghost use Rattle.crew_core.specs.Batch.{AreOutcomes};
 ghost use Rattle.crew_core.specs.declared.outcome.Outcome.{Outcome};
 ghost use Rattle.sealer_core.specs.Sealing.{Accounts, AreSealed, IsOfNumber, IsOfSealing, line_of, operations_of};
-ghost use Rattle.sealer_core.specs.Sealing.{EndsBy, Happened};
+ghost use Rattle.sealer_core.specs.Sealing.{Happened};
 
-use crate::lane::{fault_of, settle_of_file};
+use crate::lane::{fault_of, give_up, settle_of_file};
 use crate::prepare::{Prepared, prepare_group};
 use crate::sealing::SealOptions;
 use command_core::{FileFault, FileOutcome, Folder, MAX_BYTES, tell, write_output};
 use container_core::{Key, SealFault, Shape};
 use crew_core::{Free, MAX_LANES, Outcome, seal_batch};
-use ledger_core::{Failed, Ledger, Seat, Sink, Spent};
+use ledger_core::{Ledger, Seat, Sink, Spent};
 use std::alloc::Global;
 use std::collections::VecDeque;
 use std::thread::Threads;
@@ -45,14 +45,13 @@ fn settle_at(ledger: &Ledger, seats: &mut [Seat], place: u32, spent: Spent)
 }
 
 // Ends a file that was read, by the outcome of its job: where it was sealed its container is written, its output is
-// finished, and its number settled.
+// finished, and its number settled. The output of a file that failed is given up.
 fn end_job<F: Folder>(
     ledger: &Ledger,
     seats: &mut [Seat],
     folder: &mut F,
     outcome: Outcome,
-    output: &str,
-    writer: &mut F::Writer,
+    writer: F::Writer,
     bytes: u64,
 ) -> FileOutcome
     requires all { AreAllSeats ledger.now seats.old }
@@ -61,8 +60,8 @@ fn end_job<F: Folder>(
     ensures all { AreAllSeats ledger.now seats.new }
     ensures count { length seats.new ≡ length seats.old }
     ensures outcome { IsOfNumber result }
-    ensures end { IsEndOf bytes (F.Writer.taken writer.old) (F.Writer.taken writer.new) outcome result }
-    ensures told { Does (EndsBy output.now (F.Writer.taken writer.new) result) (F.told folder.old) (F.told folder.new) }
+    ensures end { Does (IsEnd bytes (F.Writer.taken writer) (outcome ∷ []) result) (F.told folder.old)
+        (F.told folder.new) }
     ensures accounts { (name : List ℕ) (lines : List FileLine) (voids : List ℕ) (others : List Outcome)
         → AreHeld lines voids (outcome ∷ others) (operations_of seats.old)
         → AreHeld (lines ++ line_of name result ∷ []) (voids ++ void_of outcome result) others
@@ -70,10 +69,10 @@ fn end_job<F: Folder>(
     ensures owed { (others : List Outcome) → AreOwed seats.old (outcome ∷ others) → AreOwed seats.new others }
 {
     match outcome {
-        Outcome::Unissued { fault, .. } => FileOutcome::Failed(fault_of(fault)),
+        Outcome::Unissued { fault, .. } => give_up(folder, writer, fault_of(fault)),
         Outcome::Spoiled { seat, spent } => {
             settle_at(ledger, seats, seat, spent);
-            FileOutcome::Failed(FileFault::Unsealed(SealFault::OutOfMemory))
+            give_up(folder, writer, FileFault::Unsealed(SealFault::OutOfMemory))
         }
         Outcome::Sealed {
             seat,
@@ -86,7 +85,6 @@ fn end_job<F: Folder>(
             seat,
             container.as_slice(),
             spent,
-            output,
             writer,
             bytes,
         ),
@@ -99,8 +97,7 @@ fn end_next<F: Folder>(
     seats: &mut [Seat],
     folder: &mut F,
     outcomes: &mut VecDeque<Outcome>,
-    output: &str,
-    writer: &mut F::Writer,
+    writer: F::Writer,
     bytes: u64,
 ) -> FileOutcome
     requires all { AreAllSeats ledger.now seats.old }
@@ -112,20 +109,21 @@ fn end_next<F: Folder>(
     ensures owed { AreOwed seats.new outcomes.new.items }
     ensures outcome { IsOfNumber result }
     ensures next { outcomes.new.items ≡ drop 1 outcomes.old.items }
-    ensures end { IsEndBy bytes (F.Writer.taken writer.old) (F.Writer.taken writer.new) outcomes.old.items result }
-    ensures told { Does (EndsBy output.now (F.Writer.taken writer.new) result) (F.told folder.old) (F.told folder.new) }
+    ensures end { Does (IsEnd bytes (F.Writer.taken writer) outcomes.old.items result) (F.told folder.old)
+        (F.told folder.new) }
     ensures accounts { (name : List ℕ) (lines : List FileLine) (voids : List ℕ)
         → AreHeld lines voids outcomes.old.items (operations_of seats.old)
         → AreHeld (lines ++ line_of name result ∷ []) (voids ++ void_by outcomes.old.items result) outcomes.new.items
         (operations_of seats.new) }
 {
     match outcomes.pop_front() {
-        Some(outcome) => end_job(ledger, seats, folder, outcome, output, writer, bytes),
-        None => FileOutcome::Failed(FileFault::Unsealed(SealFault::OutOfMemory)),
+        Some(outcome) => end_job(ledger, seats, folder, outcome, writer, bytes),
+        None => give_up(folder, writer, FileFault::Unsealed(SealFault::OutOfMemory)),
     }
 }
 
-// Writes a container, finishes its output, and settles its number: as void where either fails.
+// Writes a container, finishes its output, and settles its number. Where either fails the number is void, and the output
+// is given up.
 fn write_container<F: Folder>(
     ledger: &Ledger,
     seats: &mut [Seat],
@@ -133,8 +131,7 @@ fn write_container<F: Folder>(
     place: u32,
     container: &[u8],
     spent: Spent,
-    output: &str,
-    writer: &mut F::Writer,
+    writer: F::Writer,
     bytes: u64,
 ) -> FileOutcome
     requires all { AreAllSeats ledger.now seats.old }
@@ -145,25 +142,25 @@ fn write_container<F: Folder>(
     ensures all { AreAllSeats ledger.now seats.new }
     ensures count { length seats.new ≡ length seats.old }
     ensures outcome { IsOfNumber result }
-    ensures written { IsPut container.now spent.number bytes (F.Writer.taken writer.old) (F.Writer.taken writer.new) result }
-    ensures told { Does (EndsBy output.now (F.Writer.taken writer.new) result) (F.told folder.old) (F.told folder.new) }
+    ensures written { Does (IsPutIn container.now spent.number bytes (F.Writer.taken writer) result) (F.told folder.old)
+        (F.told folder.new) }
     ensures accounts { IsEnding spent.number (operations_of seats.old) (operations_of seats.new) result }
     ensures made { SettledAt place spent.number seats.old seats.new }
 {
     let number = spent.number();
-    match write_output(folder, output, writer, container) {
+    match write_output(folder, writer, container) {
         Ok(()) => {
             settle_at(ledger, seats, place, spent);
             FileOutcome::Sealed { number, bytes }
         }
-        Err(Failed) => {
+        Err(writer) => {
             settle_at(ledger, seats, place, spent.spoil());
-            FileOutcome::Failed(FileFault::Unsealed(SealFault::Write))
+            give_up(folder, writer, FileFault::Unsealed(SealFault::Write))
         }
     }
 }
 
-// Ends one file of a group: where it was sealed its container is written. An output whose file failed is given up.
+// Ends one file of a group: where it was sealed its container is written.
 fn end_file<F: Folder>(
     ledger: &Ledger,
     seats: &mut [Seat],
@@ -190,34 +187,11 @@ fn end_file<F: Folder>(
 {
     match file {
         Prepared::Refused { fault, .. } => FileOutcome::Failed(fault),
-        Prepared::Unread {
-            output,
-            writer,
-            fault,
-            ..
-        } => {
-            let _ = folder.discard(output.as_str(), writer);
-            FileOutcome::Failed(FileFault::Unsealed(fault))
+        Prepared::Unread { writer, fault, .. } => {
+            give_up(folder, writer, FileFault::Unsealed(fault))
         }
-        Prepared::Read {
-            output,
-            mut writer,
-            bytes,
-            ..
-        } => {
-            let outcome = end_next(
-                ledger,
-                seats,
-                folder,
-                outcomes,
-                output.as_str(),
-                &mut writer,
-                bytes,
-            );
-            if let FileOutcome::Failed(_) = outcome {
-                let _ = folder.discard(output.as_str(), writer);
-            }
-            outcome
+        Prepared::Read { writer, bytes, .. } => {
+            end_next(ledger, seats, folder, outcomes, writer, bytes)
         }
     }
 }

@@ -1,15 +1,16 @@
 //! Files sealed one after another by one seat of a ledger, each by as many workers as are asked for. An output is
 //! finished before its number is settled, so that the number of one that can't be is void.
 ghost use Rattle.std.specs.Prelude.{◌≡◌, ◌⊎◌, ℕ, ◌<◌, ◌≤◌, List, [], ◌∷◌, ◌++◌, map, IfOk, IfErr, Err, Ok};
+ghost use Rattle.std.specs.Prelude.{Option};
 ghost use Rattle.journal_core.specs.declared.entry.Event.TheVariants.{Granted, Exhausted, Settled};
 ghost use Rattle.journal_core.specs.declared.entry.Way.{Way};
 ghost use Rattle.journal_core.specs.declared.entry.Way.TheVariants.{Sealed};
 ghost use Rattle.ledger_core.specs.Shared.{Extends, Holds, IsSameSeat, SeatView, spent_as};
 ghost use Rattle.command_core.specs.Lines.{FileLine};
 ghost use Rattle.command_core.specs.declared.line.FileOutcome.TheVariants.{Failed};
-ghost use Rattle.command_core.specs.Trace.{Does};
-ghost use Rattle.sealer_core.specs.Sealing.{Accounts, AreSealed, EndsBy, Happened, IfSealed, IsOfGrant, IsOfNumber};
-ghost use Rattle.sealer_core.specs.Sealing.{IsOfSealing, Puts, line_of, unissued_as, void_at};
+ghost use Rattle.command_core.specs.Trace.{Discards, Does};
+ghost use Rattle.sealer_core.specs.Sealing.{Accounts, AreSealed, Happened, IfSealed, IsClosed, IsOfGrant};
+ghost use Rattle.sealer_core.specs.Sealing.{IsOfNumber, IsOfSealing, Puts, line_of, unissued_as, void_at};
 
 use crate::sealing::SealOptions;
 use command_core::{FileFault, FileOutcome, Folder, FolderFault, MAX_BYTES, tell};
@@ -58,13 +59,22 @@ pub(crate) fn settle_of_file(ledger: &Ledger, seat: &mut Seat, spent: Spent)
     let _ = ledger.settle(seat, spent);
 }
 
-// Finishes an output that was sealed whole, and settles its number: as void where the finishing fails.
+/// Gives up the output of a file that failed.
+pub(crate) fn give_up<F: Folder>(folder: &mut F, writer: F::Writer, fault: FileFault) -> FileOutcome
+    ensures outcome { result ≡ Failed fault }
+    ensures discarded { Does (Discards (F.Writer.taken writer)) (F.told folder.old) (F.told folder.new) }
+{
+    let _ = folder.discard(writer);
+    FileOutcome::Failed(fault)
+}
+
+// Finishes an output that was sealed whole, and settles its number. Where that fails the number is void, and the output is
+// given up.
 fn end_sealed<F: Folder>(
     ledger: &Ledger,
     seat: &mut Seat,
     folder: &mut F,
-    output: &str,
-    writer: &mut F::Writer,
+    writer: F::Writer,
     spent: Spent,
     bytes: u64,
 ) -> FileOutcome
@@ -73,27 +83,27 @@ fn end_sealed<F: Folder>(
     requires held { Holds seat.old spent }
     ensures outcome { IsOfGrant result }
     ensures sealed { IfSealed result (λ number count. (number ≡ spent.number) × (count ≡ bytes)) }
-    ensures kept { F.Writer.taken writer.new ≡ F.Writer.taken writer.old }
-    ensures told { Does (EndsBy output.now (F.Writer.taken writer.new) result) (F.told folder.old) (F.told folder.new) }
+    ensures told { Does (IsClosed (F.Writer.taken writer) result) (F.told folder.old) (F.told folder.new) }
     ensures same { IsSameSeat seat.old seat.new }
     ensures accounts { (granted : SeatView) → Extends granted (Granted spent.number) seat.old
         → (name : List ℕ) (lines : List FileLine) (voids : List ℕ) → Accounts lines voids granted.mine
         → Accounts (lines ++ line_of name result ∷ []) (voids ++ void_at spent.number result) seat.new.mine }
 {
     let number = spent.number();
-    match folder.finish(output, writer) {
+    match folder.finish(writer) {
         Ok(()) => {
             settle_of_file(ledger, seat, spent);
             FileOutcome::Sealed { number, bytes }
         }
-        Err(_) => {
+        Err(writer) => {
             settle_of_file(ledger, seat, spent.spoil());
-            FileOutcome::Failed(FileFault::Unsealed(SealFault::Write))
+            give_up(folder, writer, FileFault::Unsealed(SealFault::Write))
         }
     }
 }
 
-// Seals what a reader gives under the next number of the ledger, finishes the output, and settles that number.
+// Seals what a reader gives under the next number of the ledger, finishes the output, and settles that number. Where a
+// file fails its output is given up.
 fn seal_next<T: Threads + Wait + Sync, R: Source, F: Folder>(
     rt: &T,
     alloc: Global,
@@ -102,8 +112,7 @@ fn seal_next<T: Threads + Wait + Sync, R: Source, F: Folder>(
     seat: &mut Seat,
     folder: &mut F,
     reader: &mut R,
-    output: &str,
-    writer: &mut F::Writer,
+    mut writer: F::Writer,
     max_bytes: u64,
     workers: u32,
     window: u32,
@@ -114,31 +123,40 @@ fn seal_next<T: Threads + Wait + Sync, R: Source, F: Folder>(
     requires workers { (0 < workers) × (workers ≤ MAX_WORKERS) }
     requires window { (0 < window) × (window ≤ MAX_WINDOW) }
     ensures outcome { IsOfNumber result }
-    ensures told { Does (EndsBy output.now (F.Writer.taken writer.new) result) (F.told folder.old) (F.told folder.new) }
     ensures same { IsSameSeat seat.old seat.new }
-    ensures done { (void : List ℕ) × Puts key.now shape.now seat.old.terms.range.device (R.left reader.old)
-        (F.Writer.taken writer.old) (F.Writer.taken writer.new) result void
+    ensures done { (void : List ℕ) × (taken : Option (List ℕ)) × Puts key.now shape.now seat.old.terms.range.device
+        (R.left reader.old) (F.Writer.taken writer) taken result void
+        × Does (IsClosed taken result) (F.told folder.old) (F.told folder.new)
         × ((name : List ℕ) (lines : List FileLine) (voids : List ℕ) → Accounts lines voids seat.old.mine
         → Accounts (lines ++ line_of name result ∷ []) (voids ++ void) seat.new.mine) }
 {
     let grant = match issue_to_file(ledger, seat) {
         Ok(grant) => grant,
-        Err(fault) => return FileOutcome::Failed(fault),
+        Err(fault) => return give_up(folder, writer, fault),
     };
     let (sealed, spent) = run_seal_by(
-        rt, alloc, key, shape, grant, reader, writer, max_bytes, workers, window, &Free,
+        rt,
+        alloc,
+        key,
+        shape,
+        grant,
+        reader,
+        &mut writer,
+        max_bytes,
+        workers,
+        window,
+        &Free,
     );
     match sealed {
-        Ok(bytes) => end_sealed(ledger, seat, folder, output, writer, spent, bytes),
+        Ok(bytes) => end_sealed(ledger, seat, folder, writer, spent, bytes),
         Err(fault) => {
             settle_of_file(ledger, seat, spent);
-            FileOutcome::Failed(FileFault::Unsealed(fault))
+            give_up(folder, writer, FileFault::Unsealed(fault))
         }
     }
 }
 
-// Seals one file: its input is opened, its output created, and its number issued, in this order. An output whose file
-// failed is given up.
+// Seals one file: its input is opened, its output created, and its number issued, in this order.
 fn seal_file<T: Threads + Wait + Sync, F: Folder>(
     rt: &T,
     alloc: Global,
@@ -170,12 +188,12 @@ fn seal_file<T: Threads + Wait + Sync, F: Folder>(
     let Ok(mut reader) = folder.open(name) else {
         return FileOutcome::Failed(FileFault::CannotOpen);
     };
-    let mut writer = match folder.create(output) {
+    let writer = match folder.create(output) {
         Ok(writer) => writer,
         Err(FolderFault::Exists) => return FileOutcome::Failed(FileFault::OutputExists),
         Err(FolderFault::Failed) => return FileOutcome::Failed(FileFault::CannotCreate),
     };
-    let outcome = seal_next(
+    seal_next(
         rt,
         alloc,
         key,
@@ -183,17 +201,12 @@ fn seal_file<T: Threads + Wait + Sync, F: Folder>(
         seat,
         folder,
         &mut reader,
-        output,
-        &mut writer,
+        writer,
         max_bytes,
         workers,
         window,
         shape,
-    );
-    if let FileOutcome::Failed(_) = outcome {
-        let _ = folder.discard(output, writer);
-    }
-    outcome
+    )
 }
 
 /// Seals the files in turn, with a line for each. The answer is the status so far.

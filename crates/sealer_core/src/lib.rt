@@ -1,7 +1,8 @@
 //! The sealer as a library: what each command does, over any reader and any writer.
 //!
-//! `seal_all` and `pipe_all` are here, with the theorems over their runs (`theorem`). The engines are those of `engine_core`, `open_all`, `verify_all` and the folders and lines of
-//! all commands those of `command_core`, and the laws on the life of a ledger file those of `life_core`.
+//! `seal_all` and `pipe_all` are here, with the theorems over their runs (`theorem`). The engines are those of
+//! `engine_core`, `open_all`, `verify_all` and the folders and lines of all commands those of `command_core`, and the
+//! laws on the life of a ledger file those of `life_core`.
 #![tactic(auto)]
 
 mod ending;
@@ -16,7 +17,7 @@ mod trouble;
 
 pub use crate::piping::{PipeOptions, pipe_all};
 pub use crate::sealing::{SealOptions, seal_all};
-pub use crate::theorem::{no_nonce_is_used_twice, what_was_opened_was_sealed};
+pub use crate::theorem::{a_call_is_a_run, no_nonce_is_used_twice, what_was_opened_was_sealed};
 pub use command_core::{
     Facts, FileFault, FileOutcome, Folder, FolderFault, KeyFault, Line, MAX_BYTES,
     MAX_OPENED_BYTES, OpenOptions, Outs, open_all, read_key, verify_all,

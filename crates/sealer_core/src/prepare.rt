@@ -22,14 +22,12 @@ pub(crate) enum Prepared<'a, W: Drop> {
     /// Its output was created, and its plaintext wasn't read.
     Unread {
         name: &'a str,
-        output: String,
         writer: W,
         fault: SealFault,
     },
     /// Its output was created, and its plaintext of so many bytes is among the jobs.
     Read {
         name: &'a str,
-        output: String,
         writer: W,
         bytes: u64,
     },
@@ -97,13 +95,11 @@ fn prepare_file<'a, F: Folder>(
     match read_job(alloc, &mut reader, max_bytes, jobs) {
         Ok(bytes) => Prepared::Read {
             name,
-            output,
             writer,
             bytes,
         },
         Err(fault) => Prepared::Unread {
             name,
-            output,
             writer,
             fault,
         },

@@ -202,8 +202,8 @@ fn work_ledger<T: Threads + Wait + Sync, F: Folder, W: Sink, J: Sink>(
 /// own. The answer is the exit status: 0 where every file was sealed, 1 where one failed, 2 where no range was reserved, the ledger file not
 /// folded or no ledger opened (then no file was touched), where a line couldn't be written (no further line is tried,
 /// and the files and the journal are still worked), or where the journal couldn't be written whole. Each of these but a
-/// line has a text on standard error. An output whose file failed is given up: it is removed, and what it held begins the
-/// container of its input under a number that is void, or is nothing.
+/// line has a text on standard error. An output whose file failed is given up: it is removed, and what it held begins
+/// the container of its input under a number that is void, or is nothing.
 ///
 /// One range is reserved at most, with as many numbers as there are files, and for good: what it leaves unused is given
 /// up. Before the first file is opened the ledger file is folded, so that it has the range without its log; after that

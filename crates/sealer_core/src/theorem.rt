@@ -1,26 +1,29 @@
-//! The theorems over runs: under one key no nonce is used twice, and what was opened was sealed. Their definitions are in
-//! `specs/Theorem.antt`.
-ghost use Rattle.std.specs.Prelude.{◌≡◌, ◌≤◌, ℕ, ◌+◌, List, [], ◌∷◌, ◌++◌, map, Option, Some};
+//! The theorems over runs: under one key no nonce is used twice, and what was opened was sealed. Their definitions are
+//! in `specs/Theorem.antt`.
+ghost use Rattle.std.specs.Prelude.{◌≡◌, ◌<◌, ◌≤◌, ℕ, ◌+◌, ◌*◌, ◌^◌, List, [], ◌∷◌, ◌++◌, length, map, Option, Some};
 ghost use Rattle.sha2.specs.Sha256.{sha256};
-ghost use Rattle.container_core.specs.Shape.{IsShape, ShapeView};
+ghost use Rattle.container_core.specs.Chunks.{tag_size};
+ghost use Rattle.container_core.specs.Container.{header_of};
+ghost use Rattle.container_core.specs.Shape.{IsShape, ShapeView, size_of};
 ghost use Rattle.command_core.specs.declared.line.FileOutcome.TheVariants.{Opened, Sealed};
 ghost use Rattle.command_core.specs.Trace.{Event};
 ghost use Rattle.command_core.specs.Work.{Opening};
 ghost use Rattle.journal_core.specs.declared.entry.Entry.{Entry};
 ghost use Rattle.journal_core.specs.declared.terms.Terms.{Terms};
 ghost use Rattle.journal_core.specs.Journal.{terms_of};
-ghost use Rattle.journal_core.specs.Range.{IsLawfulRange, Numbers};
+ghost use Rattle.journal_core.specs.Range.{IsLawfulRange, Numbers, prefix_of};
 ghost use Rattle.life_core.specs.Outputs.{HasWritten, Output, Place};
 ghost use Rattle.sqlite.specs.Files.{over_files};
 ghost use Rattle.sqlite_wal.specs.Reads.{AreClean};
 ghost use Rattle.sqlite_wal.specs.Recovery.{Image};
-ghost use Rattle.reserve_core.specs.NextRun.{IsFound};
+ghost use Rattle.ranges_core.specs.Reservations.{Lists, next_of};
+ghost use Rattle.reserve_core.specs.NextRun.{AreIn, IsFound};
 ghost use Rattle.sealer_core.specs.Piping.{HasSealedStream, WorksStream};
 ghost use Rattle.sealer_core.specs.Sealing.{FoldsFiles, Happened, HasSealed, Sealing, held_in, written_in};
-ghost use Rattle.sealer_core.specs.Theorem.{AreRunsOf, BeginsContainer, Follows, HasChunk, HeldAt, IsRun, Run};
+ghost use Rattle.sealer_core.specs.Theorem.{AreRunsOf, BeginsContainer, HasChunk, HeldAt, IsLeftOf, IsRun, Run};
 ghost use Rattle.sealer_core.specs.Theorem.{Wrote, finished_in, read_in};
 
-use crate::runs::{a_run_has_written, a_stream_has_written, runs_are_apart};
+use crate::runs::{a_run_has_written, a_stream_has_written};
 use container_core::laws::{containers_differ, opens_exactly_its_container};
 use life_core::no_two_outputs_have_one_prefix;
 use reserve_core::LedgerFile;
@@ -38,70 +41,78 @@ fn a_run_wrote_its_outputs()
     a_stream_has_written();
 }
 
-// The range of a run lies behind that of a run that it follows.
-fn a_later_range_lies_behind<D: Disk + Drop>()
-    ensures { (key : List ℕ) (device : ℕ) (one other : Run D.Disk)
-        → IsRun LedgerFile.Kept LedgerFile.Folded key device one
-        → IsRun LedgerFile.Kept LedgerFile.Folded key device other → Follows one other
-        → one.terms.range.lo + one.terms.range.size ≤ other.terms.range.lo }
-{
-    runs_are_apart::<D, D>();
-}
+// A range that was folded lies behind all that were found in the files; and over whatever a crash leaves of them, the
+// next range lies behind it.
+fn a_fold_leaves_its_range<D: Disk + Drop>()
+    ensures { (key_id : List ℕ) (device count : ℕ) (start files : Image) (keeper : _) (old new : _) (left : Files D)
+        (range : Numbers) → old ≡ LedgerFile.Kept keeper → new ≡ LedgerFile.Folded left
+        → IsFound (over_files {g = D.Disk}) start keeper → AreClean D.Disk left.log left.db → IsLeftOf D.Disk left files
+        → FoldsFiles LedgerFile.Kept LedgerFile.Folded key_id device count old new range
+        → (range.device ≡ device)
+        × ((lists : Lists) → AreIn lists start → next_of (lists key_id device) ≤ range.lo)
+        × (lists : Lists) × AreIn lists files × (range.lo + range.size ≤ next_of (lists key_id device)) }
+{}
 
-/// No nonce is used twice. Take any number of runs of `seal_all` and `pipe_all` under one key, as any devices, each of which
-/// found the ledger file of its device as those before it left it, over any crashes between. What their outputs held begins
-/// containers under the key; and two chunks with one nonce, of whatever outputs, are the same chunk of the same output of the
-/// same run.
+/// No nonce is used twice. Take any number of runs of `seal_all` and `pipe_all` under one key, as any devices, each of
+/// which found the ledger file of its device as those before it left it, over any crashes between. What their outputs
+/// held begins containers under the key, each under a number of the range of its run; each chunk of which such bytes
+/// have any has a nonce; and two chunks with one nonce, of whatever outputs, are the same chunk of the same output of
+/// the same run.
 ///
-/// The disks of all runs have one type. The steps are the laws that are called here.
-pub fn no_nonce_is_used_twice<D: Disk + Drop>()
-    ensures sealed { (key : List ℕ) (runs : ℕ → List (Run D.Disk)) (place : Place) (bytes : List ℕ)
-        → AreRunsOf LedgerFile.Kept LedgerFile.Folded key runs → HeldAt runs place bytes
-        → BeginsContainer key place.device bytes }
-    ensures once { (key : List ℕ) (runs : ℕ → List (Run D.Disk)) (one other : Place) (this that : List ℕ)
-        (chunk another : ℕ) (nonce : List ℕ)
-        → AreRunsOf LedgerFile.Kept LedgerFile.Folded key runs
-        → HeldAt runs one this → HeldAt runs other that
+/// Each run may be over a disk of a type of its own. The steps are the laws that are called here.
+pub fn no_nonce_is_used_twice()
+    ensures sealed { (key : List ℕ) (runs : ℕ → List Run) (place : Place) (bytes : List ℕ)
+        → AreRunsOf key runs → (held : HeldAt runs place bytes) → (held.run.terms.range.device ≡ place.device)
+        × BeginsContainer key held.run.terms.range bytes }
+    ensures each { (key : List ℕ) (range : Numbers) (bytes : List ℕ) (chunk : ℕ)
+        → (begun : BeginsContainer key range bytes)
+        → length (header_of key begun.shape (prefix_of range.device begun.number))
+        + chunk * (size_of begun.shape + tag_size) < length bytes
+        → chunk < 2 ^ 32 → (nonce : List ℕ) × HasChunk key bytes chunk nonce }
+    ensures once { (key : List ℕ) (runs : ℕ → List Run) (one other : Place) (this that : List ℕ) (chunk another : ℕ)
+        (nonce : List ℕ) → AreRunsOf key runs → HeldAt runs one this → HeldAt runs other that
         → HasChunk key this chunk nonce → HasChunk key that another nonce
         → (one ≡ other) × (chunk ≡ another) }
 {
     a_run_wrote_its_outputs();
-    a_later_range_lies_behind::<D>();
     no_two_outputs_have_one_prefix();
 }
 
-/// A call over files is a run of the theorem. What is asked of it is clause `run` of `seal_all` or `pipe_all`, where a range
-/// was reserved, of a ledger file whose keeper was made of what was found; that its disk returned what was written; and that
-/// folder, reader and writer told what they did. The outputs of the run are those of which these told.
+/// A call over files is a run of the theorem. What is asked of it is clause `run` of `seal_all` or `pipe_all`, where a
+/// range was reserved, of a ledger file whose keeper was made of what was found; that its disk returned what was
+/// written; and that folder, reader and writer told what they did. The outputs of the run are those of which these
+/// told, and its files are whatever a crash may leave of those that it folded.
 pub fn a_call_is_a_run<D: Disk + Drop>()
     ensures files { (key : List ℕ) (shape : ShapeView) (device count lanes status : ℕ) (names : List (List ℕ))
-        (start : Image) (keeper : _) (old new : _) (left : Files D) (range : Numbers) (history : List Entry)
+        (start files : Image) (keeper : _) (old new : _) (left : Files D) (range : Numbers) (history : List Entry)
         (lines lines_then : Option (List ℕ)) (failures later : Option ℕ) (before after : List Event)
         → old ≡ LedgerFile.Kept keeper → new ≡ LedgerFile.Folded left
-        → IsFound (over_files {g = D.Disk}) start keeper → AreClean D.Disk left.log left.db → IsShape shape
+        → IsFound (over_files {g = D.Disk}) start keeper → AreClean D.Disk left.log left.db → IsLeftOf D.Disk left files
         → FoldsFiles LedgerFile.Kept LedgerFile.Folded (sha256 key) device count old new range → IsLawfulRange range
-        → HasSealed (Happened key shape range.device (Some before) (Some after)) names (terms_of range lanes) history
-        status lines lines_then failures later
-        → (run : Run D.Disk) × IsRun LedgerFile.Kept LedgerFile.Folded key device run × (run.start ≡ start)
-        × (run.left ≡ left) × (events : List Event) × (after ≡ before ++ events) × (run.outputs ≡ written_in events) }
-    ensures streams { (key : List ℕ) (shape : ShapeView) (device count status most : ℕ) (start : Image) (keeper : _)
-        (old new : _) (left : Files D) (range : Numbers) (history : List Entry) (input taken taken_then : List ℕ)
+        → IsShape shape → HasSealed (Happened key shape range.device (Some before) (Some after)) names
+        (terms_of range lanes) history status lines lines_then failures later
+        → (run : Run) × IsRun key device run × (run.start ≡ start) × (run.files ≡ files)
+        × (events : List Event) × (after ≡ before ++ events) × (run.outputs ≡ written_in events) }
+    ensures streams { (key : List ℕ) (shape : ShapeView) (device count status most : ℕ) (start files : Image)
+        (keeper : _) (old new : _) (left : Files D) (range : Numbers) (history : List Entry)
+        (input taken taken_then : List ℕ)
         (unread lines lines_then : Option (List ℕ)) (failures later refusals more faults faults_then : Option ℕ)
         → old ≡ LedgerFile.Kept keeper → new ≡ LedgerFile.Folded left
-        → IsFound (over_files {g = D.Disk}) start keeper → AreClean D.Disk left.log left.db → IsShape shape
+        → IsFound (over_files {g = D.Disk}) start keeper → AreClean D.Disk left.log left.db → IsLeftOf D.Disk left files
         → FoldsFiles LedgerFile.Kept LedgerFile.Folded (sha256 key) device count old new range → IsLawfulRange range
-        → HasSealedStream key shape most (Some input) unread failures later (Some taken) (Some taken_then) refusals more
-        (terms_of range 1) history status lines lines_then faults faults_then
-        → (run : Run D.Disk) × IsRun LedgerFile.Kept LedgerFile.Folded key device run × (run.start ≡ start)
-        × (run.left ≡ left) × (bytes : List ℕ) × (taken_then ≡ taken ++ bytes) × (run.outputs ≡ held_in bytes) }
+        → IsShape shape → HasSealedStream key shape most (Some input) unread failures later (Some taken)
+        (Some taken_then) refusals more (terms_of range 1) history status lines lines_then faults faults_then
+        → (run : Run) × IsRun key device run × (run.start ≡ start) × (run.files ≡ files)
+        × (bytes : List ℕ) × (taken_then ≡ taken ++ bytes) × (run.outputs ≡ held_in bytes) }
 {
+    a_fold_leaves_its_range::<D>();
     a_stream_has_written();
 }
 
-/// What was opened was sealed. Take what happened for a line `sealed` of `seal_all`, or a stream that `pipe_all` sealed, and
-/// what happened for a line `opened` of `open_all` under the same key (each line goes with its own events, as `Happened`
-/// and `AreWorked` say). Where the input that was opened is the output that was sealed, what was finished is what had been
-/// read to be sealed, byte for byte.
+/// What was opened was sealed. It is of two lines, whatever runs they are of. Take what happened for a line `sealed` of
+/// `seal_all`, or a stream that `pipe_all` sealed, and what happened for a line `opened` of `open_all` under the same
+/// key (each line goes with its own events, as `Happened` and `AreWorked` say). Where the input that was opened is the
+/// output that was sealed, what was finished is what had been read to be sealed, byte for byte.
 pub fn what_was_opened_was_sealed()
     ensures files { (key : List ℕ) (shape : ShapeView) (device number bytes most n : ℕ) (label : Option (List ℕ))
         (name other void : List ℕ) (before after events : List Event)

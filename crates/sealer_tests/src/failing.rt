@@ -88,20 +88,25 @@ impl<'a> Folder for Failing<'a> {
         }
     }
 
-    fn finish(&mut self, name: &str, output: &mut FailingWriter<'a>) -> Result<(), FolderFault> {
-        if self.calls.fails() {
-            return Err(FolderFault::Failed);
+    fn finish(&mut self, output: FailingWriter<'a>) -> Result<(), FailingWriter<'a>> {
+        let calls = self.calls;
+        if calls.fails() {
+            return Err(output);
         }
-        self.folder.finish(name, &mut output.writer)
+        let FailingWriter { writer, calls: _ } = output;
+        match self.folder.finish(writer) {
+            Ok(()) => Ok(()),
+            Err(writer) => Err(FailingWriter { writer, calls }),
+        }
     }
 
-    fn discard(&mut self, name: &str, output: FailingWriter<'a>) -> Result<(), FolderFault> {
+    fn discard(&mut self, output: FailingWriter<'a>) -> Result<(), FolderFault> {
         if self.calls.fails() {
             self.calls.unremoved.store(1, Ordering::SeqCst);
             return Err(FolderFault::Failed);
         }
         let FailingWriter { writer, calls: _ } = output;
-        self.folder.discard(name, writer)
+        self.folder.discard(writer)
     }
 }
 

@@ -25,8 +25,6 @@ pub struct SystemFiles<'p, 'r, R: Files + AllocGlobal + Clock + Eprint> {
     pub into: Option<&'r str>,
     /// Whether an output and its name are on the disk once it is finished.
     pub sync: bool,
-    /// Room for the paths of outputs in that folder. It is taken as one is created, so that its removal takes no memory.
-    pub room: String,
     /// What counts the bytes that are read of files, where that is asked for.
     pub progress: Option<&'p Progress<'r, R>>,
 }
@@ -79,9 +77,11 @@ fn create_new<R: Files>(rt: &R, path: &str) -> Result<R::File, FolderFault> {
     }
 }
 
-/// An output that is written: its file, and the folder that has its name, where both are to be put on the disk.
+/// An output that is written: its path, its file, and the folder that has its name, where both are to be put on the disk.
 #[derive(Drop)]
 pub struct Output<F: Read + Write + Drop> {
+    // It is made before the file is, so that the removal takes no memory.
+    path: String,
     file: F,
     folder: Option<F>,
 }
@@ -99,19 +99,19 @@ impl<F: Read + Write + Drop> Write for Output<F> {
 // Creates an output. The folder is opened first, so that an output whose name can't be put on the disk isn't made.
 fn output_at<R: Files>(
     rt: &R,
-    path: &str,
+    path: String,
     sync: bool,
 ) -> Result<ToWrite<Output<R::File>>, FolderFault> {
     let folder = if sync {
-        match File::open(rt, folder_of(path)) {
+        match File::open(rt, folder_of(path.as_str())) {
             Ok(folder) => Some(folder),
             Err(_) => return Err(FolderFault::Failed),
         }
     } else {
         None
     };
-    match create_new(rt, path) {
-        Ok(file) => Ok(ToWrite(Output { file, folder })),
+    match create_new(rt, path.as_str()) {
+        Ok(file) => Ok(ToWrite(Output { path, file, folder })),
         Err(fault) => Err(fault),
     }
 }
@@ -188,32 +188,30 @@ impl<'p, 'r, R: Files + AllocGlobal + Clock + Eprint> Folder for SystemFiles<'p,
     }
 
     fn create(&mut self, name: &str) -> Result<Self::Writer, FolderFault> {
-        let Some(folder) = self.into else {
-            return output_at(self.rt, name, self.sync);
+        let mut path = String::new(self.rt.alloc());
+        let is_placed = match self.into {
+            Some(folder) => put_below(&mut path, folder, name),
+            None => path.push_str(name).is_ok(),
         };
-        if !put_below(&mut self.room, folder, name) {
+        if !is_placed {
             return Err(FolderFault::Failed);
         }
-        output_at(self.rt, self.room.as_str(), self.sync)
+        output_at(self.rt, path, self.sync)
     }
 
-    // Without `sync` the file is closed where its writer is let go, and the disk has it when the system writes it.
-    fn finish(&mut self, _name: &str, output: &mut Self::Writer) -> Result<(), FolderFault> {
+    // Without `sync` the file is closed here, and the disk has it when the system writes it.
+    fn finish(&mut self, output: Self::Writer) -> Result<(), Self::Writer> {
         match put_on_disk(&output.0.file, &output.0.folder) {
             Ok(()) => Ok(()),
-            Err(_) => Err(FolderFault::Failed),
+            Err(_) => Err(output),
         }
     }
 
     // The file is closed before it is removed.
-    fn discard(&mut self, name: &str, output: Self::Writer) -> Result<(), FolderFault> {
-        drop(output);
-        let Some(folder) = self.into else {
-            return remove_at(self.rt, name);
-        };
-        if !put_below(&mut self.room, folder, name) {
-            return Err(FolderFault::Failed);
-        }
-        remove_at(self.rt, self.room.as_str())
+    fn discard(&mut self, output: Self::Writer) -> Result<(), FolderFault> {
+        let ToWrite(Output { path, file, folder }) = output;
+        drop(file);
+        drop(folder);
+        remove_at(self.rt, path.as_str())
     }
 }

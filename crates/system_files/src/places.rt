@@ -63,7 +63,7 @@ pub fn are_apart(alloc: Global, files: &[&str]) -> Result<(), PlaceFault>
 }
 
 // Puts the path of an output of this name below a folder, where it answers true. There is none where the name has no last one or the
-// folder's is empty, nor where memory is refused, which isn't asked for where the path was as long once.
+// folder's is empty, nor where memory is refused.
 pub(crate) fn put_below(path: &mut String, folder: &str, name: &str) -> bool
     ensures { result ≡ true → IsBelow folder.now name.now (string_bytes path.new) }
 {

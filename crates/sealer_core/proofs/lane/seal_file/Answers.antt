@@ -1,8 +1,7 @@
-use Rattle.std.proofs.Common.{[], refl, ◌∙◌, rules}
-use Rattle.sealer_core.proofs.Happened.{was_discarded, was_not_failed, was_unbegun, was_uncreated, was_unopened}
+use Rattle.std.proofs.Common.{[], refl, ◌∙◌}
+use Rattle.sealer_core.proofs.Happened.{was_closed, was_unbegun, was_uncreated, was_unopened}
 use Rattle.sealer_core.proofs.Numbering.{adds_failure}
 use Rattle.sealer_core.proofs.lane.seal_file.Goals as goal
-use Rattle.sealer_core.proofs.lane.seal_file.Goals.{in-Failed, in_default-outcome}
 
 pub returns-in_default-clause-done : goal.returns-in_default-clause-done
 returns-in_default-clause-done g c = ([], was_unbegun _ _ _ _ _, λ lines voids a. adds_failure lines voids _ 0 _ a _)
@@ -27,18 +26,8 @@ returns-in-Err-Failed-clause-done g c = (
 
 pub returns-clause-done : goal.returns-clause-done
 returns-clause-done g c =
-    let (void, puts, more) = c.seal_next-outcome.ensures.done in
-    elim c.match-outcome.branch [
-      | in-Failed w ↦ rw w.folder-is (
-        void,
-        was_discarded _ _ _ _ _ _ _ _ _ _ _ _ _ _ _ _ w.in-Failed.is (c.as_str-output.ensures.value ∙ c.in-Ok.ensures.ok) c.in-Ok-open.ensures.opened c.in-Ok-create.ensures.created puts
-            c.seal_next-outcome.ensures.told w.discard.ensures.discarded,
-        λ lines voids a. more _ lines voids a,
-      )
-      | in_default-outcome w ↦ rw w.folder-is (
-        void,
-        was_not_failed _ _ _ _ _ _ _ _ _ _ _ _ _ _ (search rules) (c.as_str-output.ensures.value ∙ c.in-Ok.ensures.ok) c.in-Ok-open.ensures.opened c.in-Ok-create.ensures.created puts
-            c.seal_next-outcome.ensures.told,
-        λ lines voids a. more _ lines voids a,
-      )
-    ]
+    let (void, taken, puts, closed, more) = c.seal_next.ensures.done in (
+      void,
+      was_closed _ _ _ _ _ _ _ _ _ _ _ _ _ _ (c.as_str-output.ensures.value ∙ c.in-Ok.ensures.ok) c.in-Ok-open.ensures.opened c.in-Ok-create.ensures.created puts closed,
+      λ lines voids a. more _ lines voids a,
+    )

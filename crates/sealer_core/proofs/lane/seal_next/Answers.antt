@@ -5,9 +5,11 @@ use Rattle.sealer_core.proofs.Numbering.{after_failure, after_fault, granted_as,
 use Rattle.sealer_core.proofs.lane.seal_next.Goals as goal
 
 pub returns-in-Err-clause-done : goal.returns-in-Err-clause-done
-returns-in-Err-clause-done g c = (
+returns-in-Err-clause-done g c = rw c.give_up.ensures.outcome (
   [],
+  g.F.Writer.Sink.taken c.args.writer,
   puts_nothing _ _ _ _ _ c.in-Err.fault c.in-Err.ensures.refused.0,
+  c.give_up.ensures.discarded,
   λ name lines voids a. after_failure lines voids _ _ name _ c.in-Err.ensures.refused.1 a,
 )
 
@@ -17,16 +19,20 @@ returns-in-Ok-sealed-clause-outcome g c = of_grant _ c.end_sealed.ensures.outcom
 pub returns-in-Ok-sealed-clause-done : goal.returns-in-Ok-sealed-clause-done
 returns-in-Ok-sealed-clause-done g c = (
   _,
-  puts_whole _ _ _ _ c.run_seal_by-sealed.result.1.number c.in-Ok.grant.number c.in-Ok-sealed.bytes _ _ _ _ c.run_seal_by-sealed.result.0 c.end_sealed.result c.in-Ok-sealed.is c.in-Ok.ensures.granted.1
-      (search rules) c.end_sealed.ensures.kept c.run_seal_by-sealed.ensures.writes.written c.run_seal_by-sealed.ensures.writes.length c.end_sealed.ensures.outcome c.end_sealed.ensures.sealed,
+  g.F.Writer.Sink.taken c.run_seal_by-sealed.new.writer,
+  puts_whole _ _ _ _ c.run_seal_by-sealed.result.1.number c.in-Ok.grant.number c.in-Ok-sealed.bytes _ _ _ c.run_seal_by-sealed.result.0 c.end_sealed.result c.in-Ok-sealed.is c.in-Ok.ensures.granted.1
+      (search rules) c.run_seal_by-sealed.ensures.writes.written c.run_seal_by-sealed.ensures.writes.length c.end_sealed.ensures.outcome c.end_sealed.ensures.sealed,
+  c.end_sealed.ensures.told,
   λ name lines voids a.
       c.end_sealed.ensures.accounts c.args.seat.now (granted_as _ _ c.in-Ok.grant c.run_seal_by-sealed.result.1 Sealed (search rules) c.in-Ok.ensures.granted.0) name lines voids a,
 )
 
 pub returns-in-Err-sealed-clause-done : goal.returns-in-Err-sealed-clause-done
-returns-in-Err-sealed-clause-done g c = (
+returns-in-Err-sealed-clause-done g c = rw c.give_up-in-Err-sealed.ensures.outcome (
   c.in-Ok.grant.number ∷ [],
+  g.F.Writer.Sink.taken c.run_seal_by-sealed.new.writer,
   puts_begun _ _ _ _ _ _ _ _ c.run_seal_by-sealed.result.0 c.in-Err-sealed.fault c.in-Err-sealed.is c.in-Ok.ensures.granted.1 c.run_seal_by-sealed.ensures.writes.begun,
+  c.give_up-in-Err-sealed.ensures.discarded,
   λ name lines voids a.
       after_fault lines voids c.args.seat.now _ _ name c.in-Ok.grant c.run_seal_by-sealed.result.1 _ c.in-Ok.ensures.granted.0 (search rules)
       c.settle_of_file.ensures.settled a,
