@@ -279,7 +279,8 @@ fn seal_from<
         × FoldsFiles LedgerFile.Kept LedgerFile.Folded (sha256 key.now) options.now.device
         (length options.now.files.now) (LedgerFile.Kept keeper) r.1 range
         × IsLawfulRange range
-        × HasSealed (Happened key.now options.now.shape.now range.device (F.told folder.old) (F.told folder.new))
+        × HasSealed (Happened key.now options.now.shape.now options.now.max_bytes range.device
+        (F.told folder.old) (F.told folder.new))
         (map (λ name. name.now) options.now.files.now) (terms_of range options.now.lanes) history told
         (L.taken out.old.lines) (L.taken out.new.lines) (L.failures out.old.lines) (L.failures out.new.lines)
         × IsWritten J.taken (journal_text (terms_of range options.now.lanes) history) written

@@ -35,11 +35,11 @@ module _ (key : List ℕ) (device : ℕ) (start files : Image) (terms : Terms) (
   RunsFiles before after = (run : Run) × IsRun key device run × (run.start ≡ start) × (run.files ≡ files)
       × (events : List Event) × (after ≡ before ++ events) × (run.outputs ≡ written_in events)
 
-  pub runs_files : (shape : ShapeView) (names : List (List ℕ)) (status : ℕ) (lines lines' : Option (List ℕ)) (failures later : Option ℕ)
+  pub runs_files : (shape : ShapeView) (names : List (List ℕ)) (status most : ℕ) (lines lines' : Option (List ℕ)) (failures later : Option ℕ)
       (before after : List Event) → Leaves → IsShape shape → IsLawfulRange terms.range
-      → HasSealed (Happened key shape terms.range.device (Some before) (Some after)) names terms history status lines lines' failures later → RunsFiles before after
+      → HasSealed (Happened key shape most terms.range.device (Some before) (Some after)) names terms history status lines lines' failures later → RunsFiles before after
   unfolding run_of
-  runs_files shape names status lines lines' failures later before after leaves is_shape lawful sealed =
+  runs_files shape names status most lines lines' failures later before after leaves is_shape lawful sealed =
       let (events, happened, joined) = sealed.worked.done in (
         run_of (written_in events),
         is_run (written_in events) leaves lawful (inl (record {
@@ -48,7 +48,7 @@ module _ (key : List ℕ) (device : ℕ) (start files : Image) (terms : Terms) (
           names = names;
           before = before;
           events = events;
-          sealed = (status, lines, lines', failures, later, subst (λ (a : List Event). HasSealed (Happened key shape terms.range.device (Some before) (Some a)) names terms history status lines lines' failures later) joined sealed);
+          sealed = (most, status, lines, lines', failures, later, subst (λ (a : List Event). HasSealed (Happened key shape most terms.range.device (Some before) (Some a)) names terms history status lines lines' failures later) joined sealed);
           held = refl;
         })),
         refl,

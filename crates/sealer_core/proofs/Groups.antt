@@ -36,7 +36,7 @@ use Rattle.sealer_core.specs.Group.{holds, HasEnded, IsHeld, AreHeld, AreOwed, O
 use Rattle.sealer_core.specs.declared.prepare.Prepared.{Prepared}
 use Rattle.sealer_core.specs.declared.prepare.Prepared.TheVariants.{Refused, Unread, Read}
 use Rattle.command_core.specs.declared.line.FileFault.TheVariants.{OutOfMemory}
-use Rattle.sealer_core.specs.Sealing.{Accounts, AreSealed, IsOfSealing, line_of, operations_of, seals, spoils, tells_of, times_in, times_sealed, times_voided, void_at}
+use Rattle.sealer_core.specs.Sealing.{Accounts, AreSealed, IsOfSealing, line_of, operations_of, seals, spoils, tells_of, times_sealed, times_voided, void_at}
 use Rattle.sealer_core.proofs.Numbering.{adds_failure, in_append, in_push, mine_of, told_push, sum_below_zeros, sum_below_first}
 use Rattle.sealer_core.proofs.Sealings.{sealed_more}
 

@@ -50,10 +50,10 @@ module _ (key : List ℕ) (opens : Opens key) (differ : Differ key) (shape : Sha
       let plain_is = opened_is prefix input plain most seven (subst (λ (b : List ℕ). opening key most b ≡ Ok plain) read_is good.0) in
       (ap finished_in did ∙ ap (λ (b : List ℕ). b ∷ []) plain_is, long ∙ ap length plain_is)
 
-  pub of_files : (device number bytes most n : ℕ) (label : Option (List ℕ)) (name other void : List ℕ) (before after events : List Event)
-      → Sealing key shape device name (Sealed number bytes) void before after → Opening key most label other (Opened n) events
+  pub of_files : (device number bytes limit most n : ℕ) (label : Option (List ℕ)) (name other void : List ℕ) (before after events : List Event)
+      → Sealing key shape limit device name (Sealed number bytes) void before after → Opening key most label other (Opened n) events
       → read_in events ≡ finished_in after → (finished_in events ≡ read_in before) × (n ≡ bytes)
-  of_files device number bytes most n label name other void before after events (input, none, long, begun, ended) opened same =
+  of_files device number bytes limit most n label name other void before after events (input, none, long, within, begun, ended) opened same =
       let (finished, count) = opened_of (prefix_of device number) input most n label other events refl opened (same ∙ ap finished_in ended) in
       (finished ∙ sym (ap read_in begun), count ∙ sym long)
 

@@ -1,6 +1,6 @@
 -- The outputs of a run: those of its files that were finished, and those that were given up and held something, in order; and the
 -- output of a stream.
-use Rattle.std.proofs.Common.{◌≡◌, ◌≤◌, ℕ, ◌+◌, ◌∙◌, refl, sym, ap, subst, cond, nat_eq, List, [], ◌∷◌, ◌++◌, length, map, append-nil, append_assoc, All, Option, Some, None, Ok, Err, arith}
+use Rattle.std.proofs.Common.{◌≡◌, ◌≤◌, ℕ, ◌+◌, ◌∙◌, refl, sym, ap, subst, cond, nat_eq, List, [], ◌∷◌, ◌++◌, map, append-nil, append_assoc, All, Option, Some, arith}
 use Rattle.std.specs.Prelude.{flat_map}
 use Rattle.std.specs.List.{AllByRecursion}
 use Rattle.std.proofs.lemmas.List.{map-append}
@@ -13,13 +13,14 @@ use Rattle.journal_core.specs.Range.{IsLawfulRange, prefix_of}
 use Rattle.journal_core.specs.declared.entry.Entry.{Entry}
 use Rattle.journal_core.specs.declared.terms.Terms.{Terms}
 use Rattle.journal_core.specs.History.{Legal}
-use Rattle.command_core.specs.declared.line.FileFault.TheVariants.{CannotOpen, NoSuffix, OutputExists, CannotCreate, OutOfMemory, NoNumber, AnotherLabel, Unopened, Unsealed}
+use Rattle.command_core.specs.declared.line.FileFault.{FileFault}
+use Rattle.command_core.specs.declared.line.FileFault.TheVariants.{CannotOpen, OutputExists, CannotCreate, OutOfMemory, NoNumber, Unsealed}
 use Rattle.command_core.specs.declared.line.FileOutcome.{FileOutcome}
 use Rattle.command_core.specs.declared.line.FileOutcome.TheVariants.{Sealed, Opened, Good, Shown, Failed}
 use Rattle.command_core.specs.Lines.{FileLine}
 use Rattle.command_core.specs.Trace.{Event, Reading, Unread, Created, Refused, Finished, Discarded}
 use Rattle.life_core.specs.Outputs.{Output, IsOutput, HasWritten, times_used}
-use Rattle.sealer_core.specs.Piping.{HasSealedStream, IsPiped, WorksStream, stream_name}
+use Rattle.sealer_core.specs.Piping.{HasSealedStream, WorksStream, stream_name}
 use Rattle.sealer_core.specs.Sealing.{Accounts, Happened, HasSealed, HeldUnder, IsDiscarded, Part, Sealing, group_events, group_voids, held_in, line_of, tells_of, times_in, times_told, written_in}
 use Rattle.sealer_core.proofs.Happened.{IsPart}
 use Rattle.sealer_core.proofs.Numbering.{in_append}
@@ -87,25 +88,25 @@ has_line n number bytes name voids =
 has_void : (n number : ℕ) (lines : List FileLine) → cond {A = ℕ} (nat_eq n number) 1 0 ≤ times_had n lines (number ∷ [])
 has_void n number lines = let one = sum_by-cons (λ (m : ℕ). cond (nat_eq n m) 1 0) number [] in omega arith
 
-module _ (key : List ℕ) (shape : ShapeView) (device : ℕ) (lawful : IsShape shape) where
+module _ (key : List ℕ) (shape : ShapeView) (most device : ℕ) (lawful : IsShape shape) where
   -- what an output held that was given up
   of_held : (input void held : List ℕ) (lines : List FileLine) → HeldUnder key shape device input void held → Writing key device lines void (held_in held)
   of_held input [] held lines none = nothing_of key device lines [] (held_in held) (ap held_in none)
   of_held input (number ∷ []) held lines front = beginning_of key shape device number input held lines (number ∷ []) lawful front (λ n. has_void n number lines)
   of_held input (number ∷ another ∷ numbers) held lines under = absurd under
 
-  of_discarded : (name : List ℕ) (line : FileLine) (void : List ℕ) (before after : List Event) → IsDiscarded key shape device name void before after
+  of_discarded : (name : List ℕ) (fault : FileFault) (line : FileLine) (void : List ℕ) (before after : List Event) → IsDiscarded key shape most device name fault void before after
       → (written_in before ≡ []) × Writing key device (line ∷ []) void (written_in after)
-  of_discarded name line void before after (input, held, under, begun, ended) =
+  of_discarded name fault line void before after (input, held, under, cause, begun, ended) =
       let writing = of_held input void held (line ∷ []) under in (
         ap written_in begun,
         subst (Writing key device (line ∷ []) void) (sym (ap written_in ended ∙ append-nil (held_in held))) writing,
       )
 
   -- what was written for one file
-  of_one : (name : List ℕ) (outcome : FileOutcome) (void : List ℕ) (before after : List Event) → Sealing key shape device name outcome void before after
+  of_one : (name : List ℕ) (outcome : FileOutcome) (void : List ℕ) (before after : List Event) → Sealing key shape most device name outcome void before after
       → (written_in before ≡ []) × Writing key device (line_of name outcome ∷ []) void (written_in after)
-  of_one name (Sealed number bytes) void before after (input, none, long, begun, ended) =
+  of_one name (Sealed number bytes) void before after (input, none, long, within, begun, ended) =
       let whole = container key shape (prefix_of device number) input in (
         ap written_in begun,
         subst (Writing key device (line_of name (Sealed number bytes) ∷ []) void) (sym (ap written_in ended ∙ append-nil (held_in whole)))
@@ -117,12 +118,7 @@ module _ (key : List ℕ) (shape : ShapeView) (device : ℕ) (lawful : IsShape s
       (ap written_in one, nothing_of key device (line_of name (Failed OutputExists) ∷ []) void (written_in after) (ap written_in two))
   of_one name (Failed CannotCreate) void before after (none, (input, one, two)) =
       (ap written_in one, nothing_of key device (line_of name (Failed CannotCreate) ∷ []) void (written_in after) (ap written_in two))
-  of_one name (Failed NoNumber) void before after (none, is) =
-      of_discarded name (line_of name (Failed NoNumber)) void before after (subst (λ v. IsDiscarded key shape device name v before after) (sym none) is)
-  of_one name (Failed (Unsealed fault)) void before after is = of_discarded name (line_of name (Failed (Unsealed fault))) void before after is
-  of_one name (Failed NoSuffix) void before after is = absurd is
-  of_one name (Failed AnotherLabel) void before after is = absurd is
-  of_one name (Failed (Unopened fault)) void before after is = absurd is
+  of_one name (Failed fault) void before after is = of_discarded name fault (line_of name (Failed fault)) void before after is
   of_one name (Opened bytes) void before after is = absurd is
   of_one name (Good bytes) void before after is = absurd is
   of_one name (Shown bytes facts) void before after is = absurd is
@@ -155,28 +151,28 @@ befores parts = flat_map (λ (part : Part). part.before) parts
 abbrev afters : List Part → List Event
 afters parts = flat_map (λ (part : Part). part.after) parts
 
-module _ (key : List ℕ) (shape : ShapeView) (device : ℕ) (lawful : IsShape shape) where
+module _ (key : List ℕ) (shape : ShapeView) (most device : ℕ) (lawful : IsShape shape) where
   -- what was written for the files of a group
-  of_parts : (parts : List Part) → All (IsPart (Sealing key shape device)) parts
+  of_parts : (parts : List Part) → All (IsPart (Sealing key shape most device)) parts
       → (written_in (befores parts) ≡ []) × Writing key device (lines_of parts) (group_voids parts) (written_in (afters parts))
   of_parts [] all = (refl, none_of key device)
   of_parts (part ∷ parts) all =
-      let (silent, own) = of_one key shape device lawful part.line.name part.line.outcome part.void part.before part.after
-      (All-head (IsPart (Sealing key shape device)) part parts all) in
-      let (quiet, others) = of_parts parts (All-tail (IsPart (Sealing key shape device)) part parts all) in (
+      let (silent, own) = of_one key shape most device lawful part.line.name part.line.outcome part.void part.before part.after
+      (All-head (IsPart (Sealing key shape most device)) part parts all) in
+      let (quiet, others) = of_parts parts (All-tail (IsPart (Sealing key shape most device)) part parts all) in (
         written-append part.before (befores parts) ∙ ap (λ l. l ++ written_in (befores parts)) silent ∙ quiet,
         subst (Writing key device (lines_of (part ∷ parts)) (group_voids (part ∷ parts))) (sym (written-append part.after (afters parts)))
             (both key device (part.line ∷ []) (lines_of parts) part.void (group_voids parts) (written_in part.after) (written_in (afters parts)) own others),
       )
 
-  of_group : (parts : List Part) → All (IsPart (Sealing key shape device)) parts → Writing key device (lines_of parts) (group_voids parts) (written_in (group_events parts))
+  of_group : (parts : List Part) → All (IsPart (Sealing key shape most device)) parts → Writing key device (lines_of parts) (group_voids parts) (written_in (group_events parts))
   of_group parts all =
       let (silent, own) = of_parts parts all in
       subst (Writing key device (lines_of parts) (group_voids parts))
       (sym (written-append (befores parts) (afters parts) ∙ ap (λ l. l ++ written_in (afters parts)) silent)) own
 
   -- and of all groups
-  of_groups : (groups : List (List Part)) → All (λ group. All (IsPart (Sealing key shape device)) group) groups
+  of_groups : (groups : List (List Part)) → All (λ group. All (IsPart (Sealing key shape most device)) group) groups
       → Writing key device (flat_map (λ group. group) (map lines_of groups)) (flat_map group_voids groups) (written_in (flat_map group_events groups))
   of_groups [] all = none_of key device
   of_groups (group ∷ groups) all =
@@ -184,8 +180,8 @@ module _ (key : List ℕ) (shape : ShapeView) (device : ℕ) (lawful : IsShape s
       (sym (written-append (group_events group) (flat_map group_events groups)))
       (both key device (lines_of group) (flat_map (λ group. group) (map lines_of groups)) (group_voids group) (flat_map group_voids groups)
       (written_in (group_events group)) (written_in (flat_map group_events groups))
-      (of_group group (All-head (λ group. All (IsPart (Sealing key shape device)) group) group groups all))
-      (of_groups groups (All-tail (λ group. All (IsPart (Sealing key shape device)) group) group groups all)))
+      (of_group group (All-head (λ group. All (IsPart (Sealing key shape most device)) group) group groups all))
+      (of_groups groups (All-tail (λ group. All (IsPart (Sealing key shape most device)) group) group groups all)))
 
 -- what was written for lines and void numbers that agree with a history
 has_written : (key : List ℕ) (device : ℕ) (terms : Terms) (history : List Entry) (lines : List FileLine) (voids : List ℕ) (held : List (List ℕ)) → terms.range.device ≡ device → IsLawfulRange terms.range
@@ -204,12 +200,12 @@ has_written key device terms history lines voids held of_device range legal acco
 
 module _ (key : List ℕ) (shape : ShapeView) (device : ℕ) (lawful : IsShape shape) where
   -- so of a run
-  pub of_run : (names : List (List ℕ)) (terms : Terms) (history : List Entry) (status : ℕ) (old new : Option (List ℕ)) (failures later : Option ℕ)
+  pub of_run : (most : ℕ) (names : List (List ℕ)) (terms : Terms) (history : List Entry) (status : ℕ) (old new : Option (List ℕ)) (failures later : Option ℕ)
       (before after : List Event) → terms.range.device ≡ device → IsLawfulRange terms.range
-      → HasSealed (Happened key shape device (Some before) (Some after)) names terms history status old new failures later
+      → HasSealed (Happened key shape most device (Some before) (Some after)) names terms history status old new failures later
       → (events : List Event) × (outputs : List Output) × (after ≡ before ++ events) × (written_in events ≡ held_of outputs)
       × HasWritten key device (record { terms = terms; history = history; outputs = outputs })
-  of_run names terms history status old new failures later before after of_device range sealed =
+  of_run most names terms history status old new failures later before after of_device range sealed =
       let (events, happened, joined) = sealed.worked.done in
       let lines : flat_map (λ group. group) (map lines_of happened.parts) ≡ sealed.worked.lines =
       ap (λ (groups : List (List FileLine)). flat_map (λ group. group) groups) happened.lined ∙ sym sealed.worked.joined in
@@ -217,7 +213,7 @@ module _ (key : List ℕ) (shape : ShapeView) (device : ℕ) (lawful : IsShape s
       subst (λ l. Writing key device l sealed.worked.voids (written_in events)) lines
       (subst (λ v. Writing key device (flat_map (λ group. group) (map lines_of happened.parts)) v (written_in events)) (sym happened.numbers)
       (subst (λ e. Writing key device (flat_map (λ group. group) (map lines_of happened.parts)) (flat_map group_voids happened.parts) (written_in e)) (sym happened.joined)
-      (of_groups key shape device lawful happened.parts happened.each))) in (
+      (of_groups key shape most device lawful happened.parts happened.each))) in (
         events,
         writing.outputs,
         joined,
@@ -237,7 +233,7 @@ module _ (key : List ℕ) (shape : ShapeView) (device : ℕ) (lawful : IsShape s
         (whole, did.written, beginning_of key shape device number input whole (line_of stream_name (Sealed number bytes) ∷ []) voids lawful ([], sym (append-nil whole)) (λ n. has_line n number bytes stream_name voids))
     of_works (Failed NoNumber) voids (none, still) =
         ([], some_is new old still.written.0 ∙ sym (append-nil old), nothing_of key device (line_of stream_name (Failed NoNumber) ∷ []) voids [] refl)
-    of_works (Failed (Unsealed fault)) [] still =
+    of_works (Failed (Unsealed fault)) [] (memory, still) =
         ([], some_is new old still.written.0 ∙ sym (append-nil old), nothing_of key device (line_of stream_name (Failed (Unsealed fault)) ∷ []) [] [] refl)
     of_works (Failed (Unsealed fault)) (number ∷ []) did =
         let (held, front, grew) = did.begun in

@@ -82,11 +82,11 @@ nothing_sealed happened lanes operations taken failures accounts done = (
 )
 
 -- the same, by the device, the lanes and the operations of a ledger
-pub sealed_as : (key : List ℕ) (shape : ShapeView) (device device' : ℕ) (events events' : Option (List Event)) (lanes lanes' : ℕ) (names : List (List ℕ)) (operations operations' : List Entry) (status : ℕ)
+pub sealed_as : (key : List ℕ) (shape : ShapeView) (most device device' : ℕ) (events events' : Option (List Event)) (lanes lanes' : ℕ) (names : List (List ℕ)) (operations operations' : List Entry) (status : ℕ)
     (old new : Option (List ℕ)) (failures failures' : Option ℕ) → device ≡ device' → lanes ≡ lanes' → operations ≡ operations'
-    → AreSealed (Happened key shape device events events') lanes names operations status old new failures failures'
-    → AreSealed (Happened key shape device' events events') lanes' names operations' status old new failures failures'
-sealed_as key shape device device' events events' lanes lanes' names operations operations' status old new failures failures' same count grown s =
-    subst (λ (d : ℕ). AreSealed (Happened key shape d events events') lanes' names operations' status old new failures failures') same
-    (subst (λ (n : ℕ). AreSealed (Happened key shape device events events') n names operations' status old new failures failures') count
-    (subst (λ (o : List Entry). AreSealed (Happened key shape device events events') lanes names o status old new failures failures') grown s))
+    → AreSealed (Happened key shape most device events events') lanes names operations status old new failures failures'
+    → AreSealed (Happened key shape most device' events events') lanes' names operations' status old new failures failures'
+sealed_as key shape most device device' events events' lanes lanes' names operations operations' status old new failures failures' same count grown s =
+    subst (λ (d : ℕ). AreSealed (Happened key shape most d events events') lanes' names operations' status old new failures failures') same
+    (subst (λ (n : ℕ). AreSealed (Happened key shape most device events events') n names operations' status old new failures failures') count
+    (subst (λ (o : List Entry). AreSealed (Happened key shape most device events events') lanes names o status old new failures failures') grown s))

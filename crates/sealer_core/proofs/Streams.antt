@@ -8,22 +8,27 @@ use Rattle.journal_core.specs.declared.entry.Entry.{Entry}
 use Rattle.journal_core.specs.Range.{prefix_of}
 use Rattle.ledger_core.specs.Shared.{LedgerView, SeatView}
 use Rattle.ledger_core.specs.Closing.{AreAllSeats, IsWhole}
+use Rattle.ledger_core.specs.declared.fault.IssueFault.{IssueFault}
+use Rattle.ledger_core.specs.declared.fault.IssueFault.TheVariants as issue_fault
 use Rattle.command_core.specs.declared.line.FileFault.{FileFault}
 use Rattle.command_core.specs.declared.line.FileFault.TheVariants as fault
 use Rattle.command_core.specs.declared.line.FileOutcome.{FileOutcome}
 use Rattle.command_core.specs.declared.line.FileOutcome.TheVariants.{Sealed, Failed}
 use Rattle.command_core.specs.Work.{AreTold}
 use Rattle.sealer_core.specs.Piping.{HasSealedStream, IsPiped, WorksStream, stream_name}
-use Rattle.sealer_core.specs.Sealing.{IsOfNumber, line_of, operations_of}
+use Rattle.sealer_core.specs.Sealing.{line_of, operations_of, unissued_as}
 use Rattle.sealer_core.proofs.Numbering.{accounts_whole, are_numbered, is_settled}
 
 -- nothing was touched
 pub works_failed : (key : List ℕ) (shape : ShapeView) (most : ℕ) (left : Option (List ℕ)) (failures : Option ℕ) (taken : Option (List ℕ)) (refusals : Option ℕ)
-    (device : ℕ) (why : FileFault)
-    → IsOfNumber (Failed why) → WorksStream key shape most left left failures failures taken taken refusals refusals device (Failed why) []
-works_failed key shape most left failures taken refusals device fault.NoNumber is = (refl, record { read = (refl, refl); written = (refl, refl) })
-works_failed key shape most left failures taken refusals device (fault.Unsealed f) is = record { read = (refl, refl); written = (refl, refl) }
-works_failed key shape most left failures taken refusals device why is = absurd is
+    (device : ℕ) (why : IssueFault) (fault : FileFault)
+    → fault ≡ unissued_as why → WorksStream key shape most left left failures failures taken taken refusals refusals device (Failed fault) []
+works_failed key shape most left failures taken refusals device why fault is = subst (λ f. WorksStream key shape most left left failures failures taken taken refusals refusals device (Failed f) []) (sym is) (of why)
+  where
+    of : (why : IssueFault) → WorksStream key shape most left left failures failures taken taken refusals refusals device (Failed (unissued_as why)) []
+    of issue_fault.Exhausted = (refl, record { read = (refl, refl); written = (refl, refl) })
+    of issue_fault.SeatClosed = (refl, record { read = (refl, refl); written = (refl, refl) })
+    of issue_fault.OutOfMemory = (refl, record { read = (refl, refl); written = (refl, refl) })
 
 module _ (key : List ℕ) (shape : ShapeView) (most : ℕ) (left left' : Option (List ℕ)) (failures failures' : Option ℕ) (taken taken' : Option (List ℕ))
     (refusals refusals' : Option ℕ) where

@@ -1,5 +1,5 @@
 -- Inside: files that are sealed in a group, by several lanes: before the sealing, and between it and their lines.
-use Rattle.std.specs.Prelude.{⊤, ◌≡◌, ◌≢◌, ℕ, ◌+◌, ◌<◌, Bool, false, nat_eq, if◌then◌else◌, List, [], ◌∷◌, ◌++◌}
+use Rattle.std.specs.Prelude.{⊤, ◌≡◌, ◌≢◌, ℕ, ◌+◌, ◌<◌, ◌≤◌, Bool, false, nat_eq, if◌then◌else◌, List, [], ◌∷◌, ◌++◌}
 use Rattle.std.specs.Prelude.{drop, length, map, All, count_by, slice_get, Option, Some}
 use Rattle.journal_core.specs.declared.entry.Entry.{Entry}
 use Rattle.journal_core.specs.declared.entry.Event.{Event}
@@ -24,7 +24,7 @@ use Rattle.command_core.specs.declared.folder.FolderFault.{FolderFault}
 use Rattle.command_core.specs.declared.folder.FolderFault.TheVariants as folder_fault
 use Rattle.command_core.specs.Lines.{FileLine}
 use Rattle.sealer_core.specs.Sealing.{IsOfSealing, Accounts, unissued_as, line_of, prepared, sealed_name, void_at}
-use Rattle.sealer_core.specs.Sealing.{IsClosed, times_in, times_sealed, times_voided, times_told}
+use Rattle.sealer_core.specs.Sealing.{IsCause, IsClosed, times_in, times_sealed, times_voided, times_told}
 use Rattle.command_core.specs.Trace.{Discards, tape}
 use Rattle.command_core.specs.Trace as trace
 use Rattle.command_core.specs.Work.{AreTold}
@@ -71,15 +71,16 @@ IsRefusal name OutputExists events = IsRefused name folder_fault.Exists events
 IsRefusal name CannotCreate events = IsRefused name folder_fault.Failed events
 IsRefusal name _ events = ⊥
 
-module _ {W : Type 0} (taken : W → Option (List ℕ)) where
-  -- What happens for a file before the sealing, and its input, where this was read. Its output took nothing so far.
+module _ {W : Type 0} (taken : W → Option (List ℕ)) (most : ℕ) where
+  -- What happens for a file before the sealing, and its input, where this was read: of at most so many bytes. Its output
+  -- took nothing so far.
   abbrev pub IsBegun : Prepared W → List (List ℕ) → List trace.Event → Type 0
   IsBegun (Refused name fault) inputs events = (inputs ≡ []) × IsRefusal name.now fault events
   IsBegun (Unread name writer fault) inputs events =
       (inputs ≡ []) × (taken writer ≡ Some (tape (sealed_name name.now) []))
-      × ((input : List ℕ) × (events ≡ prepared name.now input))
+      × ((input : List ℕ) × IsCause most (Unsealed fault) [] input [] × (events ≡ prepared name.now input))
   IsBegun (Read name writer bytes) inputs events = (input : List ℕ) × (inputs ≡ input ∷ [])
-      × (bytes ≡ length input) × (taken writer ≡ Some (tape (sealed_name name.now) []))
+      × (bytes ≡ length input) × (length input ≤ most) × (taken writer ≡ Some (tape (sealed_name name.now) []))
       × (events ≡ prepared name.now input)
 
   -- the same of one file more, whose input is then the last of the jobs

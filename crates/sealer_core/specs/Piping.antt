@@ -1,6 +1,7 @@
 -- What `pipe_all` does with a stream, and how its line stands to the operations of the ledger.
 use Rattle.std.specs.Prelude.{◌≡◌, ℕ, List, [], ◌∷◌, codes, Option, Ok, Err}
 use Rattle.container_core.specs.Shape.{ShapeView}
+use Rattle.container_core.specs.declared.fault.SealFault.TheVariants as sealing_fault
 use Rattle.engine_core.specs.Piped.{HasPipedContainer}
 use Rattle.journal_core.specs.declared.entry.Entry.{Entry}
 use Rattle.journal_core.specs.declared.terms.Terms.{Terms}
@@ -24,14 +25,14 @@ module _ (key : List ℕ) (shape : ShapeView) (most : ℕ) (left left' : Option 
     pub written : (taken' ≡ taken) × (refusals' ≡ refusals)
 
   -- With `sealed` the engine sealed the whole stream under the number in the line, and its length is in the line. With
-  -- a fault of the sealing the engine ended with this fault under a number that is void; where none is, nothing was
-  -- touched, and so it is without a number. No stream has more than one.
+  -- a fault of the sealing the engine ended with this fault under a number that is void; where none is, memory was
+  -- refused before anything was touched. Without a number nothing is touched either. No stream has more than one.
   abbrev pub WorksStream : ℕ → FileOutcome → List ℕ → Type 0
   WorksStream device (Sealed number bytes) voids = (voids ≡ [])
       × HasPipedContainer key shape (prefix_of device number) most left left' failures failures' taken taken'
       refusals refusals' (Ok bytes)
   WorksStream device (Failed NoNumber) voids = (voids ≡ []) × IsUntouched
-  WorksStream device (Failed (Unsealed fault)) [] = IsUntouched
+  WorksStream device (Failed (Unsealed fault)) [] = (fault ≡ sealing_fault.OutOfMemory) × IsUntouched
   WorksStream device (Failed (Unsealed fault)) (number ∷ []) =
       HasPipedContainer key shape (prefix_of device number) most left left' failures failures' taken taken'
       refusals refusals' (Err fault)

@@ -64,11 +64,11 @@ IsOfNumber (Failed NoNumber) = ⊤
 IsOfNumber (Failed (Unsealed fault)) = ⊤
 IsOfNumber _ = ⊥
 
--- one that it can have once a number was granted
-abbrev pub IsOfGrant : FileOutcome → Type 0
-IsOfGrant (Sealed number bytes) = ⊤
-IsOfGrant (Failed (Unsealed fault)) = ⊤
-IsOfGrant _ = ⊥
+-- one that it can have once its container is whole
+abbrev pub IsOfWhole : FileOutcome → Type 0
+IsOfWhole (Sealed number bytes) = ⊤
+IsOfWhole (Failed (Unsealed sealing_fault.Write)) = ⊤
+IsOfWhole _ = ⊥
 
 -- the fault of a file for which no number was issued
 abbrev pub unissued_as : IssueFault → FileFault
@@ -102,31 +102,41 @@ HeldUnder key shape device input [] held = held ≡ []
 HeldUnder key shape device input (number ∷ []) held = IsFront held (container key shape (prefix_of device number) input)
 HeldUnder key shape device input (number ∷ another ∷ numbers) held = ⊥
 
--- its output was given up
-abbrev pub IsDiscarded : List ℕ → ShapeView → ℕ → List ℕ → List ℕ → List Event → List Event → Type 0
-IsDiscarded key shape device name void before after = (input : List ℕ) × (held : List ℕ)
-    × HeldUnder key shape device input void held × (before ≡ prepared name input)
-    × (after ≡ trace.Discarded (sealed_name name) held ∷ [])
+-- Why the output of a file was given up: what the fault tells of the void number, of the input and of what the output
+-- held. Only under a number can a write fail, and memory is refused before anything is written. A file is bounded by
+-- bytes, so it never has too many chunks. Of a reader that failed nothing is said.
+abbrev pub IsCause : ℕ → FileFault → List ℕ → List ℕ → List ℕ → Type 0
+IsCause most NoNumber void input held = void ≡ []
+IsCause most (Unsealed sealing_fault.TooLong) void input held = most < length input
+IsCause most (Unsealed sealing_fault.TooManyChunks) void input held = ⊥
+IsCause most (Unsealed sealing_fault.OutOfMemory) void input held = held ≡ []
+IsCause most (Unsealed sealing_fault.Read) void input held = ⊤
+IsCause most (Unsealed sealing_fault.Write) void input held = void ≢ []
+IsCause most _ void input held = ⊥
 
--- What goes with the line of a file of this name that is to be sealed under a key, in a shape, by a device: the number
--- that was granted for it and is void, in a list of one at most; what happens before the files of its group are sealed;
--- and what behind that. A line that says `sealed` goes with an output that was created once and finished once, with the
--- container of the input that was read as this name, under the number in the line.
-abbrev pub Sealing : List ℕ → ShapeView → ℕ → List ℕ → FileOutcome → List ℕ → List Event → List Event → Type 0
-Sealing key shape device name (Sealed number bytes) void before after = (input : List ℕ) × (void ≡ [])
-    × (bytes ≡ length input) × (before ≡ prepared name input)
+-- its output was given up, for the cause that its fault tells
+abbrev pub IsDiscarded : List ℕ → ShapeView → ℕ → ℕ → List ℕ → FileFault → List ℕ → List Event → List Event → Type 0
+IsDiscarded key shape most device name fault void before after = (input : List ℕ) × (held : List ℕ)
+    × HeldUnder key shape device input void held × IsCause most fault void input held
+    × (before ≡ prepared name input) × (after ≡ trace.Discarded (sealed_name name) held ∷ [])
+
+-- What goes with the line of a file of this name that is to be sealed under a key, in a shape, of at most so many
+-- bytes, by a device: the number that was granted for it and is void, in a list of one at most; what happens before the
+-- files of its group are sealed; and what behind that. A line that says `sealed` goes with an output that was created
+-- once and finished once, with the container of the input that was read as this name, under the number in the line.
+abbrev pub Sealing : List ℕ → ShapeView → ℕ → ℕ → List ℕ → FileOutcome → List ℕ → List Event → List Event → Type 0
+Sealing key shape most device name (Sealed number bytes) void before after = (input : List ℕ) × (void ≡ [])
+    × (bytes ≡ length input) × (length input ≤ most) × (before ≡ prepared name input)
     × (after ≡ trace.Finished (sealed_name name) (container key shape (prefix_of device number) input) ∷ [])
-Sealing key shape device name (Failed OutOfMemory) void before after = (void ≡ []) × IsUnbegun before after
-Sealing key shape device name (Failed CannotOpen) void before after = (void ≡ []) × IsUnopened name before after
-Sealing key shape device name (Failed OutputExists) void before after =
+Sealing key shape most device name (Failed OutOfMemory) void before after = (void ≡ []) × IsUnbegun before after
+Sealing key shape most device name (Failed CannotOpen) void before after = (void ≡ []) × IsUnopened name before after
+Sealing key shape most device name (Failed OutputExists) void before after =
     (void ≡ []) × IsUncreated name folder_fault.Exists before after
-Sealing key shape device name (Failed CannotCreate) void before after =
+Sealing key shape most device name (Failed CannotCreate) void before after =
     (void ≡ []) × IsUncreated name folder_fault.Failed before after
-Sealing key shape device name (Failed NoNumber) void before after =
-    (void ≡ []) × IsDiscarded key shape device name [] before after
-Sealing key shape device name (Failed (Unsealed fault)) void before after =
-    IsDiscarded key shape device name void before after
-Sealing key shape device name _ void before after = ⊥
+Sealing key shape most device name (Failed fault) void before after =
+    IsDiscarded key shape most device name fault void before after
+Sealing key shape most device name _ void before after = ⊥
 
 -- Its output was finished with what its writer tells, where the file was sealed; else it was given up with that.
 abbrev pub IsClosed : Option (List ℕ) → FileOutcome → List Event → Type 0
@@ -141,16 +151,20 @@ PutsUnder key shape device left taken taken' (number ∷ []) =
     IfSome left (λ input. AppendsFront taken taken' (container key shape (prefix_of device number) input))
 PutsUnder key shape device left taken taken' (number ∷ another ∷ numbers) = ⊥
 
+-- the fault tells the cause, where it is known what was left to be read and what the writer took
+abbrev pub IsCauseAt : ℕ → FileFault → List ℕ → Option (List ℕ) → Option (List ℕ) → Option (List ℕ) → Type 0
+IsCauseAt most fault void left taken taken' = (input : List ℕ) (old : List ℕ) (held : List ℕ) → left ≡ Some input
+    → taken ≡ Some old → taken' ≡ Some (old ++ held) → IsCause most fault void input held
+
 -- A file that is sealed has no void number, and its output took the whole container of its input.
-abbrev pub Puts : List ℕ → ShapeView → ℕ → Option (List ℕ) → Option (List ℕ) → Option (List ℕ) → FileOutcome → List ℕ
-    → Type 0
-Puts key shape device left taken taken' (Sealed number bytes) void =
-    (void ≡ []) × IfSome left (λ input. (bytes ≡ length input)
+abbrev pub Puts : List ℕ → ShapeView → ℕ → ℕ → Option (List ℕ) → Option (List ℕ) → Option (List ℕ) → FileOutcome
+    → List ℕ → Type 0
+Puts key shape most device left taken taken' (Sealed number bytes) void =
+    (void ≡ []) × IfSome left (λ input. (bytes ≡ length input) × (length input ≤ most)
     × Appends taken taken' (container key shape (prefix_of device number) input))
-Puts key shape device left taken taken' (Failed NoNumber) void = (void ≡ []) × Keeps taken taken'
-Puts key shape device left taken taken' (Failed (Unsealed fault)) void =
-    PutsUnder key shape device left taken taken' void
-Puts key shape device left taken taken' _ void = ⊥
+Puts key shape most device left taken taken' (Failed fault) void =
+    PutsUnder key shape device left taken taken' void × IsCauseAt most fault void left taken taken'
+Puts key shape most device left taken taken' _ void = ⊥
 
 -- the void number of a file whose sealing was granted this one: it has none where the file was sealed
 abbrev pub void_at : ℕ → FileOutcome → List ℕ
@@ -311,10 +325,10 @@ pub record AreOfGroups (does : List ℕ → FileOutcome → List ℕ → List Ev
   pub joined : events ≡ flat_map group_events parts
 
 -- What happened in the folder, where it is known, goes with the lines of these groups and with these void numbers.
-abbrev pub Happened : List ℕ → ShapeView → ℕ → Option (List Event) → Option (List Event) → List (List FileLine)
+abbrev pub Happened : List ℕ → ShapeView → ℕ → ℕ → Option (List Event) → Option (List Event) → List (List FileLine)
     → List ℕ → Type 0
-Happened key shape device events events' groups voids =
-    Does (AreOfGroups (Sealing key shape device) groups voids) events events'
+Happened key shape most device events events' groups voids =
+    Does (AreOfGroups (Sealing key shape most device) groups voids) events events'
 
 -- an output's bytes, where it holds any
 abbrev pub held_in : List ℕ → List (List ℕ)

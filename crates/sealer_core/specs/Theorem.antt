@@ -47,9 +47,9 @@ pub record WroteFiles (key : List ℕ) (terms : Terms) (history : List Entry) (o
   pub names : List (List ℕ)
   pub before : List Event
   pub events : List Event
-  pub sealed : (status : ℕ) × (old : Option (List ℕ)) × (new : Option (List ℕ)) × (failures : Option ℕ) × (later : Option ℕ)
-      × HasSealed (Happened key shape terms.range.device (Some before) (Some (before ++ events))) names terms history status
-      old new failures later
+  pub sealed : (most : ℕ) × (status : ℕ) × (old : Option (List ℕ)) × (new : Option (List ℕ)) × (failures : Option ℕ)
+      × (later : Option ℕ) × HasSealed (Happened key shape most terms.range.device (Some before) (Some (before ++ events)))
+      names terms history status old new failures later
   pub held : outputs ≡ written_in events
 
 -- A run of `pipe_all` (its clause `run`), over a reader that had this input and a writer that took these bytes: they

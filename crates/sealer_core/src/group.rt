@@ -323,8 +323,8 @@ fn seal_group<T: Threads + Sync, F: Folder, L: Sink>(
     ensures all { AreAllSeats ledger.now seats.new }
     ensures count { length seats.new ≡ length seats.old }
     ensures owed { AreOwed seats.new [] }
-    ensures group { IsGroup (λ lines. Happened key.now shape.now ledger.now.terms.range.device (F.told folder.old)
-        (F.told folder.new) (lines ∷ [])) (map (λ name. name.now) names.now) (operations_of seats.old)
+    ensures group { IsGroup (λ lines. Happened key.now shape.now max_bytes ledger.now.terms.range.device
+        (F.told folder.old) (F.told folder.new) (lines ∷ [])) (map (λ name. name.now) names.now) (operations_of seats.old)
         (operations_of seats.new) status result
         (L.taken lines.old) (L.taken lines.new) (L.failures lines.old) (L.failures lines.new) }
 {
@@ -351,8 +351,8 @@ pub(crate) fn seal_groups<T: Threads + Sync, F: Folder, L: Sink>(
     requires fresh { operations_of seats.old ≡ [] }
     requires max_bytes { options.now.max_bytes ≤ MAX_BYTES }
     ensures all { AreAllSeats ledger.now seats.new }
-    ensures sealed { AreSealed (Happened key.now options.now.shape.now ledger.now.terms.range.device
-        (F.told folder.old) (F.told folder.new)) (length seats.old) (map (λ name. name.now) options.now.files.now)
+    ensures sealed { AreSealed (Happened key.now options.now.shape.now options.now.max_bytes
+        ledger.now.terms.range.device (F.told folder.old) (F.told folder.new)) (length seats.old) (map (λ name. name.now) options.now.files.now)
         (operations_of seats.new) result
         (L.taken lines.old) (L.taken lines.new) (L.failures lines.old) (L.failures lines.new) }
 {

@@ -1,15 +1,16 @@
 //! Files sealed one after another by one seat of a ledger, each by as many workers as are asked for. An output is
 //! finished before its number is settled, so that the number of one that can't be is void.
-ghost use Rattle.std.specs.Prelude.{◌≡◌, ◌⊎◌, ℕ, ◌<◌, ◌≤◌, List, [], ◌∷◌, ◌++◌, map, IfOk, IfErr, Err, Ok};
+ghost use Rattle.std.specs.Prelude.{◌≡◌, ℕ, ◌<◌, ◌≤◌, List, [], ◌∷◌, ◌++◌, map, IfOk, IfErr, Err, Ok};
 ghost use Rattle.std.specs.Prelude.{Option};
-ghost use Rattle.journal_core.specs.declared.entry.Event.TheVariants.{Granted, Exhausted, Settled};
+ghost use Rattle.journal_core.specs.declared.entry.Event.TheVariants.{Granted, Settled};
 ghost use Rattle.journal_core.specs.declared.entry.Way.{Way};
 ghost use Rattle.journal_core.specs.declared.entry.Way.TheVariants.{Sealed};
-ghost use Rattle.ledger_core.specs.Shared.{Extends, Holds, IsSameSeat, SeatView, spent_as};
+ghost use Rattle.ledger_core.specs.Shared.{Extends, Holds, IsSameSeat, SeatView, Unissued, spent_as};
+ghost use Rattle.ledger_core.specs.declared.fault.IssueFault.{IssueFault};
 ghost use Rattle.command_core.specs.Lines.{FileLine};
 ghost use Rattle.command_core.specs.declared.line.FileOutcome.TheVariants.{Failed};
 ghost use Rattle.command_core.specs.Trace.{Discards, Does};
-ghost use Rattle.sealer_core.specs.Sealing.{Accounts, AreSealed, Happened, IfSealed, IsClosed, IsOfGrant};
+ghost use Rattle.sealer_core.specs.Sealing.{Accounts, AreSealed, Happened, IfSealed, IsClosed, IsOfWhole};
 ghost use Rattle.sealer_core.specs.Sealing.{IsOfNumber, IsOfSealing, Puts, line_of, unissued_as, void_at};
 
 use crate::sealing::SealOptions;
@@ -39,8 +40,8 @@ pub(crate) fn issue_to_file(ledger: &Ledger, seat: &mut Seat) -> Result<Grant, F
     ensures granted { IfOk result (λ grant. Extends seat.old (Granted grant.number) seat.new
         × (grant.device ≡ seat.old.terms.range.device)) }
     ensures held { IfOk result (λ grant. (way : Way) → Holds seat.new (spent_as grant way)) }
-    ensures refused { IfErr result (λ fault. IsOfNumber (Failed fault)
-        × ((seat.new ≡ seat.old) ⊎ Extends seat.old Exhausted seat.new)) }
+    ensures refused { IfErr result (λ fault. (why : IssueFault) × (fault ≡ unissued_as why)
+        × Unissued why seat.old seat.new) }
     ensures same { IsSameSeat seat.old seat.new }
 {
     match ledger.issue(seat) {
@@ -81,7 +82,7 @@ fn end_sealed<F: Folder>(
     requires ours { seat.old.ledger ≡ ledger.now.ledger }
     requires sealed { spent.way ≡ Sealed }
     requires held { Holds seat.old spent }
-    ensures outcome { IsOfGrant result }
+    ensures outcome { IsOfWhole result }
     ensures sealed { IfSealed result (λ number count. (number ≡ spent.number) × (count ≡ bytes)) }
     ensures told { Does (IsClosed (F.Writer.taken writer) result) (F.told folder.old) (F.told folder.new) }
     ensures same { IsSameSeat seat.old seat.new }
@@ -124,7 +125,7 @@ fn seal_next<T: Threads + Wait + Sync, R: Source, F: Folder>(
     requires window { (0 < window) × (window ≤ MAX_WINDOW) }
     ensures outcome { IsOfNumber result }
     ensures same { IsSameSeat seat.old seat.new }
-    ensures done { (void : List ℕ) × (taken : Option (List ℕ)) × Puts key.now shape.now seat.old.terms.range.device
+    ensures done { (void : List ℕ) × (taken : Option (List ℕ)) × Puts key.now shape.now max_bytes seat.old.terms.range.device
         (R.left reader.old) (F.Writer.taken writer) taken result void
         × Does (IsClosed taken result) (F.told folder.old) (F.told folder.new)
         × ((name : List ℕ) (lines : List FileLine) (voids : List ℕ) → Accounts lines voids seat.old.mine
@@ -176,7 +177,7 @@ fn seal_file<T: Threads + Wait + Sync, F: Folder>(
     requires window { (0 < window) × (window ≤ MAX_WINDOW) }
     ensures outcome { IsOfSealing result }
     ensures same { IsSameSeat seat.old seat.new }
-    ensures done { (void : List ℕ) × Happened key.now shape.now seat.old.terms.range.device (F.told folder.old)
+    ensures done { (void : List ℕ) × Happened key.now shape.now max_bytes seat.old.terms.range.device (F.told folder.old)
         (F.told folder.new) ((line_of name.now result ∷ []) ∷ []) void
         × ((lines : List FileLine) (voids : List ℕ) → Accounts lines voids seat.old.mine
         → Accounts (lines ++ line_of name.now result ∷ []) (voids ++ void) seat.new.mine) }
@@ -226,8 +227,8 @@ pub(crate) fn seal_one_lane<T: Threads + Wait + Sync, F: Folder, W: Sink>(
     requires workers { (0 < options.now.workers) × (options.now.workers ≤ MAX_WORKERS) }
     requires window { (0 < options.now.window) × (options.now.window ≤ MAX_WINDOW) }
     ensures same { IsSameSeat seat.old seat.new }
-    ensures sealed { AreSealed (Happened key.now options.now.shape.now seat.old.terms.range.device
-        (F.told folder.old) (F.told folder.new)) 1 (map (λ name. name.now) options.now.files.now) seat.new.mine result
+    ensures sealed { AreSealed (Happened key.now options.now.shape.now options.now.max_bytes
+        seat.old.terms.range.device (F.told folder.old) (F.told folder.new)) 1 (map (λ name. name.now) options.now.files.now) seat.new.mine result
         (W.taken lines.old) (W.taken lines.new) (W.failures lines.old) (W.failures lines.new) }
 {
     let mut status = 0;

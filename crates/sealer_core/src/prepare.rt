@@ -1,8 +1,11 @@
 //! Files of a group before they are sealed: of each in turn its input is opened, its output created and its input read.
-ghost use Rattle.std.specs.Prelude.{◌≡◌, ◌+◌, ◌≤◌, [], ◌∷◌, ◌++◌, length, map, All, flat_map, vec_len, IfOk, OnErr};
+ghost use Rattle.std.specs.Prelude.{◌≡◌, ℕ, ◌+◌, ◌≤◌, List, [], ◌∷◌, ◌++◌, length, map, All, flat_map, vec_len, IfOk, IfErr};
+ghost use Rattle.std.specs.Prelude.{OnErr, Some};
 ghost use Rattle.io_core.specs.Streams.{Consumes, IsAtEnd};
+ghost use Rattle.command_core.specs.declared.line.FileFault.TheVariants.{Unsealed};
 ghost use Rattle.command_core.specs.Trace.{Does};
 ghost use Rattle.sealer_core.specs.Group.{AreBegun, IsBegunWith, name_of, IsPrepared, read_of};
+ghost use Rattle.sealer_core.specs.Sealing.{IsCause};
 
 use command_core::{FileFault, Folder, FolderFault, MAX_BYTES};
 use container_core::SealFault;
@@ -62,7 +65,7 @@ fn prepare_file<'a, F: Folder>(
         ≡ map (λ job. length job.items) jobs.old.items ++ read_of result }
     ensures name { name_of result ≡ name.now }
     ensures prepared { IsPrepared result }
-    ensures told { Does (IsBegunWith F.Writer.taken (map (λ job. job.items) jobs.old.items)
+    ensures told { Does (IsBegunWith F.Writer.taken max_bytes (map (λ job. job.items) jobs.old.items)
         (map (λ job. job.items) jobs.new.items) result) (F.told folder.old) (F.told folder.new) }
 {
     let Ok(output) = format!(in alloc; "{name}.stm") else {
@@ -120,7 +123,10 @@ fn read_job<R: Source>(
     ensures read { IfOk result (λ bytes. (job : _) × (jobs.new.items ≡ jobs.old.items ++ job ∷ [])
         × (bytes ≡ length job.items)
         × Consumes (R.left reader.old) (R.left reader.new) job.items × IsAtEnd (R.left reader.new)) }
+    ensures within { IfOk result (λ bytes. bytes ≤ max_bytes) }
     ensures unread { OnErr result (jobs.new.items ≡ jobs.old.items) }
+    ensures cause { IfErr result (λ fault. (input : List ℕ) → R.left reader.old ≡ Some input
+        → IsCause max_bytes (Unsealed fault) [] input []) }
 {
     let plain = match read_plain(alloc, reader, max_bytes) {
         Ok(plain) => plain,
@@ -143,7 +149,7 @@ pub(crate) fn prepare_group<'a, F: Folder>(
     requires max_bytes { max_bytes ≤ MAX_BYTES }
     ensures names { IfOk result (λ group. map name_of group.0.items ≡ map (λ name. name.now) names.now) }
     ensures prepared { IfOk result (λ group. All IsPrepared group.0.items) }
-    ensures told { IfOk result (λ group. Does (AreBegun F.Writer.taken group.0.items
+    ensures told { IfOk result (λ group. Does (AreBegun F.Writer.taken max_bytes group.0.items
         (map (λ job. job.items) group.1.items)) (F.told folder.old) (F.told folder.new)) }
     ensures short { IfOk result (λ group. All (λ job. length job.items ≤ MAX_BYTES) group.1.items) }
     ensures few { IfOk result (λ group. vec_len group.1 ≤ length names.now) }

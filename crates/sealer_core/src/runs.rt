@@ -41,11 +41,11 @@ pub fn runs_are_apart<D: Disk + Drop, E: Disk + Drop>()
 /// premise is a clause of `seal_all`, over a folder that tells what happened, but that the shape is one, which that of
 /// the options is.
 pub fn a_run_has_written()
-    ensures { (key : List ℕ) (shape : ShapeView) (names : List (List ℕ)) (terms : Terms) (history : List Entry) (status : ℕ)
-        (old new : Option (List ℕ)) (failures later : Option ℕ) (before after : List Event)
+    ensures { (key : List ℕ) (shape : ShapeView) (names : List (List ℕ)) (terms : Terms) (history : List Entry)
+        (status most : ℕ) (old new : Option (List ℕ)) (failures later : Option ℕ) (before after : List Event)
         → IsShape shape → IsLawfulRange terms.range
-        → HasSealed (Happened key shape terms.range.device (Some before) (Some after)) names terms history status old new
-        failures later
+        → HasSealed (Happened key shape most terms.range.device (Some before) (Some after)) names terms history status
+        old new failures later
         → (events : List Event) × (outputs : List Output) × (after ≡ before ++ events)
         × (written_in events ≡ map (λ output. output.held) outputs)
         × HasWritten key terms.range.device (record { terms = terms; history = history; outputs = outputs }) }

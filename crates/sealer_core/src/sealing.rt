@@ -147,8 +147,8 @@ fn seal_files<T: Threads + Wait + Sync, F: Folder, W: Sink>(
     requires workers { (0 < options.now.workers) × (options.now.workers ≤ MAX_WORKERS) }
     requires window { (0 < options.now.window) × (options.now.window ≤ MAX_WINDOW) }
     ensures all { AreAllSeats ledger.now seats.new }
-    ensures sealed { AreSealed (Happened key.now options.now.shape.now ledger.now.terms.range.device
-        (F.told folder.old) (F.told folder.new)) ledger.now.terms.seats (map (λ name. name.now) options.now.files.now)
+    ensures sealed { AreSealed (Happened key.now options.now.shape.now options.now.max_bytes
+        ledger.now.terms.range.device (F.told folder.old) (F.told folder.new)) ledger.now.terms.seats (map (λ name. name.now) options.now.files.now)
         (operations_of seats.new) result
         (W.taken lines.old) (W.taken lines.new) (W.failures lines.old) (W.failures lines.new) }
 {
@@ -180,8 +180,8 @@ fn work_ledger<T: Threads + Wait + Sync, F: Folder, W: Sink, J: Sink>(
     requires workers { (0 < options.now.workers) × (options.now.workers ≤ MAX_WORKERS) }
     requires window { (0 < options.now.window) × (options.now.window ≤ MAX_WINDOW) }
     ensures { (history : List Entry)
-        × HasSealed (Happened key.now options.now.shape.now ledger.terms.range.device (F.told folder.old)
-        (F.told folder.new)) (map (λ name. name.now) options.now.files.now) ledger.terms history result.0
+        × HasSealed (Happened key.now options.now.shape.now options.now.max_bytes ledger.terms.range.device
+        (F.told folder.old) (F.told folder.new)) (map (λ name. name.now) options.now.files.now) ledger.terms history result.0
         (W.taken lines.old) (W.taken lines.new) (W.failures lines.old) (W.failures lines.new)
         × IsWritten J.taken (journal_text ledger.terms history) (is_ok result.1) journal.old journal.new }
 {
@@ -239,7 +239,8 @@ pub fn seal_all<
         × FoldsARange S.Store LedgerFile.Kept LedgerFile.Folded S.is_folded (sha256 key.now) options.now.device
         (length options.now.files.now) file.old file.new range
         × IsLawfulRange range
-        × HasSealed (Happened key.now options.now.shape.now range.device (F.told folder.old) (F.told folder.new))
+        × HasSealed (Happened key.now options.now.shape.now options.now.max_bytes range.device
+        (F.told folder.old) (F.told folder.new))
         (map (λ name. name.now) options.now.files.now) (terms_of range options.now.lanes) history told
         (L.taken out.old.lines) (L.taken out.new.lines) (L.failures out.old.lines) (L.failures out.new.lines)
         × IsWritten J.taken (journal_text (terms_of range options.now.lanes) history) written

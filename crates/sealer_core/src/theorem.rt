@@ -83,13 +83,13 @@ pub fn no_nonce_is_used_twice()
 /// written; and that folder, reader and writer told what they did. The outputs of the run are those of which these
 /// told, and its files are whatever a crash may leave of those that it folded.
 pub fn a_call_is_a_run<D: Disk + Drop>()
-    ensures files { (key : List ℕ) (shape : ShapeView) (device count lanes status : ℕ) (names : List (List ℕ))
+    ensures files { (key : List ℕ) (shape : ShapeView) (device count lanes status most : ℕ) (names : List (List ℕ))
         (start files : Image) (keeper : _) (old new : _) (left : Files D) (range : Numbers) (history : List Entry)
         (lines lines_then : Option (List ℕ)) (failures later : Option ℕ) (before after : List Event)
         → old ≡ LedgerFile.Kept keeper → new ≡ LedgerFile.Folded left
         → IsFound (over_files {g = D.Disk}) start keeper → AreClean D.Disk left.log left.db → IsLeftOf D.Disk left files
         → FoldsFiles LedgerFile.Kept LedgerFile.Folded (sha256 key) device count old new range → IsLawfulRange range
-        → IsShape shape → HasSealed (Happened key shape range.device (Some before) (Some after)) names
+        → IsShape shape → HasSealed (Happened key shape most range.device (Some before) (Some after)) names
         (terms_of range lanes) history status lines lines_then failures later
         → (run : Run) × IsRun key device run × (run.start ≡ start) × (run.files ≡ files)
         × (events : List Event) × (after ≡ before ++ events) × (run.outputs ≡ written_in events) }
@@ -114,9 +114,9 @@ pub fn a_call_is_a_run<D: Disk + Drop>()
 /// key (each line goes with its own events, as `Happened` and `AreWorked` say). Where the input that was opened is the
 /// output that was sealed, what was finished is what had been read to be sealed, byte for byte.
 pub fn what_was_opened_was_sealed()
-    ensures files { (key : List ℕ) (shape : ShapeView) (device number bytes most n : ℕ) (label : Option (List ℕ))
-        (name other void : List ℕ) (before after events : List Event)
-        → IsShape shape → Sealing key shape device name (Sealed number bytes) void before after
+    ensures files { (key : List ℕ) (shape : ShapeView) (device number bytes limit most n : ℕ)
+        (label : Option (List ℕ)) (name other void : List ℕ) (before after events : List Event)
+        → IsShape shape → Sealing key shape limit device name (Sealed number bytes) void before after
         → Opening key most label other (Opened n) events → read_in events ≡ finished_in after
         → (finished_in events ≡ read_in before) × (n ≡ bytes) }
     ensures streams { (key : List ℕ) (shape : ShapeView) (device number bytes chunks most n : ℕ)

@@ -21,7 +21,7 @@ loop-name-preserved g c =
     let s = c.seal_file-outcome.ensures in
     let (void, happened, accounts) = s.done in
     let name : List ℕ = (get_or c.args.options.now.files.now c.loop-name.name-index (record { ref_ptr = (0, 0); now = [] })).now in
-    let Next : ℕ → Type 0 = λ device. Happened c.args.key.now c.args.options.now.shape.now device (g.F.Folder.told c.loop-name.folder)
+    let Next : ℕ → Type 0 = λ device. Happened c.args.key.now c.args.options.now.shape.now c.args.options.now.max_bytes device (g.F.Folder.told c.loop-name.folder)
     (g.F.Folder.told c.seal_file-outcome.new.folder) ((line_of name c.seal_file-outcome.result ∷ []) ∷ []) void in record {
       ours = s.same.ledger ∙ i.ours;
       same = record { ledger = s.same.ledger ∙ i.same.ledger; terms = s.same.terms ∙ i.same.terms; number = s.same.number ∙ i.same.number };
@@ -32,7 +32,7 @@ loop-name-preserved g c =
 
 pub returns-clause-sealed : goal.returns-clause-sealed
 returns-clause-sealed g c =
-    subst (λ (f : List (Bor (List ℕ))). AreSealed (Happened c.args.key.now c.args.options.now.shape.now c.args.seat.now.terms.range.device
+    subst (λ (f : List (Bor (List ℕ))). AreSealed (Happened c.args.key.now c.args.options.now.shape.now c.args.options.now.max_bytes c.args.seat.now.terms.range.device
     (g.F.Folder.told c.args.folder.now) (g.F.Folder.told c.loop-name.folder)) 1 (map (λ (name : Bor (List ℕ)). name.now) f) c.loop-name.seat.mine c.loop-name.status
     (g.W.Sink.taken c.args.lines.now) (g.W.Sink.taken c.loop-name.lines) (g.W.Sink.failures c.args.lines.now) (g.W.Sink.failures c.loop-name.lines))
     (take_all c.loop-name.name-index c.args.options.now.files.now c.loop-name-test.false) c.loop-name.invariant.sealed.0

@@ -2,7 +2,7 @@ use Rattle.std.proofs.Common.{rules, List, [], ◌∷◌, subst, sym}
 use Rattle.journal_core.specs.declared.entry.Entry.{Entry}
 use Rattle.sealer_core.specs.Piping.{stream_name}
 use Rattle.sealer_core.specs.Sealing.{Accounts}
-use Rattle.sealer_core.proofs.Numbering.{accounts_none, after_failure, after_fault, after_run, spent_held}
+use Rattle.sealer_core.proofs.Numbering.{accounts_none, after_failure, after_fault, after_run, not_granted, spent_held}
 use Rattle.sealer_core.proofs.Streams.{stream_begun, stream_sealed, works_failed}
 use Rattle.sealer_core.proofs.piping.pipe_next.Goals as goal
 
@@ -13,8 +13,8 @@ returns-in-Err-clause-piped g c =
       voids = [];
       works = works_failed c.args.key.now c.args.options.now.shape.now c.args.options.now.max_chunks (g.R.Source.left c.args.reader.now)
           (g.R.Source.failures c.args.reader.now) (g.W.Sink.taken c.args.writer.now) (g.W.Sink.failures c.args.writer.now)
-          c.args.seat.now.terms.range.device c.in-Err.fault c.in-Err.ensures.refused.0;
-      accounts = after_failure [] [] _ _ stream_name _ c.in-Err.ensures.refused.1 none;
+          c.args.seat.now.terms.range.device c.in-Err.ensures.refused.0 c.in-Err.fault c.in-Err.ensures.refused.1;
+      accounts = after_failure [] [] _ _ stream_name _ (not_granted _ _ _ c.in-Err.ensures.refused.2) none;
     }
 
 pub returns-in-Ok-sealed-clause-piped : goal.returns-in-Ok-sealed-clause-piped

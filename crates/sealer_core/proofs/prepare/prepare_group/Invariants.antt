@@ -11,7 +11,7 @@ invariant-loop-name g l = record {
   room : length l.names ≤ deque_capacity l.files;
   names : map name_of l.files.items ≡ map (λ name. name.now) (take l.name-index l.names);
   prepared : All IsPrepared l.files.items;
-  told : Does (AreBegun g.F.Writer.Sink.taken l.files.items (map (λ job. job.items) l.jobs.items)) (g.F.Folder.told l.initial.folder) (g.F.Folder.told l.folder);
+  told : Does (AreBegun g.F.Writer.Sink.taken l.max_bytes l.files.items (map (λ job. job.items) l.jobs.items)) (g.F.Folder.told l.initial.folder) (g.F.Folder.told l.folder);
   short : All (λ job. length job.items ≤ 1099511627776) l.jobs.items;
   few : vec_len l.jobs ≤ l.name-index;
   read : map (λ job. length job.items) l.jobs.items ≡ flat_map read_of l.files.items;

@@ -13,7 +13,7 @@ returns-in-Ok-ended-clause-run g c =
     let (history, sealed, written) = c.work_ledger-told.ensures in
     let terms : ledger.terms ≡ terms_of range c.args.options.now.lanes = ap (terms_of range) c.in-Ok.ensures.opened.0 in
     let Written : Terms → Bool → Type 0 = λ t ok. IsWritten g.J.Sink.taken (journal_text t history) ok c.args.out.now.journal c.work_ledger-told.new.journal in
-    let Sealed : Terms → Type 0 = λ t. HasSealed (Happened c.args.key.now c.args.options.now.shape.now range.device (g.F.Folder.told c.args.folder.now) (g.F.Folder.told c.work_ledger-told.new.folder)) (map (λ name. name.now) c.args.options.now.files.now) t history told
+    let Sealed : Terms → Type 0 = λ t. HasSealed (Happened c.args.key.now c.args.options.now.shape.now c.args.options.now.max_bytes range.device (g.F.Folder.told c.args.folder.now) (g.F.Folder.told c.work_ledger-told.new.folder)) (map (λ name. name.now) c.args.options.now.files.now) t history told
     (g.L.Sink.taken c.args.out.now.lines) (g.L.Sink.taken c.work_ledger-told.new.lines)
     (g.L.Sink.failures c.args.out.now.lines) (g.L.Sink.failures c.work_ledger-told.new.lines) in
     let ok : is_ok c.work_ledger-told.result.1 ≡ true = ap is_ok c.in-Ok-ended.is in
@@ -27,7 +27,7 @@ returns-in-Err-ended-clause-run g c =
     let (history, sealed, written) = c.work_ledger-told.ensures in
     let terms : ledger.terms ≡ terms_of range c.args.options.now.lanes = ap (terms_of range) c.in-Ok.ensures.opened.0 in
     let Written : Terms → Bool → Type 0 = λ t ok. IsWritten g.J.Sink.taken (journal_text t history) ok c.args.out.now.journal c.work_ledger-told.new.journal in
-    let Sealed : Terms → Type 0 = λ t. HasSealed (Happened c.args.key.now c.args.options.now.shape.now range.device (g.F.Folder.told c.args.folder.now) (g.F.Folder.told c.work_ledger-told.new.folder)) (map (λ name. name.now) c.args.options.now.files.now) t history told
+    let Sealed : Terms → Type 0 = λ t. HasSealed (Happened c.args.key.now c.args.options.now.shape.now c.args.options.now.max_bytes range.device (g.F.Folder.told c.args.folder.now) (g.F.Folder.told c.work_ledger-told.new.folder)) (map (λ name. name.now) c.args.options.now.files.now) t history told
     (g.L.Sink.taken c.args.out.now.lines) (g.L.Sink.taken c.work_ledger-told.new.lines)
     (g.L.Sink.failures c.args.out.now.lines) (g.L.Sink.failures c.work_ledger-told.new.lines) in
     let ok : is_ok c.work_ledger-told.result.1 ≡ false = ap is_ok c.in-Err-ended.is in

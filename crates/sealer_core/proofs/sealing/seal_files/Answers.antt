@@ -16,5 +16,5 @@ returns-then-options-eq1-clause-sealed g c =
     c.requires.fresh ∙ ap (fresh_seats c.args.ledger.now.ledger c.args.ledger.now.terms) one in
     let count : length c.args.seats.now ≡ 1 = ap length fresh in
     let terms = (c.requires.all.each 0 _ (slice_get-get_or c.args.seats.now 0 _ (omega arith))).1 in
-    sealed_as _ _ _ _ _ _ _ _ _ _ _ _ _ _ _ _ (ap (λ t. t.range.device) terms) (sym (c.requires.lanes.2 ∙ one))
+    sealed_as _ _ _ _ _ _ _ _ _ _ _ _ _ _ _ _ _ (ap (λ t. t.range.device) terms) (sym (c.requires.lanes.2 ∙ one))
     (sym (operations_of_one c.args.ledger.now c.args.seats.now c.seal_one_lane.new.seat fresh)) c.seal_one_lane.ensures.sealed

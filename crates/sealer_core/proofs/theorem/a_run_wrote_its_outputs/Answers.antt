@@ -6,8 +6,8 @@ use Rattle.sealer_core.proofs.theorem.a_run_wrote_its_outputs.Goals as goal
 pub returns : goal.returns
 returns c key terms history held range wrote = elim wrote [
   | inl files ↦ (
-      let (status, old, new, failures, later, sealed) = files.sealed in
-      let (events, outputs, joined, written, has) = c.a_run_has_written.ensures key files.shape files.names terms history status old new failures later
+      let (most, status, old, new, failures, later, sealed) = files.sealed in
+      let (events, outputs, joined, written, has) = c.a_run_has_written.ensures key files.shape files.names terms history status most old new failures later
       files.before (files.before ++ files.events) files.is_shape range sealed in
       let same : files.events ≡ events = append_cancel_left files.before files.events events joined in
       (outputs, files.held ∙ ap written_in same ∙ written, has)
