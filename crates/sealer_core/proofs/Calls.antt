@@ -68,20 +68,22 @@ module _ (key : List ℕ) (device : ℕ) (start files : Image) (terms : Terms) (
       → HasSealedStream key shape most (Some input) unread failures failures' (Some taken) (Some taken') refusals refusals' terms history status lines lines' faults faults'
       → taken' ≡ taken ++ bytes → RunsStream taken taken'
   unfolding run_of
-  runs_stream shape most input unread failures failures' taken taken' bytes refusals refusals' status lines lines' faults faults' leaves is_shape lawful sealed joined = (
-    run_of (held_in bytes),
-    is_run (held_in bytes) leaves lawful (inr (record {
-      shape = shape;
-      is_shape = is_shape;
-      input = input;
-      taken = taken;
-      bytes = bytes;
-      sealed = (most, unread, failures, failures', refusals, refusals', status, lines, lines', faults, faults', subst (λ (t : List ℕ). HasSealedStream key shape most (Some input) unread failures failures' (Some taken) (Some t) refusals refusals' terms history status lines lines' faults faults') joined sealed);
-      held = refl;
-    })),
-    refl,
-    refl,
-    bytes,
-    joined,
-    refl,
-  )
+  runs_stream shape most input unread failures failures' taken taken' bytes refusals refusals' status lines lines' faults faults' leaves is_shape lawful sealed joined =
+      let stream = subst (λ (t : List ℕ). HasSealedStream key shape most (Some input) unread failures failures' (Some taken) (Some t) refusals refusals' terms history status lines lines' faults faults') joined sealed in (
+        run_of (held_in bytes),
+        is_run (held_in bytes) leaves lawful (inr (record {
+          shape = shape;
+          is_shape = is_shape;
+          input = input;
+          taken = taken;
+          bytes = bytes;
+          outcome = stream.outcome;
+          sealed = (most, unread, failures, failures', refusals, refusals', status, lines, lines', faults, faults', stream, refl);
+          held = refl;
+        })),
+        refl,
+        refl,
+        bytes,
+        joined,
+        refl,
+      )

@@ -1,19 +1,24 @@
--- A container opens to the plaintext that was sealed.
+-- A container opens to the plaintext that was sealed: of two lines, and of two runs.
 use Rattle.std.proofs.Common.{◌≡◌, ℕ, ◌≤◌, ◌++◌, List, [], ◌∷◌, length, Option, Some, Ok, refl, sym, ap, ◌∙◌, subst, arith, length-append}
 use Rattle.std.proofs.lemmas.List.{append_cancel_left}
+use Rattle.std.specs.Prelude.{flat_map}
 use Rattle.container_core.specs.Chunks.{chunks}
 use Rattle.container_core.specs.Container.{container, header_of, shape_in}
 use Rattle.container_core.specs.Opening.{opening}
 use Rattle.container_core.specs.Shape.{IsShape, ShapeView, size_of}
 use Rattle.container_core.specs.Stream.{prefix_in, stream}
 use Rattle.container_core.proofs.HeaderLemmas.{length-header_of, length-prefix_in}
+use Rattle.command_core.specs.declared.line.FileOutcome.{FileOutcome}
 use Rattle.command_core.specs.declared.line.FileOutcome.TheVariants.{Opened, Sealed}
-use Rattle.command_core.specs.Trace.{Event}
-use Rattle.command_core.specs.Work.{Opening}
+use Rattle.command_core.specs.Trace.{Event, Finished}
+use Rattle.command_core.specs.Work.{Opening, output_of}
+use Rattle.journal_core.specs.declared.entry.Entry.{Entry}
+use Rattle.journal_core.specs.declared.terms.Terms.{Terms}
 use Rattle.journal_core.specs.Range.{prefix_of}
 use Rattle.sealer_core.specs.Piping.{WorksStream}
-use Rattle.sealer_core.specs.Sealing.{Sealing}
-use Rattle.sealer_core.specs.Theorem.{finished_in, read_in}
+use Rattle.sealer_core.specs.Sealing.{Sealing, group_events, sealed_name}
+use Rattle.sealer_core.specs.Theorem.{IsAmong, OpenedFiles, WasOpened, WasSealed, WroteFiles, WroteStream, finished_in, read_in}
+use Rattle.sealer_core.proofs.Finished.{IsOfInput, IsOpened, of_groups, of_works, some_opened, work_events}
 
 long_enough : (key : List ℕ) (shape : ShapeView) (prefix plain : List ℕ) → length prefix ≡ 7 → 17 ≤ length (container key shape prefix plain)
 unfolding container
@@ -66,3 +71,54 @@ module _ (key : List ℕ) (opens : Opens key) (differ : Differ key) (shape : Sha
       let written_is : written ≡ whole = append_cancel_left taken written whole works.written in
       let (finished, count) = opened_of (prefix_of device number) input most n label other events refl opened (same ∙ ap (λ (b : List ℕ). b ∷ []) written_is) in
       (finished, count ∙ sym works.answer)
+
+-- ---- runs
+
+-- what a call of `open_all` opened is what its input opens to
+opened_to : (key : List ℕ) (call : OpenedFiles key) (file bytes plain : List ℕ) → WasOpened call.events file bytes plain → (most : ℕ) × (opening key most bytes ≡ Ok plain)
+opened_to key call file bytes plain was =
+    let (most, label, status, old, new, failures, later, worked) = call.opened in
+    let (events, done, joined) = worked.done in
+    let all : call.events ≡ work_events done.works = append_cancel_left call.before call.events events joined ∙ done.joined in
+    (most, of_works key most label file bytes plain done.works done.each (subst (λ (l : List Event). WasOpened l file bytes plain) all was))
+
+-- each output that it finished was opened of a file
+pub each_opened : (key : List ℕ) (call : OpenedFiles key) (output plain : List ℕ) → IsAmong (Finished output plain) call.events
+    → (file : List ℕ) × (bytes : List ℕ) × (output ≡ output_of file) × WasOpened call.events file bytes plain
+each_opened key call output plain at =
+    let (most, label, status, old, new, failures, later, worked) = call.opened in
+    let (events, done, joined) = worked.done in
+    let all : call.events ≡ work_events done.works = append_cancel_left call.before call.events events joined ∙ done.joined in
+    subst (IsOpened key most label output plain) (sym all)
+    (some_opened key most label output plain done.works done.each (subst (IsAmong (Finished output plain)) all at))
+
+-- what the output of a run of `seal_all` is finished with is the container of an input
+pub held_of_run : (key : List ℕ) (terms : Terms) (history : List Entry) (outputs : List (List ℕ)) (run : WroteFiles key terms history outputs) (output bytes : List ℕ)
+    → IsAmong (Finished output bytes) run.events → IsOfInput key run.shape terms.range.device output bytes (λ file input. WasSealed run.events file input bytes)
+held_of_run key terms history outputs run output bytes at =
+    let (most, status, old, new, failures, later, sealed) = run.sealed in
+    let (events, happened, joined) = sealed.worked.done in
+    let all : run.events ≡ flat_map group_events happened.parts = append_cancel_left run.before run.events events joined ∙ happened.joined in
+    subst (λ (l : List Event). IsOfInput key run.shape terms.range.device output bytes (λ file input. WasSealed l file input bytes)) (sym all)
+    (of_groups key run.shape most terms.range.device output bytes happened.parts happened.each (subst (IsAmong (Finished output bytes)) all at))
+
+module _ (key : List ℕ) (opens : Opens key) (differ : Differ key) (terms : Terms) (history : List Entry) (outputs : List (List ℕ)) (call : OpenedFiles key) where
+  -- what was opened of an output that a run of `seal_all` finished is what the run had read
+  pub of_run : (run : WroteFiles key terms history outputs) (output file bytes plain : List ℕ) → IsAmong (Finished output bytes) run.events → WasOpened call.events file bytes plain
+      → (source : List ℕ) × (output ≡ sealed_name source) × WasSealed run.events source plain bytes
+  of_run run output file bytes plain at was =
+      let (source, input, number, named, held, sealed) = held_of_run key terms history outputs run output bytes at in
+      let (most, opened) = opened_to key call file bytes plain was in
+      let plain_is = opened_is key opens differ run.shape run.is_shape (prefix_of terms.range.device number) input plain most refl (subst (λ (b : List ℕ). opening key most b ≡ Ok plain) held opened) in
+      (source, named, subst (λ (p : List ℕ). WasSealed run.events source p bytes) (sym plain_is) sealed)
+
+  -- and of one of `pipe_all`
+  pub of_stream_run : (run : WroteStream key terms history outputs) (number count : ℕ) (file plain : List ℕ) → run.outcome ≡ Sealed number count → WasOpened call.events file run.bytes plain
+      → plain ≡ run.input
+  of_stream_run run number count file plain is was =
+      let (chunks, left, failures, failures', refusals, refusals', status, old, new, faults, faults', stream, says) = run.sealed in
+      let works = subst (λ (o : FileOutcome). WorksStream key run.shape chunks (Some run.input) left failures failures' (Some run.taken) (Some (run.taken ++ run.bytes)) refusals refusals'
+      terms.range.device o stream.piped.voids) (says ∙ is) stream.piped.works in
+      let held = append_cancel_left run.taken run.bytes (container key run.shape (prefix_of terms.range.device number) run.input) works.1.written in
+      let (most, opened) = opened_to key call file run.bytes plain was in
+      opened_is key opens differ run.shape run.is_shape (prefix_of terms.range.device number) run.input plain most refl (subst (λ (b : List ℕ). opening key most b ≡ Ok plain) held opened)

@@ -145,10 +145,10 @@ none_of key device = nothing_of key device [] [] [] refl
 abbrev lines_of : List Part → List FileLine
 lines_of parts = map (λ (part : Part). part.line) parts
 
-abbrev befores : List Part → List Event
+abbrev pub befores : List Part → List Event
 befores parts = flat_map (λ (part : Part). part.before) parts
 
-abbrev afters : List Part → List Event
+abbrev pub afters : List Part → List Event
 afters parts = flat_map (λ (part : Part). part.after) parts
 
 module _ (key : List ℕ) (shape : ShapeView) (most device : ℕ) (lawful : IsShape shape) where

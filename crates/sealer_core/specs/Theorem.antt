@@ -32,9 +32,11 @@ use Rattle.sqlite_wal.specs.Files.{outcomes}
 use Rattle.sqlite_wal.specs.Recovery.{Image}
 use Rattle.ranges_core.specs.Reservations.{Lists, next_of}
 use Rattle.reserve_core.specs.NextRun.{AreIn, PassInTurn}
+use Rattle.command_core.specs.declared.line.FileOutcome.{FileOutcome}
 use Rattle.command_core.specs.Trace.{Event, Reading, Unread, Created, Refused, Finished, Discarded}
+use Rattle.command_core.specs.Work.{AreWorked, IsOfOpening, Opening, output_of}
 use Rattle.sealer_core.specs.Piping.{HasSealedStream}
-use Rattle.sealer_core.specs.Sealing.{Happened, HasSealed, held_in, written_in}
+use Rattle.sealer_core.specs.Sealing.{Happened, HasSealed, held_in, sealed_name, written_in}
 
 -- ---- what a run wrote
 
@@ -53,18 +55,20 @@ pub record WroteFiles (key : List ℕ) (terms : Terms) (history : List Entry) (o
   pub held : outputs ≡ written_in events
 
 -- A run of `pipe_all` (its clause `run`), over a reader that had this input and a writer that took these bytes: they
--- are its one output, where there are any.
+-- are its one output, where there are any. Its line says this of it.
 pub record WroteStream (key : List ℕ) (terms : Terms) (history : List Entry) (outputs : List (List ℕ)) : Type 0 where
   pub shape : ShapeView
   pub is_shape : IsShape shape
   pub input : List ℕ
   pub taken : List ℕ
   pub bytes : List ℕ
+  pub outcome : FileOutcome
   pub sealed : (most : ℕ) × (left : Option (List ℕ)) × (failures : Option ℕ) × (failures' : Option ℕ)
       × (refusals : Option ℕ) × (refusals' : Option ℕ) × (status : ℕ) × (old : Option (List ℕ)) × (new : Option (List ℕ))
       × (faults : Option ℕ) × (faults' : Option ℕ)
-      × HasSealedStream key shape most (Some input) left failures failures' (Some taken) (Some (taken ++ bytes))
-      refusals refusals' terms history status old new faults faults'
+      × (stream : HasSealedStream key shape most (Some input) left failures failures' (Some taken)
+      (Some (taken ++ bytes)) refusals refusals' terms history status old new faults faults')
+      × (stream.outcome ≡ outcome)
   pub held : outputs ≡ held_in bytes
 
 -- a run over such a range, whose ledger did this, wrote these outputs under the key
@@ -145,7 +149,7 @@ pub record HasChunk (key bytes : List ℕ) (chunk : ℕ) (nonce : List ℕ) : Ty
   pub numbered : chunk < 2 ^ 32
   pub nonce_is : slice_get (stream_nonces (header_of key shape prefix) 0 (chunks (size_of shape) plain)) chunk ≡ Some nonce
 
--- ---- what was read and finished
+-- ---- what was read and finished, for a line
 
 -- the bytes of the inputs that were read, in order
 abbrev pub read_in : List Event → List (List ℕ)
@@ -166,3 +170,30 @@ finished_in (Created name ∷ events) = finished_in events
 finished_in (Refused name fault ∷ events) = finished_in events
 finished_in (Finished name bytes ∷ events) = bytes ∷ finished_in events
 finished_in (Discarded name bytes ∷ events) = finished_in events
+
+-- ---- and by a call
+
+-- A call of `open_all` (its clause `files`), over a folder that told these events.
+pub record OpenedFiles (key : List ℕ) : Type 0 where
+  pub names : List (List ℕ)
+  pub before : List Event
+  pub events : List Event
+  pub opened : (most : ℕ) × (label : Option (List ℕ)) × (status : ℕ) × (old : Option (List ℕ))
+      × (new : Option (List ℕ)) × (failures : Option ℕ) × (later : Option ℕ)
+      × AreWorked IsOfOpening (Opening key most label) names status old new failures later (Some before)
+      (Some (before ++ events))
+
+-- one of these events
+abbrev pub IsAmong : Event → List Event → Type 0
+IsAmong event events = (before : List Event) × (after : List Event) × (events ≡ before ++ event ∷ after)
+
+-- A file was read as `input`, right behind that its output was created, and later it was finished with `bytes`.
+abbrev pub WasSealed : List Event → List ℕ → List ℕ → List ℕ → Type 0
+WasSealed events file input bytes = (before : List Event) × (between : List Event) × (after : List Event)
+    × (events ≡ before ++ Reading file input ∷ Created (sealed_name file) ∷ between
+    ++ Finished (sealed_name file) bytes ∷ after)
+
+-- A file was read as `bytes`, and right behind that its output was created, and finished with `plain`.
+abbrev pub WasOpened : List Event → List ℕ → List ℕ → List ℕ → Type 0
+WasOpened events file bytes plain = (before : List Event) × (after : List Event)
+    × (events ≡ before ++ Reading file bytes ∷ Created (output_of file) ∷ Finished (output_of file) plain ∷ after)

@@ -3,11 +3,11 @@
 ghost use Rattle.std.specs.Prelude.{◌≡◌, ◌<◌, ◌≤◌, ℕ, ◌+◌, ◌*◌, ◌^◌, List, [], ◌∷◌, ◌++◌, length, map, Option, Some};
 ghost use Rattle.sha2.specs.Sha256.{sha256};
 ghost use Rattle.container_core.specs.Chunks.{tag_size};
-ghost use Rattle.container_core.specs.Container.{header_of};
+ghost use Rattle.container_core.specs.Container.{container, header_of};
 ghost use Rattle.container_core.specs.Shape.{IsShape, ShapeView, size_of};
 ghost use Rattle.command_core.specs.declared.line.FileOutcome.TheVariants.{Opened, Sealed};
-ghost use Rattle.command_core.specs.Trace.{Event};
-ghost use Rattle.command_core.specs.Work.{Opening};
+ghost use Rattle.command_core.specs.Trace.{Event, Finished};
+ghost use Rattle.command_core.specs.Work.{Opening, output_of};
 ghost use Rattle.journal_core.specs.declared.entry.Entry.{Entry};
 ghost use Rattle.journal_core.specs.declared.terms.Terms.{Terms};
 ghost use Rattle.journal_core.specs.Journal.{terms_of};
@@ -19,9 +19,11 @@ ghost use Rattle.sqlite_wal.specs.Recovery.{Image};
 ghost use Rattle.ranges_core.specs.Reservations.{Lists, next_of};
 ghost use Rattle.reserve_core.specs.NextRun.{AreIn, IsFound};
 ghost use Rattle.sealer_core.specs.Piping.{HasSealedStream, WorksStream};
-ghost use Rattle.sealer_core.specs.Sealing.{FoldsFiles, Happened, HasSealed, Sealing, held_in, written_in};
-ghost use Rattle.sealer_core.specs.Theorem.{AreRunsOf, BeginsContainer, HasChunk, HeldAt, IsLeftOf, IsRun, Run};
-ghost use Rattle.sealer_core.specs.Theorem.{Wrote, finished_in, read_in};
+ghost use Rattle.sealer_core.specs.Sealing.{FoldsFiles, Happened, HasSealed, Sealing, held_in};
+ghost use Rattle.sealer_core.specs.Sealing.{sealed_name, written_in};
+ghost use Rattle.sealer_core.specs.Theorem.{AreRunsOf, BeginsContainer, HasChunk, HeldAt, IsAmong, IsLeftOf};
+ghost use Rattle.sealer_core.specs.Theorem.{IsRun, OpenedFiles, Run, WasOpened, WasSealed, Wrote, WroteFiles};
+ghost use Rattle.sealer_core.specs.Theorem.{WroteStream, finished_in, read_in};
 
 use crate::runs::{a_run_has_written, a_stream_has_written};
 use container_core::laws::{containers_differ, opens_exactly_its_container};
@@ -109,11 +111,36 @@ pub fn a_call_is_a_run<D: Disk + Drop>()
     a_stream_has_written();
 }
 
-/// What was opened was sealed. It is of two lines, whatever runs they are of. Take what happened for a line `sealed` of
+/// What was opened was sealed. Take any run of `seal_all` or `pipe_all` under a key (`IsRun` has one for each run of
+/// the theorem above), and any call of `open_all` under that key. Whatever the call opened of the bytes of an output
+/// that the run finished is what the run had read of the file of that output, byte for byte; and of the bytes of a
+/// stream that the run sealed it is the run's input. Nothing is asked of a ledger file or of a disk.
+///
+/// Of each alone: what the call finished was opened of a file that it had read right before, and what the run finished
+/// is the container of what it had read of a file before.
+///
+/// The last two clauses are of two lines, whatever runs they are of. Take what happened for a line `sealed` of
 /// `seal_all`, or a stream that `pipe_all` sealed, and what happened for a line `opened` of `open_all` under the same
 /// key (each line goes with its own events, as `Happened` and `AreWorked` say). Where the input that was opened is the
 /// output that was sealed, what was finished is what had been read to be sealed, byte for byte.
 pub fn what_was_opened_was_sealed()
+    ensures runs { (key : List ℕ) (terms : Terms) (history : List Entry) (outputs : List (List ℕ))
+        (run : WroteFiles key terms history outputs) (call : OpenedFiles key) (output file bytes plain : List ℕ)
+        → IsAmong (Finished output bytes) run.events → WasOpened call.events file bytes plain
+        → (source : List ℕ) × (output ≡ sealed_name source) × WasSealed run.events source plain bytes }
+    ensures piped { (key : List ℕ) (terms : Terms) (history : List Entry) (outputs : List (List ℕ))
+        (run : WroteStream key terms history outputs) (call : OpenedFiles key) (number count : ℕ)
+        (file plain : List ℕ)
+        → run.outcome ≡ Sealed number count → WasOpened call.events file run.bytes plain → plain ≡ run.input }
+    ensures opened { (key : List ℕ) (call : OpenedFiles key) (output plain : List ℕ)
+        → IsAmong (Finished output plain) call.events
+        → (file : List ℕ) × (bytes : List ℕ) × (output ≡ output_of file) × WasOpened call.events file bytes plain }
+    ensures sealed { (key : List ℕ) (terms : Terms) (history : List Entry) (outputs : List (List ℕ))
+        (run : WroteFiles key terms history outputs) (output bytes : List ℕ)
+        → IsAmong (Finished output bytes) run.events
+        → (source : List ℕ) × (input : List ℕ) × (number : ℕ) × (output ≡ sealed_name source)
+        × (bytes ≡ container key run.shape (prefix_of terms.range.device number) input)
+        × WasSealed run.events source input bytes }
     ensures files { (key : List ℕ) (shape : ShapeView) (device number bytes limit most n : ℕ)
         (label : Option (List ℕ)) (name other void : List ℕ) (before after events : List Event)
         → IsShape shape → Sealing key shape limit device name (Sealed number bytes) void before after

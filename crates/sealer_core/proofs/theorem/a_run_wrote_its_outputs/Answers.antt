@@ -13,7 +13,7 @@ returns c key terms history held range wrote = elim wrote [
       (outputs, files.held ∙ ap written_in same ∙ written, has)
       )
   | inr stream ↦ (
-      let (most, left, failures, failures', refusals, refusals', status, old, new, faults, faults', sealed) = stream.sealed in
+      let (most, left, failures, failures', refusals, refusals', status, old, new, faults, faults', sealed, says) = stream.sealed in
       let (bytes, outputs, joined, written, has) = c.a_stream_has_written.ensures key stream.shape most stream.input left failures failures' stream.taken
       (stream.taken ++ stream.bytes) refusals refusals' terms history status old new faults faults' stream.is_shape range sealed in
       let same : stream.bytes ≡ bytes = append_cancel_left stream.taken stream.bytes bytes joined in
