@@ -1398,6 +1398,22 @@ else
     [ -z "${CI:-}" ] || bad=1
 fi
 
+# Files of more than 64 MiB by two lanes: each is a job of its own, whole in memory.
+fresh
+yes one | head -c 70000001 > files/one
+yes other | head -c 67108865 > files/other
+run seal --key "$key" --ledger files/ledger --device 1 --lanes 2 files/one files/other
+unnumbered
+wants large-jobs 0 'sealed files/one bytes 70000001
+sealed files/other bytes 67108865' ''
+mv files/one one.plain
+mv files/other other.plain
+run open --key "$key" files/one.stm files/other.stm
+wants large-jobs-opened 0 'opened files/one.stm bytes 70000001
+opened files/other.stm bytes 67108865' ''
+for name in one other; do is "plaintext-of-large-$name" cmp -s "files/$name" "$name.plain"; done
+rm -f files/one files/other files/*.stm one.plain other.plain
+
 # Three chunks and more, sealed by Python's `cryptography`, where that is there.
 if has cryptography; then
     fresh
