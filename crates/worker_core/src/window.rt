@@ -7,13 +7,13 @@ ghost use Rattle.worker_core.specs.Window.{usual};
 
 use crate::{DEFAULT_WINDOW, MAX_WINDOW, MAX_WORKERS};
 
-/// Plaintext bytes that a round of a file has at the most where no number of chunks is asked for, but that each worker
-/// has a chunk.
+/// Plaintext bytes that a round of a file has at the most where no number of chunks is asked for, but that of several
+/// workers each has two chunks.
 pub const ROUND_BYTES: usize = 1 << 20;
 
 /// The chunks of a round of a file where no number of them is asked for, where a chunk has so many plaintext bytes: as
 /// many as `ROUND_BYTES` have, by one worker at most `DEFAULT_WINDOW` and at least one, by several at most `MAX_WINDOW`
-/// and at least one each.
+/// and at least two each, so that none waits long for the slowest.
 pub fn usual_window(chunk: usize, workers: u32) -> u32
     requires chunk { 0 < chunk }
     requires workers { (0 < workers) × (workers ≤ MAX_WORKERS) }
@@ -25,6 +25,6 @@ pub fn usual_window(chunk: usize, workers: u32) -> u32
     if workers == 1 {
         chunks.min(DEFAULT_WINDOW).max(1)
     } else {
-        chunks.max(workers)
+        chunks.max(2 * workers)
     }
 }
