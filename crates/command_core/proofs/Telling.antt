@@ -1,5 +1,7 @@
 -- One line more: what was told of the files so far, and what is told with the next one.
-use Rattle.std.proofs.Common.{◌≡◌, ◌≢◌, ℕ, ◌≤◌, Bool, true, false, ◌||◌, if◌then◌else◌, inl, inr, ⊎_elim, refl, sym, ap, subst, ◌∙◌, List, [], ◌∷◌, ◌++◌, map, append-nil, append_assoc, Option, flat_map, Bor, take, length, get_or, ◌+◌, ◌<◌, add-one, arith, lit≤}
+use Rattle.std.proofs.Common.{◌≡◌, ◌≢◌, ℕ, ◌≤◌, Bool, true, false, ◌||◌, if◌then◌else◌, inl, inr, ⊎_elim, refl, sym, ap}
+use Rattle.std.proofs.Common.{subst, ◌∙◌, List, [], ◌∷◌, ◌++◌, map, append-nil, append_assoc, Option, flat_map, Bor}
+use Rattle.std.proofs.Common.{take, length, get_or, ◌+◌, ◌<◌, add-one, arith, lit≤}
 use Rattle.std.proofs.Math.Seq.{take-suc}
 use Rattle.std.proofs.KnownBytes.{Appends-nil, Appends-trans}
 use Rattle.std.proofs.lemmas.List.{map-append}
@@ -20,33 +22,43 @@ use Rattle.std.proofs.lemmas.List.Elements.{All-push}
 abbrev pub line_bytes : FileLine → List ℕ
 line_bytes line = line_text line.name line.outcome ++ 10 ∷ []
 
-pub lines_text-push : (told : List FileLine) (line : FileLine) → lines_text (told ++ line ∷ []) ≡ lines_text told ++ line_bytes line
+pub lines_text-push : (told : List FileLine) (line : FileLine)
+    → lines_text (told ++ line ∷ []) ≡ lines_text told ++ line_bytes line
 lines_text-push told line =
     ap ended_lines (map-append (λ (l : FileLine). line_text l.name l.outcome) told (line ∷ []))
-    ∙ ended_lines-append (map (λ (l : FileLine). line_text l.name l.outcome) told) (line_text line.name line.outcome ∷ [])
+    ∙ ended_lines-append (map (λ (l : FileLine). line_text l.name l.outcome) told)
+    (line_text line.name line.outcome ∷ [])
 
 -- a front of what was written is a front of what is to be written
-begun_more : (old new : Option (List ℕ)) (text more : List ℕ) → AppendsFront old new text → AppendsFront old new (text ++ more)
-begun_more old new text more (front, (rest, split), appended) = (front, (rest ++ more, ap (λ l. l ++ more) split ∙ append_assoc front rest more), appended)
+begun_more : (old new : Option (List ℕ)) (text more : List ℕ) → AppendsFront old new text
+    → AppendsFront old new (text ++ more)
+begun_more old new text more (front, (rest, split), appended) =
+    (front, (rest ++ more, ap (λ l. l ++ more) split ∙ append_assoc front rest more), appended)
 
 -- no further line is tried
-pub untold : (status : ℕ) (told : List FileLine) (line : FileLine) (old new : Option (List ℕ)) (failures failures' : Option ℕ)
+pub untold : (status : ℕ) (told : List FileLine) (line : FileLine) (old new : Option (List ℕ))
+    (failures failures' : Option ℕ)
     → AreTold status told old new failures failures' → AreTold 2 (told ++ line ∷ []) old new failures failures'
 untold status told line old new failures failures' t = record {
   range = lit≤ tt;
-  begun = subst (AppendsFront old new) (sym (lines_text-push told line)) (begun_more old new (lines_text told) (line_bytes line) t.begun);
+  begun = subst (AppendsFront old new) (sym (lines_text-push told line))
+      (begun_more old new (lines_text told) (line_bytes line) t.begun);
   whole = λ other. absurd (other refl);
   stopped = ⊎_elim (λ same. inl same) (λ rose. inr (refl, rose.1)) t.stopped;
 }
 
 -- the line's write failed
-pub broken : (status : ℕ) (told : List FileLine) (line : FileLine) (old mid new : Option (List ℕ)) (failures failures' failures'' : Option ℕ)
+pub broken : (status : ℕ) (told : List FileLine) (line : FileLine) (old mid new : Option (List ℕ))
+    (failures failures' failures'' : Option ℕ)
     → status ≢ 2 → AppendsFront mid new (line_bytes line) → failures'' ≡ counted true failures'
     → AreTold status told old mid failures failures' → AreTold 2 (told ++ line ∷ []) old new failures failures''
-broken status told line old mid new failures failures' failures'' other (front, (rest, split), appended) rose t = record {
+broken status told line old mid new _ _ _ other (front, (rest, split), appended) rose t = record {
   range = lit≤ tt;
-  begun = subst (AppendsFront old new) (sym (lines_text-push told line))
-      (lines_text told ++ front, (rest, ap (λ l. lines_text told ++ l) split ∙ sym (append_assoc (lines_text told) front rest)), Appends-trans old mid new (lines_text told) front (t.whole other).1 appended);
+  begun = subst (AppendsFront old new) (sym (lines_text-push told line)) (
+    lines_text told ++ front,
+    (rest, ap (λ l. lines_text told ++ l) split ∙ sym (append_assoc (lines_text told) front rest)),
+    Appends-trans old mid new (lines_text told) front (t.whole other).1 appended,
+  );
   whole = λ two. absurd (two refl);
   stopped = ⊎_elim (λ same. inr (refl, rose ∙ ap (counted true) same)) (λ two. absurd (other two.0)) t.stopped;
 }
@@ -54,7 +66,8 @@ broken status told line old mid new failures failures' failures'' other (front, 
 status-push : (told : List FileLine) (line : FileLine) (status : ℕ) → status ≡ status_of_lines told
     → (if is_failed line.outcome then 1 else status) ≡ status_of_lines (told ++ line ∷ [])
 status-push told line status is =
-    ap (status_after (is_failed line.outcome)) is ∙ joined (list_any (λ (l : FileLine). is_failed l.outcome) told) (is_failed line.outcome)
+    ap (status_after (is_failed line.outcome)) is ∙ joined (list_any (λ (l : FileLine). is_failed l.outcome) told)
+    (is_failed line.outcome)
     ∙ ap status_if (sym (list_any-append (λ (l : FileLine). is_failed l.outcome) told (line ∷ [])))
   where
     status_if : Bool → ℕ
@@ -70,12 +83,15 @@ status-push told line status is =
     joined false false = refl
 
 -- the line was written
-pub told_more : (status status' : ℕ) (told : List FileLine) (line : FileLine) (old mid new : Option (List ℕ)) (failures failures' failures'' : Option ℕ)
-    → status ≢ 2 → status' ≡ (if is_failed line.outcome then 1 else status) → Appends mid new (line_bytes line) → failures'' ≡ failures'
+pub told_more : (status status' : ℕ) (told : List FileLine) (line : FileLine) (old mid new : Option (List ℕ))
+    (failures failures' failures'' : Option ℕ)
+    → status ≢ 2 → status' ≡ (if is_failed line.outcome then 1 else status) → Appends mid new (line_bytes line)
+    → failures'' ≡ failures'
     → AreTold status told old mid failures failures' → AreTold status' (told ++ line ∷ []) old new failures failures''
 told_more status status' told line old mid new failures failures' failures'' other is appended same t =
     let written = Appends-trans old mid new (lines_text told) (line_bytes line) (t.whole other).1 appended in
-    let all : Appends old new (lines_text (told ++ line ∷ [])) = subst (Appends old new) (sym (lines_text-push told line)) written in
+    let all : Appends old new (lines_text (told ++ line ∷ [])) =
+    subst (Appends old new) (sym (lines_text-push told line)) written in
     record {
       range = within (is_failed line.outcome) is t.range;
       begun = (lines_text (told ++ line ∷ []), ([], sym (append-nil (lines_text (told ++ line ∷ [])))), all);
@@ -98,29 +114,51 @@ nothing_told taken failures = record {
 
 -- ---- what happened
 
-pub nothing_done : (does : List ℕ → FileOutcome → List Event → Type 0) (told : Option (List Event)) → Does (AreDone does []) told told
-nothing_done does told = weaken (λ events none. record { works = []; lined = refl; each = λ k d below. absurd (omega (arith, below)); joined = none }) told told (nothing told)
+pub nothing_done : (does : List ℕ → FileOutcome → List Event → Type 0) (told : Option (List Event))
+    → Does (AreDone does []) told told
+nothing_done does told = weaken (λ events none. record {
+  works = [];
+  lined = refl;
+  each = λ k d below. absurd (omega (arith, below));
+  joined = none;
+}) told told (nothing told)
 
 -- one file more
-pub done_more : (does : List ℕ → FileOutcome → List Event → Type 0) (lines : List FileLine) (line : FileLine) (told told' told'' : Option (List Event))
-    → Does (AreDone does lines) told told' → Does (does line.name line.outcome) told' told'' → Does (AreDone does (lines ++ line ∷ [])) told told''
+pub done_more : (does : List ℕ → FileOutcome → List Event → Type 0) (lines : List FileLine) (line : FileLine)
+    (told told' told'' : Option (List Event))
+    → Does (AreDone does lines) told told' → Does (does line.name line.outcome) told' told''
+    → Does (AreDone does (lines ++ line ∷ [])) told told''
 done_more does lines line told told' told'' done next = chain (AreDone does (lines ++ line ∷ [])) (λ events more d is.
     let work : Work = record { line = line; events = more } in record {
       works = d.works ++ work ∷ [];
       lined = map-append (λ (w : Work). w.line) d.works (work ∷ []) ∙ ap (λ l. l ++ line ∷ []) d.lined;
       each = All-push (λ (w : Work). does w.line.name w.line.outcome w.events) d.works work d.each is;
-      joined = ap (λ l. l ++ more) d.joined ∙ ap (λ l. flat_map (λ (w : Work). w.events) d.works ++ l) (sym (append-nil more))
+      joined = ap (λ l. l ++ more) d.joined ∙ ap (λ l. flat_map (λ (w : Work). w.events) d.works ++ l)
+          (sym (append-nil more))
           ∙ sym (flat_map-append (λ (w : Work). w.events) d.works (work ∷ []));
     }) told told' told'' done next
 
+-- no file was worked
+pub nothing_worked : (fits : List ℕ → FileOutcome → Type 0) (does : List ℕ → FileOutcome → List Event → Type 0)
+    (taken : Option (List ℕ)) (failures : Option ℕ) (told : Option (List Event))
+    → AreWorked fits does [] 0 taken taken failures failures told told
+nothing_worked fits does taken failures told = record {
+  lines = [];
+  named = refl;
+  fitting = λ k d below. absurd (omega (arith, below));
+  told = nothing_told taken failures;
+  done = nothing_done does told;
+}
+
 -- one file more was worked
-pub worked_more : (fits : List ℕ → FileOutcome → Type 0) (does : List ℕ → FileOutcome → List Event → Type 0) (names names' : List (List ℕ)) (line : FileLine) (status status' : ℕ)
+pub worked_more : (fits : List ℕ → FileOutcome → Type 0) (does : List ℕ → FileOutcome → List Event → Type 0)
+    (names names' : List (List ℕ)) (line : FileLine) (status status' : ℕ)
     (old mid new : Option (List ℕ)) (failures failures' failures'' : Option ℕ) (told told' told'' : Option (List Event))
     → (w : AreWorked fits does names status old mid failures failures' told told') → fits line.name line.outcome
     → Does (does line.name line.outcome) told' told''
     → AreTold status' (w.lines ++ line ∷ []) old new failures failures'' → names ++ line.name ∷ [] ≡ names'
     → AreWorked fits does names' status' old new failures failures'' told told''
-worked_more fits does names names' line status status' old mid new failures failures' failures'' told told' told'' w fit next lines longer = record {
+worked_more fits does _ _ line _ _ _ _ _ _ _ _ told told' told'' w fit next lines longer = record {
   lines = w.lines ++ line ∷ [];
   done = done_more does w.lines line told told' told'' w.done next;
   named = map-append (λ (l : FileLine). l.name) w.lines (line ∷ []) ∙ ap (λ l. l ++ line.name ∷ []) w.named ∙ longer;
@@ -130,6 +168,9 @@ worked_more fits does names names' line status status' old mid new failures fail
 
 -- one name more
 pub names-step : (files : List (Bor (List ℕ))) (i : ℕ) (d : Bor (List ℕ)) → i < length files
-    → map (λ (f : Bor (List ℕ)). f.now) (take i files) ++ (get_or files i d).now ∷ [] ≡ map (λ (f : Bor (List ℕ)). f.now) (take (i + 1) files)
+    → map (λ (f : Bor (List ℕ)). f.now) (take i files) ++ (get_or files i d).now ∷ []
+    ≡ map (λ (f : Bor (List ℕ)). f.now) (take (i + 1) files)
 names-step files i d h =
-    sym (ap (λ n. map (λ (f : Bor (List ℕ)). f.now) (take n files)) (add-one i) ∙ ap (map (λ (f : Bor (List ℕ)). f.now)) (take-suc files i d h) ∙ map-append (λ (f : Bor (List ℕ)). f.now) (take i files) (get_or files i d ∷ []))
+    sym (ap (λ n. map (λ (f : Bor (List ℕ)). f.now) (take n files)) (add-one i)
+    ∙ ap (map (λ (f : Bor (List ℕ)). f.now)) (take-suc files i d h)
+    ∙ map-append (λ (f : Bor (List ℕ)). f.now) (take i files) (get_or files i d ∷ []))

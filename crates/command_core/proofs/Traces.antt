@@ -1,5 +1,6 @@
 -- A trace that goes on, where it is known.
-use Rattle.std.proofs.Common.{◌≡◌, ℕ, refl, sym, ap, subst, ◌∙◌, List, [], ◌∷◌, ◌++◌, length, get_or, take, drop, append-nil, append_assoc, Option, None, Some, IfSome}
+use Rattle.std.proofs.Common.{◌≡◌, ℕ, refl, sym, ap, subst, ◌∙◌, List, [], ◌∷◌, ◌++◌, length, get_or, take, drop}
+use Rattle.std.proofs.Common.{append-nil, append_assoc, Option, None, Some, IfSome}
 use Rattle.std.proofs.Math.Seq.{drop-append_seam, take-append_seam}
 use Rattle.io_core.specs.Streams.{Appends}
 use Rattle.command_core.specs.Trace.{Event, Finished, Discarded, Does, Nothing, Finishes, Discards, tape}
@@ -9,17 +10,21 @@ nothing None = tt
 nothing (Some before) = ([], refl, sym (append-nil before))
 
 -- of events of one kind that are of another kind too
-pub weaken : {p r : List Event → Type 0} → ((events : List Event) → p events → r events) → (told told' : Option (List Event)) → Does p told told' → Does r told told'
+pub weaken : {p r : List Event → Type 0} → ((events : List Event) → p events → r events)
+    → (told told' : Option (List Event)) → Does p told told' → Does r told told'
 weaken f told None d = tt
 weaken f None (Some after) d = absurd d
 weaken f (Some before) (Some after) d = (d.0, f d.0 d.1, d.2)
 
 -- of events, and others behind them
-pub chain : {p q : List Event → Type 0} → (r : List Event → Type 0) → ((one two : List Event) → p one → q two → r (one ++ two)) → (told told' told'' : Option (List Event)) → Does p told told' → Does q told' told'' → Does r told told''
+pub chain : {p q : List Event → Type 0} → (r : List Event → Type 0)
+    → ((one two : List Event) → p one → q two → r (one ++ two)) → (told told' told'' : Option (List Event))
+    → Does p told told' → Does q told' told'' → Does r told told''
 chain r f told told' None d e = tt
 chain r f told None (Some after) d e = absurd e
 chain r f None (Some mid) (Some after) d e = absurd d
-chain r f (Some before) (Some mid) (Some after) d e = (d.0 ++ e.0, f d.0 e.0 d.1 e.1, e.2 ∙ ap (λ l. l ++ e.0) d.2 ∙ append_assoc before d.0 e.0)
+chain r f (Some before) (Some mid) (Some after) d e =
+    (d.0 ++ e.0, f d.0 e.0 d.1 e.1, e.2 ∙ ap (λ l. l ++ e.0) d.2 ∙ append_assoc before d.0 e.0)
 
 -- ---- tapes
 
@@ -31,34 +36,41 @@ pub tape_same : (name other bytes more : List ℕ) → tape name bytes ≡ tape 
 tape_same name other bytes more is =
     let long : length name ≡ length other = ap (λ l. get_or l 0 0) is in
     let rest : name ++ bytes ≡ other ++ more = ap (drop 1) is in (
-      sym (take-append_seam name bytes) ∙ ap (take (length name)) rest ∙ ap (λ n. take n (other ++ more)) long ∙ take-append_seam other more,
-      sym (drop-append_seam name bytes) ∙ ap (drop (length name)) rest ∙ ap (λ n. drop n (other ++ more)) long ∙ drop-append_seam other more,
+      sym (take-append_seam name bytes) ∙ ap (take (length name)) rest ∙ ap (λ n. take n (other ++ more)) long
+          ∙ take-append_seam other more,
+      sym (drop-append_seam name bytes) ∙ ap (drop (length name)) rest ∙ ap (λ n. drop n (other ++ more)) long
+          ∙ drop-append_seam other more,
     )
 
 -- what a writer tells behind these bytes, once more were written
-tape_as : (name other bytes more all : List ℕ) (taken taken' : Option (List ℕ)) → taken ≡ Some (tape name bytes) → Appends taken taken' more → taken' ≡ Some (tape other all)
+tape_as : (name other bytes more all : List ℕ) (taken taken' : Option (List ℕ)) → taken ≡ Some (tape name bytes)
+    → Appends taken taken' more → taken' ≡ Some (tape other all)
     → (other ≡ name) × (all ≡ bytes ++ more)
 tape_as name other bytes more all None taken' is grew tells = absurd (cc)
 tape_as name other bytes more all (Some before) None is grew tells = absurd grew
 tape_as name other bytes more all (Some before) (Some after) is grew tells =
     let whole : tape other all ≡ tape name (bytes ++ more) =
-    sym (some_same after (tape other all) tells) ∙ grew ∙ ap (λ l. l ++ more) (some_same before (tape name bytes) is) ∙ ap (λ l. length name ∷ l) (append_assoc name bytes more) in
+    sym (some_same after (tape other all) tells) ∙ grew ∙ ap (λ l. l ++ more) (some_same before (tape name bytes) is)
+    ∙ ap (λ l. length name ∷ l) (append_assoc name bytes more) in
     tape_same other name all (bytes ++ more) whole
 
 -- what was written behind the bytes of an output is what it is finished with, under its own name
-pub finished_as : (name bytes more : List ℕ) (taken taken' : Option (List ℕ)) (events : List Event) → taken ≡ Some (tape name bytes) → Appends taken taken' more → Finishes taken' events
+pub finished_as : (name bytes more : List ℕ) (taken taken' : Option (List ℕ)) (events : List Event)
+    → taken ≡ Some (tape name bytes) → Appends taken taken' more → Finishes taken' events
     → events ≡ Finished name (bytes ++ more) ∷ []
 finished_as name bytes more taken taken' events is grew (other, all, tells, f) =
     let same = tape_as name other bytes more all taken taken' is grew tells in
     f ∙ ap (λ n. Finished n all ∷ []) same.0 ∙ ap (λ b. Finished name b ∷ []) same.1
 
 -- and what it is given up with
-pub discarded_as : (name bytes more : List ℕ) (taken taken' : Option (List ℕ)) (events : List Event) → taken ≡ Some (tape name bytes) → Appends taken taken' more → Discards taken' events
+pub discarded_as : (name bytes more : List ℕ) (taken taken' : Option (List ℕ)) (events : List Event)
+    → taken ≡ Some (tape name bytes) → Appends taken taken' more → Discards taken' events
     → events ≡ Discarded name (bytes ++ more) ∷ []
 discarded_as name bytes more taken taken' events is grew (other, all, tells, d) =
     let same = tape_as name other bytes more all taken taken' is grew tells in
     d ∙ ap (λ n. Discarded n all ∷ []) same.0 ∙ ap (λ b. Discarded name b ∷ []) same.1
 
-pub known : (P : List ℕ → Type 0) (left : Option (List ℕ)) (bytes : List ℕ) → left ≡ Some bytes → IfSome left P → P bytes
+pub known : (P : List ℕ → Type 0) (left : Option (List ℕ)) (bytes : List ℕ) → left ≡ Some bytes → IfSome left P
+    → P bytes
 known P None bytes is p = absurd (cc)
 known P (Some all) bytes is p = subst P (some_same all bytes is) p

@@ -3,8 +3,8 @@ use Rattle.std.specs.Prelude.{⊤, ◌≡◌, ℕ, List, [], ◌∷◌, ◌++◌
 use Rattle.command_core.specs.declared.folder.FolderFault.{FolderFault}
 
 -- A file was opened to be read, and these are the bytes that its reader has; a file could not be opened. An output was
--- created; an output could not be created, by this fault. An output was finished, and these are all its bytes; an output
--- was given up with these bytes, and its removal was tried.
+-- created; an output could not be created, by this fault. An output was finished, and these are all its bytes; an
+-- output was given up with these bytes, and its removal was tried.
 pub data Event : Type 0 where
   Reading : List ℕ → List ℕ → Event
   Unread : List ℕ → Event

@@ -1,14 +1,14 @@
 -- What `open_all` and `verify_all` do with a list of files.
-use Rattle.std.specs.Prelude.{◌≡◌, ◌≢◌, ◌⊎◌, ℕ, ◌-◌, ◌≤◌, Bool, true, false, List, [], ◌∷◌, ◌++◌, length, take, map, All}
-use Rattle.std.specs.Prelude.{⊤, Option, flat_map, codes, Ok, Err}
+use Rattle.std.specs.Prelude.{◌≡◌, ◌≢◌, ◌⊎◌, ℕ, ◌-◌, ◌<◌, ◌≤◌, Bool, true, false, List, [], ◌∷◌, ◌++◌, length, take}
+use Rattle.std.specs.Prelude.{map, ⊤, All, Option, option_map, flat_map, codes, Result, Ok, Err}
 use Rattle.container_core.specs.declared.fault.OpenFault.TheVariants.{Write}
 use Rattle.container_core.specs.Container.{header_length}
 use Rattle.container_core.specs.Faults.{IsOfBytes}
 use Rattle.container_core.specs.Opening.{opening}
-use Rattle.engine_core.specs.Engine.{OpensTo}
+use Rattle.engine_core.specs.Engine.{OpensTo, open_read_failed}
 use Rattle.io_core.specs.Streams.{Appends, AppendsFront, IsFront, counted}
-use Rattle.command_core.specs.declared.commands.Task.{Task}
-use Rattle.command_core.specs.declared.commands.Task.TheVariants.{Open, Verify}
+use Rattle.command_core.specs.declared.commands.OpenOptions.{OpenOptions}
+use Rattle.command_core.specs.declared.commands.TheConstants.{MAX_OPENED_BYTES}
 use Rattle.command_core.specs.declared.folder.FolderFault.TheVariants as refusal
 use Rattle.command_core.specs.declared.line.FileFault.{FileFault}
 use Rattle.command_core.specs.declared.line.FileFault.TheVariants.{CannotOpen, OutOfMemory, NoNumber, Unopened}
@@ -30,8 +30,16 @@ output_of name = take (length name - 4) name
 abbrev pub IsSealedName : List ℕ → Type 0
 IsSealedName name = (output_of name ≢ []) × (name ≡ output_of name ++ codes ".stm")
 
--- An outcome that `open_all` can have of a file of this name: the file was opened, or failed otherwise than a file that is
--- to be sealed. It fails by its name exactly where that isn't the name of a sealed file.
+-- 1 to 16 workers, and no more plaintext bytes than a file can have that is opened
+abbrev pub AreInRange : OpenOptions → Type 0
+AreInRange options = (options.max_bytes ≤ MAX_OPENED_BYTES) × (0 < options.workers) × (options.workers ≤ 16)
+
+-- the label that is asked for, where one is
+abbrev pub asked_label : OpenOptions → Option (List ℕ)
+asked_label options = option_map (λ label. label.now) options.label
+
+-- An outcome that `open_all` can have of a file of this name: the file was opened, or failed otherwise than a file that
+-- is to be sealed. It fails by its name exactly where that isn't the name of a sealed file.
 abbrev pub IsOfOpening : List ℕ → FileOutcome → Type 0
 IsOfOpening name (Opened bytes) = IsSealedName name
 IsOfOpening name (Failed NoSuffix) = ¬ IsSealedName name
@@ -56,8 +64,8 @@ IsOfVerifying show _ = ⊥
 abbrev pub IsGood : List ℕ → ℕ → Option (List ℕ) → List ℕ → List ℕ → Type 0
 IsGood key most label input plain = (opening key most input ≡ Ok plain) × IsLabelled label input
 
--- An input that was read has this fault: it is the first by the definition, or the input opens and has another label. Of
--- a reader that failed and of memory nothing is said.
+-- An input that was read has this fault: it is the first by the definition, or the input opens and has another label.
+-- Of a reader that failed and of memory nothing is said.
 abbrev pub IsFaultOf : List ℕ → ℕ → Option (List ℕ) → List ℕ → FileFault → Type 0
 IsFaultOf key most label input (Unopened Write) = ⊥
 IsFaultOf key most label input (Unopened fault) = IsOfBytes fault → opening key most input ≡ Err fault
@@ -65,16 +73,22 @@ IsFaultOf key most label input AnotherLabel =
     (plain : List ℕ) × (opening key most input ≡ Ok plain) × ¬ IsLabelled label input
 IsFaultOf key most label input _ = ⊥
 
--- What goes with the line of a file of this name that is to be opened. An output is asked for only behind the reading of an
--- input that opens and has the label. It is finished with the plaintext, once, and then the line says `opened`; or it is
--- given up with a beginning of the plaintext; or it is refused, for the cause that the line says.
+-- whether a file failed because its reader did
+abbrev pub file_read_failed : {A : Type 0} → Result A FileFault → Bool
+file_read_failed {A} (Err (Unopened fault)) = open_read_failed {A = A} (Err fault)
+file_read_failed _ = false
+
+-- What goes with the line of a file of this name that is to be opened. An output is asked for only behind the reading
+-- of an input that opens and has the label. It is finished with the plaintext, once, and then the line says `opened`;
+-- or it is given up with a beginning of the plaintext; or it is refused, for the cause that the line says.
 abbrev pub Opening : List ℕ → ℕ → Option (List ℕ) → List ℕ → FileOutcome → List Event → Type 0
 Opening key most label name (Opened n) events = (input : List ℕ) × (plain : List ℕ)
     × IsGood key most label input plain × (n ≡ length plain)
     × (events ≡ trace.Reading name input ∷ trace.Created (output_of name) ∷ trace.Finished (output_of name) plain ∷ [])
 Opening key most label name (Failed (Unopened Write)) events = (input : List ℕ) × (plain : List ℕ) × (written : List ℕ)
     × IsGood key most label input plain × IsFront written plain
-    × (events ≡ trace.Reading name input ∷ trace.Created (output_of name) ∷ trace.Discarded (output_of name) written ∷ [])
+    × (events ≡ trace.Reading name input ∷ trace.Created (output_of name)
+    ∷ trace.Discarded (output_of name) written ∷ [])
 Opening key most label name (Failed OutputExists) events = (input : List ℕ) × (plain : List ℕ)
     × IsGood key most label input plain
     × (events ≡ trace.Reading name input ∷ trace.Refused (output_of name) refusal.Exists ∷ [])
@@ -87,8 +101,8 @@ Opening key most label name (Failed fault) events =
     (input : List ℕ) × IsFaultOf key most label input fault × (events ≡ trace.Reading name input ∷ [])
 Opening key most label name _ events = ⊥
 
--- What goes with the line of a file of this name that is to be verified: its input was read, and is as the line says, or it
--- could not be opened. No output is asked for.
+-- What goes with the line of a file of this name that is to be verified: its input was read, and is as the line says,
+-- or it could not be opened. No output is asked for.
 abbrev pub Verifying : List ℕ → ℕ → Option (List ℕ) → List ℕ → FileOutcome → List Event → Type 0
 Verifying key most label name (Good n) events =
     (input : List ℕ) × OpensTo key most input n × IsLabelled label input × (events ≡ trace.Reading name input ∷ [])
@@ -99,10 +113,6 @@ Verifying key most label name (Failed CannotOpen) events = events ≡ trace.Unre
 Verifying key most label name (Failed fault) events =
     (input : List ℕ) × IsFaultOf key most label input fault × (events ≡ trace.Reading name input ∷ [])
 Verifying key most label name _ events = ⊥
-
-abbrev pub events_of : Task → List ℕ → ℕ → Option (List ℕ) → List ℕ → FileOutcome → List Event → Type 0
-events_of Open = Opening
-events_of (Verify show) = Verifying
 
 -- a file's line, and what happened for it
 pub record Work : Type 0 where
@@ -116,10 +126,6 @@ pub record AreDone (does : List ℕ → FileOutcome → List Event → Type 0) (
   pub lined : map (λ w. w.line) works ≡ lines
   pub each : All (λ w. does w.line.name w.line.outcome w.events) works
   pub joined : events ≡ flat_map (λ w. w.events) works
-
-abbrev pub IsOutcomeOf : Task → List ℕ → FileOutcome → Type 0
-IsOutcomeOf Open = IsOfOpening
-IsOutcomeOf (Verify show) = λ name. IsOfVerifying show
 
 -- What a writer of lines got: a beginning of them; with a status other than 2 all of them, and the status is theirs. At
 -- most one write failed, and then the status is 2: behind a failed write no other is tried.

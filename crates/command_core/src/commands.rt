@@ -7,12 +7,13 @@ ghost use Rattle.std.specs.Prelude.{Bool, if◌then◌else◌, option_map, IfOk,
 ghost use Rattle.container_core.specs.Container.{header_length};
 ghost use Rattle.container_core.specs.Opening.{opening};
 ghost use Rattle.engine_core.specs.Engine.{OpensTo};
+ghost use Rattle.io_core.specs.Streams.{counted};
 ghost use Rattle.command_core.specs.Facts.{IsOfHeader};
 ghost use Rattle.command_core.specs.Labels.{IsLabelled};
 ghost use Rattle.command_core.specs.Lines.{FileLine, is_failed};
 ghost use Rattle.command_core.specs.Trace.{Does};
-ghost use Rattle.command_core.specs.Work.{output_of, IsOfOpening, IsOfVerifying, IsOutcomeOf, IsSealedName};
-ghost use Rattle.command_core.specs.Work.{AreTold, AreWorked, IsFaultOf, IsGood, Opening, Verifying, events_of};
+ghost use Rattle.command_core.specs.Work.{output_of, AreInRange, IsOfOpening, IsOfVerifying, IsSealedName, asked_label};
+ghost use Rattle.command_core.specs.Work.{AreTold, AreWorked, IsFaultOf, IsGood, Opening, Verifying, file_read_failed};
 
 use crate::facts::Facts;
 use crate::folder::{Folder, FolderFault, write_or_discard};
@@ -66,13 +67,6 @@ pub struct Outs<L: Sink + Drop, E: Sink + Drop, J: Sink + Drop> {
     pub journal: Option<J>,
 }
 
-// What is done with each file.
-#[derive(Clone, Copy)]
-enum Task {
-    Open,
-    Verify { show: bool },
-}
-
 // The name of the output of a sealed file: at least one byte, before `.stm`.
 fn output_name(name: &str) -> Option<&str>
     ensures name { IfSome result (λ output. output.now ≡ output_of name.now) }
@@ -92,27 +86,22 @@ fn read_labelled<T: Threads + Sync, R: Source>(
     alloc: Global,
     key: &Key,
     reader: &mut R,
-    max_bytes: u64,
-    workers: u32,
-    label: Option<&[u8]>,
+    options: &OpenOptions,
 ) -> Result<Vec<u8>, FileFault>
-    requires max_bytes { max_bytes ≤ MAX_OPENED_BYTES }
-    requires workers { (0 < workers) × (workers ≤ MAX_WORKERS) }
+    requires { AreInRange options.now }
     ensures plaintext { IfOk result (λ plain. IfSome (R.left reader.old) (λ input.
-        IsGood key.now max_bytes (option_map (λ b. b.now) label.entry) input plain.items)) }
+        IsGood key.now options.now.max_bytes (asked_label options.now) input plain.items)) }
     ensures exact { IfErr result (λ fault. IfSome (R.left reader.old) (λ input.
-        IsFaultOf key.now max_bytes (option_map (λ b. b.now) label.entry) input fault)) }
+        IsFaultOf key.now options.now.max_bytes (asked_label options.now) input fault)) }
     ensures fault { IfErr result (λ fault. (name : List ℕ) → IsSealedName name
         → IsOfOpening name (FileOutcome.Failed fault)) }
+    ensures read { R.failures reader.new ≡ counted (file_read_failed result) (R.failures reader.old) }
 {
-    let (header, plain) = match run_read(rt, alloc, key, reader, max_bytes, workers, &Free) {
-        Ok(read) => read,
-        Err(fault) => return Err(FileFault::Unopened(fault)),
-    };
-    if is_labelled(&header, label) {
-        Ok(plain)
-    } else {
-        Err(FileFault::AnotherLabel)
+    let (most, workers) = (options.max_bytes, options.workers);
+    match run_read(rt, alloc, key, reader, most, workers, &Free) {
+        Ok((header, plain)) if is_labelled(&header, options.label) => Ok(plain),
+        Ok(_) => Err(FileFault::AnotherLabel),
+        Err(fault) => Err(FileFault::Unopened(fault)),
     }
 }
 
@@ -122,28 +111,23 @@ fn check_labelled<T: Threads + Sync, R: Source>(
     alloc: Global,
     key: &Key,
     reader: &mut R,
-    max_bytes: u64,
-    workers: u32,
-    label: Option<&[u8]>,
+    options: &OpenOptions,
 ) -> Result<(Facts, u64), FileFault>
-    requires max_bytes { max_bytes ≤ MAX_OPENED_BYTES }
-    requires workers { (0 < workers) × (workers ≤ MAX_WORKERS) }
+    requires { AreInRange options.now }
     ensures good { IfOk result (λ checked. IfSome (R.left reader.old) (λ input.
-        OpensTo key.now max_bytes input checked.1 × IsLabelled (option_map (λ b. b.now) label.entry) input)) }
+        OpensTo key.now options.now.max_bytes input checked.1 × IsLabelled (asked_label options.now) input)) }
     ensures facts { IfOk result (λ checked. IfSome (R.left reader.old) (λ input.
         IsOfHeader checked.0 (take (header_length input) input))) }
     ensures exact { IfErr result (λ fault. IfSome (R.left reader.old) (λ input.
-        IsFaultOf key.now max_bytes (option_map (λ b. b.now) label.entry) input fault)) }
+        IsFaultOf key.now options.now.max_bytes (asked_label options.now) input fault)) }
     ensures fault { IfErr result (λ fault. (show : Bool) → IsOfVerifying show (FileOutcome.Failed fault)) }
+    ensures read { R.failures reader.new ≡ counted (file_read_failed result) (R.failures reader.old) }
 {
-    let (header, bytes) = match run_check(rt, alloc, key, reader, max_bytes, workers, &Free) {
-        Ok(checked) => checked,
-        Err(fault) => return Err(FileFault::Unopened(fault)),
-    };
-    if is_labelled(&header, label) {
-        Ok((Facts::of(&header), bytes))
-    } else {
-        Err(FileFault::AnotherLabel)
+    let (most, workers) = (options.max_bytes, options.workers);
+    match run_check(rt, alloc, key, reader, most, workers, &Free) {
+        Ok((header, n)) if is_labelled(&header, options.label) => Ok((Facts::of(&header), n)),
+        Ok(_) => Err(FileFault::AnotherLabel),
+        Err(fault) => Err(FileFault::Unopened(fault)),
     }
 }
 
@@ -156,11 +140,10 @@ fn open_file<T: Threads + Sync, F: Folder>(
     name: &str,
     options: &OpenOptions,
 ) -> FileOutcome
-    requires max_bytes { options.now.max_bytes ≤ MAX_OPENED_BYTES }
-    requires workers { (0 < options.now.workers) × (options.now.workers ≤ MAX_WORKERS) }
+    requires { AreInRange options.now }
     ensures outcome { IsOfOpening name.now result }
-    ensures events { Does (Opening key.now options.now.max_bytes (option_map (λ b. b.now) options.now.label)
-        name.now result) (F.told folder.old) (F.told folder.new) }
+    ensures events { Does (Opening key.now options.now.max_bytes (asked_label options.now) name.now result)
+        (F.told folder.old) (F.told folder.new) }
 {
     let Some(output) = output_name(name) else {
         return FileOutcome::Failed(FileFault::NoSuffix);
@@ -168,16 +151,7 @@ fn open_file<T: Threads + Sync, F: Folder>(
     let Ok(mut reader) = folder.open(name) else {
         return FileOutcome::Failed(FileFault::CannotOpen);
     };
-    let (max_bytes, workers) = (options.max_bytes, options.workers);
-    let plain = match read_labelled(
-        rt,
-        alloc,
-        key,
-        &mut reader,
-        max_bytes,
-        workers,
-        options.label,
-    ) {
+    let plain = match read_labelled(rt, alloc, key, &mut reader, options) {
         Ok(plain) => plain,
         Err(fault) => return FileOutcome::Failed(fault),
     };
@@ -200,28 +174,17 @@ fn verify_file<T: Threads + Sync, F: Folder>(
     folder: &mut F,
     name: &str,
     options: &OpenOptions,
-    show: bool,
 ) -> FileOutcome
-    requires max_bytes { options.now.max_bytes ≤ MAX_OPENED_BYTES }
-    requires workers { (0 < options.now.workers) × (options.now.workers ≤ MAX_WORKERS) }
-    ensures outcome { IsOfVerifying show result }
-    ensures events { Does (Verifying key.now options.now.max_bytes (option_map (λ b. b.now) options.now.label)
-        name.now result) (F.told folder.old) (F.told folder.new) }
+    requires { AreInRange options.now }
+    ensures outcome { IsOfVerifying options.now.show result }
+    ensures events { Does (Verifying key.now options.now.max_bytes (asked_label options.now) name.now result)
+        (F.told folder.old) (F.told folder.new) }
 {
     let Ok(mut reader) = folder.open(name) else {
         return FileOutcome::Failed(FileFault::CannotOpen);
     };
-    let (max_bytes, workers) = (options.max_bytes, options.workers);
-    match check_labelled(
-        rt,
-        alloc,
-        key,
-        &mut reader,
-        max_bytes,
-        workers,
-        options.label,
-    ) {
-        Ok((facts, bytes)) if show => FileOutcome::Shown { bytes, facts },
+    match check_labelled(rt, alloc, key, &mut reader, options) {
+        Ok((facts, bytes)) if options.show => FileOutcome::Shown { bytes, facts },
         Ok((_, bytes)) => FileOutcome::Good(bytes),
         Err(fault) => FileOutcome::Failed(fault),
     }
@@ -270,52 +233,6 @@ pub fn tell<W: Sink>(
     }
 }
 
-fn work_file<T: Threads + Sync, F: Folder>(
-    rt: &T,
-    alloc: Global,
-    key: &Key,
-    folder: &mut F,
-    name: &str,
-    options: &OpenOptions,
-    task: Task,
-) -> FileOutcome
-    requires max_bytes { options.now.max_bytes ≤ MAX_OPENED_BYTES }
-    requires workers { (0 < options.now.workers) × (options.now.workers ≤ MAX_WORKERS) }
-    ensures outcome { IsOutcomeOf task name.now result }
-    ensures events { Does (events_of task key.now options.now.max_bytes (option_map (λ b. b.now) options.now.label)
-        name.now result) (F.told folder.old) (F.told folder.new) }
-{
-    match task {
-        Task::Open => open_file(rt, alloc, key, folder, name, options),
-        Task::Verify { show } => verify_file(rt, alloc, key, folder, name, options, show),
-    }
-}
-
-fn work_all<T: Threads + Sync, F: Folder, W: Sink>(
-    rt: &T,
-    alloc: Global,
-    key: &Key,
-    folder: &mut F,
-    options: &OpenOptions,
-    lines: &mut W,
-    task: Task,
-) -> u8
-    requires max_bytes { options.now.max_bytes ≤ MAX_OPENED_BYTES }
-    requires workers { (0 < options.now.workers) × (options.now.workers ≤ MAX_WORKERS) }
-    ensures { AreWorked (IsOutcomeOf task)
-        (events_of task key.now options.now.max_bytes (option_map (λ b. b.now) options.now.label))
-        (map (λ name. name.now) options.now.files.now) result
-        (W.taken lines.old) (W.taken lines.new) (W.failures lines.old) (W.failures lines.new)
-        (F.told folder.old) (F.told folder.new) }
-{
-    let mut status = 0;
-    for name in options.files {
-        let outcome = work_file(rt, alloc, key, folder, name, options, task);
-        status = tell(alloc, lines, status, name, outcome);
-    }
-    status
-}
-
 /// Opens each file: reads its container, checks all of it, and then writes the plaintext to the name without `.stm`,
 /// which must not be there yet. Where a label is asked for, a container that has another one fails once it was checked,
 /// and its output isn't created. The answer is the exit status: 0 where every file was opened, 1 where one failed, 2
@@ -339,7 +256,13 @@ pub fn open_all<T: Threads + Sync, F: Folder, L: Sink + Drop, E: Sink + Drop, J:
         (F.told folder.old) (F.told folder.new) }
     ensures others { (out.new.faults ≡ out.old.faults) × (out.new.journal ≡ out.old.journal) }
 {
-    work_all(rt, alloc, key, folder, options, &mut out.lines, Task::Open)
+    let lines = &mut out.lines;
+    let mut status = 0;
+    for name in options.files {
+        let outcome = open_file(rt, alloc, key, folder, name, options);
+        status = tell(alloc, lines, status, name, outcome);
+    }
+    status
 }
 
 /// Checks each file's container, and its label, as `open_all` does, and makes no file. Where `show` is asked for, each
@@ -364,13 +287,11 @@ pub fn verify_all<T: Threads + Sync, F: Folder, L: Sink + Drop, E: Sink + Drop, 
         (F.told folder.old) (F.told folder.new) }
     ensures others { (out.new.faults ≡ out.old.faults) × (out.new.journal ≡ out.old.journal) }
 {
-    work_all(
-        rt,
-        alloc,
-        key,
-        folder,
-        options,
-        &mut out.lines,
-        Task::Verify { show: options.show },
-    )
+    let lines = &mut out.lines;
+    let mut status = 0;
+    for name in options.files {
+        let outcome = verify_file(rt, alloc, key, folder, name, options);
+        status = tell(alloc, lines, status, name, outcome);
+    }
+    status
 }

@@ -1,7 +1,8 @@
 //! Folders: what the commands read files from and create outputs in.
 ghost use Rattle.std.specs.Prelude.{◌≡◌, ◌≢◌, ℕ, List, Option, None, Err, IfOk, IfErr, OnOk, OnErr};
 ghost use Rattle.io_core.specs.Streams.{Appends, AppendsFront};
-ghost use Rattle.command_core.specs.Trace.{Event, Creates, Discards, Does, FailsToOpen, Finishes, Nothing, Opens, Refuses};
+ghost use Rattle.command_core.specs.Trace.{Event, Creates, Discards, Does, FailsToOpen, Finishes, Nothing, Opens};
+ghost use Rattle.command_core.specs.Trace.{Refuses};
 
 use ledger_core::{Failed, Sink, Source, write_all};
 use thiserror::Error;
@@ -43,8 +44,8 @@ pub trait Folder {
         ensures uncreated { IfErr result (λ fault.
             Does (Refuses name.now fault) (told self.old) (told self.new)) };
 
-    /// Nothing more is written to the output: a folder over real files puts it on the disk where that was asked for. Where
-    /// that fails the output comes back, to be given up.
+    /// Nothing more is written to the output: a folder over real files puts it on the disk where that was asked for.
+    /// Where that fails the output comes back, to be given up.
     fn finish(&mut self, output: Self::Writer) -> Result<(), Self::Writer>
         ensures finished { OnOk result
             (Does (Finishes (Self.Writer.taken output)) (told self.old) (told self.new)) }
@@ -57,7 +58,8 @@ pub trait Folder {
         ensures discarded { Does (Discards (Self.Writer.taken output)) (told self.old) (told self.new) };
 }
 
-/// Writes all of an output, and finishes it. Where a write fails, or the finishing, the output comes back, to be given up.
+/// Writes all of an output, and finishes it. Where a write fails, or the finishing, the output comes back, to be given
+/// up.
 pub fn write_output<F: Folder>(
     folder: &mut F,
     output: F::Writer,

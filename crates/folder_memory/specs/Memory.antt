@@ -1,11 +1,12 @@
 -- What a folder in memory stands for.
-use Rattle.std.specs.Prelude.{◌≡◌, ⊤, ℕ, List, [], ◌∷◌, Option, Some, None, bytes_eq, string_bytes}
-use Rattle.std.specs.Prelude.{if◌then◌else◌}
-use Rattle.command_core.specs.Trace.{Event}
+use Rattle.std.specs.Prelude.{◌≡◌, ◌⊎◌, ⊤, ℕ, ◌-◌, ◌==◌, Bool, false, not, List, [], ◌∷◌, filter, Option, Some, None}
+use Rattle.std.specs.Prelude.{if◌then◌else◌, is_some, position, bytes_eq, string_bytes}
+use Rattle.command_core.specs.Trace.{Event, tape}
 use Rattle.command_core.specs.Trace as trace
 use Rattle.folder_memory.specs.declared.memory.Content.{Content}
 use Rattle.folder_memory.specs.declared.memory.Content.TheVariants.{Whole, Written}
 use Rattle.folder_memory.specs.declared.memory.File.{File}
+use Rattle.folder_memory.specs.declared.memory.MemoryWriter.{MemoryWriter}
 use Rattle.folder_memory.specs.declared.memory.Pace.{Pace}
 use Rattle.folder_memory.specs.declared.memory.Told.{Told}
 use Rattle.folder_memory.specs.declared.memory.Told.TheVariants.{Reading, Unread, Created, Refused, Finished, Discarded}
@@ -29,6 +30,36 @@ file_of file = file_view (string_bytes file.name) (whole_of file.content)
 abbrev pub bytes_of : List FileView → List ℕ → Option (List ℕ)
 bytes_of [] name = None
 bytes_of (file ∷ files) name = if bytes_eq file.name name then file.whole else bytes_of files name
+
+-- whether there is a file of this name
+abbrev pub is_there : List FileView → List ℕ → Bool
+is_there files name = is_some (position (λ file. bytes_eq file.name name) files)
+
+-- the files of other names
+abbrev pub without : List FileView → List ℕ → List FileView
+without files name = filter (λ file. not (bytes_eq file.name name)) files
+
+-- the files, of which the first one of this name is whole, and has these bytes
+abbrev pub with_bytes : List FileView → List ℕ → List ℕ → List FileView
+with_bytes [] name bytes = []
+with_bytes (file ∷ files) name bytes =
+    if bytes_eq file.name name then file_view file.name (Some bytes) ∷ files else file ∷ with_bytes files name bytes
+
+-- where so many calls are still answered before one fails: whether it is this one, and what is left behind it
+abbrev pub fails_now : Option ℕ → Bool
+fails_now None = false
+fails_now (Some number) = number == 0
+
+abbrev pub after_call : Option ℕ → Option ℕ
+after_call None = None
+after_call (Some number) = if number == 0 then None else Some (number - 1)
+
+-- the name under which an output was created, and what its writer tells
+abbrev pub name_of : MemoryWriter → List ℕ
+name_of writer = string_bytes writer.name
+
+abbrev pub taken_by : MemoryWriter → Option (List ℕ)
+taken_by writer = Some (tape (name_of writer) writer.bytes.taken)
 
 -- its files, how many calls are still answered before one fails, how readers and writers that are made from now on move
 -- their bytes, and what happened, unless something was forgotten
@@ -55,6 +86,10 @@ event_of (Discarded name bytes) = trace.Discarded (string_bytes name) bytes.item
 abbrev pub IsEvent : Option Told → List Event → Type 0
 IsEvent None events = ⊥
 IsEvent (Some told) events = events ≡ event_of told ∷ []
+
+-- what was told so far is as it was, or was forgotten
+abbrev pub KeepsOrForgets : Option (List Event) → Option (List Event) → Type 0
+KeepsOrForgets log log' = (log' ≡ log) ⊎ (log' ≡ None)
 
 -- what an event leaves of the output of this name: its bytes where it was finished, nothing where it was given up
 abbrev pub left_by : List ℕ → Option (List ℕ) → Event → Option (List ℕ)

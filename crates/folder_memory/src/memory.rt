@@ -1,12 +1,16 @@
 //! A folder in memory, whose calls, readers and writers fail where they are told to.
 //!
-//! It keeps what happened and tells it, refused calls too, and its readers and writers tell their bytes. Where memory for
-//! an event is refused it forgets, and tells nothing from then on.
-ghost use Rattle.std.specs.Prelude.{◌≡◌, ◌≢◌, Err, ◌<◌, [], ◌∷◌, ◌++◌, None, Some, IfSome, OnOk, OnErr, IfOk, length, string_bytes};
-ghost use Rattle.std.specs.Prelude.{is_some, map, option_map, position, bytes_eq};
+//! It keeps what happened and tells it, refused calls too, and its readers and writers tell their bytes. Where memory
+//! is refused to a call, or for its event, it forgets, and tells nothing from then on: what it tells is never for want
+//! of memory.
+ghost use Rattle.std.specs.Prelude.{◌≡◌, ◌≢◌, ◌⊎◌, ◌↔◌, Err, ◌<◌, [], ◌∷◌, ◌++◌, None, Some, true, false, length};
+ghost use Rattle.std.specs.Prelude.{IfErr, IfNone, IfOk, IfSome, OnErr, OnOk, map, option_map, position, bytes_eq};
+ghost use Rattle.std.specs.Prelude.{string_bytes};
 ghost use Rattle.command_core.specs.Trace.{Created, Discarded, Does, FailsToOpen, Finished, Opens, Reading, Refused};
-ghost use Rattle.command_core.specs.Trace.{Unread};
-ghost use Rattle.folder_memory.specs.Memory.{IsEvent, bytes_of, event_of, file_view, memory_view, told_of, whole_of};
+ghost use Rattle.command_core.specs.Trace.{Creates, Discards, Finishes, Nothing, Refuses, Unread};
+ghost use Rattle.folder_memory.specs.Memory.{IsEvent, KeepsOrForgets, bytes_of, event_of, file_view, memory_view};
+ghost use Rattle.folder_memory.specs.Memory.{after_call, fails_now, is_there, name_of, taken_by, told_of, whole_of};
+ghost use Rattle.folder_memory.specs.Memory.{with_bytes, without};
 
 use command_core::{Folder, FolderFault};
 use io_memory::{FromMemory, Schedule, ToMemory};
@@ -140,6 +144,8 @@ impl MemoryFolder {
         ensures ok { OnOk result
             (self.new ≡ record self.old { files = self.old.files ++ file_view name.now (Some bytes.now) ∷ [] }) }
         ensures err { OnErr result (self.new ≡ self.old) }
+        ensures unnamed { OnOk result (is_there self.old.files name.now ≡ false) }
+        ensures exists { result ≡ Err FolderFault.Exists → is_there self.old.files name.now ≡ true }
     {
         match Vec::from_slice(self.alloc, bytes) {
             Ok(bytes) => self.add(name, Content::Whole(bytes)),
@@ -170,7 +176,7 @@ impl MemoryFolder {
 
     /// Whether there is a file of this name.
     pub fn has(&self, name: &str) -> bool
-        ensures { result ≡ is_some (position (λ file. bytes_eq file.name name.now) self.now.files) }
+        ensures { result ≡ is_there self.now.files name.now }
     {
         place_of(self.files.as_slice(), name).is_some()
     }
@@ -179,6 +185,7 @@ impl MemoryFolder {
     pub fn bytes(&self, name: &str) -> Result<Vec<u8>, FolderFault>
         ensures held { IfOk result (λ bytes.
             IfSome (bytes_of self.now.files name.now) (λ whole. bytes.items ≡ whole)) }
+        ensures there { OnOk result (is_there self.now.files name.now ≡ true) }
         // An output that was finished has the bytes that were told, until it is given up.
         ensures told { IfOk result (λ bytes. IfSome self.now.log (λ events.
             IfSome (told_of events name.now) (λ whole. bytes.items ≡ whole))) }
@@ -206,6 +213,8 @@ impl MemoryFolder {
         ensures ok { OnOk result
             (self.new ≡ record self.old { files = self.old.files ++ file_view name.now (whole_of content) ∷ [] }) }
         ensures err { OnErr result (self.new ≡ self.old) }
+        ensures unnamed { OnOk result (is_there self.old.files name.now ≡ false) }
+        ensures exists { result ≡ Err FolderFault.Exists → is_there self.old.files name.now ≡ true }
     {
         if self.has(name) {
             return Err(FolderFault::Exists);
@@ -221,21 +230,46 @@ impl MemoryFolder {
 
     // The bytes of a file that is to be read, unless this call fails.
     fn bytes_to_read(&mut self, name: &str) -> Option<Vec<u8>>
-        ensures same { self.new ≡ record self.old { refused = self.new.refused } }
+        ensures same { self.new ≡ record self.old { refused = after_call self.old.refused; log = self.new.log } }
+        ensures told { IfSome result (λ bytes. self.new.log ≡ self.old.log) }
+        ensures forgot { KeepsOrForgets self.old.log self.new.log }
         ensures held { IfSome result (λ bytes.
             IfSome (bytes_of self.old.files name.now) (λ whole. bytes.items ≡ whole)) }
+        ensures there { IfSome result (λ bytes.
+            (is_there self.old.files name.now ≡ true) × (fails_now self.old.refused ≡ false)) }
+        ensures cause { IfNone result ((is_there self.old.files name.now ≡ false)
+            ⊎ (fails_now self.old.refused ≡ true) ⊎ (self.new.log ≡ None)) }
     {
         if self.is_refused() {
             return None;
         }
-        self.bytes(name).ok()
+        if !self.has(name) {
+            return None;
+        }
+        match self.bytes(name) {
+            Ok(bytes) => Some(bytes),
+            Err(_) => {
+                self.told = None;
+                None
+            }
+        }
     }
 
     // A new output, which is in the folder, unless this call fails.
     fn new_output(&mut self, name: &str) -> Result<MemoryWriter, FolderFault>
         ensures empty { IfOk result (λ writer. (string_bytes writer.name ≡ name.now) × (writer.bytes.taken ≡ [])) }
-        ensures added { OnOk result (self.new.files ≡ self.old.files ++ file_view name.now None ∷ []) }
-        ensures untold { self.new.log ≡ self.old.log }
+        ensures added { OnOk result (self.new ≡ record self.old {
+          files = self.old.files ++ file_view name.now None ∷ [];
+          refused = after_call self.old.refused;
+        }) }
+        ensures kept { OnErr result
+            (self.new ≡ record self.old { refused = after_call self.old.refused; log = self.new.log }) }
+        ensures forgot { KeepsOrForgets self.old.log self.new.log }
+        ensures unnamed { OnOk result
+            ((is_there self.old.files name.now ≡ false) × (fails_now self.old.refused ≡ false)) }
+        ensures exists { (result ≡ Err FolderFault.Exists)
+            ↔ ((is_there self.old.files name.now ≡ true) × (fails_now self.old.refused ≡ false)) }
+        ensures cause { result ≡ Err FolderFault.Failed → (fails_now self.old.refused ≡ true) ⊎ (self.new.log ≡ None) }
     {
         if self.is_refused() {
             return Err(FolderFault::Failed);
@@ -243,21 +277,38 @@ impl MemoryFolder {
         if self.has(name) {
             return Err(FolderFault::Exists);
         }
+        match self.added(name) {
+            Some(writer) => Ok(writer),
+            None => {
+                self.told = None;
+                Err(FolderFault::Failed)
+            }
+        }
+    }
+
+    // The writer of an output that was added, unless memory is refused or the name is there.
+    fn added(&mut self, name: &str) -> Option<MemoryWriter>
+        ensures empty { IfSome result (λ writer. (string_bytes writer.name ≡ name.now) × (writer.bytes.taken ≡ [])) }
+        ensures some { IfSome result (λ writer.
+            self.new ≡ record self.old { files = self.old.files ++ file_view name.now None ∷ [] }) }
+        ensures none { IfNone result (self.new ≡ self.old) }
+    {
         let Ok(writer) = new_writer(self.alloc, name, self.writers) else {
-            return Err(FolderFault::Failed);
+            return None;
         };
         let Ok(shown) = writer.shown.clone() else {
-            return Err(FolderFault::Failed);
+            return None;
         };
         match self.add(name, Content::Written(shown)) {
-            Ok(()) => Ok(writer),
-            Err(fault) => Err(fault),
+            Ok(()) => Some(writer),
+            Err(_) => None,
         }
     }
 
     // Whether this call is the one that fails.
     fn is_refused(&mut self) -> bool
-        ensures { self.new ≡ record self.old { refused = self.new.refused } }
+        ensures value { result ≡ fails_now self.old.refused }
+        ensures counted { self.new ≡ record self.old { refused = after_call self.old.refused } }
     {
         match self.refused {
             None => false,
@@ -381,9 +432,16 @@ impl Folder for MemoryFolder {
     fn open(&mut self, name: &str) -> Result<MemoryReader, FolderFault>
         ensures fault { result ≢ Err FolderFault.Exists }
         ensures opened { IfOk result (λ reader. Does (Opens name.now (Some reader)) self.old.log self.new.log) }
+        ensures unopened { OnErr result (Does (FailsToOpen name.now) self.old.log self.new.log) }
         // What its reader has to give is what the file holds, where that is whole.
         ensures held { IfOk result (λ reader. IfSome (bytes_of self.old.files name.now) (λ whole. reader ≡ whole)) }
-        ensures unopened { OnErr result (Does (FailsToOpen name.now) self.old.log self.new.log) }
+        // There is such a file, and this call wasn't to fail; else there is none, or it was, or the folder forgot.
+        ensures there { OnOk result
+            ((is_there self.old.files name.now ≡ true) × (fails_now self.old.refused ≡ false)) }
+        ensures cause { OnErr result ((is_there self.old.files name.now ≡ false)
+            ⊎ (fails_now self.old.refused ≡ true) ⊎ (self.new.log ≡ None)) }
+        ensures kept { self.new.files ≡ self.old.files }
+        ensures counted { self.new.refused ≡ after_call self.old.refused }
     {
         let Some(bytes) = self.bytes_to_read(name) else {
             let event = unread(self.alloc, name);
@@ -400,7 +458,21 @@ impl Folder for MemoryFolder {
         })
     }
 
-    fn create(&mut self, name: &str) -> Result<MemoryWriter, FolderFault> {
+    fn create(&mut self, name: &str) -> Result<MemoryWriter, FolderFault>
+        ensures created { IfOk result (λ output. Does (Creates name.now (taken_by output)) self.old.log self.new.log) }
+        ensures uncreated { IfErr result (λ fault. Does (Refuses name.now fault) self.old.log self.new.log) }
+        // A file more, of this name and without bytes; no file had the name, and this call wasn't to fail.
+        ensures added { OnOk result (self.new.files ≡ self.old.files ++ file_view name.now None ∷ []) }
+        ensures unnamed { OnOk result
+            ((is_there self.old.files name.now ≡ false) × (fails_now self.old.refused ≡ false)) }
+        // `Exists` exactly where a file has the name, and this call wasn't to fail.
+        ensures exists { (result ≡ Err FolderFault.Exists)
+            ↔ ((is_there self.old.files name.now ≡ true) × (fails_now self.old.refused ≡ false)) }
+        // `Failed` where this call was to fail, or the folder forgot.
+        ensures cause { result ≡ Err FolderFault.Failed → (fails_now self.old.refused ≡ true) ⊎ (self.new.log ≡ None) }
+        ensures kept { OnErr result (self.new.files ≡ self.old.files) }
+        ensures counted { self.new.refused ≡ after_call self.old.refused }
+    {
         match self.new_output(name) {
             Ok(writer) => {
                 let event = created(self.alloc, name);
@@ -415,7 +487,21 @@ impl Folder for MemoryFolder {
         }
     }
 
-    fn finish(&mut self, output: MemoryWriter) -> Result<(), MemoryWriter> {
+    fn finish(&mut self, output: MemoryWriter) -> Result<(), MemoryWriter>
+        ensures finished { OnOk result (Does (Finishes (taken_by output)) self.old.log self.new.log) }
+        ensures back { IfErr result (λ back. taken_by back ≡ taken_by output) }
+        ensures unfinished { OnErr result (Does Nothing self.old.log self.new.log) }
+        // The file of its name is whole, and the others are as they were. There is such a file, and this call wasn't to
+        // fail; else there is none, or it was, or the folder forgot.
+        ensures whole { OnOk result
+            (self.new.files ≡ with_bytes self.old.files (name_of output) output.bytes.taken) }
+        ensures there { OnOk result
+            ((is_there self.old.files (name_of output) ≡ true) × (fails_now self.old.refused ≡ false)) }
+        ensures cause { OnErr result ((is_there self.old.files (name_of output) ≡ false)
+            ⊎ (fails_now self.old.refused ≡ true) ⊎ (self.new.log ≡ None)) }
+        ensures kept { OnErr result (self.new.files ≡ self.old.files) }
+        ensures counted { self.new.refused ≡ after_call self.old.refused }
+    {
         if self.is_refused() {
             return Err(output);
         }
@@ -423,6 +509,7 @@ impl Folder for MemoryFolder {
             return Err(output);
         };
         let Ok(bytes) = Vec::from_slice(self.alloc, output.bytes.bytes()) else {
+            self.told = None;
             return Err(output);
         };
         self.files[place].content = Content::Whole(bytes);
@@ -432,7 +519,18 @@ impl Folder for MemoryFolder {
     }
 
     // Told whatever becomes of the removal.
-    fn discard(&mut self, output: MemoryWriter) -> Result<(), FolderFault> {
+    fn discard(&mut self, output: MemoryWriter) -> Result<(), FolderFault>
+        ensures fault { result ≢ Err FolderFault.Exists }
+        ensures discarded { Does (Discards (taken_by output)) self.old.log self.new.log }
+        // The files of other names are left. It fails where this call was to fail, and where no file has the name.
+        ensures removed { OnOk result (self.new.files ≡ without self.old.files (name_of output)) }
+        ensures kept { OnErr result (self.new.files ≡ self.old.files) }
+        ensures there { OnOk result
+            ((is_there self.old.files (name_of output) ≡ true) × (fails_now self.old.refused ≡ false)) }
+        ensures cause { OnErr result
+            ((is_there self.old.files (name_of output) ≡ false) ⊎ (fails_now self.old.refused ≡ true)) }
+        ensures counted { self.new.refused ≡ after_call self.old.refused }
+    {
         let is_refused = self.is_refused();
         let name = output.name.as_str();
         let event = discarded(self.alloc, name, output.bytes.bytes());
@@ -440,10 +538,10 @@ impl Folder for MemoryFolder {
         if is_refused {
             return Err(FolderFault::Failed);
         }
-        let Some(place) = place_of(self.files.as_slice(), name) else {
+        if place_of(self.files.as_slice(), name).is_none() {
             return Err(FolderFault::Failed);
-        };
-        let _ = self.files.remove(place);
+        }
+        self.files.retain(|file| file.name.as_str() != name);
         Ok(())
     }
 }
@@ -480,10 +578,9 @@ fn schedule_after(schedule: Schedule, calls: u64, bytes: u64) -> Schedule {
 }
 
 impl Sink for MemoryWriter {
-    ghost use Rattle.std.specs.Prelude.{Some, string_bytes};
-    ghost use Rattle.command_core.specs.Trace.{tape};
+    ghost use Rattle.folder_memory.specs.Memory.{taken_by};
 
-    ghost taken = { λ w. Some (tape (string_bytes w.name) w.bytes.taken) };
+    ghost taken = { taken_by };
 
     fn write(&mut self, bytes: &[u8]) -> Result<usize, Failed> {
         let n = self.bytes.write(bytes)?;

@@ -5,4 +5,5 @@ use Rattle.command_core.proofs.facts.write_label.Given as goal
 
 abbrev pub invariant-bytes : goal.invariant-bytes
 invariant-bytes g l =
-    IsPlainFormatter l.initial.f → HasWritten g.W.Write.write_str_gives l.initial.f (label_text (take l.at l.fn.label)) l.f
+    IsPlainFormatter l.initial.f → HasWritten g.W.Write.write_str_gives l.initial.f (label_text (take l.at l.fn.label))
+    l.f

@@ -1,0 +1,12 @@
+-- The files so far were verified.
+use Rattle.std.proofs.Common.{map, take}
+use Rattle.command_core.specs.Work.{AreWorked, IsOfVerifying, Verifying, asked_label}
+use Rattle.command_core.proofs.commands.verify_all.Given as goal
+
+abbrev pub invariant-loop-name : goal.invariant-loop-name
+invariant-loop-name g l =
+    AreWorked (λ name. IsOfVerifying l.options.show) (Verifying l.key l.options.max_bytes (asked_label l.options))
+    (map (λ name. name.now) (take l.name-index l.options.files.now)) l.status
+    (g.L.Sink.taken l.initial.lines) (g.L.Sink.taken l.lines) (g.L.Sink.failures l.initial.lines)
+    (g.L.Sink.failures l.lines)
+    (g.F.Folder.told l.initial.folder) (g.F.Folder.told l.folder)
