@@ -1,11 +1,11 @@
 -- Files sealed in a group: its numbers are granted by the batch, and settled one by one.
-use Rattle.std.proofs.Common.{◌≡◌, ◌≢◌, ◌⊎◌, ℕ, zero, suc, ◌+◌, ◌-◌, ◌<◌, ◌≤◌, Bool, true, false, cond, nat_eq, eq-eqb, ne_eqb, length-append, length-drop, Vec, Global, List, [], ◌∷◌, ◌++◌, length, count_by, refl, sym, ap, ◌∙◌, subst, ⊎_elim, arith, get_or, set, All, Option, map, append-nil, append_assoc, Bor, take, drop}
+use Rattle.std.proofs.Common.{◌≡◌, ◌≢◌, ◌⊎◌, ℕ, zero, suc, ◌+◌, ◌-◌, ◌<◌, ◌≤◌, Bool, true, false, cond, nat_eq, eq-eqb, ne_eqb, length-append, length-drop, Vec, Global, List, [], ◌∷◌, ◌++◌, length, count_by, refl, sym, ap, ◌∙◌, subst, ⊎_elim, arith, lit≤, get_or, set, All, Option, map, append-nil, append_assoc, Bor, take, drop}
 use Rattle.std.specs.Prelude.{Some, slice_get, flat_map}
 use mathlib.Core.Logic.{dite}
 use native.Mathlib.Decide.{ℕ_discrete}
 use Rattle.std.proofs.lemmas.Option.{slice_get-get_or, slice_get_within, get_or_from_slice_get}
-use Rattle.std.proofs.lemmas.List.{map-append, length-map}
-use Rattle.std.proofs.lemmas.List.Elements.{All-nil, All-cons, All-push}
+use Rattle.std.proofs.lemmas.List.{map-append, length-map, length-set}
+use Rattle.std.proofs.lemmas.List.Elements.{All-nil, All-cons, All-head, All-push, All-tail}
 use Rattle.std.proofs.lemmas.Grind.{flat_map-append}
 use Rattle.std.proofs.Math.Seq.{take-add}
 use Rattle.std.proofs.lemmas.List.Sums.{sum_by-cons, sum_by-append}
@@ -20,7 +20,7 @@ use Rattle.journal_core.proofs.Histories.{count_push}
 use Rattle.journal_core.proofs.Bounds.{sum_below, sum_below_more}
 use Rattle.ledger_core.specs.declared.fault.IssueFault.{IssueFault}
 use Rattle.ledger_core.specs.declared.fault.IssueFault.TheVariants.{SeatClosed, OutOfMemory as NoMemory, Exhausted as NoNumber}
-use Rattle.ledger_core.specs.Shared.{LedgerView, SeatView, SpentView, Extends}
+use Rattle.ledger_core.specs.Shared.{LedgerView, SeatView, SpentView, GrantView, Extends, IsSameSeat, spent_as}
 use Rattle.ledger_core.specs.Closing.{AreAllSeats}
 use Rattle.ledger_core.proofs.Meetings.{get-set_here, get-set_else}
 use Rattle.crew_core.specs.declared.outcome.Outcome.{Outcome}
@@ -32,11 +32,11 @@ use Rattle.command_core.specs.declared.line.FileOutcome.{FileOutcome}
 use Rattle.command_core.specs.declared.line.FileOutcome.TheVariants.{Sealed, Opened, Good, Shown, Failed}
 use Rattle.command_core.specs.Lines.{FileLine}
 use Rattle.command_core.specs.Work.{AreTold}
-use Rattle.sealer_core.specs.Group.{holds, HasEnded, IsHeld, AreHeld, AreOwed, OwesAt, IsOwed, SettledAt, IsCounted, IsEnding, AreEnded, AreEnding, IsGroup, refused_lines, name_of, IsPrepared, read_of, left_by, void_by, void_in, void_of}
+use Rattle.sealer_core.specs.Group.{holds, HasEnded, IsHeld, AreHeld, AreOwing, AreOwed, OwesAt, SettledAt, IsCounted, IsEnding, AreEnded, AreEnding, IsGroup, refused_lines, name_of, IsPrepared, read_of, left_by, void_by, void_in}
 use Rattle.sealer_core.specs.declared.prepare.Prepared.{Prepared}
 use Rattle.sealer_core.specs.declared.prepare.Prepared.TheVariants.{Refused, Unread, Read}
 use Rattle.command_core.specs.declared.line.FileFault.TheVariants.{OutOfMemory}
-use Rattle.sealer_core.specs.Sealing.{Accounts, AreSealed, IsOfSealing, line_of, operations_of, seals, spoils, tells_of, times_sealed, times_voided, void_at}
+use Rattle.sealer_core.specs.Sealing.{Accounts, AreSealed, IsOfSealing, line_of, operations_of, seals, spoils, tells_of, times_in, times_sealed, times_voided, void_at}
 use Rattle.sealer_core.proofs.Numbering.{adds_failure, in_append, in_push, mine_of, told_push, sum_below_zeros, sum_below_first}
 use Rattle.sealer_core.proofs.Sealings.{sealed_more}
 
@@ -162,31 +162,6 @@ module _ (lines : List FileLine) (voids : List ℕ) (o : Outcome) (os : List Out
   held_ended (Shown bytes facts) how = held_void (Shown bytes facts) (λ n. refl) how
   held_ended (Failed fault) how = held_void (Failed fault) (λ n. refl) how
 
--- the same, by the outcome of a job
-pub held_unissued : (lines : List FileLine) (voids : List ℕ) (others : List Outcome) (operations : List Entry) (name : List ℕ) (fault : FileFault) (seat : ℕ) (why : IssueFault) (outcome : Outcome)
-    → outcome ≡ job.Unissued seat why → AreHeld lines voids (outcome ∷ others) operations
-    → AreHeld (lines ++ line_of name (Failed fault) ∷ []) (voids ++ void_of outcome (Failed fault)) others operations
-held_unissued lines voids others operations name fault seat why outcome is a =
-    subst (λ (o : Outcome). AreHeld (lines ++ line_of name (Failed fault) ∷ []) (voids ++ void_of o (Failed fault)) others operations) (sym is)
-    (held_failed lines voids others operations name fault (held_fewer lines voids outcome others operations seat why is a))
-
-pub held_spoiled : (lines : List FileLine) (voids : List ℕ) (others : List Outcome) (old new : List Entry) (name : List ℕ) (fault : FileFault) (seats device seat : ℕ) (spent : SpentView) (outcome : Outcome)
-    → outcome ≡ job.Spoiled seat spent → IsHeld seats device outcome → IsCounted old new (Settled spent.number spent.way) → AreHeld lines voids (outcome ∷ others) old
-    → AreHeld (lines ++ line_of name (Failed fault) ∷ []) (voids ++ void_of outcome (Failed fault)) others new
-held_spoiled lines voids others old new name fault seats device seat spent outcome is held counted a =
-    let way : spent.way ≡ ended.Void = (subst (IsHeld seats device) is held).1.1 in
-    subst (λ (o : Outcome). AreHeld (lines ++ line_of name (Failed fault) ∷ []) (voids ++ void_of o (Failed fault)) others new) (sym is)
-    (held_ended lines voids (job.Spoiled seat spent) others spent.number old new name (λ n. refl)
-    (subst (λ (o : Outcome). AreHeld lines voids (o ∷ others) old) is a) (Failed fault) (subst (λ (w : Way). IsCounted old new (Settled spent.number w)) way counted))
-
-pub held_put : (lines : List FileLine) (voids : List ℕ) (others : List Outcome) (old new : List Entry) (name : List ℕ) (seat : ℕ) (container : Vec ℕ Global) (spent : SpentView) (outcome : Outcome) (end : FileOutcome)
-    → outcome ≡ job.Sealed seat container spent → IsEnding spent.number old new end → AreHeld lines voids (outcome ∷ others) old
-    → AreHeld (lines ++ line_of name end ∷ []) (voids ++ void_of outcome end) others new
-held_put lines voids others old new name seat container spent outcome end is ending a =
-    subst (λ (o : Outcome). AreHeld (lines ++ line_of name end ∷ []) (voids ++ void_of o end) others new) (sym is)
-    (held_ended lines voids (job.Sealed seat container spent) others spent.number old new name (λ n. refl)
-    (subst (λ (o : Outcome). AreHeld lines voids (o ∷ others) old) is a) end ending)
-
 -- ---- numbers that are owed at each seat
 
 -- the outcomes that name a seat, where one more stands before them
@@ -243,18 +218,14 @@ owed_unissued seats o os seat fault is a = record {
     none_of i n = ap (λ (x : Outcome). cond {A = ℕ} (nat_eq (seat_of o) i) (cond (holds n x) 1 0) 0) is ∙ zero_both (nat_eq (seat_of o) i)
 
 -- the number of the first outcome is owed
-owed_number : (seats : List SeatView) (o : Outcome) (os : List Outcome) (number : ℕ) → holds number o ≡ true → AreOwed seats (o ∷ os) → OwesAt seats (seat_of o) number
+owed_number : (seats : List SeatView) (o : Outcome) (os : List Outcome) (number : ℕ) → holds number o ≡ true → AreOwed seats (o ∷ os)
+    → (v : SeatView) → slice_get seats (seat_of o) ≡ Some v → times_settled number v.mine < times_granted number v.mine
 owed_number seats o os number its a = λ v at.
     let before = a.each (seat_of o) number v at in
     let front = of_seat-cons number (seat_of o) o os in
     let hit : cond {A = ℕ} (nat_eq (seat_of o) (seat_of o)) (cond (holds number o) 1 0) 0 ≡ cond (holds number o) 1 0 = ap (λ b. cond {A = ℕ} b (cond (holds number o) 1 0) 0) (eq-eqb (seat_of o) (seat_of o) refl) in
     let one : cond {A = ℕ} (holds number o) 1 0 ≡ 1 = ap (λ b. cond {A = ℕ} b 1 0) its in
     omega arith
-
-pub owed_first : (seats : List SeatView) (o : Outcome) (os : List Outcome) → AreOwed seats (o ∷ os) → IsOwed seats o
-owed_first seats (job.Sealed seat bytes spent) os a = owed_number seats (job.Sealed seat bytes spent) os spent.number (eq-eqb spent.number spent.number refl) a
-owed_first seats (job.Spoiled seat spent) os a = owed_number seats (job.Spoiled seat spent) os spent.number (eq-eqb spent.number spent.number refl) a
-owed_first seats (job.Unissued seat fault) os a = tt
 
 pub owed_as : (seats : List SeatView) (os os' : List Outcome) → os ≡ os' → AreOwed seats os → AreOwed seats os'
 owed_as seats os os' is a = subst (AreOwed seats) is a
@@ -276,6 +247,171 @@ owed_none seats none = record { each = λ i n v at. let is = mine_none seats non
     mine_none (x ∷ xs) none (suc i) v at =
         let long = ap length none in let both = length-append x.mine (operations_of xs) in
         mine_none xs (empty (operations_of xs) (omega arith)) i v at
+
+-- ---- the first of the outcomes
+
+-- its number was granted by the seat at this place, and is to be settled there
+module _ (ledger : LedgerView) (old : List SeatView) (outcomes rest : List Outcome) (o : Outcome) (place : ℕ) (spent : SpentView)
+    (is : outcomes ≡ o ∷ rest) (at : seat_of o ≡ place) (its : (n : ℕ) → holds n o ≡ nat_eq n spent.number) where
+  pub owes_first : ((device : ℕ) → HasEnded device o → spent.device ≡ device) → AreOwing ledger old outcomes → OwesAt ledger old place spent.device spent.number
+  owes_first of owing =
+      let held : IsHeld (length old) ledger.terms.range.device o = (All-head (IsHeld (length old) ledger.terms.range.device) o rest (subst (All (IsHeld (length old) ledger.terms.range.device)) is owing.held)) in
+      let owed : AreOwed old (o ∷ rest) = subst (AreOwed old) is owing.owed in (
+        subst (λ p. p < length old) at held.0,
+        of ledger.terms.range.device held.1,
+        subst (λ p. (seat : SeatView) → slice_get old p ≡ Some seat → times_settled spent.number seat.mine < times_granted spent.number seat.mine) at
+            (owed_number old o rest spent.number (its spent.number ∙ eq-eqb spent.number spent.number refl) owed),
+      )
+
+  pub owing_rest : (new : List SeatView) → length new ≡ length old → AreAllSeats ledger new → SettledAt place spent.number old new → AreOwing ledger old outcomes → AreOwing ledger new rest
+  owing_rest new long all settled owing = record {
+    all = all;
+    held = subst (λ n. All (IsHeld n ledger.terms.range.device) rest) (sym long)
+        (All-tail (IsHeld (length old) ledger.terms.range.device) o rest (subst (All (IsHeld (length old) ledger.terms.range.device)) is owing.held));
+    owed = owed_fewer old new o rest spent.number long (subst (λ p. SettledAt p spent.number old new) (sym at) settled) its (subst (AreOwed old) is owing.owed);
+  }
+
+  -- it ends as its file's line tells
+  pub ended_first : (lines : List FileLine) (voids void : List ℕ) (before after : List Entry) (name : List ℕ) (end : FileOutcome) → void ≡ void_at spent.number end → IsEnding spent.number before after end
+      → AreHeld lines voids outcomes before → AreHeld (lines ++ line_of name end ∷ []) (voids ++ void) rest after
+  ended_first lines voids void before after name end named ending a =
+      subst (λ v. AreHeld (lines ++ line_of name end ∷ []) (voids ++ v) rest after) (sym named)
+      (held_ended lines voids o rest spent.number before after name its (subst (λ l. AreHeld lines voids l before) is a) end ending)
+
+-- it has no number
+module _ (outcomes rest : List Outcome) (seat : ℕ) (why : IssueFault) (is : outcomes ≡ job.Unissued seat why ∷ rest) where
+  pub owing_unissued : (ledger : LedgerView) (seats : List SeatView) → AreOwing ledger seats outcomes → AreOwing ledger seats rest
+  owing_unissued ledger seats owing = record {
+    all = owing.all;
+    held = All-tail (IsHeld (length seats) ledger.terms.range.device) (job.Unissued seat why) rest (subst (All (IsHeld (length seats) ledger.terms.range.device)) is owing.held);
+    owed = owed_unissued seats (job.Unissued seat why) rest seat why refl (subst (AreOwed seats) is owing.owed);
+  }
+
+  pub held_unissued : (lines : List FileLine) (voids : List ℕ) (operations : List Entry) → AreHeld lines voids outcomes operations → AreHeld lines voids rest operations
+  held_unissued lines voids operations a = held_fewer lines voids (job.Unissued seat why) rest operations seat why refl (subst (λ l. AreHeld lines voids l operations) is a)
+
+pub owing_as : (ledger : LedgerView) (seats : List SeatView) (os os' : List Outcome) → os ≡ os' → AreOwing ledger seats os → AreOwing ledger seats os'
+owing_as ledger seats os os' is owing = subst (AreOwing ledger seats) is owing
+
+-- new seats owe none
+pub owing_none : (ledger : LedgerView) (seats : List SeatView) → operations_of seats ≡ [] → AreAllSeats ledger seats → AreOwing ledger seats []
+owing_none ledger seats none all = record { all = all; held = All-nil (IsHeld (length seats) ledger.terms.range.device); owed = owed_none seats none }
+
+-- ---- what the first seat does
+
+-- all seats are there still
+first_all : (ledger : LedgerView) (seats : List SeatView) (d w : SeatView) → 0 < length seats → IsSameSeat (get_or seats 0 d) w → AreAllSeats ledger seats → AreAllSeats ledger (set seats 0 w)
+first_all ledger seats d w some same all = record {
+  count = length-set seats 0 w ∙ all.count;
+  each = λ i v at. dite (ℕ_discrete i 0)
+      (λ zeroth.
+      let now = get-set_here seats 0 w some in
+      let there : slice_get (set seats 0 w) 0 ≡ Some v = ap (slice_get (set seats 0 w)) (sym zeroth) ∙ at in
+      let is : v ≡ w = cc in
+      let was = all.each 0 (get_or seats 0 d) (slice_get-get_or seats 0 d some) in
+      (ap (λ (x : SeatView). x.ledger) is ∙ same.ledger ∙ was.0, ap (λ (x : SeatView). x.terms) is ∙ same.terms ∙ was.1, ap (λ (x : SeatView). x.number) is ∙ same.number ∙ was.2 ∙ sym zeroth))
+      (λ apart. all.each i v (sym (get-set_else seats 0 i w apart) ∙ at));
+}
+
+-- a number was granted there
+module _ (ledger : LedgerView) (seats : List SeatView) (d w : SeatView) (grant : GrantView) (some : 0 < length seats)
+    (more : Extends (get_or seats 0 d) (Granted grant.number) w) where
+  pub granted_held : (lines : List FileLine) (voids : List ℕ) → Accounts lines voids (operations_of seats)
+      → AreHeld lines voids (job.Spoiled 0 (spent_as grant ended.Void) ∷ []) (operations_of (set seats 0 w))
+  granted_held lines voids a = held_by_count (counted_at seats 0 d w (Granted grant.number) some more)
+    where
+      held_by_count : IsCounted (operations_of seats) (operations_of (set seats 0 w)) (Granted grant.number)
+          → AreHeld lines voids (job.Spoiled 0 (spent_as grant ended.Void) ∷ []) (operations_of (set seats 0 w))
+      held_by_count (place, one) = record {
+        told = λ n. let s = one (seals n) in let h = a.told n in omega arith;
+        voided = λ n. let v = one (spoils n) in let h = a.voided n in omega arith;
+        granted = λ n.
+            let v = one (spoils n) in let g = one (grants n) in let h = a.granted n in
+            let c = held_cons n (job.Spoiled 0 (spent_as grant ended.Void)) [] in omega arith;
+      }
+
+  pub granted_owing : IsSameSeat (get_or seats 0 d) w → grant.device ≡ (get_or seats 0 d).terms.range.device → AreOwing ledger seats []
+      → AreOwing ledger (set seats 0 w) (job.Spoiled 0 (spent_as grant ended.Void) ∷ [])
+  granted_owing same of owing = record {
+    all = first_all ledger seats d w some same owing.all;
+    held = All-cons (IsHeld (length (set seats 0 w)) ledger.terms.range.device) (job.Spoiled 0 (spent_as grant ended.Void)) []
+        ((let long = length-set seats 0 w in omega arith), (of ∙ ap (λ (t : Terms). t.range.device) (owing.all.each 0 (get_or seats 0 d) (slice_get-get_or seats 0 d some)).1, refl))
+        (All-nil (IsHeld (length (set seats 0 w)) ledger.terms.range.device));
+    owed = record { each = λ i n v at. dite (ℕ_discrete i 0) (here i n v at) (other i n v at) };
+  }
+    where
+      here : (i n : ℕ) (v : SeatView) → slice_get (set seats 0 w) i ≡ Some v → i ≡ 0 → times_settled n v.mine + count_by (holds n) (of_seat i (job.Spoiled 0 (spent_as grant ended.Void) ∷ [])) ≡ times_granted n v.mine
+      here i n v at zeroth =
+          let now = get-set_here seats 0 w some in
+          let there : slice_get (set seats 0 w) 0 ≡ Some v = ap (slice_get (set seats 0 w)) (sym zeroth) ∙ at in
+          let is : v ≡ w = cc in
+          let mine : v.mine ≡ (get_or seats 0 d).mine ++ entry (get_or seats 0 d).number (Granted grant.number) ∷ [] = ap (λ (x : SeatView). x.mine) is ∙ mine_of (get_or seats 0 d) w (Granted grant.number) more in
+          let before = owing.owed.each 0 n (get_or seats 0 d) (slice_get-get_or seats 0 d some) in
+          let settled = count_push (settles n) (get_or seats 0 d).mine (entry (get_or seats 0 d).number (Granted grant.number)) in
+          let granted = count_push (grants n) (get_or seats 0 d).mine (entry (get_or seats 0 d).number (Granted grant.number)) in
+          let settled' = ap (times_settled n) mine in
+          let granted' = ap (times_granted n) mine in
+          let front = of_seat-cons n 0 (job.Spoiled 0 (spent_as grant ended.Void)) [] in
+          let index : count_by (holds n) (of_seat i (job.Spoiled 0 (spent_as grant ended.Void) ∷ [])) ≡ count_by (holds n) (of_seat 0 (job.Spoiled 0 (spent_as grant ended.Void) ∷ [])) =
+          ap (λ k. count_by (holds n) (of_seat k (job.Spoiled 0 (spent_as grant ended.Void) ∷ []))) zeroth in
+          omega arith
+
+      other : (i n : ℕ) (v : SeatView) → slice_get (set seats 0 w) i ≡ Some v → i ≢ 0 → times_settled n v.mine + count_by (holds n) (of_seat i (job.Spoiled 0 (spent_as grant ended.Void) ∷ [])) ≡ times_granted n v.mine
+      other i n v at apart =
+          let before = owing.owed.each i n v (sym (get-set_else seats 0 i w apart) ∙ at) in
+          let front = of_seat-cons n i (job.Spoiled 0 (spent_as grant ended.Void)) [] in
+          let miss : cond {A = ℕ} (nat_eq 0 i) (cond (nat_eq n grant.number) 1 0) 0 ≡ 0 = ap (λ b. cond {A = ℕ} b (cond (nat_eq n grant.number) 1 0) 0) (ne_eqb 0 i (λ is. apart (sym is))) in
+          omega arith
+
+-- none was
+module _ (ledger : LedgerView) (seats : List SeatView) (d w : SeatView) (some : 0 < length seats) (how : (w ≡ get_or seats 0 d) ⊎ Extends (get_or seats 0 d) Exhausted w) where
+  pub refused_owing : IsSameSeat (get_or seats 0 d) w → AreOwing ledger seats [] → AreOwing ledger (set seats 0 w) []
+  refused_owing same owing = record {
+    all = first_all ledger seats d w some same owing.all;
+    held = All-nil (IsHeld (length (set seats 0 w)) ledger.terms.range.device);
+    owed = record { each = λ i n v at. dite (ℕ_discrete i 0) (here i n v at) (λ apart. owing.owed.each i n v (sym (get-set_else seats 0 i w apart) ∙ at)) };
+  }
+    where
+      here : (i n : ℕ) (v : SeatView) → slice_get (set seats 0 w) i ≡ Some v → i ≡ 0 → times_settled n v.mine + 0 ≡ times_granted n v.mine
+      here i n v at zeroth =
+          let now = get-set_here seats 0 w some in
+          let there : slice_get (set seats 0 w) 0 ≡ Some v = ap (slice_get (set seats 0 w)) (sym zeroth) ∙ at in
+          let is : v ≡ w = cc in
+          let before = owing.owed.each 0 n (get_or seats 0 d) (slice_get-get_or seats 0 d some) in
+          ⊎_elim
+          (λ (kept : w ≡ get_or seats 0 d).
+          let mine = ap (λ (x : SeatView). x.mine) (is ∙ kept) in
+          let settled = ap (times_settled n) mine in
+          let granted = ap (times_granted n) mine in
+          omega arith)
+          (λ (more : Extends (get_or seats 0 d) Exhausted w).
+          let mine : v.mine ≡ (get_or seats 0 d).mine ++ entry (get_or seats 0 d).number Exhausted ∷ [] = ap (λ (x : SeatView). x.mine) is ∙ mine_of (get_or seats 0 d) w Exhausted more in
+          let settled = count_push (settles n) (get_or seats 0 d).mine (entry (get_or seats 0 d).number Exhausted) in
+          let granted = count_push (grants n) (get_or seats 0 d).mine (entry (get_or seats 0 d).number Exhausted) in
+          let settled' = ap (times_settled n) mine in
+          let granted' = ap (times_granted n) mine in
+          omega arith)
+          how
+
+  pub refused_accounts_at : (lines : List FileLine) (voids : List ℕ) (name : List ℕ) (fault : FileFault) → Accounts lines voids (operations_of seats)
+      → Accounts (lines ++ line_of name (Failed fault) ∷ []) (voids ++ []) (operations_of (set seats 0 w))
+  refused_accounts_at lines voids name fault a = ⊎_elim
+      (λ (kept : w ≡ get_or seats 0 d).
+      subst (λ l. Accounts (lines ++ line_of name (Failed fault) ∷ []) (voids ++ []) (operations_of l)) (sym (ap (set seats 0) kept ∙ set_same seats some))
+      (adds_failure lines voids (operations_of seats) 0 name a fault))
+      (λ (more : Extends (get_or seats 0 d) Exhausted w). by_count (counted_at seats 0 d w Exhausted some more))
+      how
+    where
+      set_same : (seats : List SeatView) → 0 < length seats → set seats 0 (get_or seats 0 d) ≡ seats
+      set_same [] some = absurd (omega arith)
+      set_same (v ∷ vs) some = refl
+
+      by_count : IsCounted (operations_of seats) (operations_of (set seats 0 w)) Exhausted → Accounts (lines ++ line_of name (Failed fault) ∷ []) (voids ++ []) (operations_of (set seats 0 w))
+      by_count (place, one) = record {
+        told = λ n. let t = told_push n lines (line_of name (Failed fault)) in let s = one (seals n) in let h = a.told n in omega arith;
+        voided = λ n. let i = in_append n voids [] in let v = one (spoils n) in let h = a.voided n in omega arith;
+        granted = λ n. let t = told_push n lines (line_of name (Failed fault)) in let v = one (spoils n) in let g = one (grants n) in let h = a.granted n in omega arith;
+      }
 
 -- ---- numbers that a batch granted
 
@@ -403,27 +539,18 @@ owed_batch old new os long issued a = record {
 pub held_as : (lines : List FileLine) (voids : List ℕ) (os os' : List Outcome) (operations : List Entry) → os ≡ os' → AreHeld lines voids os operations → AreHeld lines voids os' operations
 held_as lines voids os os' operations is a = subst (λ (l : List Outcome). AreHeld lines voids l operations) is a
 
--- a file ends by the first of the outcomes, or by none where there is none
-pub held_none : (lines : List FileLine) (voids : List ℕ) (old new : List Outcome) (operations : List Entry) (name : List ℕ) (fault : FileFault) → old ≡ [] → old ≡ new
-    → AreHeld lines voids old operations → AreHeld (lines ++ line_of name (Failed fault) ∷ []) (voids ++ void_by old (Failed fault)) new operations
-held_none lines voids old new operations name fault none same a =
-    subst (λ (os : List Outcome). AreHeld (lines ++ line_of name (Failed fault) ∷ []) (voids ++ void_by os (Failed fault)) new operations) (sym none)
-    (held_failed lines voids new operations name fault (held_as lines voids old new operations same a))
+-- a file that failed without a number
+pub held_without : (lines : List FileLine) (voids void : List ℕ) (os : List Outcome) (operations : List Entry) (name : List ℕ) (fault : FileFault) → void ≡ [] → AreHeld lines voids os operations
+    → AreHeld (lines ++ line_of name (Failed fault) ∷ []) (voids ++ void) os operations
+held_without lines voids void os operations name fault none a =
+    subst (λ v. AreHeld (lines ++ line_of name (Failed fault) ∷ []) (voids ++ v) os operations) (sym none) (held_failed lines voids os operations name fault a)
 
--- it ends by its own fault
-pub held_refused : {W : Type 0} (lines : List FileLine) (voids : List ℕ) (os : List Outcome) (operations : List Entry) (file its : Prepared W) (name : List ℕ) (fault : FileFault) → file ≡ its
-    → void_in its os (Failed fault) ≡ [] → AreHeld lines voids os operations
-    → AreHeld (lines ++ line_of name (Failed fault) ∷ []) (voids ++ void_in file os (Failed fault)) os operations
-held_refused lines voids os operations file its name fault is none a =
-    subst (λ (v : List ℕ). AreHeld (lines ++ line_of name (Failed fault) ∷ []) (voids ++ v) os operations) (sym none ∙ ap (λ f. void_in f os (Failed fault)) (sym is))
-    (held_failed lines voids os operations name fault a)
+-- the void number of a file that was read is that of its outcome
+pub void_read : {W : Type 0} (file : Prepared W) (name : Bor (List ℕ)) (writer : W) (bytes : ℕ) (os os' : List Outcome) (end : FileOutcome) → file ≡ Read name writer bytes → os ≡ os' → void_in file os end ≡ void_by os' end
+void_read file name writer bytes os os' end is same = ap (λ f. void_in f os end) is ∙ ap (λ l. void_by l end) same
 
-pub held_front : (lines : List FileLine) (voids : List ℕ) (old new : List Outcome) (operations operations' : List Entry) (outcome : Outcome) (name : List ℕ) (end : FileOutcome) → old ≡ outcome ∷ new
-    → (AreHeld lines voids (outcome ∷ new) operations → AreHeld (lines ++ line_of name end ∷ []) (voids ++ void_of outcome end) new operations')
-    → AreHeld lines voids old operations → AreHeld (lines ++ line_of name end ∷ []) (voids ++ void_by old end) new operations'
-held_front lines voids old new operations operations' outcome name end is more a =
-    subst (λ (os : List Outcome). AreHeld (lines ++ line_of name end ∷ []) (voids ++ void_by os end) new operations') (sym is)
-    (more (subst (λ (os : List Outcome). AreHeld lines voids os operations) is a))
+pub void_unread : {W : Type 0} (file its : Prepared W) (os : List Outcome) (end : FileOutcome) → file ≡ its → void_in its os end ≡ [] → void_in file os end ≡ []
+void_unread file its os end is none = ap (λ f. void_in f os end) is ∙ none
 
 -- each outcome names one of the seats
 pub among_seats : (lanes seats : ℕ) (new : List SeatView) (os : List Outcome) → lanes ≤ seats → AreAmong lanes new os
@@ -434,7 +561,7 @@ among_seats lanes seats new os few among j o at = let below = (among j o at).0 i
 pub nothing_held : (lines : List FileLine) (voids : List ℕ) (operations : List Entry) → Accounts lines voids operations → AreHeld lines voids [] operations
 nothing_held lines voids operations a = record { told = a.told; voided = a.voided; granted = λ n. let h = a.granted n in omega arith }
 
--- where nothing is held any more no number is open
+-- where nothing is held any more no number is owing
 pub let_go : (lines : List FileLine) (voids : List ℕ) (operations : List Entry) → AreHeld lines voids [] operations → Accounts lines voids operations
 let_go lines voids operations a = record { told = a.told; voided = a.voided; granted = λ n. let h = a.granted n in omega arith }
 
@@ -471,6 +598,24 @@ few_outcomes key shape slice jobs files os how same read =
     (λ (none : os ≡ []). let no = ap length none in omega arith)
     (λ (some : AreOutcomes key shape (map (λ (job : Vec ℕ Global). job.items) slice) os). let count = some.count in omega arith)
     how
+
+-- no more jobs than names
+pub few_jobs : {W : Type 0} (files : List (Prepared W)) (jobs : List (Vec ℕ Global)) (names : List (Bor (List ℕ))) → map name_of files ≡ map (λ (name : Bor (List ℕ)). name.now) names
+    → map (λ (job : Vec ℕ Global). length job.items) jobs ≡ flat_map read_of files → length jobs ≤ length names
+few_jobs {W = W} files jobs names named read =
+    let all = ap length read in
+    let lengths = length-map jobs (λ (job : Vec ℕ Global). length job.items) in
+    let called = ap length named in
+    let files' = length-map files name_of in
+    let names' = length-map names (λ (name : Bor (List ℕ)). name.now) in
+    let few = at_most files in
+    omega arith
+  where
+    at_most : (fs : List (Prepared W)) → length (flat_map read_of fs) ≤ length fs
+    at_most [] = lit≤ tt
+    at_most (Refused name fault ∷ fs) = let rest = at_most fs in omega arith
+    at_most (Unread name writer fault ∷ fs) = let rest = at_most fs in omega arith
+    at_most (Read name writer bytes ∷ fs) = let rest = at_most fs in omega arith
 
 pub few_left : {W : Type 0} (items left : List (Prepared W)) (file : Prepared W) (os os' : List Outcome) → items ≡ file ∷ left → os' ≡ left_by file os
     → length os ≤ length (flat_map read_of items) → length os' ≤ length (flat_map read_of left)
@@ -645,6 +790,29 @@ refused_group happened names operations status status' old new failures failures
   fitting = refused_fitting names;
   told = told;
   accounts = λ before earlier a. refused_accounts names before earlier operations a;
+  done = done;
+}
+
+-- ---- a group of one
+
+pub single_name : (names : List (Bor (List ℕ))) (d : Bor (List ℕ)) → 0 < length names → length names ≤ 1 → map (λ (name : Bor (List ℕ)). name.now) names ≡ (get_or names 0 d).now ∷ []
+single_name [] d some few = absurd (omega arith)
+single_name (name ∷ []) d some few = refl
+single_name (name ∷ other ∷ names) d some few = absurd (omega arith)
+
+pub one_group : (happened : List FileLine → List ℕ → Type 0) (name : List ℕ) (names' : List (List ℕ)) (outcome : FileOutcome) (void : List ℕ) (operations operations' : List Entry) (status status' : ℕ)
+    (old new : Option (List ℕ)) (failures failures' : Option ℕ) → names' ≡ name ∷ [] → IsOfSealing outcome
+    → ((before : List FileLine) (first : Option (List ℕ)) (count : Option ℕ) → AreTold status before first old count failures
+    → AreTold status' (before ++ line_of name outcome ∷ []) first new count failures')
+    → ((before : List FileLine) (earlier : List ℕ) → Accounts before earlier operations → Accounts (before ++ line_of name outcome ∷ []) (earlier ++ void) operations')
+    → happened (line_of name outcome ∷ []) void → IsGroup happened names' operations operations' status status' old new failures failures'
+one_group happened name names' outcome void operations operations' status status' old new failures failures' named fit told accounts done = record {
+  lines = line_of name outcome ∷ [];
+  voids = void;
+  named = sym named;
+  fitting = All-cons (λ (l : FileLine). IsOfSealing l.outcome) (line_of name outcome) [] fit (All-nil (λ (l : FileLine). IsOfSealing l.outcome));
+  told = told;
+  accounts = accounts;
   done = done;
 }
 

@@ -19,28 +19,31 @@ use Rattle.command_core.specs.declared.line.FileFault.TheVariants.{CannotOpen, O
 use Rattle.command_core.specs.declared.line.FileOutcome.{FileOutcome}
 use Rattle.command_core.specs.declared.line.FileOutcome.TheVariants.{Sealed, Opened, Good, Shown, Failed}
 use Rattle.command_core.specs.Lines.{FileLine}
-use Rattle.command_core.specs.Trace.{Event, Reading, Unread, Created, Refused, Finished, Discarded, Does, Nothing, Opens, FailsToOpen, Creates, Refuses, Discards, tape}
+use Rattle.command_core.specs.Trace.{Event, Reading, Created, Refused, Finished, Does, Nothing, Opens, Creates, Refuses, Discards, tape}
 use Rattle.command_core.proofs.Traces.{nothing, weaken, chain, known, finished_as, discarded_as}
-use Rattle.sealer_core.specs.Group.{IsRefused}
-use Rattle.sealer_core.specs.Sealing.{AreOfGroups, IsCause, IsCauseAt, IsClosed, Happened, HeldUnder, IfSealed, IsDiscarded, IsOfNumber, IsOfWhole, IsUncreated, Part, Puts, PutsUnder, Sealing, group_events, group_voids, line_of, prepared, sealed_name, unissued_as, void_at}
+use Rattle.sealer_core.specs.Group.{EndsBy, IsMade, IsPut, IsRefusal, IsRefused}
+use Rattle.sealer_core.specs.Sealing.{AreOfGroups, IsCause, IsClosed, Happened, IsDiscarded, Part, Sealing, group_events, group_voids, line_of, prepared, sealed_name, unissued_as, void_at}
 
 -- ---- what a writer took
 
 pub kept_appends : (a b : Option (List ℕ)) → Keeps a b → Appends a b []
 kept_appends a b kept = Appends-kept a a b [] (Appends-nil a) kept
 
-pub of_whole : (outcome : FileOutcome) → IsOfWhole outcome → IsOfNumber outcome
-of_whole (Sealed number bytes) is = tt
-of_whole (Failed (Unsealed sealing_fault.Write)) is = tt
-of_whole outcome is = absurd is
+-- behind nothing, an output that came back is given up with what it took
+pub discards_behind : (taken taken' : Option (List ℕ)) (one two three : Option (List Event)) → taken' ≡ taken → Does Nothing one two → Does (Discards taken') two three → Does (Discards taken) one three
+discards_behind taken taken' one two three back none discards = chain (Discards taken)
+    (λ x y n d. subst (Discards taken) (sym (ap (λ l. l ++ y) n)) (subst (λ t. Discards t y) back d)) one two three none discards
 
-pub of_unissued : (why : IssueFault) (fault : FileFault) → fault ≡ unissued_as why → IsOfNumber (Failed fault)
-of_unissued why fault is = subst (λ f. IsOfNumber (Failed f)) (sym is) (of why)
-  where
-    of : (why : IssueFault) → IsOfNumber (Failed (unissued_as why))
-    of issue_fault.Exhausted = tt
-    of issue_fault.SeatClosed = tt
-    of issue_fault.OutOfMemory = tt
+-- What the writer of an output took, of whose input this was to be read. Where no number is void it took nothing; under
+-- a void number it took a beginning of the input's container.
+abbrev pub PutsUnder : List ℕ → ShapeView → ℕ → List ℕ → Option (List ℕ) → Option (List ℕ) → List ℕ → Type 0
+PutsUnder key shape device input taken taken' [] = Keeps taken taken'
+PutsUnder key shape device input taken taken' (number ∷ []) = AppendsFront taken taken' (container key shape (prefix_of device number) input)
+PutsUnder key shape device input taken taken' (number ∷ another ∷ numbers) = ⊥
+
+-- the fault tells the cause, whatever the writer took behind these bytes
+abbrev pub IsCauseAt : ℕ → FileFault → List ℕ → List ℕ → Option (List ℕ) → Option (List ℕ) → Type 0
+IsCauseAt most fault void input taken taken' = (old held : List ℕ) → taken ≡ Some old → taken' ≡ Some (old ++ held) → IsCause most fault void input held
 
 -- known bytes that grew
 grown_as : (taken taken' : Option (List ℕ)) (old held : List ℕ) → taken ≡ Some old → Appends taken taken' held → taken' ≡ Some (old ++ held)
@@ -58,10 +61,8 @@ kept_nothing (Some before) (Some after) old held is now kept =
 -- ---- why an output is given up
 
 -- it took nothing
-pub cause_kept : (most : ℕ) (fault : FileFault) (void : List ℕ) (left taken taken' : Option (List ℕ)) → ((input : List ℕ) → left ≡ Some input → IsCause most fault void input []) → Keeps taken taken'
-    → IsCauseAt most fault void left taken taken'
-cause_kept most fault void left taken taken' why kept input old held is was now =
-    subst (IsCause most fault void input) (sym (kept_nothing taken taken' old held was now kept)) (why input is)
+pub cause_kept : (most : ℕ) (fault : FileFault) (void input : List ℕ) (taken taken' : Option (List ℕ)) → IsCause most fault void input [] → Keeps taken taken' → IsCauseAt most fault void input taken taken'
+cause_kept most fault void input taken taken' why kept old held was now = subst (IsCause most fault void input) (sym (kept_nothing taken taken' old held was now kept)) why
 
 -- no number was issued
 pub cause_unissued : (most : ℕ) (input : List ℕ) (why : IssueFault) → IsCause most (unissued_as why) [] input []
@@ -70,14 +71,14 @@ cause_unissued most input issue_fault.SeatClosed = refl
 cause_unissued most input issue_fault.OutOfMemory = refl
 
 -- the engine ended with a fault
-pub cause_begun : (most number : ℕ) (left taken taken' : Option (List ℕ)) (result : Result ℕ SealFault) (fault : SealFault) → result ≡ Err fault
-    → (result ≡ Err sealing_fault.TooLong → IfSome left (λ input. most < length input)) → result ≢ Err sealing_fault.TooManyChunks → (result ≡ Err sealing_fault.OutOfMemory → Keeps taken taken')
-    → IsCauseAt most (Unsealed fault) (number ∷ []) left taken taken'
-cause_begun most number left taken taken' result sealing_fault.TooLong is more few kept input old held left_is was now = known (λ i. most < length i) left input left_is (more is)
-cause_begun most number left taken taken' result sealing_fault.TooManyChunks is more few kept input old held left_is was now = absurd (few is)
-cause_begun most number left taken taken' result sealing_fault.OutOfMemory is more few kept input old held left_is was now = kept_nothing taken taken' old held was now (kept is)
-cause_begun most number left taken taken' result sealing_fault.Read is more few kept input old held left_is was now = tt
-cause_begun most number left taken taken' result sealing_fault.Write is more few kept input old held left_is was now = λ none. absurd (cc)
+cause_begun : (most number : ℕ) (left taken taken' : Option (List ℕ)) (input : List ℕ) (result : Result ℕ SealFault) (fault : SealFault) → result ≡ Err fault → left ≡ Some input
+    → (result ≡ Err sealing_fault.TooLong → IfSome left (λ input. most < length input)) → result ≢ Err sealing_fault.TooManyChunks
+    → (result ≡ Err sealing_fault.OutOfMemory → Keeps taken taken') → IsCauseAt most (Unsealed fault) (number ∷ []) input taken taken'
+cause_begun most number left taken taken' input result sealing_fault.TooLong as_is is more few kept old held was now = known (λ i. most < length i) left input is (more as_is)
+cause_begun most number left taken taken' input result sealing_fault.TooManyChunks as_is is more few kept old held was now = absurd (few as_is)
+cause_begun most number left taken taken' input result sealing_fault.OutOfMemory as_is is more few kept old held was now = kept_nothing taken taken' old held was now (kept as_is)
+cause_begun most number left taken taken' input result sealing_fault.Read as_is is more few kept old held was now = tt
+cause_begun most number left taken taken' input result sealing_fault.Write as_is is more few kept old held was now = λ none. absurd (cc)
 
 -- one that was read whole could not
 pub cause_unread : (most : ℕ) (left : Option (List ℕ)) (result : Result (Vec ℕ Global) SealFault) (fault : SealFault) → result ≡ Err fault
@@ -88,83 +89,6 @@ cause_unread most left result sealing_fault.TooManyChunks is more no_write few i
 cause_unread most left result sealing_fault.OutOfMemory is more no_write few input left_is = refl
 cause_unread most left result sealing_fault.Read is more no_write few input left_is = tt
 cause_unread most left result sealing_fault.Write is more no_write few input left_is = absurd (no_write is)
-
--- behind nothing, an output that came back is given up with what it took
-pub discards_behind : (taken taken' : Option (List ℕ)) (one two three : Option (List Event)) → taken' ≡ taken → Does Nothing one two → Does (Discards taken') two three → Does (Discards taken) one three
-discards_behind taken taken' one two three back none discards = chain (Discards taken)
-    (λ x y n d. subst (Discards taken) (sym (ap (λ l. l ++ y) n)) (subst (λ t. Discards t y) back d)) one two three none discards
-
-module _ (key : List ℕ) (shape : ShapeView) (most : ℕ) where
-  -- nothing, where no number was issued
-  pub puts_nothing : (device : ℕ) (left taken : Option (List ℕ)) (why : IssueFault) (fault : FileFault) → fault ≡ unissued_as why → Puts key shape most device left taken taken (Failed fault) []
-  puts_nothing device left taken why fault is = (
-    Keeps-refl taken,
-    cause_kept most fault [] left taken taken (λ input known. subst (λ f. IsCause most f [] input []) (sym is) (cause_unissued most input why)) (Keeps-refl taken),
-  )
-
-  -- a beginning, where the engine ended with a fault
-  pub puts_begun : (device device' number : ℕ) (left taken taken' : Option (List ℕ)) (result : Result ℕ SealFault) (fault : SealFault) → result ≡ Err fault → device' ≡ device
-      → OnErr result (BeginsContainer key shape (prefix_of device' number) left taken taken') → IsCauseAt most (Unsealed fault) (number ∷ []) left taken taken'
-      → Puts key shape most device left taken taken' (Failed (Unsealed fault)) (number ∷ [])
-  puts_begun device device' number left taken taken' result fault is same begun cause = (begins left result is begun, cause)
-    where
-      begins : (left : Option (List ℕ)) (result : Result ℕ SealFault) → result ≡ Err fault → OnErr result (BeginsContainer key shape (prefix_of device' number) left taken taken')
-          → PutsUnder key shape device left taken taken' (number ∷ [])
-      begins left (Ok bytes) is begun = absurd (cc)
-      begins None (Err why) is begun = tt
-      begins (Some input) (Err why) is begun =
-          subst (λ d. AppendsFront taken taken' (container key shape (prefix_of d number) input)) same
-          (subst (λ plain. AppendsFront taken taken' (container key shape (prefix_of device' number) plain)) (sym begun.1) begun.2)
-
-  -- all, where it sealed the input and the output was then finished; where it couldn't be finished that is a beginning too
-  pub puts_whole : (device device' number number' count : ℕ) (left taken taken' : Option (List ℕ)) (result : Result ℕ SealFault) (outcome : FileOutcome) → result ≡ Ok count → device' ≡ device
-      → number ≡ number' → OnOk result (IfSome left (λ input. Appends taken taken' (container key shape (prefix_of device' number') input)))
-      → OnOk result (IfSome left (λ input. length input ≤ most))
-      → IfOk result (λ n. IfSome left (λ input. n ≡ length input)) → IsOfWhole outcome → IfSealed outcome (λ n bytes. (n ≡ number) × (bytes ≡ count))
-      → Puts key shape most device left taken taken' outcome (void_at number outcome)
-  puts_whole device device' number number' count left taken taken' (Err fault) outcome is same named written within long fit sealed = absurd (cc)
-  puts_whole device device' number number' count None taken taken' (Ok n) (Sealed m bytes) is same named written within long fit sealed = (refl, tt)
-  puts_whole device device' number number' count None taken taken' (Ok n) (Failed (Unsealed sealing_fault.Write)) is same named written within long fit sealed =
-      (tt, λ input old held left_is was now none. absurd (cc))
-  puts_whole device device' number number' count (Some input) taken taken' (Ok n) (Sealed m bytes) is same named written within long fit sealed =
-      let counted : n ≡ count = cc in (
-        refl,
-        (
-          sealed.1 ∙ sym counted ∙ long,
-          within,
-          subst (λ k. Appends taken taken' (container key shape (prefix_of device k) input)) (sym (sealed.0 ∙ named))
-              (subst (λ d. Appends taken taken' (container key shape (prefix_of d number') input)) same written),
-        ),
-      )
-  puts_whole device device' number number' count (Some input) taken taken' (Ok n) (Failed (Unsealed sealing_fault.Write)) is same named written within long fit sealed = (
-    (
-      container key shape (prefix_of device number) input,
-      ([], sym (append-nil (container key shape (prefix_of device number) input))),
-      subst (λ k. Appends taken taken' (container key shape (prefix_of device k) input)) (sym named)
-          (subst (λ d. Appends taken taken' (container key shape (prefix_of d number') input)) same written),
-    ),
-    λ input' old held left_is was now none. absurd (cc),
-  )
-  puts_whole device device' number number' count left taken taken' (Ok n) outcome is same named written within long fit sealed = absurd fit
-
-  -- what an output was given up with
-  pub discards_as : (device : ℕ) (fault : FileFault) (name output input void : List ℕ) (taken taken' : Option (List ℕ)) (events : List Event) → output ≡ sealed_name name → taken ≡ Some (tape output [])
-      → PutsUnder key shape device (Some input) taken taken' void → IsCauseAt most fault void (Some input) taken taken' → Discards taken' events
-      → (held : List ℕ) × HeldUnder key shape device input void held × IsCause most fault void input held × (events ≡ Discarded (sealed_name name) held ∷ [])
-  discards_as device fault name output input [] taken taken' events named empty kept cause discards =
-      let grew = kept_appends taken taken' kept in (
-        [],
-        refl,
-        cause input (tape output []) [] refl empty (grown_as taken taken' (tape output []) [] empty grew),
-        discarded_as output [] [] taken taken' events empty grew discards ∙ ap (λ o. Discarded o [] ∷ []) named,
-      )
-  discards_as device fault name output input (number ∷ []) taken taken' events named empty (front, of, grew) cause discards = (
-    front,
-    of,
-    cause input (tape output []) front refl empty (grown_as taken taken' (tape output []) front empty grew),
-    discarded_as output [] front taken taken' events empty grew discards ∙ ap (λ o. Discarded o front ∷ []) named,
-  )
-  discards_as device fault name output input (number ∷ another ∷ numbers) taken taken' events named empty puts cause discards = absurd puts
 
 -- ---- groups
 
@@ -204,9 +128,17 @@ group_done does parts lines voids events lined each numbers joined = record {
   joined = joined ∙ sym (append-nil (group_events parts));
 }
 
--- ---- one file that one lane sealed
+-- ---- one file
 
--- its input was opened, and its output was refused
+-- its input was opened, and its output created
+pub makes : (name output : List ℕ) (left taken : Option (List ℕ)) (one two three : Option (List Event)) → output ≡ sealed_name name
+    → Does (Opens name left) one two → Does (Creates output taken) two three → Does (IsMade name left taken) one three
+makes name output left taken one two three named opens creates = chain (IsMade name left taken)
+    (λ x y o m.
+    let both : x ++ y ≡ Reading name o.0 ∷ Created output ∷ [] = (λ i. o.2 i ++ m.1 i) in
+    (o.0, o.1, m.0 ∙ ap (λ n. Some (tape n [])) named, both ∙ ap (λ n. Reading name o.0 ∷ Created n ∷ []) named)) one two three opens creates
+
+-- or refused
 pub refuses : (name output : List ℕ) (fault : FolderFault) (left : Option (List ℕ)) (one two three : Option (List Event)) → output ≡ sealed_name name
     → Does (Opens name left) one two → Does (Refuses output fault) two three → Does (IsRefused name fault) one three
 refuses name output fault left one two three named opens refused = chain (IsRefused name fault)
@@ -214,91 +146,115 @@ refuses name output fault left one two three named opens refused = chain (IsRefu
     let both : x ++ y ≡ Reading name o.0 ∷ Refused output fault ∷ [] = (λ i. o.2 i ++ r i) in
     (o.0, both ∙ ap (λ n. Reading name o.0 ∷ Refused n fault ∷ []) named)) one two three opens refused
 
+module _ (key : List ℕ) (shape : ShapeView) (most device : ℕ) where
+  -- no output was created for it
+  pub refused_as : (name : List ℕ) (fault : FileFault) (before after : List Event) → IsRefusal name fault before → after ≡ [] → Sealing key shape most device name (Failed fault) [] before after
+  refused_as name CannotOpen before after is none = (refl, (is, none))
+  refused_as name OutOfMemory before after is none = (refl, (is, none))
+  refused_as name OutputExists before after is none = (refl, (is.0, is.1, none))
+  refused_as name CannotCreate before after is none = (refl, (is.0, is.1, none))
+  refused_as name fault before after is none = absurd is
+
+  -- its output was created, of such an input, and took nothing so far
+  module _ (name input : List ℕ) (old new : Option (List ℕ)) (before after : List Event) (empty : old ≡ Some (tape (sealed_name name) [])) (begun : before ≡ prepared name input) where
+    discarded : (fault : FileFault) (void : List ℕ) → PutsUnder key shape device input old new void → IsCauseAt most fault void input old new → Discards new after
+        → IsDiscarded key shape most device name fault void before after
+    discarded fault [] kept cause discards =
+        let grew = kept_appends old new kept in
+        (input, [], refl, cause (tape (sealed_name name) []) [] empty (grown_as old new (tape (sealed_name name) []) [] empty grew), begun, discarded_as (sealed_name name) [] [] old new after empty grew discards)
+    discarded fault (number ∷ []) (front, of, grew) cause discards =
+        (input, front, of, cause (tape (sealed_name name) []) front empty (grown_as old new (tape (sealed_name name) []) front empty grew), begun, discarded_as (sealed_name name) [] front old new after empty grew discards)
+    discarded fault (number ∷ another ∷ numbers) puts cause discards = absurd puts
+
+    -- it failed, and was given up
+    pub failed_as : (fault : FileFault) (void : List ℕ) (end : FileOutcome) → end ≡ Failed fault → PutsUnder key shape device input old new void → IsCauseAt most fault void input old new
+        → IsClosed new end after → Sealing key shape most device name end void before after
+    failed_as fault void end is put cause closed = subst (λ o. Sealing key shape most device name o void before after) (sym is)
+        (given fault (discarded fault void put cause (subst (λ o. IsClosed new o after) is closed)))
+      where
+        given : (fault : FileFault) → IsDiscarded key shape most device name fault void before after → Sealing key shape most device name (Failed fault) void before after
+        given CannotOpen (i, held, under, never, one, two) = absurd never
+        given OutputExists (i, held, under, never, one, two) = absurd never
+        given CannotCreate (i, held, under, never, one, two) = absurd never
+        given OutOfMemory (i, held, under, never, one, two) = absurd never
+        given fault is = is
+
+    -- it got a container, whole or in part
+    pub put_as : (all : List ℕ) (number bytes : ℕ) (end : FileOutcome) → bytes ≡ length input → length input ≤ most → all ≡ container key shape (prefix_of device number) input
+        → IsPut all number bytes old new end → IsClosed new end after → Sealing key shape most device name end (void_at number end) before after
+    put_as all number bytes (Sealed n m) count within is (same, long, grew) closed =
+        let put : all ≡ container key shape (prefix_of device n) input = is ∙ ap (λ k. container key shape (prefix_of device k) input) (sym same) in
+        let finished = finished_as (sealed_name name) [] all old new after empty grew closed in
+        (input, refl, long ∙ count, within, begun, finished ∙ ap (λ c. Finished (sealed_name name) c ∷ []) put)
+    put_as all number bytes (Failed fault) count within is (wrong, front) closed =
+        failed_as (Unsealed sealing_fault.Write) (number ∷ []) (Failed fault) wrong (subst (AppendsFront old new) is front) (λ o h was now none. absurd (cc)) closed
+    put_as all number bytes (Opened n) count within is (wrong, front) closed = absurd (cc)
+    put_as all number bytes (Good n) count within is (wrong, front) closed = absurd (cc)
+    put_as all number bytes (Shown n facts) count within is (wrong, front) closed = absurd (cc)
+
+-- an output whose container was written, or not all of it
+pub put_whole : (all : List ℕ) (number bytes : ℕ) (old new : Option (List ℕ)) (end : FileOutcome) → Appends old new all → EndsBy (Ok bytes) number end → IsPut all number bytes old new end
+put_whole all number bytes old new (Sealed n m) grew ends = (ends.0, ends.1, grew)
+put_whole all number bytes old new (Opened n) grew ends = (ends, (all, ([], sym (append-nil all)), grew))
+put_whole all number bytes old new (Good n) grew ends = (ends, (all, ([], sym (append-nil all)), grew))
+put_whole all number bytes old new (Shown n facts) grew ends = (ends, (all, ([], sym (append-nil all)), grew))
+put_whole all number bytes old new (Failed fault) grew ends = (ends, (all, ([], sym (append-nil all)), grew))
+
+pub put_front : (all : List ℕ) (number bytes : ℕ) (old new : Option (List ℕ)) (end : FileOutcome) → AppendsFront old new all → EndsBy (Err sealing_fault.Write) number end → IsPut all number bytes old new end
+put_front all number bytes old new end front ends = subst (IsPut all number bytes old new) (sym ends) (refl, front)
+
+-- ---- one file that one lane sealed
+
 module _ (key : List ℕ) (shape : ShapeView) (most device : ℕ) (name : List ℕ) where
-  alone : (outcome : FileOutcome) (void : List ℕ) (events before after : List Event) → Sealing key shape most device name outcome void before after → events ≡ before ++ after
-      → AreOfGroups (Sealing key shape most device) ((line_of name outcome ∷ []) ∷ []) void events
-  alone outcome void events before after is joined =
+  alone : (outcome : FileOutcome) (void : List ℕ) (before after : List Event) → Sealing key shape most device name outcome void before after
+      → AreOfGroups (Sealing key shape most device) ((line_of name outcome ∷ []) ∷ []) void (before ++ after)
+  alone outcome void before after is =
       let part : Part = record { line = line_of name outcome; void = void; before = before; after = after } in
-      group_done (Sealing key shape most device) (part ∷ []) (line_of name outcome ∷ []) void events refl
+      group_done (Sealing key shape most device) (part ∷ []) (line_of name outcome ∷ []) void (before ++ after) refl
       (All-cons (IsPart (Sealing key shape most device)) part [] is (All-nil (IsPart (Sealing key shape most device))))
       (sym (append-nil void))
-      (joined ∙ sym (λ i. append-nil before i ++ append-nil after i))
-
-  -- nothing was done with it
-  pub was_unbegun : (told : Option (List Event)) → Happened key shape most device told told ((line_of name (Failed OutOfMemory) ∷ []) ∷ []) []
-  was_unbegun told = weaken (λ events n. alone (Failed OutOfMemory) [] events [] [] (refl, (refl, refl)) n) told told (nothing told)
-
-  -- it wasn't opened
-  pub was_unopened : (told told' : Option (List Event)) → Does (FailsToOpen name) told told' → Happened key shape most device told told' ((line_of name (Failed CannotOpen) ∷ []) ∷ []) []
-  was_unopened told told' unread = weaken (λ events n. alone (Failed CannotOpen) [] events (Unread name ∷ []) [] (refl, (refl, refl)) n) told told' unread
+      (sym (λ i. append-nil before i ++ append-nil after i))
 
   -- no output was created
-  pub was_uncreated : (fault : FileFault) (why : FolderFault) (output : List ℕ) (left : Option (List ℕ)) (one two three : Option (List Event))
-      → ((before : List Event) → IsUncreated name why before [] → Sealing key shape most device name (Failed fault) [] before []) → output ≡ sealed_name name
-      → Does (Opens name left) one two → Does (Refuses output why) two three → Happened key shape most device one three ((line_of name (Failed fault) ∷ []) ∷ []) []
-  was_uncreated fault why output left one two three how named opens refused =
-      weaken (λ events r.
-      alone (Failed fault) [] events (Reading name r.0 ∷ Refused (sealed_name name) why ∷ []) []
-      (how (Reading name r.0 ∷ Refused (sealed_name name) why ∷ []) (r.0, refl, refl)) r.1)
-      one three (refuses name output why left one two three named opens refused)
-
-  -- it was sealed
-  was_sealed : (number count : ℕ) (output void : List ℕ) (left taken taken' : Option (List ℕ)) (one two three four : Option (List Event)) → output ≡ sealed_name name
-      → Does (Opens name left) one two → Does (Creates output taken) two three
-      → Puts key shape most device left taken taken' (Sealed number count) void
-      → Does (IsClosed taken' (Sealed number count)) three four → Happened key shape most device one four ((line_of name (Sealed number count) ∷ []) ∷ []) void
-  was_sealed number count output void left taken taken' one two three four named opens creates (none, put) ends =
-      chain (AreOfGroups (Sealing key shape most device) ((line_of name (Sealed number count) ∷ []) ∷ []) void)
-      (λ x y o more.
-      let facts = known (λ input. (count ≡ length input) × (length input ≤ most) × Appends taken taken' (container key shape (prefix_of device number) input)) left o.0 o.1 put in
-      alone (Sealed number count) void (x ++ y) (prepared name o.0) (Finished (sealed_name name) (container key shape (prefix_of device number) o.0) ∷ [])
-      (o.0, none, facts.0, facts.1, refl, refl) (λ i. o.2 i ++ more o.0 facts.2 i))
-      one two four opens
-      (chain (λ events. (input : List ℕ) → Appends taken taken' (container key shape (prefix_of device number) input)
-      → events ≡ Created (sealed_name name) ∷ Finished (sealed_name name) (container key shape (prefix_of device number) input) ∷ [])
-      (λ x y c f input grew.
-      let last = finished_as output [] (container key shape (prefix_of device number) input) taken taken' y c.0 grew f in
-      let both : x ++ y ≡ Created output ∷ Finished output (container key shape (prefix_of device number) input) ∷ [] = (λ i. c.1 i ++ last i) in
-      both ∙ ap (λ o. Created o ∷ Finished o (container key shape (prefix_of device number) input) ∷ []) named)
-      two three four creates ends)
-
-  -- its output was given up
-  given_up_as : (fault : FileFault) (void : List ℕ) (before after : List Event) → IsDiscarded key shape most device name fault void before after → Sealing key shape most device name (Failed fault) void before after
-  given_up_as CannotOpen void before after (input, held, under, never, begun, ended) = absurd never
-  given_up_as OutputExists void before after (input, held, under, never, begun, ended) = absurd never
-  given_up_as CannotCreate void before after (input, held, under, never, begun, ended) = absurd never
-  given_up_as OutOfMemory void before after (input, held, under, never, begun, ended) = absurd never
-  given_up_as fault void before after is = is
-
-  was_discarded : (fault : FileFault) (output void : List ℕ) (left taken taken' : Option (List ℕ)) (one two three four : Option (List Event)) → output ≡ sealed_name name
-      → Does (Opens name left) one two → Does (Creates output taken) two three
-      → Puts key shape most device left taken taken' (Failed fault) void
-      → Does (Discards taken') three four → Happened key shape most device one four ((line_of name (Failed fault) ∷ []) ∷ []) void
-  was_discarded fault output void left taken taken' one two three four named opens creates (puts, cause) discards =
-      chain (AreOfGroups (Sealing key shape most device) ((line_of name (Failed fault) ∷ []) ∷ []) void)
-      (λ x y o more.
-      let (held, under, why, so) = more o.0 o.1 in
-      alone (Failed fault) void (x ++ y) (prepared name o.0) (Discarded (sealed_name name) held ∷ [])
-      (given_up_as fault void (prepared name o.0) (Discarded (sealed_name name) held ∷ []) (o.0, held, under, why, refl, refl)) (λ i. o.2 i ++ so i))
-      one two four opens
-      (chain (λ events. (input : List ℕ) → left ≡ Some input → (held : List ℕ) × HeldUnder key shape device input void held × IsCause most fault void input held
-      × (events ≡ Created (sealed_name name) ∷ Discarded (sealed_name name) held ∷ []))
-      (λ x y c d input told.
-      let (held, under, why, so) = discards_as key shape most device fault name output input void taken taken' y named c.0
-      (subst (λ l. PutsUnder key shape device l taken taken' void) told puts) (subst (λ l. IsCauseAt most fault void l taken taken') told cause) d in
-      let both : x ++ y ≡ Created output ∷ Discarded (sealed_name name) held ∷ [] = (λ i. c.1 i ++ so i) in
-      (held, under, why, both ∙ ap (λ o. Created o ∷ Discarded (sealed_name name) held ∷ []) named))
-      two three four creates discards)
+  pub was_refused : (fault : FileFault) (told told' : Option (List Event)) → Does (IsRefusal name fault) told told' → Happened key shape most device told told' ((line_of name (Failed fault) ∷ []) ∷ []) []
+  was_refused fault told told' refused = weaken (λ events r.
+      subst (AreOfGroups (Sealing key shape most device) ((line_of name (Failed fault) ∷ []) ∷ []) []) (append-nil events) (alone (Failed fault) [] events [] (refused_as key shape most device name fault events [] r refl)))
+      told told' refused
 
   -- its output was closed
-  pub was_closed : (outcome : FileOutcome) (output void : List ℕ) (left taken taken' : Option (List ℕ)) (one two three four : Option (List Event)) → output ≡ sealed_name name
-      → Does (Opens name left) one two → Does (Creates output taken) two three
-      → Puts key shape most device left taken taken' outcome void
-      → Does (IsClosed taken' outcome) three four → Happened key shape most device one four ((line_of name outcome ∷ []) ∷ []) void
-  was_closed (Sealed number count) output void left taken taken' one two three four named opens creates puts closed =
-      was_sealed number count output void left taken taken' one two three four named opens creates puts closed
-  was_closed (Failed fault) output void left taken taken' one two three four named opens creates puts closed =
-      was_discarded fault output void left taken taken' one two three four named opens creates puts closed
-  was_closed (Opened count) output void left taken taken' one two three four named opens creates puts closed = absurd puts
-  was_closed (Good count) output void left taken taken' one two three four named opens creates puts closed = absurd puts
-  was_closed (Shown count facts) output void left taken taken' one two three four named opens creates puts closed = absurd puts
+  was_closed : (outcome : FileOutcome) (void : List ℕ) (left taken taken' : Option (List ℕ)) (one two three : Option (List Event))
+      → ((input : List ℕ) (before after : List Event) → left ≡ Some input → taken ≡ Some (tape (sealed_name name) []) → before ≡ prepared name input → IsClosed taken' outcome after
+      → Sealing key shape most device name outcome void before after)
+      → Does (IsMade name left taken) one two → Does (IsClosed taken' outcome) two three → Happened key shape most device one three ((line_of name outcome ∷ []) ∷ []) void
+  was_closed outcome void left taken taken' one two three how made closed = chain (AreOfGroups (Sealing key shape most device) ((line_of name outcome ∷ []) ∷ []) void)
+      (λ x y m c. alone outcome void x y (how m.0 x y m.1 m.2 m.3 c)) one two three made closed
+
+  -- no number was issued
+  pub was_unissued : (why : IssueFault) (fault : FileFault) (left taken : Option (List ℕ)) (one two three : Option (List Event)) → fault ≡ unissued_as why
+      → Does (IsMade name left taken) one two → Does (Discards taken) two three → Happened key shape most device one three ((line_of name (Failed fault) ∷ []) ∷ []) []
+  was_unissued why fault left taken one two three is = was_closed (Failed fault) [] left taken taken one two three (λ input before after known empty begun closed.
+      failed_as key shape most device name input taken taken before after empty begun fault [] (Failed fault) refl (Keeps-refl taken)
+      (cause_kept most fault [] input taken taken (subst (λ f. IsCause most f [] input []) (sym is) (cause_unissued most input why)) (Keeps-refl taken)) closed)
+
+  -- the engine ended so under a number
+  pub was_ended : (device' number : ℕ) (result : Result ℕ SealFault) (outcome : FileOutcome) (left taken taken' : Option (List ℕ)) (one two three : Option (List Event)) → device' ≡ device
+      → OnOk result (IfSome left (λ input. Appends taken taken' (container key shape (prefix_of device' number) input)))
+      → OnOk result (IfSome left (λ input. length input ≤ most)) → IfOk result (λ n. IfSome left (λ input. n ≡ length input))
+      → OnErr result (BeginsContainer key shape (prefix_of device' number) left taken taken')
+      → (result ≡ Err sealing_fault.TooLong → IfSome left (λ input. most < length input)) → result ≢ Err sealing_fault.TooManyChunks → (result ≡ Err sealing_fault.OutOfMemory → Keeps taken taken')
+      → EndsBy result number outcome
+      → Does (IsMade name left taken) one two → Does (IsClosed taken' outcome) two three → Happened key shape most device one three ((line_of name outcome ∷ []) ∷ []) (void_at number outcome)
+  was_ended device' number (Ok bytes) outcome left taken taken' one two three same written within count begun more few kept ends made ended =
+      was_closed outcome (void_at number outcome) left taken taken' one two three (λ input before after is empty is_begun closed.
+      let grew = known (λ i. Appends taken taken' (container key shape (prefix_of device' number) i)) left input is written in
+      put_as key shape most device name input taken taken' before after empty is_begun (container key shape (prefix_of device' number) input) number bytes outcome
+      (known (λ i. bytes ≡ length i) left input is count) (known (λ i. length i ≤ most) left input is within) (ap (λ d. container key shape (prefix_of d number) input) same)
+      (put_whole (container key shape (prefix_of device' number) input) number bytes taken taken' outcome grew ends) closed) made ended
+  was_ended device' number (Err fault) outcome left taken taken' one two three same written within count begun more few kept ends made closed =
+      subst (λ o. Happened key shape most device one three ((line_of name o ∷ []) ∷ []) (void_at number o)) (sym ends)
+      (was_closed (Failed (Unsealed fault)) (number ∷ []) left taken taken' one two three (λ input before after is empty is_begun ended.
+      let same_input : input ≡ begun.0 = known (λ i. i ≡ begun.0) left input is begun.1 in
+      let front = subst (λ d. AppendsFront taken taken' (container key shape (prefix_of d number) input)) same
+      (subst (λ plain. AppendsFront taken taken' (container key shape (prefix_of device' number) plain)) (sym same_input) begun.2) in
+      failed_as key shape most device name input taken taken' before after empty is_begun (Unsealed fault) (number ∷ []) (Failed (Unsealed fault)) refl front
+      (cause_begun most number left taken taken' input (Err fault) fault refl is more few kept) ended) made (subst (λ o. Does (IsClosed taken' o) two three) ends closed))

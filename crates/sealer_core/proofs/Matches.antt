@@ -1,7 +1,7 @@
 -- What happened for a group: of each file before the sealing and behind it. A file that was read goes with the first of
 -- the inputs and with the first of the outcomes, and leaves the others to the files behind it.
 use Rattle.std.proofs.Common.{◌≡◌, ◌≤◌, ◌⊎◌, ◌∙◌, ℕ, suc, refl, sym, ap, subst, arith, List, [], ◌∷◌, ◌++◌, length, map, append-nil, append_assoc, All, Bor, Vec, Global, Option, Some, None, ⊎_elim}
-use Rattle.std.specs.Prelude.{⊤, drop, flat_map}
+use Rattle.std.specs.Prelude.{⊤, drop, flat_map, slice_get}
 use Rattle.std.proofs.lemmas.List.{map-append}
 use Rattle.std.proofs.lemmas.List.Elements.{All-nil, All-cons, All-head, All-tail}
 use Rattle.container_core.specs.Shape.{ShapeView}
@@ -16,19 +16,19 @@ use Rattle.ledger_core.specs.declared.fault.IssueFault.{IssueFault}
 use Rattle.ledger_core.specs.Shared.{SpentView}
 use Rattle.ledger_core.specs.declared.fault.IssueFault.TheVariants as issue_fault
 use Rattle.std.proofs.KnownBytes.{Keeps-refl}
-use Rattle.io_core.specs.Streams.{Appends, AppendsFront, Consumes, IsAtEnd, Keeps}
+use Rattle.io_core.specs.Streams.{Consumes, IsAtEnd, Keeps}
 use Rattle.command_core.specs.declared.line.FileFault.{FileFault}
-use Rattle.command_core.specs.declared.line.FileFault.TheVariants.{CannotOpen, NoSuffix, OutputExists, CannotCreate, OutOfMemory, NoNumber, AnotherLabel, Unopened, Unsealed}
+use Rattle.command_core.specs.declared.line.FileFault.TheVariants.{OutOfMemory, Unsealed}
 use Rattle.command_core.specs.declared.line.FileOutcome.{FileOutcome}
-use Rattle.command_core.specs.declared.line.FileOutcome.TheVariants.{Sealed, Opened, Good, Shown, Failed}
+use Rattle.command_core.specs.declared.line.FileOutcome.TheVariants.{Failed}
 use Rattle.command_core.specs.Lines.{FileLine}
-use Rattle.command_core.specs.Trace.{Event, Reading, Created, Finished, Does, Nothing, Opens, Creates, Discards, Finishes, tape}
-use Rattle.command_core.proofs.Traces.{nothing, weaken, chain, finished_as}
+use Rattle.command_core.specs.Trace.{Event, Does, Discards, tape}
+use Rattle.command_core.proofs.Traces.{nothing, weaken, chain}
 use Rattle.sealer_core.specs.declared.prepare.Prepared.{Prepared}
 use Rattle.sealer_core.specs.declared.prepare.Prepared.TheVariants.{Refused, Unread, Read}
-use Rattle.sealer_core.specs.Group.{AreBegun, EndsSoFar, HasEnded, IsBegun, IsBegunWith, IsEnd, IsEndBy, IsEndIn, IsEndOfAll, IsHeld, IsPut, IsPutIn, IsRefusal, left_by, name_of, refused_lines, void_by, void_in}
-use Rattle.sealer_core.specs.Sealing.{AreOfGroups, Happened, IsCause, IsCauseAt, IsClosed, IsDiscarded, Part, PutsUnder, Sealing, group_voids, line_of, prepared, sealed_name, unissued_as, void_at}
-use Rattle.sealer_core.proofs.Happened.{IsPart, cause_kept, cause_unissued, discards_as, discards_behind, group_done, kept_appends}
+use Rattle.sealer_core.specs.Group.{AreBegun, EndsSoFar, HasEnded, IsBegun, IsBegunWith, IsEndBy, IsEndIn, IsEndOfAll, IsHeld, IsMade, IsPut, IsRefusal, left_by, name_of, refused_lines, void_by, void_in}
+use Rattle.sealer_core.specs.Sealing.{AreOfGroups, Happened, IsCause, IsClosed, Part, Sealing, group_voids, line_of, prepared, sealed_name, unissued_as}
+use Rattle.sealer_core.proofs.Happened.{IsPart, PutsUnder, cause_kept, cause_unissued, failed_as, group_done, kept_appends, put_as, refused_as}
 
 -- ---- before the sealing
 
@@ -39,6 +39,9 @@ read_whole (Some all) None input bytes is consumed end = absurd consumed
 read_whole (Some all) (Some rest) input bytes is consumed end =
     let same : all ≡ input = cc in
     sym (consumed ∙ ap (λ r. bytes ++ r) end ∙ append-nil bytes) ∙ same
+
+abbrev items_of : List (Vec ℕ Global) → List (List ℕ)
+items_of jobs = map (λ (j : Vec ℕ Global). j.items) jobs
 
 module _ {W : Type 0} (taken : W → Option (List ℕ)) (most : ℕ) where
   -- no file was begun
@@ -61,39 +64,27 @@ module _ {W : Type 0} (taken : W → Option (List ℕ)) (most : ℕ) where
   )
 
   -- no output was created for it
-  pub was_refused : {p : List Event → Type 0} → (jobs : List (List ℕ)) (name : Bor (List ℕ)) (fault : FileFault) → ((events : List Event) → p events → IsRefusal name.now fault events)
-      → (told told' : Option (List Event)) → Does p told told' → Does (IsBegunWith taken most jobs jobs (Refused name fault)) told told'
-  was_refused jobs name fault how told told' d = weaken (λ events e. ([], sym (append-nil jobs), (refl, how events e))) told told' d
+  pub was_refused_with : (jobs : List (List ℕ)) (name : Bor (List ℕ)) (fault : FileFault) (told told' : Option (List Event)) → Does (IsRefusal name.now fault) told told'
+      → Does (IsBegunWith taken most jobs jobs (Refused name fault)) told told'
+  was_refused_with jobs name fault told told' d = weaken (λ events e. ([], sym (append-nil jobs), (refl, e))) told told' d
 
   -- its input wasn't read whole
-  pub was_unread : (name output : List ℕ) (writer : W) (fault : SealFault) (jobs jobs' : List (List ℕ)) (left : Option (List ℕ)) (one two three : Option (List Event)) → output ≡ sealed_name name → jobs' ≡ jobs
-      → Does (Opens name left) one two → Does (Creates output (taken writer)) two three → ((input : List ℕ) → left ≡ Some input → IsCause most (Unsealed fault) [] input [])
-      → Does (λ events. (inputs : List (List ℕ)) × (jobs' ≡ jobs ++ inputs)
-      × ((inputs ≡ []) × (taken writer ≡ Some (tape (sealed_name name) [])) × ((input : List ℕ) × IsCause most (Unsealed fault) [] input [] × (events ≡ prepared name input)))) one three
-  was_unread name output writer fault jobs jobs' left one two three named same opens creates cause =
-      chain (λ events. (inputs : List (List ℕ)) × (jobs' ≡ jobs ++ inputs)
-      × ((inputs ≡ []) × (taken writer ≡ Some (tape (sealed_name name) [])) × ((input : List ℕ) × IsCause most (Unsealed fault) [] input [] × (events ≡ prepared name input))))
-      (λ x y o m.
-      let both : x ++ y ≡ Reading name o.0 ∷ Created output ∷ [] = (λ i. o.2 i ++ m.1 i) in
-      ([], same ∙ sym (append-nil jobs), (refl, m.0 ∙ ap (λ n. Some (tape n [])) named, (o.0, cause o.0 o.1, both ∙ ap (λ n. Reading name o.0 ∷ Created n ∷ []) named))))
-      one two three opens creates
+  pub was_unread : (name : Bor (List ℕ)) (writer : W) (fault : SealFault) (jobs jobs' : List (Vec ℕ Global)) (left : Option (List ℕ)) (one two : Option (List Event)) → jobs' ≡ jobs
+      → Does (IsMade name.now left (taken writer)) one two → ((input : List ℕ) → left ≡ Some input → IsCause most (Unsealed fault) [] input [])
+      → Does (IsBegunWith taken most (items_of jobs) (items_of jobs') (Unread name writer fault)) one two
+  was_unread name writer fault jobs jobs' left one two same made cause =
+      weaken (λ events m. ([], ap items_of same ∙ sym (append-nil (items_of jobs)), (refl, m.2, (m.0, cause m.0 m.1, m.3)))) one two made
 
   -- a file was read, as the last of the jobs
-  pub was_read : (name output : List ℕ) (writer : W) (bytes : ℕ) (left left' : Option (List ℕ)) (jobs jobs' : List (Vec ℕ Global)) (job : Vec ℕ Global) (one two three : Option (List Event)) → output ≡ sealed_name name
-      → Does (Opens name left) one two → Does (Creates output (taken writer)) two three → jobs' ≡ jobs ++ job ∷ [] → bytes ≡ length job.items → bytes ≤ most → Consumes left left' job.items → IsAtEnd left'
-      → Does (λ events. (inputs : List (List ℕ)) × (map (λ (j : Vec ℕ Global). j.items) jobs' ≡ map (λ (j : Vec ℕ Global). j.items) jobs ++ inputs)
-      × ((input : List ℕ) × (inputs ≡ input ∷ []) × (bytes ≡ length input) × (length input ≤ most) × (taken writer ≡ Some (tape (sealed_name name) [])) × (events ≡ prepared name input))) one three
-  was_read name output writer bytes left left' jobs jobs' job one two three named opens creates pushed count within consumed end =
-      chain (λ events. (inputs : List (List ℕ)) × (map (λ (j : Vec ℕ Global). j.items) jobs' ≡ map (λ (j : Vec ℕ Global). j.items) jobs ++ inputs)
-      × ((input : List ℕ) × (inputs ≡ input ∷ []) × (bytes ≡ length input) × (length input ≤ most) × (taken writer ≡ Some (tape (sealed_name name) [])) × (events ≡ prepared name input)))
-      (λ x y o m.
-      let whole : job.items ≡ o.0 = read_whole left left' o.0 job.items o.1 consumed end in
-      let both : x ++ y ≡ Reading name o.0 ∷ Created output ∷ [] = (λ i. o.2 i ++ m.1 i) in (
+  pub was_read : (name : Bor (List ℕ)) (writer : W) (bytes : ℕ) (left left' : Option (List ℕ)) (jobs jobs' : List (Vec ℕ Global)) (job : Vec ℕ Global) (one two : Option (List Event))
+      → Does (IsMade name.now left (taken writer)) one two → jobs' ≡ jobs ++ job ∷ [] → bytes ≡ length job.items → bytes ≤ most → Consumes left left' job.items → IsAtEnd left'
+      → Does (IsBegunWith taken most (items_of jobs) (items_of jobs') (Read name writer bytes)) one two
+  was_read name writer bytes left left' jobs jobs' job one two made pushed count within consumed end = weaken (λ events m.
+      let whole : job.items ≡ m.0 = read_whole left left' m.0 job.items m.1 consumed end in (
         job.items ∷ [],
-        ap (map (λ (j : Vec ℕ Global). j.items)) pushed ∙ map-append (λ (j : Vec ℕ Global). j.items) jobs (job ∷ []),
-        (job.items, refl, count, subst (λ n. n ≤ most) count within, m.0 ∙ ap (λ n. Some (tape n [])) named, both ∙ ap (λ n. Reading name o.0 ∷ Created n ∷ []) named ∙ ap (prepared name) (sym whole)),
-      ))
-      one two three opens creates
+        ap items_of pushed ∙ map-append (λ (j : Vec ℕ Global). j.items) jobs (job ∷ []),
+        (job.items, refl, count, subst (λ n. n ≤ most) count within, m.2, m.3 ∙ ap (prepared name.now) (sym whole)),
+      )) one two made
 
   -- one file more
   pub begun_more : (files files' : List (Prepared W)) (file : Prepared W) (jobs jobs' : List (List ℕ)) (told told' told'' : Option (List Event)) → files' ≡ files ++ file ∷ []
@@ -104,45 +95,28 @@ module _ {W : Type 0} (taken : W → Option (List ℕ)) (most : ℕ) where
 
 -- ---- behind the sealing
 
--- an output got a container whole, and was finished
-pub put_whole : (container : List ℕ) (number number' bytes : ℕ) (old new : Option (List ℕ)) (one two : Option (List Event)) → number' ≡ number → Appends old new container
-    → Does (Finishes new) one two → Does (IsPutIn container number bytes old (Sealed number' bytes)) one two
-put_whole container number number' bytes old new one two same grew finishes = weaken (λ events f. (new, (same, refl, grew), f)) one two finishes
-
--- or it didn't, or couldn't be finished, and was given up
-pub put_front : (container : List ℕ) (number bytes : ℕ) (old new : Option (List ℕ)) (one two three : Option (List Event)) → AppendsFront old new container
-    → Does Nothing one two → Does (Discards new) two three → Does (IsPutIn container number bytes old (Failed (Unsealed sealing_fault.Write))) one three
-put_front container number bytes old new one two three front none discards =
-    weaken (λ events d. (new, (refl, front), d)) one three (discards_behind new new one two three refl none discards)
-
-module _ (bytes : ℕ) (old : Option (List ℕ)) (one two : Option (List Event)) where
-  -- a file whose number wasn't issued was given up
-  pub ended_unissued : (outcome : Outcome) (seat : ℕ) (fault : IssueFault) (why : FileFault) → outcome ≡ job.Unissued seat fault → why ≡ unissued_as fault → Does (Discards old) one two
-      → Does (IsEnd bytes old (outcome ∷ []) (Failed why)) one two
-  ended_unissued outcome seat fault why is same discards = subst (λ o. Does (IsEnd bytes old (o ∷ []) (Failed why)) one two) (sym is)
-      (weaken (λ events d. (old, (ap Failed same, Keeps-refl old), d)) one two discards)
-
-  -- so was one for whose container there was no memory
-  pub ended_spoiled : (outcome : Outcome) (seat : ℕ) (spent : SpentView) → outcome ≡ job.Spoiled seat spent → Does (Discards old) one two
-      → Does (IsEnd bytes old (outcome ∷ []) (Failed (Unsealed sealing_fault.OutOfMemory))) one two
-  ended_spoiled outcome seat spent is discards = subst (λ o. Does (IsEnd bytes old (o ∷ []) (Failed (Unsealed sealing_fault.OutOfMemory))) one two) (sym is)
-      (weaken (λ events d. (old, (refl, Keeps-refl old), d)) one two discards)
-
-  -- and one of a group without outcomes
-  pub ended_none : (outcomes : List Outcome) → outcomes ≡ [] → Does (Discards old) one two → Does (IsEnd bytes old outcomes (Failed (Unsealed sealing_fault.OutOfMemory))) one two
-  ended_none outcomes none discards = subst (λ l. Does (IsEnd bytes old l (Failed (Unsealed sealing_fault.OutOfMemory))) one two) (sym none)
-      (weaken (λ events d. (old, (refl, Keeps-refl old), d)) one two discards)
-
-  -- one that was sealed got its container
-  pub ended_put : (outcome : Outcome) (seat : ℕ) (container : Vec ℕ Global) (spent : SpentView) (all : List ℕ) (end : FileOutcome) → outcome ≡ job.Sealed seat container spent → all ≡ container.items
-      → Does (IsPutIn all spent.number bytes old end) one two → Does (IsEnd bytes old (outcome ∷ []) end) one two
-  ended_put outcome seat container spent all end is same put = subst (λ o. Does (IsEnd bytes old (o ∷ []) end) one two) (sym is)
-      (subst (λ a. Does (IsPutIn a spent.number bytes old end) one two) same put)
-
+module _ (bytes : ℕ) (old new : Option (List ℕ)) (outcomes rest : List Outcome) (outcome : Outcome) (end : FileOutcome) (is : outcomes ≡ outcome ∷ rest) where
   -- a file ends by the first of the outcomes
-  pub ended_first : (outcomes : List Outcome) (outcome : Outcome) (others : List Outcome) (end : FileOutcome) → outcomes ≡ outcome ∷ others
-      → Does (IsEnd bytes old (outcome ∷ []) end) one two → Does (IsEnd bytes old outcomes end) one two
-  ended_first outcomes outcome others end is ends = subst (λ l. Does (IsEnd bytes old l end) one two) (sym is) ends
+  by_first : IsEndBy bytes old new (outcome ∷ rest) end → IsEndBy bytes old new outcomes end
+  by_first by = subst (λ l. IsEndBy bytes old new l end) (sym is) by
+
+  -- one that was sealed gets its container
+  pub by_sealed : (seat : ℕ) (container : Vec ℕ Global) (spent : SpentView) → outcome ≡ job.Sealed seat container spent → IsPut container.items spent.number bytes old new end
+      → IsEndBy bytes old new outcomes end
+  by_sealed seat container spent named put = by_first (subst (λ o. IsEndBy bytes old new (o ∷ rest) end) (sym named) put)
+
+  -- for its container there was no memory
+  pub by_spoiled : (seat : ℕ) (spent : SpentView) → outcome ≡ job.Spoiled seat spent → end ≡ Failed (Unsealed sealing_fault.OutOfMemory) → Keeps old new → IsEndBy bytes old new outcomes end
+  by_spoiled seat spent named ends kept = by_first (subst (λ o. IsEndBy bytes old new (o ∷ rest) end) (sym named) (ends, kept))
+
+  -- its number wasn't issued
+  pub by_unissued : (seat : ℕ) (fault : IssueFault) (why : FileFault) → outcome ≡ job.Unissued seat fault → why ≡ unissued_as fault → end ≡ Failed why → Keeps old new → IsEndBy bytes old new outcomes end
+  by_unissued seat fault why named same ends kept = by_first (subst (λ o. IsEndBy bytes old new (o ∷ rest) end) (sym named) (ends ∙ ap Failed same, kept))
+
+-- there is no outcome
+pub by_none : (bytes : ℕ) (old new : Option (List ℕ)) (outcomes : List Outcome) (end : FileOutcome) → outcomes ≡ [] → end ≡ Failed (Unsealed sealing_fault.OutOfMemory) → Keeps old new
+    → IsEndBy bytes old new outcomes end
+by_none bytes old new outcomes end none ends kept = subst (λ l. IsEndBy bytes old new l end) (sym none) (ends, kept)
 
 module _ {W : Type 0} (taken : W → Option (List ℕ)) where
   -- no file has ended
@@ -157,9 +131,10 @@ module _ {W : Type 0} (taken : W → Option (List ℕ)) where
       subst (λ f. Does (IsEndIn taken outcomes f (Failed (Unsealed fault))) one two) (sym is) (weaken (λ events d. (refl, d)) one two discards)
 
   -- one that was read has
-  pub ended_read : (outcomes : List Outcome) (file : Prepared W) (name : Bor (List ℕ)) (writer : W) (bytes : ℕ) (end : FileOutcome) (one two : Option (List Event)) → file ≡ Read name writer bytes
-      → Does (IsEnd bytes (taken writer) outcomes end) one two → Does (IsEndIn taken outcomes file end) one two
-  ended_read outcomes file name writer bytes end one two is ends = subst (λ f. Does (IsEndIn taken outcomes f end) one two) (sym is) ends
+  pub ended_read : (outcomes : List Outcome) (file : Prepared W) (name : Bor (List ℕ)) (writer : W) (bytes : ℕ) (new : Option (List ℕ)) (end : FileOutcome) (one two : Option (List Event)) → file ≡ Read name writer bytes
+      → IsEndBy bytes (taken writer) new outcomes end → Does (IsClosed new end) one two → Does (IsEndIn taken outcomes file end) one two
+  ended_read outcomes file name writer bytes new end one two is by closes =
+      subst (λ f. Does (IsEndIn taken outcomes f end) one two) (sym is) (weaken (λ events c. (new, by, c)) one two closes)
 
   -- one more has
   pub one_more_ended : (files items left : List (Prepared W)) (file : Prepared W) (outcomes outcomes' outcomes'' : List Outcome) (lines : List FileLine) (voids : List ℕ) (end : FileOutcome) (told told' told'' : Option (List Event))
@@ -222,9 +197,6 @@ refused_happened key shape most device names told told' same =
 -- ---- both
 
 module _ (key : List ℕ) (shape : ShapeView) (most device : ℕ) where
-  some_is : (a b : List ℕ) → Some a ≡ Some b → a ≡ b
-  some_is a b is = cc
-
   -- each outcome is one of its job, and of a number of the device
   abbrev Fit : List (List ℕ) → List Outcome → Type 0
   Fit jobs [] = ⊤
@@ -243,62 +215,23 @@ module _ (key : List ℕ) (shape : ShapeView) (most device : ℕ) where
   outcomes_fit : (seats : ℕ) (jobs : List (List ℕ)) (outcomes : List Outcome) → (outcomes ≡ []) ⊎ AreOutcomes key shape jobs outcomes → All (IsHeld seats device) outcomes → Fit jobs outcomes
   outcomes_fit seats jobs outcomes how held = ⊎_elim (λ (none : outcomes ≡ []). subst (Fit jobs) (sym none) tt) (λ (are : AreOutcomes key shape jobs outcomes). all_fit seats jobs outcomes are held) how
 
-  refused_as : (name : List ℕ) (fault : FileFault) (before after : List Event) → IsRefusal name fault before → after ≡ [] → Sealing key shape most device name (Failed fault) [] before after
-  refused_as name CannotOpen before after is none = (refl, (is, none))
-  refused_as name OutOfMemory before after is none = (refl, (is, none))
-  refused_as name OutputExists before after is none = (refl, (is.0, is.1, none))
-  refused_as name CannotCreate before after is none = (refl, (is.0, is.1, none))
-  refused_as name NoSuffix before after is none = absurd is
-  refused_as name NoNumber before after is none = absurd is
-  refused_as name AnotherLabel before after is none = absurd is
-  refused_as name (Unopened fault) before after is none = absurd is
-  refused_as name (Unsealed fault) before after is none = absurd is
-
   module _ (name input : List ℕ) (bytes : ℕ) (old new : Option (List ℕ)) (before after : List Event)
       (count : bytes ≡ length input) (within : length input ≤ most) (empty : old ≡ Some (tape (sealed_name name) [])) (begun : before ≡ prepared name input) where
-    given_up : (fault : FileFault) (void : List ℕ) → PutsUnder key shape device (Some input) old new void → IsCauseAt most fault void (Some input) old new → Discards new after
-        → IsDiscarded key shape most device name fault void before after
-    given_up fault void put cause discards =
-        let (held, under, why, is) = discards_as key shape most device fault name (sealed_name name) input void old new after refl empty put cause discards in
-        (input, held, under, why, begun, is)
-
-    failed_as : (fault : FileFault) (void : List ℕ) (end : FileOutcome)
-        → (IsDiscarded key shape most device name fault void before after → Sealing key shape most device name (Failed fault) void before after) → end ≡ Failed fault
-        → PutsUnder key shape device (Some input) old new void → IsCauseAt most fault void (Some input) old new → IsClosed new end after → Sealing key shape most device name end void before after
-    failed_as fault void end how is put cause closed = subst (λ o. Sealing key shape most device name o void before after) (sym is)
-        (how (given_up fault void put cause (subst (λ o. IsClosed new o after) is closed)))
-
-    put_as : (all : List ℕ) (number : ℕ) (end : FileOutcome) → all ≡ container key shape (prefix_of device number) input → IsPut all number bytes old new end
-        → IsClosed new end after → Sealing key shape most device name end (void_at number end) before after
-    put_as all number (Sealed n m) is (same, long, grew) closed =
-        let put : all ≡ container key shape (prefix_of device n) input = is ∙ ap (λ k. container key shape (prefix_of device k) input) (sym same) in
-        let finished = finished_as (sealed_name name) [] all old new after empty grew closed in
-        (input, refl, long ∙ count, within, begun, finished ∙ ap (λ c. Finished (sealed_name name) c ∷ []) put)
-    put_as all number (Opened n) is (wrong, front) closed = absurd (cc)
-    put_as all number (Good n) is (wrong, front) closed = absurd (cc)
-    put_as all number (Shown n facts) is (wrong, front) closed = absurd (cc)
-    put_as all number (Failed fault) is (wrong, front) closed =
-        failed_as (Unsealed sealing_fault.Write) (number ∷ []) (Failed fault) (λ d. d) wrong (subst (AppendsFront old new) is front) (λ i o h known was now none. absurd (cc)) closed
-
-    unissued : (fault : IssueFault) → IsDiscarded key shape most device name (unissued_as fault) [] before after → Sealing key shape most device name (Failed (unissued_as fault)) [] before after
-    unissued issue_fault.Exhausted d = d
-    unissued issue_fault.SeatClosed d = d
-    unissued issue_fault.OutOfMemory d = d
-
-    -- memory was refused, and nothing was written
-    no_memory : (void : List ℕ) → Keeps old new → IsCauseAt most (Unsealed sealing_fault.OutOfMemory) void (Some input) old new
-    no_memory void kept = cause_kept most (Unsealed sealing_fault.OutOfMemory) void (Some input) old new (λ i known. refl) kept
+    -- nothing was written
+    unwritten : (fault : FileFault) (void : List ℕ) (end : FileOutcome) → IsCause most fault void input [] → PutsUnder key shape device input old new void → end ≡ Failed fault → Keeps old new
+        → IsClosed new end after → Sealing key shape most device name end void before after
+    unwritten fault void end cause put is kept closed =
+        failed_as key shape most device name input old new before after empty begun fault void end is put (cause_kept most fault void input old new cause kept) closed
 
     ended_as_job : (outcomes : List Outcome) (jobs : List (List ℕ)) (end : FileOutcome) → Fit (input ∷ jobs) outcomes → IsEndBy bytes old new outcomes end
         → IsClosed new end after → Sealing key shape most device name end (void_by outcomes end) before after
-    ended_as_job [] jobs end fit is closed = failed_as (Unsealed sealing_fault.OutOfMemory) [] end (λ d. d) is.0 is.1 (no_memory [] is.1) closed
-    ended_as_job (job.Sealed seat bytes spent ∷ outcomes) jobs end fit is closed =
-        put_as bytes.items spent.number end (fit.0.0 ∙ ap (λ d. container key shape (prefix_of d spent.number) input) fit.1.0) is closed
+    ended_as_job [] jobs end fit is closed = unwritten (Unsealed sealing_fault.OutOfMemory) [] end refl is.1 is.0 is.1 closed
+    ended_as_job (job.Sealed seat bytes' spent ∷ outcomes) jobs end fit is closed =
+        put_as key shape most device name input old new before after empty begun bytes'.items spent.number bytes end count within
+        (fit.0.0 ∙ ap (λ d. container key shape (prefix_of d spent.number) input) fit.1.0) is closed
     ended_as_job (job.Spoiled seat spent ∷ outcomes) jobs end fit is closed =
-        failed_as (Unsealed sealing_fault.OutOfMemory) (spent.number ∷ []) end (λ d. d) is.0
-        ([], (container key shape (prefix_of device spent.number) input, refl), kept_appends old new is.1) (no_memory (spent.number ∷ []) is.1) closed
-    ended_as_job (job.Unissued seat fault ∷ outcomes) jobs end fit is closed =
-        failed_as (unissued_as fault) [] end (unissued fault) is.0 is.1 (cause_kept most (unissued_as fault) [] (Some input) old new (λ i known. cause_unissued most i fault) is.1) closed
+        unwritten (Unsealed sealing_fault.OutOfMemory) (spent.number ∷ []) end refl ([], (container key shape (prefix_of device spent.number) input, refl), kept_appends old new is.1) is.0 is.1 closed
+    ended_as_job (job.Unissued seat fault ∷ outcomes) jobs end fit is closed = unwritten (unissued_as fault) [] end (cause_unissued most input fault) is.1 is.0 is.1 closed
 
     fit_left : (outcomes : List Outcome) (jobs : List (List ℕ)) → Fit (input ∷ jobs) outcomes → Fit jobs (drop 1 outcomes)
     fit_left [] jobs fit = tt
@@ -333,15 +266,14 @@ module _ (key : List ℕ) (shape : ShapeView) (most device : ℕ) where
         (end, more, later, first', rest', (failed, nil), ended, lined, void, chained') =
         let fits : Fit others outcomes = subst (λ j. Fit j outcomes) (joined ∙ ap (λ l. l ++ others) none) fit in
         part_more name.now end [] first first' lines more voids later before after rest rest'
-        (subst (λ o. Sealing key shape most device name.now o [] first first') (sym failed) (refused_as name.now fault first first' is nil))
+        (subst (λ o. Sealing key shape most device name.now o [] first first') (sym failed) (refused_as key shape most device name.now fault first first' is nil))
         (matched files others outcomes more later rest rest' begun fits ended) lined void chained chained'
     matched (Unread name writer fault ∷ files) jobs outcomes lines voids before after (own, others, first, rest, (none, empty, (input, cause, is)), begun, joined, chained) fit
         (end, more, later, first', rest', (failed, discards), ended, lined, void, chained') =
         let fits : Fit others outcomes = subst (λ j. Fit j outcomes) (joined ∙ ap (λ l. l ++ others) none) fit in
-        let (held, under, why, so) = discards_as key shape most device (Unsealed fault) name.now (sealed_name name.now) input [] (taken writer) (taken writer) first' refl empty (Keeps-refl (taken writer))
-        (cause_kept most (Unsealed fault) [] (Some input) (taken writer) (taken writer) (λ i known. subst (λ l. IsCause most (Unsealed fault) [] l []) (some_is input i known) cause) (Keeps-refl (taken writer))) discards in
         part_more name.now end [] first first' lines more voids later before after rest rest'
-        (subst (λ o. Sealing key shape most device name.now o [] first first') (sym failed) (input, held, under, why, is, so))
+        (failed_as key shape most device name.now input (taken writer) (taken writer) first first' empty is (Unsealed fault) [] end failed (Keeps-refl (taken writer))
+        (cause_kept most (Unsealed fault) [] input (taken writer) (taken writer) cause (Keeps-refl (taken writer))) (subst (λ o. IsClosed (taken writer) o first') (sym failed) discards))
         (matched files others outcomes more later rest rest' begun fits ended) lined void chained chained'
     matched (Read name writer bytes ∷ files) jobs outcomes lines voids before after (own, others, first, rest, (input, mine, count, within, empty, is), begun, joined, chained) fit
         (end, more, later, first', rest', (new, ends, closed), ended, lined, void, chained') =

@@ -200,6 +200,12 @@ pub spent_held : (seat : SeatView) (result : Result ℕ SealFault) (grant : Gran
 spent_held seat (Ok bytes) grant spent sealed void held = subst (Holds seat) (sym sealed) (held ended.Sealed)
 spent_held seat (Err fault) grant spent sealed void held = subst (Holds seat) (sym void) (held ended.Void)
 
+-- and is of its device and number
+pub spent_number : (result : Result ℕ SealFault) (grant : GrantView) (spent : SpentView)
+    → OnOk result (spent ≡ spent_as grant ended.Sealed) → OnErr result (spent ≡ spent_as grant ended.Void) → (spent.device ≡ grant.device) × (spent.number ≡ grant.number)
+spent_number (Ok bytes) grant spent sealed void = (ap (λ (s : SpentView). s.device) sealed, ap (λ (s : SpentView). s.number) sealed)
+spent_number (Err fault) grant spent sealed void = (ap (λ (s : SpentView). s.device) void, ap (λ (s : SpentView). s.number) void)
+
 -- ---- the whole history has what the seats have
 
 -- all seats of a ledger that have met have one whole history

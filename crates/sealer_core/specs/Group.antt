@@ -1,6 +1,6 @@
 -- Inside: files that are sealed in a group, by several lanes: before the sealing, and between it and their lines.
 use Rattle.std.specs.Prelude.{⊤, ◌≡◌, ◌≢◌, ℕ, ◌+◌, ◌<◌, ◌≤◌, Bool, false, nat_eq, if◌then◌else◌, List, [], ◌∷◌, ◌++◌}
-use Rattle.std.specs.Prelude.{drop, length, map, All, count_by, slice_get, Option, Some}
+use Rattle.std.specs.Prelude.{drop, length, map, All, count_by, slice_get, Option, Some, Result, Ok, Err}
 use Rattle.journal_core.specs.declared.entry.Entry.{Entry}
 use Rattle.journal_core.specs.declared.entry.Event.{Event}
 use Rattle.journal_core.specs.declared.entry.Event.TheVariants.{Settled}
@@ -8,11 +8,13 @@ use Rattle.journal_core.specs.declared.entry.Way.{Way}
 use Rattle.journal_core.specs.declared.entry.Way.TheVariants as ended
 use Rattle.journal_core.specs.History.{entry, times_granted, times_settled}
 use Rattle.io_core.specs.Streams.{Appends, AppendsFront, Keeps}
+use Rattle.container_core.specs.declared.fault.SealFault.{SealFault}
 use Rattle.container_core.specs.declared.fault.SealFault.TheVariants as sealing_fault
 use Rattle.crew_core.specs.declared.outcome.Outcome.{Outcome}
 use Rattle.crew_core.specs.declared.outcome.Outcome.TheVariants as job
 use Rattle.crew_core.specs.Batch.{of_seat, seat_of}
-use Rattle.ledger_core.specs.Shared.{SeatView}
+use Rattle.ledger_core.specs.Closing.{AreAllSeats}
+use Rattle.ledger_core.specs.Shared.{LedgerView, SeatView}
 use Rattle.sealer_core.specs.declared.prepare.Prepared.{Prepared}
 use Rattle.sealer_core.specs.declared.prepare.Prepared.TheVariants.{Refused, Unread, Read}
 use Rattle.command_core.specs.declared.line.FileOutcome.{FileOutcome}
@@ -62,6 +64,11 @@ read_of (Read name writer bytes) = bytes ∷ []
 abbrev pub IsRefused : List ℕ → FolderFault → List trace.Event → Type 0
 IsRefused name fault events = (input : List ℕ)
     × (events ≡ trace.Reading name input ∷ trace.Refused (sealed_name name) fault ∷ [])
+
+-- its input was opened, and has this left to be read, and its output was created, and took nothing so far
+abbrev pub IsMade : List ℕ → Option (List ℕ) → Option (List ℕ) → List trace.Event → Type 0
+IsMade name left taken events = (input : List ℕ) × (left ≡ Some input)
+    × (taken ≡ Some (tape (sealed_name name) [])) × (events ≡ prepared name input)
 
 -- what happens for a file whose output isn't created
 abbrev pub IsRefusal : List ℕ → FileFault → List trace.Event → Type 0
@@ -126,16 +133,17 @@ pub record AreOwed (seats : List SeatView) (outcomes : List Outcome) : Type 0 wh
   pub each : (i number : ℕ) (seat : SeatView) → slice_get seats i ≡ Some seat
       → times_settled number seat.mine + count_by (holds number) (of_seat i outcomes) ≡ times_granted number seat.mine
 
--- the seat at this place was granted the number, and hasn't settled it
-abbrev pub OwesAt : List SeatView → ℕ → ℕ → Type 0
-OwesAt seats place number = (seat : SeatView) → slice_get seats place ≡ Some seat
-    → times_settled number seat.mine < times_granted number seat.mine
+-- All seats are there, and they owe the numbers that these outcomes have spent.
+pub record AreOwing (ledger : LedgerView) (seats : List SeatView) (outcomes : List Outcome) : Type 0 where
+  pub all : AreAllSeats ledger seats
+  pub held : All (IsHeld (length seats) ledger.terms.range.device) outcomes
+  pub owed : AreOwed seats outcomes
 
--- so of the number that an outcome has spent
-abbrev pub IsOwed : List SeatView → Outcome → Type 0
-IsOwed seats (job.Sealed seat bytes spent) = OwesAt seats seat spent.number
-IsOwed seats (job.Spoiled seat spent) = OwesAt seats seat spent.number
-IsOwed seats (job.Unissued seat fault) = ⊤
+-- the number is one of the ledger's device, and the seat at this place was granted it and hasn't settled it
+abbrev pub OwesAt : LedgerView → List SeatView → ℕ → ℕ → ℕ → Type 0
+OwesAt ledger seats place device number = (place < length seats) × (device ≡ ledger.terms.range.device)
+    × ((seat : SeatView) → slice_get seats place ≡ Some seat
+    → times_settled number seat.mine < times_granted number seat.mine)
 
 -- the seat at this place settled the number, and the others did nothing
 pub record SettledAt (place number : ℕ) (old new : List SeatView) : Type 0 where
@@ -155,6 +163,13 @@ IsEnding number old new _ = IsCounted old new (Settled number ended.Void)
 
 -- ---- how a file ends
 
+-- So an output ends whose sealing ended so, under this number: where all was sealed it is finished, or else it couldn't be
+-- written.
+abbrev pub EndsBy : Result ℕ SealFault → ℕ → FileOutcome → Type 0
+EndsBy (Ok bytes) number (Sealed n m) = (n ≡ number) × (m ≡ bytes)
+EndsBy (Ok bytes) number end = end ≡ Failed (Unsealed sealing_fault.Write)
+EndsBy (Err fault) number end = end ≡ Failed (Unsealed fault)
+
 -- An output gets this container: whole, and then the line tells this number and so many bytes; or cut short, or whole where it
 -- couldn't be finished, and then the file failed.
 abbrev pub IsPut : List ℕ → ℕ → ℕ → Option (List ℕ) → Option (List ℕ) → FileOutcome → Type 0
@@ -162,38 +177,23 @@ IsPut container number bytes old new (Sealed n m) = (n ≡ number) × (m ≡ byt
 IsPut container number bytes old new end = (end ≡ Failed (Unsealed sealing_fault.Write))
     × AppendsFront old new container
 
--- A file of so many bytes ends by the outcome of its job: its output gets the container that was sealed, under the
--- number that this was sealed under; or the file failed as the outcome says, and its output gets nothing.
-abbrev pub IsEndOf : ℕ → Option (List ℕ) → Option (List ℕ) → Outcome → FileOutcome → Type 0
-IsEndOf bytes old new (job.Sealed seat container spent) end = IsPut container.items spent.number bytes old new end
-IsEndOf bytes old new (job.Spoiled seat spent) end =
-    (end ≡ Failed (Unsealed sealing_fault.OutOfMemory)) × Keeps old new
-IsEndOf bytes old new (job.Unissued seat fault) end = (end ≡ Failed (unissued_as fault)) × Keeps old new
-
--- It ends by the first of the outcomes. Where there is none memory for them was refused.
+-- A file of so many bytes ends by the first of the outcomes: its output gets the container that was sealed, under the
+-- number that this was sealed under; or the file failed as the outcome says, and its output gets nothing. Where there is
+-- no outcome memory for them was refused.
 abbrev pub IsEndBy : ℕ → Option (List ℕ) → Option (List ℕ) → List Outcome → FileOutcome → Type 0
 IsEndBy bytes old new [] end = (end ≡ Failed (Unsealed sealing_fault.OutOfMemory)) × Keeps old new
-IsEndBy bytes old new (outcome ∷ outcomes) end = IsEndOf bytes old new outcome end
-
--- So an output gets a container, and is then closed.
-abbrev pub IsPutIn : List ℕ → ℕ → ℕ → Option (List ℕ) → FileOutcome → List trace.Event → Type 0
-IsPutIn container number bytes old end events =
-    (new : Option (List ℕ)) × IsPut container number bytes old new end × IsClosed new end events
-
--- So a file ends by the first of the outcomes, and its output is closed.
-abbrev pub IsEnd : ℕ → Option (List ℕ) → List Outcome → FileOutcome → List trace.Event → Type 0
-IsEnd bytes old outcomes end events =
-    (new : Option (List ℕ)) × IsEndBy bytes old new outcomes end × IsClosed new end events
+IsEndBy bytes old new (job.Sealed seat container spent ∷ outcomes) end =
+    IsPut container.items spent.number bytes old new end
+IsEndBy bytes old new (job.Spoiled seat spent ∷ outcomes) end =
+    (end ≡ Failed (Unsealed sealing_fault.OutOfMemory)) × Keeps old new
+IsEndBy bytes old new (job.Unissued seat fault ∷ outcomes) end = (end ≡ Failed (unissued_as fault)) × Keeps old new
 
 -- the void number of the file, where it has one: that of its outcome, unless the file was sealed
-abbrev pub void_of : Outcome → FileOutcome → List ℕ
-void_of (job.Sealed seat container spent) end = void_at spent.number end
-void_of (job.Spoiled seat spent) end = spent.number ∷ []
-void_of (job.Unissued seat fault) end = []
-
 abbrev pub void_by : List Outcome → FileOutcome → List ℕ
 void_by [] end = []
-void_by (outcome ∷ outcomes) end = void_of outcome end
+void_by (job.Sealed seat container spent ∷ outcomes) end = void_at spent.number end
+void_by (job.Spoiled seat spent ∷ outcomes) end = spent.number ∷ []
+void_by (job.Unissued seat fault ∷ outcomes) end = []
 
 abbrev pub void_in : {W : Type 0} → Prepared W → List Outcome → FileOutcome → List ℕ
 void_in (Refused name fault) outcomes end = []
@@ -206,7 +206,8 @@ abbrev pub IsEndIn : {W : Type 0} → (W → Option (List ℕ)) → List Outcome
 IsEndIn taken outcomes (Refused name fault) end events = (end ≡ Failed fault) × (events ≡ [])
 IsEndIn taken outcomes (Unread name writer fault) end events =
     (end ≡ Failed (Unsealed fault)) × Discards (taken writer) events
-IsEndIn taken outcomes (Read name writer bytes) end events = IsEnd bytes (taken writer) outcomes end events
+IsEndIn taken outcomes (Read name writer bytes) end events =
+    (new : Option (List ℕ)) × IsEndBy bytes (taken writer) new outcomes end × IsClosed new end events
 
 -- the outcomes that are left for the files behind it: a file that was read has the first one, and no other file has any
 abbrev pub left_by : {W : Type 0} → Prepared W → List Outcome → List Outcome

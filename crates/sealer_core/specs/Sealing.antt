@@ -1,5 +1,5 @@
 -- What `seal_all` does with a list of files, and how its lines stand to the operations of the ledger.
-use Rattle.std.specs.Prelude.{⊤, ◌≡◌, ◌≢◌, ℕ, ◌+◌, ◌-◌, ◌<◌, ◌≤◌, ◌⊎◌, IsTrue, Bool, true, false, nat_eq, List, []}
+use Rattle.std.specs.Prelude.{⊤, ◌≡◌, ◌≢◌, ℕ, ◌+◌, ◌-◌, ◌^◌, ◌<◌, ◌≤◌, ◌⊎◌, IsTrue, Bool, true, false, nat_eq, List, []}
 use Rattle.std.specs.Prelude.{◌∷◌, ◌++◌, count_by, slice_get, length, take, map, All, codes, Option, Some, None, IfSome}
 use Rattle.std.specs.Prelude.{flat_map}
 use Rattle.journal_core.specs.declared.entry.Entry.{Entry}
@@ -18,6 +18,7 @@ use Rattle.ledger_core.specs.Shared.{SeatView}
 use Rattle.reserve_core.specs.Reservations.{Lists, Holds, next_of, with_range}
 use Rattle.reserve_core.specs.Folded.{AreFolded, AreLeft, LeftBy}
 use Rattle.reserve_core.specs.Lasting.{StillLast}
+use Rattle.sealer_core.specs.declared.sealing.SealOptions.{SealOptions}
 use Rattle.sqlite_disk.specs.declared.Disk as disk
 use Rattle.sqlite_disk.specs.declared.Files.{Files}
 use Rattle.sqlite_store.specs.declared.store.FileStore.{FileStore}
@@ -42,6 +43,12 @@ use Rattle.command_core.specs.Work.{AreTold}
 
 -- ---- one file
 
+-- the options of a run that are limited: the bytes of a file, and how many workers and chunks at a time there are
+pub record AreLawful (options : SealOptions) : Type 0 where
+  pub max_bytes : options.max_bytes ≤ 2 ^ 40
+  pub workers : (0 < options.workers) × (options.workers ≤ 16)
+  pub window : (0 < options.window) × (options.window ≤ 256)
+
 -- the name of a sealed file's output
 abbrev pub sealed_name : List ℕ → List ℕ
 sealed_name name = name ++ codes ".stm"
@@ -56,19 +63,6 @@ IsOfSealing (Failed OutOfMemory) = ⊤
 IsOfSealing (Failed NoNumber) = ⊤
 IsOfSealing (Failed (Unsealed fault)) = ⊤
 IsOfSealing _ = ⊥
-
--- one that it can have once the output was created
-abbrev pub IsOfNumber : FileOutcome → Type 0
-IsOfNumber (Sealed number bytes) = ⊤
-IsOfNumber (Failed NoNumber) = ⊤
-IsOfNumber (Failed (Unsealed fault)) = ⊤
-IsOfNumber _ = ⊥
-
--- one that it can have once its container is whole
-abbrev pub IsOfWhole : FileOutcome → Type 0
-IsOfWhole (Sealed number bytes) = ⊤
-IsOfWhole (Failed (Unsealed sealing_fault.Write)) = ⊤
-IsOfWhole _ = ⊥
 
 -- the fault of a file for which no number was issued
 abbrev pub unissued_as : IssueFault → FileFault
@@ -143,41 +137,10 @@ abbrev pub IsClosed : Option (List ℕ) → FileOutcome → List Event → Type 
 IsClosed taken (Sealed number bytes) events = trace.Finishes taken events
 IsClosed taken _ events = trace.Discards taken events
 
--- What the writer of an output took, whose input was `left` to be read. Where no number is void it took nothing; under
--- a void number it took a beginning of the input's container.
-abbrev pub PutsUnder : List ℕ → ShapeView → ℕ → Option (List ℕ) → Option (List ℕ) → Option (List ℕ) → List ℕ → Type 0
-PutsUnder key shape device left taken taken' [] = Keeps taken taken'
-PutsUnder key shape device left taken taken' (number ∷ []) =
-    IfSome left (λ input. AppendsFront taken taken' (container key shape (prefix_of device number) input))
-PutsUnder key shape device left taken taken' (number ∷ another ∷ numbers) = ⊥
-
--- the fault tells the cause, where it is known what was left to be read and what the writer took
-abbrev pub IsCauseAt : ℕ → FileFault → List ℕ → Option (List ℕ) → Option (List ℕ) → Option (List ℕ) → Type 0
-IsCauseAt most fault void left taken taken' = (input : List ℕ) (old : List ℕ) (held : List ℕ) → left ≡ Some input
-    → taken ≡ Some old → taken' ≡ Some (old ++ held) → IsCause most fault void input held
-
--- A file that is sealed has no void number, and its output took the whole container of its input.
-abbrev pub Puts : List ℕ → ShapeView → ℕ → ℕ → Option (List ℕ) → Option (List ℕ) → Option (List ℕ) → FileOutcome
-    → List ℕ → Type 0
-Puts key shape most device left taken taken' (Sealed number bytes) void =
-    (void ≡ []) × IfSome left (λ input. (bytes ≡ length input) × (length input ≤ most)
-    × Appends taken taken' (container key shape (prefix_of device number) input))
-Puts key shape most device left taken taken' (Failed fault) void =
-    PutsUnder key shape device left taken taken' void × IsCauseAt most fault void left taken taken'
-Puts key shape most device left taken taken' _ void = ⊥
-
 -- the void number of a file whose sealing was granted this one: it has none where the file was sealed
 abbrev pub void_at : ℕ → FileOutcome → List ℕ
 void_at number (Sealed n bytes) = []
 void_at number _ = number ∷ []
-
--- a fact of a file that was sealed
-abbrev pub IfSealed : FileOutcome → (ℕ → ℕ → Type 0) → Type 0
-IfSealed (Sealed number bytes) P = P number bytes
-IfSealed (Opened bytes) P = ⊤
-IfSealed (Good bytes) P = ⊤
-IfSealed (Shown bytes facts) P = ⊤
-IfSealed (Failed fault) P = ⊤
 
 -- ---- numbers
 

@@ -1,24 +1,26 @@
-//! Files sealed one after another by one seat of a ledger, each by as many workers as are asked for. An output is
-//! finished before its number is settled, so that the number of one that can't be is void.
-ghost use Rattle.std.specs.Prelude.{◌≡◌, ℕ, ◌<◌, ◌≤◌, List, [], ◌∷◌, ◌++◌, map, IfOk, IfErr, Err, Ok};
-ghost use Rattle.std.specs.Prelude.{Option};
+//! One file: how it is begun and how it ends, whichever lane seals it, and how one lane seals it by as many workers as
+//! are asked for. An output is finished before its number is settled, so that the number of one that can't be is void.
+ghost use Rattle.std.specs.Prelude.{◌≡◌, ◌<◌, ℕ, Option, List, [], ◌∷◌, ◌++◌, length, IfOk, IfErr, OnOk, Err, Ok};
 ghost use Rattle.journal_core.specs.declared.entry.Event.TheVariants.{Granted, Settled};
 ghost use Rattle.journal_core.specs.declared.entry.Way.{Way};
 ghost use Rattle.journal_core.specs.declared.entry.Way.TheVariants.{Sealed};
-ghost use Rattle.ledger_core.specs.Shared.{Extends, Holds, IsSameSeat, SeatView, Unissued, spent_as};
+ghost use Rattle.ledger_core.specs.Closing.{AreAllSeats};
+ghost use Rattle.ledger_core.specs.Shared.{Extends, Holds, IsSameSeat, Unissued, spent_as};
 ghost use Rattle.ledger_core.specs.declared.fault.IssueFault.{IssueFault};
 ghost use Rattle.command_core.specs.Lines.{FileLine};
 ghost use Rattle.command_core.specs.declared.line.FileOutcome.TheVariants.{Failed};
 ghost use Rattle.command_core.specs.Trace.{Discards, Does};
-ghost use Rattle.sealer_core.specs.Sealing.{Accounts, AreSealed, Happened, IfSealed, IsClosed, IsOfWhole};
-ghost use Rattle.sealer_core.specs.Sealing.{IsOfNumber, IsOfSealing, Puts, line_of, unissued_as, void_at};
+ghost use Rattle.sealer_core.specs.Group.{AreOwing, EndsBy, IsCounted, IsEnding, IsMade, IsRefusal, IsUnmade, OwesAt};
+ghost use Rattle.sealer_core.specs.Group.{SettledAt};
+ghost use Rattle.sealer_core.specs.Sealing.{Accounts, Happened, IsClosed, IsOfSealing, line_of};
+ghost use Rattle.sealer_core.specs.Sealing.{AreLawful, operations_of, unissued_as};
 
 use crate::sealing::SealOptions;
-use command_core::{FileFault, FileOutcome, Folder, FolderFault, MAX_BYTES, tell};
-use container_core::{Key, SealFault, Shape};
-use crew_core::{Free, MAX_WINDOW, MAX_WORKERS};
+use command_core::{FileFault, FileOutcome, Folder, FolderFault};
+use container_core::{Key, SealFault};
+use crew_core::Free;
 use engine_core::run_seal_by;
-use ledger_core::{Grant, IssueFault, Ledger, Seat, Sink, Source, Spent};
+use ledger_core::{Grant, IssueFault, Ledger, Seat, Spent};
 use std::alloc::Global;
 use std::sync::Wait;
 use std::thread::Threads;
@@ -26,7 +28,7 @@ use std::thread::Threads;
 /// Why a file has no number.
 pub(crate) fn fault_of(fault: IssueFault) -> FileFault
     ensures fault { result ≡ unissued_as fault }
-    ensures outcome { IsOfNumber (Failed result) }
+    ensures outcome { IsOfSealing (Failed result) }
 {
     match fault {
         IssueFault::Exhausted | IssueFault::SeatClosed => FileFault::NoNumber,
@@ -60,6 +62,44 @@ pub(crate) fn settle_of_file(ledger: &Ledger, seat: &mut Seat, spent: Spent)
     let _ = ledger.settle(seat, spent);
 }
 
+// Settles a number at the seat of this place, which owes that.
+fn settle_at(ledger: &Ledger, seats: &mut [Seat], place: u32, spent: Spent)
+    requires all { AreAllSeats ledger.now seats.old }
+    requires owed { OwesAt ledger.now seats.old place spent.device spent.number }
+    ensures all { AreAllSeats ledger.now seats.new }
+    ensures settled { IsCounted (operations_of seats.old) (operations_of seats.new)
+        (Settled spent.number spent.way) }
+    ensures made { SettledAt place spent.number seats.old seats.new }
+{
+    let seat = &mut seats[place as usize];
+    let _knows = seat.number();
+    settle_of_file(ledger, seat, spent);
+}
+
+/// Opens a file's input, and creates its output.
+pub(crate) fn begin_file<F: Folder>(
+    alloc: Global,
+    folder: &mut F,
+    name: &str,
+) -> Result<(F::Reader, F::Writer), FileFault>
+    ensures made { IfOk result (λ begun. Does (IsMade name.now (F.Reader.left begun.0) (F.Writer.taken begun.1))
+        (F.told folder.old) (F.told folder.new)) }
+    ensures fault { IfErr result IsUnmade }
+    ensures refused { IfErr result (λ fault. Does (IsRefusal name.now fault) (F.told folder.old) (F.told folder.new)) }
+{
+    let Ok(output) = format!(in alloc; "{name}.stm") else {
+        return Err(FileFault::OutOfMemory);
+    };
+    let Ok(reader) = folder.open(name) else {
+        return Err(FileFault::CannotOpen);
+    };
+    match folder.create(output.as_str()) {
+        Ok(writer) => Ok((reader, writer)),
+        Err(FolderFault::Exists) => Err(FileFault::OutputExists),
+        Err(FolderFault::Failed) => Err(FileFault::CannotCreate),
+    }
+}
+
 /// Gives up the output of a file that failed.
 pub(crate) fn give_up<F: Folder>(folder: &mut F, writer: F::Writer, fault: FileFault) -> FileOutcome
     ensures outcome { result ≡ Failed fault }
@@ -69,68 +109,67 @@ pub(crate) fn give_up<F: Folder>(folder: &mut F, writer: F::Writer, fault: FileF
     FileOutcome::Failed(fault)
 }
 
-// Finishes an output that was sealed whole, and settles its number. Where that fails the number is void, and the output is
-// given up.
-fn end_sealed<F: Folder>(
+/// Ends an output as its sealing ended. One that holds its whole container is finished, and its number settled as sealed;
+/// where either failed the number is void, and the output is given up.
+pub(crate) fn end_output<F: Folder>(
     ledger: &Ledger,
-    seat: &mut Seat,
+    seats: &mut [Seat],
+    place: u32,
+    spent: Spent,
     folder: &mut F,
     writer: F::Writer,
-    spent: Spent,
-    bytes: u64,
+    sealed: Result<u64, SealFault>,
 ) -> FileOutcome
-    requires ours { seat.old.ledger ≡ ledger.now.ledger }
-    requires sealed { spent.way ≡ Sealed }
-    requires held { Holds seat.old spent }
-    ensures outcome { IsOfWhole result }
-    ensures sealed { IfSealed result (λ number count. (number ≡ spent.number) × (count ≡ bytes)) }
-    ensures told { Does (IsClosed (F.Writer.taken writer) result) (F.told folder.old) (F.told folder.new) }
-    ensures same { IsSameSeat seat.old seat.new }
-    ensures accounts { (granted : SeatView) → Extends granted (Granted spent.number) seat.old
-        → (name : List ℕ) (lines : List FileLine) (voids : List ℕ) → Accounts lines voids granted.mine
-        → Accounts (lines ++ line_of name result ∷ []) (voids ++ void_at spent.number result) seat.new.mine }
+    requires all { AreAllSeats ledger.now seats.old }
+    requires owed { OwesAt ledger.now seats.old place spent.device spent.number }
+    requires sealed { OnOk sealed (spent.way ≡ Sealed) }
+    ensures all { AreAllSeats ledger.now seats.new }
+    ensures outcome { EndsBy sealed spent.number result }
+    ensures closed { Does (IsClosed (F.Writer.taken writer) result) (F.told folder.old) (F.told folder.new) }
+    ensures settled { IsEnding spent.number (operations_of seats.old) (operations_of seats.new) result }
+    ensures made { SettledAt place spent.number seats.old seats.new }
 {
     let number = spent.number();
-    match folder.finish(writer) {
-        Ok(()) => {
-            settle_of_file(ledger, seat, spent);
-            FileOutcome::Sealed { number, bytes }
-        }
-        Err(writer) => {
-            settle_of_file(ledger, seat, spent.spoil());
-            give_up(folder, writer, FileFault::Unsealed(SealFault::Write))
-        }
-    }
+    let (writer, fault) = match sealed {
+        Ok(bytes) => match folder.finish(writer) {
+            Ok(()) => {
+                settle_at(ledger, seats, place, spent);
+                return FileOutcome::Sealed { number, bytes };
+            }
+            Err(writer) => (writer, SealFault::Write),
+        },
+        Err(fault) => (writer, fault),
+    };
+    settle_at(ledger, seats, place, spent.spoil());
+    give_up(folder, writer, FileFault::Unsealed(fault))
 }
 
-// Seals what a reader gives under the next number of the ledger, finishes the output, and settles that number. Where a
-// file fails its output is given up.
-fn seal_next<T: Threads + Wait + Sync, R: Source, F: Folder>(
+/// Seals one file by the first seat. Its input is opened, its output created, and its number issued, in this order.
+pub(crate) fn seal_file<T: Threads + Wait + Sync, F: Folder>(
     rt: &T,
     alloc: Global,
     key: &Key,
     ledger: &Ledger,
-    seat: &mut Seat,
+    seats: &mut [Seat],
     folder: &mut F,
-    reader: &mut R,
-    mut writer: F::Writer,
-    max_bytes: u64,
-    workers: u32,
-    window: u32,
-    shape: &Shape,
+    options: &SealOptions,
+    name: &str,
 ) -> FileOutcome
-    requires ours { seat.old.ledger ≡ ledger.now.ledger }
-    requires max_bytes { max_bytes ≤ MAX_BYTES }
-    requires workers { (0 < workers) × (workers ≤ MAX_WORKERS) }
-    requires window { (0 < window) × (window ≤ MAX_WINDOW) }
-    ensures outcome { IsOfNumber result }
-    ensures same { IsSameSeat seat.old seat.new }
-    ensures done { (void : List ℕ) × (taken : Option (List ℕ)) × Puts key.now shape.now max_bytes seat.old.terms.range.device
-        (R.left reader.old) (F.Writer.taken writer) taken result void
-        × Does (IsClosed taken result) (F.told folder.old) (F.told folder.new)
-        × ((name : List ℕ) (lines : List FileLine) (voids : List ℕ) → Accounts lines voids seat.old.mine
-        → Accounts (lines ++ line_of name result ∷ []) (voids ++ void) seat.new.mine) }
+    requires owing { AreOwing ledger.now seats.old [] }
+    requires some { 0 < length seats.old }
+    requires options { AreLawful options.now }
+    ensures owing { AreOwing ledger.now seats.new [] }
+    ensures outcome { IsOfSealing result }
+    ensures done { (void : List ℕ) × Happened key.now options.now.shape.now options.now.max_bytes
+        ledger.now.terms.range.device (F.told folder.old) (F.told folder.new) ((line_of name.now result ∷ []) ∷ []) void
+        × ((lines : List FileLine) (voids : List ℕ) → Accounts lines voids (operations_of seats.old)
+        → Accounts (lines ++ line_of name.now result ∷ []) (voids ++ void) (operations_of seats.new)) }
 {
+    let (mut reader, mut writer) = match begin_file(alloc, folder, name) {
+        Ok(begun) => begun,
+        Err(fault) => return FileOutcome::Failed(fault),
+    };
+    let seat = &mut seats[0];
     let grant = match issue_to_file(ledger, seat) {
         Ok(grant) => grant,
         Err(fault) => return give_up(folder, writer, fault),
@@ -139,114 +178,14 @@ fn seal_next<T: Threads + Wait + Sync, R: Source, F: Folder>(
         rt,
         alloc,
         key,
-        shape,
+        options.shape,
         grant,
-        reader,
+        &mut reader,
         &mut writer,
-        max_bytes,
-        workers,
-        window,
+        options.max_bytes,
+        options.workers,
+        options.window,
         &Free,
     );
-    match sealed {
-        Ok(bytes) => end_sealed(ledger, seat, folder, writer, spent, bytes),
-        Err(fault) => {
-            settle_of_file(ledger, seat, spent);
-            give_up(folder, writer, FileFault::Unsealed(fault))
-        }
-    }
-}
-
-// Seals one file: its input is opened, its output created, and its number issued, in this order.
-fn seal_file<T: Threads + Wait + Sync, F: Folder>(
-    rt: &T,
-    alloc: Global,
-    key: &Key,
-    ledger: &Ledger,
-    seat: &mut Seat,
-    folder: &mut F,
-    name: &str,
-    max_bytes: u64,
-    workers: u32,
-    window: u32,
-    shape: &Shape,
-) -> FileOutcome
-    requires ours { seat.old.ledger ≡ ledger.now.ledger }
-    requires max_bytes { max_bytes ≤ MAX_BYTES }
-    requires workers { (0 < workers) × (workers ≤ MAX_WORKERS) }
-    requires window { (0 < window) × (window ≤ MAX_WINDOW) }
-    ensures outcome { IsOfSealing result }
-    ensures same { IsSameSeat seat.old seat.new }
-    ensures done { (void : List ℕ) × Happened key.now shape.now max_bytes seat.old.terms.range.device (F.told folder.old)
-        (F.told folder.new) ((line_of name.now result ∷ []) ∷ []) void
-        × ((lines : List FileLine) (voids : List ℕ) → Accounts lines voids seat.old.mine
-        → Accounts (lines ++ line_of name.now result ∷ []) (voids ++ void) seat.new.mine) }
-{
-    let Ok(sealed) = format!(in alloc; "{name}.stm") else {
-        return FileOutcome::Failed(FileFault::OutOfMemory);
-    };
-    let output = sealed.as_str();
-    let Ok(mut reader) = folder.open(name) else {
-        return FileOutcome::Failed(FileFault::CannotOpen);
-    };
-    let writer = match folder.create(output) {
-        Ok(writer) => writer,
-        Err(FolderFault::Exists) => return FileOutcome::Failed(FileFault::OutputExists),
-        Err(FolderFault::Failed) => return FileOutcome::Failed(FileFault::CannotCreate),
-    };
-    seal_next(
-        rt,
-        alloc,
-        key,
-        ledger,
-        seat,
-        folder,
-        &mut reader,
-        writer,
-        max_bytes,
-        workers,
-        window,
-        shape,
-    )
-}
-
-/// Seals the files in turn, with a line for each. The answer is the status so far.
-pub(crate) fn seal_one_lane<T: Threads + Wait + Sync, F: Folder, W: Sink>(
-    rt: &T,
-    alloc: Global,
-    key: &Key,
-    ledger: &Ledger,
-    seat: &mut Seat,
-    folder: &mut F,
-    options: &SealOptions,
-    lines: &mut W,
-) -> u8
-    requires ours { seat.old.ledger ≡ ledger.now.ledger }
-    requires fresh { seat.old.mine ≡ [] }
-    requires max_bytes { options.now.max_bytes ≤ MAX_BYTES }
-    requires workers { (0 < options.now.workers) × (options.now.workers ≤ MAX_WORKERS) }
-    requires window { (0 < options.now.window) × (options.now.window ≤ MAX_WINDOW) }
-    ensures same { IsSameSeat seat.old seat.new }
-    ensures sealed { AreSealed (Happened key.now options.now.shape.now options.now.max_bytes
-        seat.old.terms.range.device (F.told folder.old) (F.told folder.new)) 1 (map (λ name. name.now) options.now.files.now) seat.new.mine result
-        (W.taken lines.old) (W.taken lines.new) (W.failures lines.old) (W.failures lines.new) }
-{
-    let mut status = 0;
-    for name in options.files {
-        let outcome = seal_file(
-            rt,
-            alloc,
-            key,
-            ledger,
-            seat,
-            folder,
-            name,
-            options.max_bytes,
-            options.workers,
-            options.window,
-            options.shape,
-        );
-        status = tell(alloc, lines, status, name, outcome);
-    }
-    status
+    end_output(ledger, seats, 0, spent, folder, writer, sealed)
 }

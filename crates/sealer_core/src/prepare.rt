@@ -1,16 +1,12 @@
 //! Files of a group before they are sealed: of each in turn its input is opened, its output created and its input read.
-ghost use Rattle.std.specs.Prelude.{◌≡◌, ℕ, ◌+◌, ◌≤◌, List, [], ◌∷◌, ◌++◌, length, map, All, flat_map, vec_len, IfOk, IfErr};
-ghost use Rattle.std.specs.Prelude.{OnErr, Some};
-ghost use Rattle.io_core.specs.Streams.{Consumes, IsAtEnd};
-ghost use Rattle.command_core.specs.declared.line.FileFault.TheVariants.{Unsealed};
+ghost use Rattle.std.specs.Prelude.{◌≡◌, ◌≤◌, ◌++◌, length, map, All, flat_map, IfOk, OnErr};
 ghost use Rattle.command_core.specs.Trace.{Does};
 ghost use Rattle.sealer_core.specs.Group.{AreBegun, IsBegunWith, name_of, IsPrepared, read_of};
-ghost use Rattle.sealer_core.specs.Sealing.{IsCause};
 
-use command_core::{FileFault, Folder, FolderFault, MAX_BYTES};
+use crate::lane::begin_file;
+use command_core::{FileFault, Folder, MAX_BYTES};
 use container_core::SealFault;
 use engine_core::read_plain;
-use ledger_core::Source;
 use std::alloc::{AllocError, Global};
 use std::collections::VecDeque;
 
@@ -18,22 +14,11 @@ use std::collections::VecDeque;
 #[derive(Drop)]
 pub(crate) enum Prepared<'a, W: Drop> {
     /// No output was created.
-    Refused {
-        name: &'a str,
-        fault: FileFault,
-    },
+    Refused(&'a str, FileFault),
     /// Its output was created, and its plaintext wasn't read.
-    Unread {
-        name: &'a str,
-        writer: W,
-        fault: SealFault,
-    },
+    Unread(&'a str, W, SealFault),
     /// Its output was created, and its plaintext of so many bytes is among the jobs.
-    Read {
-        name: &'a str,
-        writer: W,
-        bytes: u64,
-    },
+    Read(&'a str, W, u64),
 }
 
 impl<'a, W: Drop> Prepared<'a, W> {
@@ -42,9 +27,9 @@ impl<'a, W: Drop> Prepared<'a, W> {
         ensures { result.now ≡ name_of self.now }
     {
         match self {
-            Prepared::Refused { name, .. } => name,
-            Prepared::Unread { name, .. } => name,
-            Prepared::Read { name, .. } => name,
+            Prepared::Refused(name, _) => name,
+            Prepared::Unread(name, _, _) => name,
+            Prepared::Read(name, _, _) => name,
         }
     }
 }
@@ -60,7 +45,6 @@ fn prepare_file<'a, F: Folder>(
     requires max_bytes { max_bytes ≤ MAX_BYTES }
     requires short { All (λ job. length job.items ≤ MAX_BYTES) jobs.old.items }
     ensures short { All (λ job. length job.items ≤ MAX_BYTES) jobs.new.items }
-    ensures count { vec_len jobs.new ≤ vec_len jobs.old + 1 }
     ensures read { map (λ job. length job.items) jobs.new.items
         ≡ map (λ job. length job.items) jobs.old.items ++ read_of result }
     ensures name { name_of result ≡ name.now }
@@ -68,74 +52,18 @@ fn prepare_file<'a, F: Folder>(
     ensures told { Does (IsBegunWith F.Writer.taken max_bytes (map (λ job. job.items) jobs.old.items)
         (map (λ job. job.items) jobs.new.items) result) (F.told folder.old) (F.told folder.new) }
 {
-    let Ok(output) = format!(in alloc; "{name}.stm") else {
-        return Prepared::Refused {
-            name,
-            fault: FileFault::OutOfMemory,
-        };
+    let (mut reader, writer) = match begin_file(alloc, folder, name) {
+        Ok(begun) => begun,
+        Err(fault) => return Prepared::Refused(name, fault),
     };
-    let Ok(mut reader) = folder.open(name) else {
-        return Prepared::Refused {
-            name,
-            fault: FileFault::CannotOpen,
-        };
-    };
-    let writer = match folder.create(output.as_str()) {
-        Ok(writer) => writer,
-        Err(FolderFault::Exists) => {
-            return Prepared::Refused {
-                name,
-                fault: FileFault::OutputExists,
-            };
-        }
-        Err(FolderFault::Failed) => {
-            return Prepared::Refused {
-                name,
-                fault: FileFault::CannotCreate,
-            };
-        }
-    };
-    match read_job(alloc, &mut reader, max_bytes, jobs) {
-        Ok(bytes) => Prepared::Read {
-            name,
-            writer,
-            bytes,
-        },
-        Err(fault) => Prepared::Unread {
-            name,
-            writer,
-            fault,
-        },
-    }
-}
-
-// Reads an input whole, as the last of the jobs. The answer is how many bytes it has.
-fn read_job<R: Source>(
-    alloc: Global,
-    reader: &mut R,
-    max_bytes: u64,
-    jobs: &mut Vec<Vec<u8>>,
-) -> Result<u64, SealFault>
-    requires max_bytes { max_bytes ≤ MAX_BYTES }
-    requires short { All (λ job. length job.items ≤ MAX_BYTES) jobs.old.items }
-    ensures short { All (λ job. length job.items ≤ MAX_BYTES) jobs.new.items }
-    ensures count { vec_len jobs.new ≤ vec_len jobs.old + 1 }
-    ensures read { IfOk result (λ bytes. (job : _) × (jobs.new.items ≡ jobs.old.items ++ job ∷ [])
-        × (bytes ≡ length job.items)
-        × Consumes (R.left reader.old) (R.left reader.new) job.items × IsAtEnd (R.left reader.new)) }
-    ensures within { IfOk result (λ bytes. bytes ≤ max_bytes) }
-    ensures unread { OnErr result (jobs.new.items ≡ jobs.old.items) }
-    ensures cause { IfErr result (λ fault. (input : List ℕ) → R.left reader.old ≡ Some input
-        → IsCause max_bytes (Unsealed fault) [] input []) }
-{
-    let plain = match read_plain(alloc, reader, max_bytes) {
+    let plain = match read_plain(alloc, &mut reader, max_bytes) {
         Ok(plain) => plain,
-        Err(fault) => return Err(fault),
+        Err(fault) => return Prepared::Unread(name, writer, fault),
     };
     let bytes = plain.len() as u64;
     match jobs.push(plain) {
-        Ok(()) => Ok(bytes),
-        Err(_) => Err(SealFault::OutOfMemory),
+        Ok(()) => Prepared::Read(name, writer, bytes),
+        Err(_) => Prepared::Unread(name, writer, SealFault::OutOfMemory),
     }
 }
 
@@ -152,7 +80,6 @@ pub(crate) fn prepare_group<'a, F: Folder>(
     ensures told { IfOk result (λ group. Does (AreBegun F.Writer.taken max_bytes group.0.items
         (map (λ job. job.items) group.1.items)) (F.told folder.old) (F.told folder.new)) }
     ensures short { IfOk result (λ group. All (λ job. length job.items ≤ MAX_BYTES) group.1.items) }
-    ensures few { IfOk result (λ group. vec_len group.1 ≤ length names.now) }
     ensures read { IfOk result (λ group. map (λ job. length job.items) group.1.items ≡ flat_map read_of group.0.items) }
     ensures refused { OnErr result (folder.new ≡ folder.old) }
 {

@@ -13,12 +13,11 @@ ghost use Rattle.journal_core.specs.Text.{journal_text};
 ghost use Rattle.ledger_core.specs.Closing.{AreAllSeats};
 ghost use Rattle.ledger_core.specs.Shared.{fresh_seats};
 ghost use Rattle.reserve_core.specs.Lasting.{StillLast};
-ghost use Rattle.sealer_core.specs.Sealing.{AppendsOnce, AreSealed, CrashesAround, FoldsARange, Happened, HasSealed, IsReserved, IsWritten};
-ghost use Rattle.sealer_core.specs.Sealing.{ReservesOnce, operations_of};
+ghost use Rattle.sealer_core.specs.Sealing.{AppendsOnce, AreLawful, CrashesAround, FoldsARange, Happened, HasSealed};
+ghost use Rattle.sealer_core.specs.Sealing.{IsReserved, IsWritten, ReservesOnce};
 
 use crate::ending::end_ledger;
 use crate::group::seal_groups;
-use crate::lane::seal_one_lane;
 use crate::trouble::{RunFault, complain};
 use command_core::{Folder, MAX_BYTES, Outs};
 use container_core::{Key, Shape};
@@ -128,38 +127,6 @@ pub(crate) fn open_ledger<S: Fold>(
     }
 }
 
-// Seals the files by the lanes that are asked for.
-fn seal_files<T: Threads + Wait + Sync, F: Folder, W: Sink>(
-    rt: &T,
-    alloc: Global,
-    key: &Key,
-    ledger: &Ledger,
-    seats: &mut [Seat],
-    folder: &mut F,
-    options: &SealOptions,
-    lines: &mut W,
-) -> u8
-    requires all { AreAllSeats ledger.now seats.old }
-    requires lanes { (0 < options.now.lanes) × (options.now.lanes ≤ MAX_LANES)
-        × (ledger.now.terms.seats ≡ options.now.lanes) }
-    requires fresh { seats.old ≡ fresh_seats ledger.now.ledger ledger.now.terms options.now.lanes }
-    requires max_bytes { options.now.max_bytes ≤ MAX_BYTES }
-    requires workers { (0 < options.now.workers) × (options.now.workers ≤ MAX_WORKERS) }
-    requires window { (0 < options.now.window) × (options.now.window ≤ MAX_WINDOW) }
-    ensures all { AreAllSeats ledger.now seats.new }
-    ensures sealed { AreSealed (Happened key.now options.now.shape.now options.now.max_bytes
-        ledger.now.terms.range.device (F.told folder.old) (F.told folder.new)) ledger.now.terms.seats (map (λ name. name.now) options.now.files.now)
-        (operations_of seats.new) result
-        (W.taken lines.old) (W.taken lines.new) (W.failures lines.old) (W.failures lines.new) }
-{
-    if options.lanes == 1 {
-        let seat = &mut seats[0];
-        seal_one_lane(rt, alloc, key, ledger, seat, folder, options, lines)
-    } else {
-        seal_groups(rt, alloc, key, ledger, seats, folder, options, lines)
-    }
-}
-
 // Seals the files over a new ledger, and ends that. The answer is the status of the lines, and how the ledger ended.
 fn work_ledger<T: Threads + Wait + Sync, F: Folder, W: Sink, J: Sink>(
     rt: &T,
@@ -176,25 +143,15 @@ fn work_ledger<T: Threads + Wait + Sync, F: Folder, W: Sink, J: Sink>(
     requires lanes { (0 < options.now.lanes) × (options.now.lanes ≤ MAX_LANES)
         × (ledger.terms.seats ≡ options.now.lanes) }
     requires fresh { seats.items ≡ fresh_seats ledger.ledger ledger.terms options.now.lanes }
-    requires max_bytes { options.now.max_bytes ≤ MAX_BYTES }
-    requires workers { (0 < options.now.workers) × (options.now.workers ≤ MAX_WORKERS) }
-    requires window { (0 < options.now.window) × (options.now.window ≤ MAX_WINDOW) }
+    requires options { AreLawful options.now }
     ensures { (history : List Entry)
         × HasSealed (Happened key.now options.now.shape.now options.now.max_bytes ledger.terms.range.device
         (F.told folder.old) (F.told folder.new)) (map (λ name. name.now) options.now.files.now) ledger.terms history result.0
         (W.taken lines.old) (W.taken lines.new) (W.failures lines.old) (W.failures lines.new)
         × IsWritten J.taken (journal_text ledger.terms history) (is_ok result.1) journal.old journal.new }
 {
-    let told = seal_files(
-        rt,
-        alloc,
-        key,
-        &ledger,
-        seats.as_mut_slice(),
-        folder,
-        options,
-        lines,
-    );
+    let all = seats.as_mut_slice();
+    let told = seal_groups(rt, alloc, key, &ledger, all, folder, options, lines);
     (told, end_ledger(alloc, ledger, seats, journal))
 }
 

@@ -1,18 +1,14 @@
 -- The files so far have their lines.
-use Rattle.std.proofs.Common.{◌≡◌, ◌≤◌, length, All, flat_map}
+use Rattle.std.proofs.Common.{◌≤◌, length, All, flat_map}
 use Rattle.command_core.specs.Trace.{Does}
-use Rattle.ledger_core.specs.Closing.{AreAllSeats}
-use Rattle.sealer_core.specs.Group.{EndsSoFar, IsPrepared, IsHeld, AreEnding, AreOwed, read_of}
+use Rattle.sealer_core.specs.Group.{EndsSoFar, IsPrepared, AreEnding, AreOwing, read_of}
 use Rattle.sealer_core.specs.Sealing.{operations_of}
 use Rattle.sealer_core.proofs.group.end_group.Given as goal
 
 abbrev pub invariant-loop-file : goal.invariant-loop-file
 invariant-loop-file g l = record {
-  all : AreAllSeats l.ledger l.seats;
-  count : length l.seats ≡ length l.initial.seats;
+  owing : AreOwing l.ledger l.seats l.outcomes.items;
   prepared : All IsPrepared l.files.items;
-  held : All (IsHeld (length l.initial.seats) l.ledger.terms.range.device) l.outcomes.items;
-  owed : AreOwed l.seats l.outcomes.items;
   few : length l.outcomes.items ≤ length (flat_map read_of l.files.items);
   ending : AreEnding (λ lines voids. Does (EndsSoFar g.F.Writer.Sink.taken l.initial.files.items l.files.items l.initial.outcomes.items l.outcomes.items lines voids)
       (g.F.Folder.told l.initial.folder) (g.F.Folder.told l.folder)) l.initial.files.items l.files.items l.initial.outcomes.items l.outcomes.items (operations_of l.initial.seats) (operations_of l.seats) l.start l.status

@@ -1,21 +1,32 @@
-use Rattle.std.proofs.Common.{ap, map, sym}
-use Rattle.sealer_core.proofs.Groups.{few_outcomes, refused_group, group_of, held_at}
+use Rattle.std.proofs.Common.{◌≡◌, ◌∷◌, [], ap, arith, length, map, sym}
+use Rattle.sealer_core.proofs.Groups.{few_jobs, few_outcomes, group_of, one_group, refused_group, single_name}
 use Rattle.sealer_core.proofs.Matches.{group_happened, refused_happened}
 use Rattle.sealer_core.proofs.group.seal_group.Goals as goal
+
+pub returns-then-seats-eq1-clause-group : goal.returns-then-seats-eq1-clause-group
+returns-then-seats-eq1-clause-group g c =
+    let (void, happened, accounts) = c.seal_file-outcome.ensures.done in
+    let one = c.if-seats-eq1.true in
+    let few = c.requires.few.1 in
+    one_group _ _ _ c.seal_file-outcome.result void _ _ _ _ _ _ _ _ (single_name c.args.names.now _ c.requires.few.0 (omega arith)) c.seal_file-outcome.ensures.outcome
+    c.tell.ensures accounts happened
 
 pub returns-in_default-clause-group : goal.returns-in_default-clause-group
 returns-in_default-clause-group g c = refused_group _ _ _ _ _ _ _ _ _ c.refuse_group.ensures
     (refused_happened _ _ _ _ _ _ _ (ap g.F.Folder.told c.in_default.ensures.refused))
 
-pub end_group-requires-clause-held : goal.end_group-requires-clause-held
-end_group-requires-clause-held g c = held_at _ _ _ _ (sym c.seal_jobs-outcomes.ensures.count) c.seal_jobs-outcomes.ensures.held
+pub seal_jobs-outcomes-requires-clause-few : goal.seal_jobs-outcomes-requires-clause-few
+seal_jobs-outcomes-requires-clause-few g c κs within =
+    let few = few_jobs c.in-Ok.files.items c.in-Ok.jobs.items c.args.names.now c.in-Ok.ensures.names c.in-Ok.ensures.read in
+    let same = ap length c.as_slice.ensures.value in
+    let all = c.requires.few.1 in omega arith
 
 pub returns-clause-group : goal.returns-clause-group
 returns-clause-group g c =
     let e = c.end_group.ensures.ended in
     group_of _ _ _ _ _ _ _ _ _ _ _ _ _ _ e c.in-Ok.ensures.names c.seal_jobs-outcomes.ensures.accounts
-    (λ lines voids. group_happened c.args.key.now c.args.shape.now c.args.max_bytes c.args.ledger.now.terms.range.device _ _ _ _ _ _ lines voids _ _ _ (ap (map (λ job. job.items)) c.as_slice.ensures.value) c.seal_jobs-outcomes.ensures.outcomes
-    c.seal_jobs-outcomes.ensures.held c.in-Ok.ensures.told)
+    (λ lines voids. group_happened c.args.key.now c.args.options.now.shape.now c.args.options.now.max_bytes c.args.ledger.now.terms.range.device _ _ _ _ _ _ lines voids _ _ _ (ap (map (λ job. job.items)) c.as_slice.ensures.value) c.seal_jobs-outcomes.ensures.outcomes
+    c.seal_jobs-outcomes.ensures.owing.held c.in-Ok.ensures.told)
 
 pub end_group-requires-clause-few : goal.end_group-requires-clause-few
 end_group-requires-clause-few g c = few_outcomes _ _ _ _ c.in-Ok.files.items _ c.seal_jobs-outcomes.ensures.outcomes c.as_slice.ensures.value c.in-Ok.ensures.read

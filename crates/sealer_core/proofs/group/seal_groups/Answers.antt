@@ -3,7 +3,7 @@ use Rattle.std.proofs.lemmas.List.{take_all, length-map}
 use Rattle.journal_core.specs.declared.entry.Entry.{Entry}
 use Rattle.sealer_core.specs.Sealing.{Accounts, AreSealed, Happened, operations_of}
 use Rattle.sealer_core.proofs.Happened.{more_happened, nothing_happened}
-use Rattle.sealer_core.proofs.Groups.{groups_more, group_names, owed_none}
+use Rattle.sealer_core.proofs.Groups.{groups_more, group_names, owing_none}
 use Rattle.sealer_core.proofs.Numbering.{accounts_none}
 use Rattle.sealer_core.proofs.Sealings.{nothing_sealed}
 use Rattle.sealer_core.proofs.group.seal_groups.Goals as goal
@@ -12,9 +12,8 @@ pub loop-done-init : goal.loop-done-init
 loop-done-init g c =
     let none = nothing_sealed (Happened c.args.key.now c.args.options.now.shape.now c.args.options.now.max_bytes c.args.ledger.now.terms.range.device (g.F.Folder.told c.args.folder.now) (g.F.Folder.told c.args.folder.now)) (length c.args.seats.now) _ (g.L.Sink.taken c.args.lines.now) (g.L.Sink.failures c.args.lines.now)
     (subst (λ (l : List Entry). Accounts [] [] l) (sym c.requires.fresh) accounts_none) (nothing_happened _ _) in record {
-      all = c.requires.all;
+      owing = owing_none _ _ c.requires.fresh c.requires.all;
       count = refl;
-      owed = owed_none _ c.requires.fresh;
       within = omega arith;
       sealed = (none.0, λ below. none.1);
     }
@@ -34,9 +33,8 @@ loop-done-preserved g c =
     let more = groups_more _ _ _ (length c.args.seats.now) _ (map (λ (name : Bor (List ℕ)). name.now) group) _ _ _ _ _ _ _ _ _ _ _ i.sealed.0 (i.sealed.1 c.loop-done-test.true) s.group (omega arith)
     (group_names files group c.loop-done.done _ (c.split_at-in-loop-done.ensures.front ∙ ap (take c.min.result) c.split_at.ensures.back) short)
     (more_happened _ _ _ _ _ _ _ _ i.sealed.0.worked.done s.group.done) in record {
-      all = s.all;
-      count = s.count ∙ i.count;
-      owed = s.owed;
+      owing = s.owing;
+      count = c.seal_group-status.auto.seats ∙ i.count;
       within = omega arith;
       sealed = (more.0, λ below. more.1 (omega (arith, below)));
     }

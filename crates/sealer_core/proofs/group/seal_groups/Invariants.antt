@@ -1,15 +1,13 @@
 -- The groups so far were sealed, and where files are left all of them are full.
 use Rattle.std.proofs.Common.{◌≡◌, ◌<◌, ◌≤◌, ◌-◌, [], All, length, map, take}
-use Rattle.ledger_core.specs.Closing.{AreAllSeats}
-use Rattle.sealer_core.specs.Group.{AreOwed}
+use Rattle.sealer_core.specs.Group.{AreOwing}
 use Rattle.sealer_core.specs.Sealing.{AreSealed, Happened, operations_of}
 use Rattle.sealer_core.proofs.group.seal_groups.Given as goal
 
 abbrev pub invariant-loop-done : goal.invariant-loop-done
 invariant-loop-done g l = record {
-  all : AreAllSeats l.ledger l.seats;
+  owing : AreOwing l.ledger l.seats [];
   count : length l.seats ≡ length l.initial.seats;
-  owed : AreOwed l.seats [];
   within : l.done ≤ length l.options.files.now;
   sealed : (s : AreSealed (Happened l.key l.options.shape.now l.options.max_bytes l.ledger.terms.range.device (g.F.Folder.told l.initial.folder) (g.F.Folder.told l.folder)) (length l.initial.seats) (map (λ name. name.now) (take l.done l.options.files.now)) (operations_of l.seats) l.status
       (g.L.Sink.taken l.initial.lines) (g.L.Sink.taken l.lines) (g.L.Sink.failures l.initial.lines) (g.L.Sink.failures l.lines))

@@ -1,31 +1,34 @@
-use Rattle.std.proofs.Common.{arith, sym, subst, List, All, length}
-use Rattle.crew_core.specs.declared.outcome.Outcome.{Outcome}
+use Rattle.std.proofs.Common.{List, arith, sym, subst, length}
 use Rattle.crew_core.proofs.Callers.{all_after_batch}
 use Rattle.ledger_core.specs.Shared.{SeatView}
-use Rattle.sealer_core.specs.Group.{IsHeld, AreHeld}
+use Rattle.sealer_core.specs.Group.{AreHeld, AreOwing}
 use Rattle.sealer_core.specs.Sealing.{operations_of}
-use Rattle.sealer_core.proofs.Groups.{held_as, nothing_held, after_batch, outcomes_held, owed_as, owed_batch, among_seats}
+use Rattle.sealer_core.proofs.Groups.{held_as, nothing_held, after_batch, outcomes_held, owed_batch, owing_as, among_seats}
 use Rattle.sealer_core.proofs.group.seal_jobs.Goals as goal
+
+pub returns-then-lanes-eq0-clause-owing : goal.returns-then-lanes-eq0-clause-owing
+returns-then-lanes-eq0-clause-owing g c = owing_as _ _ _ _ (sym c.new.ensures.items) c.requires.owing
 
 pub returns-then-lanes-eq0-clause-accounts : goal.returns-then-lanes-eq0-clause-accounts
 returns-then-lanes-eq0-clause-accounts g c = λ lines voids a. held_as lines voids _ _ _ (sym c.new.ensures.items) (nothing_held lines voids _ a)
 
-pub returns-in-Ok-clause-all : goal.returns-in-Ok-clause-all
-returns-in-Ok-clause-all g c = all_after_batch c.args.ledger.now c.args.seats.now c.seal_batch.new.seats c.seal_batch.auto.seats c.seal_batch.ensures.seen c.requires.all
-
-pub returns-in-Ok-clause-held : goal.returns-in-Ok-clause-held
-returns-in-Ok-clause-held g c =
-    let all = all_after_batch c.args.ledger.now c.args.seats.now c.seal_batch.new.seats c.seal_batch.auto.seats c.seal_batch.ensures.seen c.requires.all in
-    subst (λ (l : List Outcome). All (IsHeld (length c.args.seats.now) c.args.ledger.now.terms.range.device) l) (sym c.from.ensures.0)
-    (outcomes_held _ _ _ _ (length c.args.seats.now) c.args.ledger.now _ c.in-Ok.outcomes.items (omega (arith, c.lanes_for-lanes.ensures.within, c.requires.few)) c.in-Ok.ensures.outcomes c.in-Ok.ensures.at_seats all)
-
-pub returns-in-Ok-clause-owed : goal.returns-in-Ok-clause-owed
-returns-in-Ok-clause-owed g c = owed_as _ c.in-Ok.outcomes.items _ (sym c.from.ensures.0)
-    (owed_batch c.args.seats.now c.seal_batch.new.seats _ c.seal_batch.auto.seats c.in-Ok.ensures.issued c.requires.owed)
+pub returns-in-Ok-clause-owing : goal.returns-in-Ok-clause-owing
+returns-in-Ok-clause-owing g c =
+    let all = all_after_batch c.args.ledger.now c.args.seats.now c.seal_batch.new.seats c.seal_batch.auto.seats c.seal_batch.ensures.seen c.requires.owing.all in
+    owing_as _ _ c.in-Ok.outcomes.items _ (sym c.from.ensures.0) (record {
+      all = all;
+      held = outcomes_held _ _ _ _ (length c.seal_batch.new.seats) c.args.ledger.now _ c.in-Ok.outcomes.items (omega (arith, c.lanes_for-lanes.ensures.within, c.requires.few, c.seal_batch.auto.seats))
+          c.in-Ok.ensures.outcomes c.in-Ok.ensures.at_seats all;
+      owed = owed_batch c.args.seats.now c.seal_batch.new.seats _ c.seal_batch.auto.seats c.in-Ok.ensures.issued c.requires.owing.owed;
+    })
 
 pub returns-in-Ok-clause-accounts : goal.returns-in-Ok-clause-accounts
 returns-in-Ok-clause-accounts g c = λ lines voids a. held_as lines voids c.in-Ok.outcomes.items c.from.result.items _ (sym c.from.ensures.0)
     (after_batch c.args.seats.now c.seal_batch.new.seats c.in-Ok.outcomes.items lines voids c.seal_batch.auto.seats (among_seats _ _ _ _ (omega (arith, c.lanes_for-lanes.ensures.within, c.requires.few)) c.in-Ok.ensures.at_seats) c.in-Ok.ensures.issued a)
+
+pub returns-in-Err-clause-owing : goal.returns-in-Err-clause-owing
+returns-in-Err-clause-owing g c = subst (λ (v : List SeatView). AreOwing c.args.ledger.now v c.new-in-Err.result.items) (sym c.in-Err.ensures.refused)
+    (owing_as _ _ _ _ (sym c.new-in-Err.ensures.items) c.requires.owing)
 
 pub returns-in-Err-clause-accounts : goal.returns-in-Err-clause-accounts
 returns-in-Err-clause-accounts g c = λ lines voids a. subst (λ (v : List SeatView). AreHeld lines voids c.new-in-Err.result.items (operations_of v)) (sym c.in-Err.ensures.refused)

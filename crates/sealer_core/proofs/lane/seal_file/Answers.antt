@@ -1,33 +1,79 @@
-use Rattle.std.proofs.Common.{[], refl, ◌∙◌}
-use Rattle.sealer_core.proofs.Happened.{was_closed, was_unbegun, was_uncreated, was_unopened}
-use Rattle.sealer_core.proofs.Numbering.{adds_failure}
+-- The number that was granted is held as that of an outcome, until it is settled.
+use Rattle.std.proofs.Common.{◌≡◌, ◌∷◌, [], nat_eq, ap, refl, subst, sym, ◌∙◌}
+use Rattle.std.proofs.lemmas.Option.{slice_get-get_or}
+use Rattle.ledger_core.specs.Shared.{spent_as}
+use Rattle.journal_core.specs.declared.entry.Way.TheVariants as ended
+use Rattle.crew_core.specs.declared.outcome.Outcome.{Outcome}
+use Rattle.crew_core.specs.declared.outcome.Outcome.TheVariants as job
+use Rattle.sealer_core.specs.Group.{EndsBy}
+use Rattle.sealer_core.specs.Sealing.{void_at}
+use Rattle.sealer_core.proofs.Groups.{ended_first, granted_held, granted_owing, let_go, owes_first, owing_rest, refused_accounts_at, refused_owing}
+use Rattle.sealer_core.proofs.Happened.{was_ended, was_refused, was_unissued}
+use Rattle.sealer_core.proofs.Numbering.{adds_failure, not_granted, spent_number}
 use Rattle.sealer_core.proofs.lane.seal_file.Goals as goal
 
-pub returns-in_default-clause-done : goal.returns-in_default-clause-done
-returns-in_default-clause-done g c = ([], was_unbegun _ _ _ _ _ _, λ lines voids a. adds_failure lines voids _ 0 _ a _)
-
-pub returns-in_default-open-clause-done : goal.returns-in_default-open-clause-done
-returns-in_default-open-clause-done g c =
-    ([], was_unopened _ _ _ _ _ _ _ c.in_default-open.ensures.unopened, λ lines voids a. adds_failure lines voids _ 0 _ a _)
-
-pub returns-in-Err-Exists-clause-done : goal.returns-in-Err-Exists-clause-done
-returns-in-Err-Exists-clause-done g c = (
+pub returns-in-Err-clause-done : goal.returns-in-Err-clause-done
+returns-in-Err-clause-done g c = (
   [],
-  was_uncreated _ _ _ _ _ _ _ _ _ _ _ _ (λ before is. (refl, is)) (c.as_str-output.ensures.value ∙ c.in-Ok.ensures.ok) c.in-Ok-open.ensures.opened (rw c.in-Err-Exists.field-0-is at c.in-Err-Exists.ensures.uncreated),
+  was_refused c.args.key.now c.args.options.now.shape.now c.args.options.now.max_bytes c.args.ledger.now.terms.range.device c.args.name.now c.in-Err.fault _ _ c.in-Err.ensures.refused,
   λ lines voids a. adds_failure lines voids _ 0 _ a _,
 )
 
-pub returns-in-Err-Failed-clause-done : goal.returns-in-Err-Failed-clause-done
-returns-in-Err-Failed-clause-done g c = (
+pub issue_to_file-requires : goal.issue_to_file-requires
+issue_to_file-requires g c = record {
+  ours = (c.requires.owing.all.each 0 _ (slice_get-get_or c.args.seats.now 0 c.index-seats-0.result c.requires.some)).0;
+}
+
+pub returns-in-Err-issue_to_file-clause-owing : goal.returns-in-Err-issue_to_file-clause-owing
+returns-in-Err-issue_to_file-clause-owing g c =
+    refused_owing _ _ c.index-seats-0.result _ c.requires.some (not_granted _ _ _ c.in-Err-issue_to_file.ensures.refused.2) c.in-Err-issue_to_file.ensures.same c.requires.owing
+
+pub returns-in-Err-issue_to_file-clause-done : goal.returns-in-Err-issue_to_file-clause-done
+returns-in-Err-issue_to_file-clause-done g c = rw c.give_up.ensures.outcome (
   [],
-  was_uncreated _ _ _ _ _ _ _ _ _ _ _ _ (λ before is. (refl, is)) (c.as_str-output.ensures.value ∙ c.in-Ok.ensures.ok) c.in-Ok-open.ensures.opened (rw c.in-Err-Failed.field-0-is at c.in-Err-Failed.ensures.uncreated),
-  λ lines voids a. adds_failure lines voids _ 0 _ a _,
+  was_unissued c.args.key.now c.args.options.now.shape.now c.args.options.now.max_bytes c.args.ledger.now.terms.range.device c.args.name.now c.in-Err-issue_to_file.ensures.refused.0 c.in-Err-issue_to_file.fault _ _ _ _ _
+      c.in-Err-issue_to_file.ensures.refused.1 c.in-Ok.ensures.made c.give_up.ensures.discarded,
+  λ lines voids a. refused_accounts_at c.args.ledger.now c.args.seats.now c.index-seats-0.result _ c.requires.some (not_granted _ _ _ c.in-Err-issue_to_file.ensures.refused.2) lines voids _ _ a,
 )
+
+pub end_output-requires-clause-all : goal.end_output-requires-clause-all
+end_output-requires-clause-all g c =
+    (granted_owing _ _ c.index-seats-0.result _ c.in-Ok-issue_to_file.grant c.requires.some c.in-Ok-issue_to_file.ensures.granted.0 c.in-Ok-issue_to_file.ensures.same c.in-Ok-issue_to_file.ensures.granted.1 c.requires.owing).all
+
+pub end_output-requires-clause-owed : goal.end_output-requires-clause-owed
+end_output-requires-clause-owed g c =
+    let grant = c.in-Ok-issue_to_file.grant in
+    let spent = c.run_seal_by-sealed.result.1 in
+    let (device, number) = spent_number _ grant spent c.run_seal_by-sealed.ensures.sealed c.run_seal_by-sealed.ensures.void in
+    let o : Outcome = job.Spoiled 0 (spent_as grant ended.Void) in
+    owes_first c.args.ledger.now _ (o ∷ []) [] o 0 spent refl refl (λ n. ap (λ k. nat_eq n k) (sym number)) (λ d h. device ∙ h.0)
+    (granted_owing _ _ c.index-seats-0.result _ grant c.requires.some c.in-Ok-issue_to_file.ensures.granted.0 c.in-Ok-issue_to_file.ensures.same c.in-Ok-issue_to_file.ensures.granted.1 c.requires.owing)
+
+pub returns-clause-owing : goal.returns-clause-owing
+returns-clause-owing g c =
+    let grant = c.in-Ok-issue_to_file.grant in
+    let spent = c.run_seal_by-sealed.result.1 in
+    let (device, number) = spent_number _ grant spent c.run_seal_by-sealed.ensures.sealed c.run_seal_by-sealed.ensures.void in
+    let o : Outcome = job.Spoiled 0 (spent_as grant ended.Void) in
+    owing_rest c.args.ledger.now _ (o ∷ []) [] o 0 spent refl refl (λ n. ap (λ k. nat_eq n k) (sym number)) c.end_output.new.seats c.end_output.auto.seats c.end_output.ensures.all c.end_output.ensures.made
+    (granted_owing _ _ c.index-seats-0.result _ grant c.requires.some c.in-Ok-issue_to_file.ensures.granted.0 c.in-Ok-issue_to_file.ensures.same c.in-Ok-issue_to_file.ensures.granted.1 c.requires.owing)
 
 pub returns-clause-done : goal.returns-clause-done
 returns-clause-done g c =
-    let (void, taken, puts, closed, more) = c.seal_next.ensures.done in (
-      void,
-      was_closed _ _ _ _ _ _ _ _ _ _ _ _ _ _ _ (c.as_str-output.ensures.value ∙ c.in-Ok.ensures.ok) c.in-Ok-open.ensures.opened c.in-Ok-create.ensures.created puts closed,
-      λ lines voids a. more _ lines voids a,
+    let grant = c.in-Ok-issue_to_file.grant in
+    let spent = c.run_seal_by-sealed.result.1 in
+    let run = c.run_seal_by-sealed.ensures in
+    let sealed = c.run_seal_by-sealed.result.0 in
+    let (device, number) = spent_number _ grant spent run.sealed run.void in
+    let o : Outcome = job.Spoiled 0 (spent_as grant ended.Void) in
+    let of_ledger : grant.device ≡ c.args.ledger.now.terms.range.device =
+    c.in-Ok-issue_to_file.ensures.granted.1 ∙ ap (λ t. t.range.device) (c.requires.owing.all.each 0 _ (slice_get-get_or c.args.seats.now 0 c.index-seats-0.result c.requires.some)).1 in (
+      void_at grant.number c.end_output.result,
+      was_ended c.args.key.now c.args.options.now.shape.now c.args.options.now.max_bytes c.args.ledger.now.terms.range.device c.args.name.now grant.device grant.number sealed c.end_output.result
+          (g.F.Reader.Source.left c.in-Ok.begun.0) (g.F.Writer.Sink.taken c.in-Ok.begun.1) (g.F.Writer.Sink.taken c.run_seal_by-sealed.new.writer) _ _ _ of_ledger
+          run.writes.written run.writes.within run.writes.length run.writes.begun run.reads.more run.by_bytes run.writes.unwritten
+          (subst (λ n. EndsBy sealed n c.end_output.result) number c.end_output.ensures.outcome) c.in-Ok.ensures.made c.end_output.ensures.closed,
+      λ lines voids a. let_go _ _ _ (ended_first c.args.ledger.now c.args.seats.now (o ∷ []) [] o 0 spent refl refl (λ n. ap (λ k. nat_eq n k) (sym number)) lines voids _ _ _ c.args.name.now c.end_output.result
+          (ap (λ n. void_at n c.end_output.result) (sym number)) c.end_output.ensures.settled
+          (granted_held c.args.ledger.now c.args.seats.now c.index-seats-0.result _ grant c.requires.some c.in-Ok-issue_to_file.ensures.granted.0 lines voids a)),
     )

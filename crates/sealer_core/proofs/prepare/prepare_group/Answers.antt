@@ -12,7 +12,6 @@ loop-name-init g c = record {
   prepared = search rules;
   told = none_begun _ _ _ _ _ (search rules) (search rules);
   short = search rules;
-  few = search rules;
   read = search rules;
 }
 
@@ -25,14 +24,12 @@ loop-name-preserved g c =
     let capacity = b.capacity in
     let count = i.count in
     let room = i.room in
-    let few = i.few in
-    let more = p.count in record {
+    record {
       count = omega arith;
       room = omega arith;
       names = prepared_names _ _ _ b.items _ _ _ i.names p.name (names-step _ _ _ c.loop-name-test.true);
       prepared = prepared_all _ _ _ b.items i.prepared p.prepared;
       told = begun_more _ _ _ _ _ _ _ _ _ _ b.items i.told p.told;
       short = p.short;
-      few = omega arith;
       read = prepared_read _ _ _ b.items _ _ i.read p.read;
     }

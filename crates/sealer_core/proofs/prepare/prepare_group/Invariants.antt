@@ -1,5 +1,5 @@
 -- The files so far were prepared.
-use Rattle.std.proofs.Common.{◌≡◌, ◌≤◌, length, map, take, flat_map, All, vec_len}
+use Rattle.std.proofs.Common.{◌≡◌, ◌≤◌, length, map, take, flat_map, All}
 use Rattle.std.specs.VecDeque.{deque_len, deque_capacity}
 use Rattle.command_core.specs.Trace.{Does}
 use Rattle.sealer_core.specs.Group.{AreBegun, name_of, IsPrepared, read_of}
@@ -13,6 +13,5 @@ invariant-loop-name g l = record {
   prepared : All IsPrepared l.files.items;
   told : Does (AreBegun g.F.Writer.Sink.taken l.max_bytes l.files.items (map (λ job. job.items) l.jobs.items)) (g.F.Folder.told l.initial.folder) (g.F.Folder.told l.folder);
   short : All (λ job. length job.items ≤ 1099511627776) l.jobs.items;
-  few : vec_len l.jobs ≤ l.name-index;
   read : map (λ job. length job.items) l.jobs.items ≡ flat_map read_of l.files.items;
 }
