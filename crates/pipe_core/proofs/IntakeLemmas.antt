@@ -3,7 +3,7 @@ use Rattle.std.proofs.Common.{◌≡◌, ℕ, zero, suc, ◌+◌, ◌-◌, ◌*�
 use Rattle.std.proofs.Common.{Option, Some, None, IfSome, refl, sym, ap, ◌∙◌, subst, arith, append_assoc, length-append, append-nil}
 use Rattle.std.proofs.KnownBytes.{Consumes-trans}
 use Rattle.std.proofs.lemmas.List.{take_all, length-take-le}
-use Rattle.std.proofs.Math.Nat.{lt_of_mul-lt-mul_right}
+use Rattle.std.proofs.Math.Nat.{lt_of_mul-lt-mul_right, mul-le-mul_right}
 use lib.Seq.{take-suc}
 use Rattle.io_core.specs.Reads.{ConsumesUpTo}
 use Rattle.io_core.specs.Streams.{Consumes, IsAtEnd}
@@ -44,7 +44,7 @@ no_rest (Some r) rest end is = same is end
 pub over_read : (size limit n : ℕ) (left now after : Option (List ℕ)) (intake intake' : Intake) (read : List ℕ)
     → HasRead size limit left now intake → intake.ended ≡ false → intake.over ≡ false → Consumes now after read
     → n ≡ length (seen intake.ahead ++ read) → n + intake.total ≡ limit → n ≤ size + 1
-    → intake'.over ≡ true → intake'.ended ≡ false → intake'.total ≡ intake.total → intake'.chunks ≡ intake.chunks
+    → intake'.over ≡ true → intake'.ended ≡ false → intake'.total ≡ intake.total → intake'.blocks ≡ intake.blocks
     → HasRead size limit left after intake'
 over_read size limit n left now after intake intake' read had going unmet more counts full few over still total counted =
     let g = (had.going going unmet).0 in
@@ -53,7 +53,7 @@ over_read size limit n left now after intake intake' read had going unmet more c
     let long : length (had.bytes ++ read) ≡ limit =
     length-append had.bytes read ∙ ap (λ (k : ℕ). k + length read) (ap (λ (l : List ℕ). length l) g.read ∙ length-append g.past (seen intake.ahead))
     ∙ (let c = length-append (seen intake.ahead) read in omega arith) in
-    let product : intake'.chunks * size ≡ intake.chunks * size = ap (λ (k : ℕ). k * size) counted in
+    let product : intake'.blocks * size ≡ intake.blocks * size = ap (λ (k : ℕ). k * size) counted in
     record {
       bytes = had.bytes ++ read;
       consumed = Consumes-trans left now after had.bytes read had.consumed more;
@@ -71,7 +71,7 @@ whole_buffer size n buffer got long full is = sym (take_all n buffer (omega arit
 pub full_read : (size limit n : ℕ) (left now after : Option (List ℕ)) (intake intake' : Intake) (buffer read : List ℕ)
     → HasRead size limit left now intake → intake.ended ≡ false → intake.over ≡ false → Consumes now after read
     → take n buffer ≡ seen intake.ahead ++ read → length buffer ≡ size + 1 → size < n → intake.total + size + 1 < limit
-    → intake'.chunks ≡ intake.chunks + 1 → intake'.ahead ≡ Some (get_or buffer size 0) → intake'.ended ≡ false
+    → intake'.blocks ≡ intake.blocks + 1 → intake'.ahead ≡ Some (get_or buffer size 0) → intake'.ended ≡ false
     → intake'.over ≡ false → intake'.total ≡ intake.total + size
     → HasRead size limit left after intake'
 full_read size limit n left now after intake intake' buffer read had going unmet more text long full within counted ahead still shut total =
@@ -81,8 +81,8 @@ full_read size limit n left now after intake intake' buffer read had going unmet
     sym (take_all (suc size) buffer (omega arith)) ∙ take-suc buffer size 0 (omega arith) ∙ ap (λ (l : List ℕ). take size buffer ++ l) (sym one) in
     let cut : length (take size buffer) ≡ size = length-take-le size buffer (omega arith) in
     let grown = length-append g.past (take size buffer) in
-    let product : (intake.chunks + 1) * size ≡ intake.chunks * size + size = grind arith in
-    let product' : intake'.chunks * size ≡ (intake.chunks + 1) * size = ap (λ (k : ℕ). k * size) counted in
+    let product : (intake.blocks + 1) * size ≡ intake.blocks * size + size = grind arith in
+    let product' : intake'.blocks * size ≡ (intake.blocks + 1) * size = ap (λ (k : ℕ). k * size) counted in
     let is : had.bytes ++ read ≡ g.past ++ buffer =
     sym (append-nil (had.bytes ++ read)) ∙ so_far g.past (seen intake.ahead) read buffer [] had.bytes g.read (whole_buffer size n buffer _ long full text)
     ∙ ap (λ (l : List ℕ). g.past ++ l) (append-nil buffer) in
@@ -111,7 +111,7 @@ full_read size limit n left now after intake intake' buffer read had going unmet
 pub full_chunk : (size limit n : ℕ) (left now after : Option (List ℕ)) (intake : Intake) (buffer read : List ℕ)
     → HasRead size limit left now intake → intake.ended ≡ false → intake.over ≡ false → Consumes now after read
     → take n buffer ≡ seen intake.ahead ++ read → length buffer ≡ size + 1 → size < n → 0 < size
-    → IsChunk size left intake.chunks false (take size buffer)
+    → IsChunk size left intake.blocks false (take size buffer)
 full_chunk size limit n left now after intake buffer read had going unmet more text long full some =
     let g = (had.going going unmet).0 in
     let cut : length (take size buffer) ≡ size = length-take-le size buffer (omega arith) in
@@ -159,7 +159,7 @@ end_read size limit n left now after intake intake' buffer read had going unmet 
 pub end_chunk : (size limit n : ℕ) (left now after : Option (List ℕ)) (intake : Intake) (buffer read : List ℕ)
     → HasRead size limit left now intake → intake.ended ≡ false → intake.over ≡ false → Consumes now after read → IsAtEnd after
     → take n buffer ≡ seen intake.ahead ++ read → n ≤ length buffer → n ≤ size
-    → IsChunk size left intake.chunks true (take n buffer)
+    → IsChunk size left intake.blocks true (take n buffer)
 end_chunk size limit n left now after intake buffer read had going unmet more over text within few =
     let g = (had.going going unmet).0 in
     let cut : length (take n buffer) ≡ n = length-take-le n buffer within in
@@ -188,25 +188,33 @@ lost_read size limit upto left now after intake had going unmet few lost =
     let within = (had.going going unmet).1 in
     let whole = g.whole in
     let sum = had.sum going in
-    let long : length had.bytes ≡ intake.chunks * size + length (seen intake.ahead) = ap (λ (l : List ℕ). length l) g.read ∙ length-append g.past (seen intake.ahead) ∙ omega arith in
+    let long : length had.bytes ≡ intake.blocks * size + length (seen intake.ahead) = ap (λ (l : List ℕ). length l) g.read ∙ length-append g.past (seen intake.ahead) ∙ omega arith in
     let grown = length-append had.bytes lost.0 in
     let some = lost.2 in
     (had.bytes ++ lost.0, Consumes-trans left now after had.bytes lost.0 had.consumed lost.1, omega arith)
 
--- how many chunks there may be
-pub few_chunks : (size limit : ℕ) (left left' : Option (List ℕ)) (intake : Intake) → 0 < size → limit ≤ 4294967295 * size + 1
-    → HasRead size limit left left' intake → intake.ended ≡ false → intake.over ≡ false
-    → (intake.chunks < 4294967295) × (intake.total < limit)
-few_chunks size limit left left' intake some most had going unmet =
+-- how many blocks there may be, and their chunks
+pub few_blocks : (each size block limit : ℕ) (left left' : Option (List ℕ)) (intake : Intake) → 0 < each → block ≡ each * size → 0 < block → block ≤ 1048576
+    → limit + block ≤ 4294967296 * size + 1 → HasRead block limit left left' intake → intake.ended ≡ false → intake.over ≡ false
+    → (intake.blocks < 4294967295) × (each * (intake.blocks + 1) ≤ 4294967295) × (intake.total < limit)
+few_blocks each size block limit left left' intake one is some small most had going unmet =
     let g = (had.going going unmet).0 in
     let within = (had.going going unmet).1 in
     let whole = g.whole in
     let sum = had.sum going in
-    let long : length had.bytes ≡ intake.chunks * size + length (seen intake.ahead) = ap (λ (l : List ℕ). length l) g.read ∙ length-append g.past (seen intake.ahead) ∙ omega arith in
-    (below intake.chunks (omega arith) g.behind, omega arith)
+    let long : length had.bytes ≡ intake.blocks * block + length (seen intake.ahead) = ap (λ (l : List ℕ). length l) g.read ∙ length-append g.past (seen intake.ahead) ∙ omega arith in
+    let numbers = fits intake.blocks (omega arith) g.behind in
+    let fewer : 1 * (intake.blocks + 1) ≤ each * (intake.blocks + 1) = mul-le-mul_right (intake.blocks + 1) (omega arith) in
+    (omega arith, numbers, omega arith)
   where
-    below : (n : ℕ) → n * size + length (seen intake.ahead) < limit → (0 < n → length (seen intake.ahead) ≡ 1) → n < 4294967295
-    below zero less behind = omega arith
-    below (suc n) less behind =
-        let one = behind (omega arith) in
-        lt_of_mul-lt-mul_right size (omega arith)
+    narrow : (size : ℕ) → block ≡ each * size → 0 < block → each ≤ block
+    narrow zero e more = absurd (omega (arith, e, more))
+    narrow (suc n) e more = omega (arith, e)
+
+    fits : (n : ℕ) → n * block + length (seen intake.ahead) < limit → (0 < n → length (seen intake.ahead) ≡ 1) → each * (n + 1) ≤ 4294967295
+    fits zero less behind = let a = narrow size is some in omega arith
+    fits (suc n) less behind =
+        let more = behind (omega arith) in
+        let product : suc n * block ≡ suc n * each * size = ap (λ (b : ℕ). suc n * b) is ∙ omega arith in
+        let below : each * (suc n + 1) < 4294967296 = lt_of_mul-lt-mul_right size (omega (arith, product, more, less, most, is)) in
+        omega (arith, below)

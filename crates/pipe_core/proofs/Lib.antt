@@ -1,7 +1,9 @@
+pub mod BlockLemmas
 pub mod ChunkLemmas
 pub mod IntakeLemmas
 pub mod Moves
 pub mod Orders
+pub mod PieceLemmas
 pub mod RoundLemmas
 pub mod StreamLemmas
 pub mod Sums

@@ -24,26 +24,26 @@ set_cases (x ∷ xs) (suc i) (suc k) a q e = elim (set_cases xs i k a q e) [
   | inr there ↦ inr there
 ]
 
-pub place_kept : (key header : List ℕ) (told : Option (List ℕ)) (w : ℕ) (places : List (Option Piece)) (p : Piece) → AreKept key header told w places → IsPiece key header told p → AreKept key header told w (placed w places p)
-place_kept key header told w places p kept good = go (nat_lt p.number w) refl
+pub place_kept : (each : ℕ) (key header : List ℕ) (told : Option (List ℕ)) (w : ℕ) (places : List (Option Piece)) (p : Piece) → AreKept each key header told w places → IsPiece each key header told p → AreKept each key header told w (placed w places p)
+place_kept each key header told w places p kept good = go (nat_lt p.number w) refl
   where
-    go : (b : Bool) → nat_lt p.number w ≡ b → AreKept key header told w (cond b places (set places (p.number - w) (Some p)))
+    go : (b : Bool) → nat_lt p.number w ≡ b → AreKept each key header told w (cond b places (set places (p.number - w) (Some p)))
     go true low k q e = kept k q e
     go false high k q e =
         let late : w ≤ p.number = ltb-false p.number w high in
         elim (set_cases places (p.number - w) k (Some p) q e) [
-          | inl here ↦ let same : p ≡ q = same_Some p q here.1 in subst (λ (r : Piece). (r.number ≡ w + k) × IsPiece key header told r) same ((let h = here.0 in omega arith), good)
+          | inl here ↦ let same : p ≡ q = same_Some p q here.1 in subst (λ (r : Piece). (r.number ≡ w + k) × IsPiece each key header told r) same ((let h = here.0 in omega arith), good)
           | inr there ↦ kept k q there
         ]
 
-pub first_kept : (key header : List ℕ) (told : Option (List ℕ)) (w : ℕ) (rest : List (Option Piece)) (p : Piece) → AreKept key header told w (Some p ∷ rest) → (p.number ≡ w) × IsPiece key header told p
-first_kept key header told w rest p kept = let k = kept 0 p refl in (omega arith, k.1)
+pub first_kept : (each : ℕ) (key header : List ℕ) (told : Option (List ℕ)) (w : ℕ) (rest : List (Option Piece)) (p : Piece) → AreKept each key header told w (Some p ∷ rest) → (p.number ≡ w) × IsPiece each key header told p
+first_kept each key header told w rest p kept = let k = kept 0 p refl in (omega arith, k.1)
 
-pub rest_kept : (key header : List ℕ) (told : Option (List ℕ)) (w : ℕ) (rest : List (Option Piece)) (p : Piece) → AreKept key header told w (Some p ∷ rest) → AreKept key header told (w + 1) rest
-rest_kept key header told w rest p kept k q e = let r = kept (suc k) q e in (omega arith, r.1)
+pub rest_kept : (each : ℕ) (key header : List ℕ) (told : Option (List ℕ)) (w : ℕ) (rest : List (Option Piece)) (p : Piece) → AreKept each key header told w (Some p ∷ rest) → AreKept each key header told (w + 1) rest
+rest_kept each key header told w rest p kept k q e = let r = kept (suc k) q e in (omega arith, r.1)
 
-pub none_kept : (key header : List ℕ) (told : Option (List ℕ)) (w : ℕ) → AreKept key header told w []
-none_kept key header told w k q e = absurd (none-some q e)
+pub none_kept : (each : ℕ) (key header : List ℕ) (told : Option (List ℕ)) (w : ℕ) → AreKept each key header told w []
+none_kept each key header told w k q e = absurd (none-some q e)
 
 pub seen_none : (a b : List ℕ) → HasSeen 0 [] a b
 seen_none a b = record { behind = λ x low. absurd (omega arith); kept = λ k p e. absurd (none-some p e) }
@@ -168,9 +168,9 @@ all_joined n j p i q j' p' relayed e f h = rw (e, f) (all_both n 1 j p i q h rel
 
 -- ---- the caller's thread
 
-pub first_is : (key header : List ℕ) (told : Option (List ℕ)) (w : ℕ) (xs ys : List (Option Piece)) (p : Piece) → xs ≡ Some p ∷ ys
-    → AreKept key header told w xs → (p.number ≡ w) × IsPiece key header told p
-first_is key header told w xs ys p e kept = first_kept key header told w ys p (subst (AreKept key header told w) e kept)
+pub first_is : (each : ℕ) (key header : List ℕ) (told : Option (List ℕ)) (w : ℕ) (xs ys : List (Option Piece)) (p : Piece) → xs ≡ Some p ∷ ys
+    → AreKept each key header told w xs → (p.number ≡ w) × IsPiece each key header told p
+first_is each key header told w xs ys p e kept = first_kept each key header told w ys p (subst (AreKept each key header told w) e kept)
 
 length_placed : (w : ℕ) (xs : List (Option Piece)) (p : Piece) → length (placed w xs p) ≡ length xs
 length_placed w xs p = go (nat_lt p.number w)
@@ -180,41 +180,41 @@ length_placed w xs p = go (nat_lt p.number w)
     go false = length-set xs (p.number - w) (Some p)
 
 -- the piece whose turn it was is written
-pub order_next : (key header : List ℕ) (told : Option (List ℕ)) (chunks : ℕ) (old new : Early) (jobs pieces : Hand) (p : Piece)
+pub order_next : (each : ℕ) (key header : List ℕ) (told : Option (List ℕ)) (chunks : ℕ) (old new : Early) (jobs pieces : Hand) (p : Piece)
     → old.places.items ≡ Some p ∷ new.places.items → new.written ≡ old.written + 1
-    → IsOrdered key header told chunks old jobs pieces → IsOrdered key header told chunks new jobs pieces
-order_next key header told chunks old new jobs pieces p e f was = record {
+    → IsOrdered each key header told chunks old jobs pieces → IsOrdered each key header told chunks new jobs pieces
+order_next each key header told chunks old new jobs pieces p e f was = record {
   put = was.put;
   silent = was.silent;
   count = let n = was.count in let l = ap (λ (xs : List (Option Piece)). length xs) e in omega arith;
-  kept = rw f (rest_kept key header told old.written new.places.items p (subst (AreKept key header told old.written) e was.kept));
+  kept = rw f (rest_kept each key header told old.written new.places.items p (subst (AreKept each key header told old.written) e was.kept));
   seen = seen_next old.written new.written old.places.items new.places.items p jobs.taken pieces.taken e f
-      (first_is key header told old.written old.places.items new.places.items p e was.kept).0 was.seen;
+      (first_is each key header told old.written old.places.items new.places.items p e was.kept).0 was.seen;
 }
 
 -- a piece was taken back
-pub order_back : (key header : List ℕ) (told : Option (List ℕ)) (chunks : ℕ) (old new : Early) (jobs pieces pieces' : Hand) (p : Piece)
+pub order_back : (each : ℕ) (key header : List ℕ) (told : Option (List ℕ)) (chunks : ℕ) (old new : Early) (jobs pieces pieces' : Hand) (p : Piece)
     → new.places.items ≡ placed old.written old.places.items p → new.written ≡ old.written
-    → pieces' ≡ hand pieces.parts pieces.put (pieces.taken ++ p.number ∷ []) → IsPiece key header told p
-    → IsOrdered key header told chunks old jobs pieces → IsOrdered key header told chunks new jobs pieces'
-order_back key header told chunks old new jobs pieces pieces' p e f g good was = record {
+    → pieces' ≡ hand pieces.parts pieces.put (pieces.taken ++ p.number ∷ []) → IsPiece each key header told p
+    → IsOrdered each key header told chunks old jobs pieces → IsOrdered each key header told chunks new jobs pieces'
+order_back each key header told chunks old new jobs pieces pieces' p e f g good was = record {
   put = was.put;
   silent = ap (λ v. v.put) g ∙ was.silent;
   count = let n = was.count in let l = ap (λ (xs : List (Option Piece)). length xs) e ∙ length_placed old.written old.places.items p in omega arith;
-  kept = rw (e, f) (place_kept key header told old.written old.places.items p was.kept good);
+  kept = rw (e, f) (place_kept each key header told old.written old.places.items p was.kept good);
   seen = seen_back old.written new.written old.places.items new.places.items p jobs.taken jobs.taken pieces.taken pieces'.taken e f refl (ap (λ v. v.taken) g) was.seen;
 }
 
 -- a job was worked by the caller's thread
-pub order_mine : (key header : List ℕ) (told : Option (List ℕ)) (chunks : ℕ) (old new : Early) (jobs jobs' pieces : Hand) (p : Piece)
+pub order_mine : (each : ℕ) (key header : List ℕ) (told : Option (List ℕ)) (chunks : ℕ) (old new : Early) (jobs jobs' pieces : Hand) (p : Piece)
     → new.places.items ≡ placed old.written old.places.items p → new.written ≡ old.written
-    → jobs' ≡ hand jobs.parts jobs.put (jobs.taken ++ p.number ∷ []) → IsPiece key header told p
-    → IsOrdered key header told chunks old jobs pieces → IsOrdered key header told chunks new jobs' pieces
-order_mine key header told chunks old new jobs jobs' pieces p e f g good was = record {
+    → jobs' ≡ hand jobs.parts jobs.put (jobs.taken ++ p.number ∷ []) → IsPiece each key header told p
+    → IsOrdered each key header told chunks old jobs pieces → IsOrdered each key header told chunks new jobs' pieces
+order_mine each key header told chunks old new jobs jobs' pieces p e f g good was = record {
   put = ap (λ v. v.put) g ∙ was.put;
   silent = was.silent;
   count = let n = was.count in let l = ap (λ (xs : List (Option Piece)). length xs) e ∙ length_placed old.written old.places.items p in omega arith;
-  kept = rw (e, f) (place_kept key header told old.written old.places.items p was.kept good);
+  kept = rw (e, f) (place_kept each key header told old.written old.places.items p was.kept good);
   seen = seen_mine old.written new.written old.places.items new.places.items p jobs.taken jobs'.taken pieces.taken pieces.taken e f (ap (λ v. v.taken) g) refl was.seen;
 }
 
@@ -233,24 +233,24 @@ length_empty (suc n) = ap suc (length_empty n)
 pub length_opened : (xs ys : List (Option Piece)) (n : ℕ) → ys ≡ xs ++ empty n → length ys ≡ length xs + n
 length_opened xs ys n e = let a = ap (λ (l : List (Option Piece)). length l) e ∙ length-append xs (empty n) in let b = length_empty n in omega arith
 
-pub below_jobs : (header : List ℕ) (told : Option (List ℕ)) (put : ℕ) (ts : List Task) → AreJobs header told put ts
+pub below_jobs : (each : ℕ) (header : List ℕ) (told : Option (List ℕ)) (put : ℕ) (ts : List Task) → AreJobs each header told put ts
     → below put ++ all_numbers task_numbers ts ≡ below (put + length ts)
-below_jobs header told put [] jobs = let none_more : put ≡ put + 0 = omega arith in append-nil (below put) ∙ ap below none_more
-below_jobs header told put (t ∷ ts) jobs =
+below_jobs each header told put [] jobs = let none_more : put ≡ put + 0 = omega arith in append-nil (below put) ∙ ap below none_more
+below_jobs each header told put (t ∷ ts) jobs =
     let one : suc put ≡ put + 1 = omega arith in
     let all : put + 1 + length ts ≡ put + length (t ∷ ts) = omega arith in
     ap (λ (ns : List ℕ). below put ++ (ns ++ all_numbers task_numbers ts)) jobs.1
     ∙ sym (append_assoc (below put) (put ∷ []) (all_numbers task_numbers ts))
     ∙ ap (λ (ns : List ℕ). ns ++ all_numbers task_numbers ts) (ap below one)
-    ∙ below_jobs header told (put + 1) ts jobs.2
+    ∙ below_jobs each header told (put + 1) ts jobs.2
     ∙ ap below all
 
-pub order_all : (key header : List ℕ) (told : Option (List ℕ)) (put : ℕ) (old new : Early) (jobs jobs' pieces : Hand) (ts : List Task)
-    → AreJobs header told put ts → new.places.items ≡ old.places.items ++ empty (length ts) → new.written ≡ old.written
+pub order_all : (each : ℕ) (key header : List ℕ) (told : Option (List ℕ)) (put : ℕ) (old new : Early) (jobs jobs' pieces : Hand) (ts : List Task)
+    → AreJobs each header told put ts → new.places.items ≡ old.places.items ++ empty (length ts) → new.written ≡ old.written
     → jobs' ≡ hand jobs.parts (jobs.put ++ all_numbers task_numbers ts) jobs.taken
-    → IsOrdered key header told put old jobs pieces → IsOrdered key header told (put + length ts) new jobs' pieces
-order_all key header told put old new jobs jobs' pieces ts all e f g was = record {
-  put = ap (λ v. v.put) g ∙ ap (λ (ns : List ℕ). ns ++ all_numbers task_numbers ts) was.put ∙ below_jobs header told put ts all;
+    → IsOrdered each key header told put old jobs pieces → IsOrdered each key header told (put + length ts) new jobs' pieces
+order_all each key header told put old new jobs jobs' pieces ts all e f g was = record {
+  put = ap (λ v. v.put) g ∙ ap (λ (ns : List ℕ). ns ++ all_numbers task_numbers ts) was.put ∙ below_jobs each header told put ts all;
   silent = was.silent;
   count = let n = was.count in let l = ap (λ (xs : List (Option Piece)). length xs) e ∙ length-append old.places.items (empty (length ts)) in let m = length_empty (length ts) in omega arith;
   kept = rw (e, f) (λ k q at. was.kept k q (get_empty old.places.items (length ts) k q at));
@@ -283,10 +283,10 @@ none_left [] none = refl
 none_left (t ∷ ts) none = absurd (omega arith)
 
 -- the places are the same
-pub order_same : (key header : List ℕ) (told : Option (List ℕ)) (put : ℕ) (early early' : Early) (jobs pieces : Hand)
+pub order_same : (each : ℕ) (key header : List ℕ) (told : Option (List ℕ)) (put : ℕ) (early early' : Early) (jobs pieces : Hand)
     → early'.places ≡ early.places → early'.written ≡ early.written
-    → IsOrdered key header told put early jobs pieces → IsOrdered key header told put early' jobs pieces
-order_same key header told put early early' jobs pieces e f was = record {
+    → IsOrdered each key header told put early jobs pieces → IsOrdered each key header told put early' jobs pieces
+order_same each key header told put early early' jobs pieces e f was = record {
   put = was.put;
   silent = was.silent;
   count = let n = was.count in let l = ap (λ v. length v.items) e in omega arith;
@@ -295,14 +295,14 @@ order_same key header told put early early' jobs pieces e f was = record {
 }
 
 -- nothing was read yet
-pub order_none : (key header : List ℕ) (told : Option (List ℕ)) (chunks : ℕ) (early : Early) (jobs pieces : Hand)
+pub order_none : (each : ℕ) (key header : List ℕ) (told : Option (List ℕ)) (chunks : ℕ) (early : Early) (jobs pieces : Hand)
     → chunks ≡ 0 → early.places.items ≡ [] → early.written ≡ 0 → jobs.put ≡ [] → pieces.put ≡ []
-    → IsOrdered key header told chunks early jobs pieces
-order_none key header told chunks early jobs pieces c e f put silent = record {
+    → IsOrdered each key header told chunks early jobs pieces
+order_none each key header told chunks early jobs pieces c e f put silent = record {
   put = put ∙ ap below (sym c);
   silent = silent;
   count = let l = ap (λ (xs : List (Option Piece)). length xs) e in omega arith;
-  kept = rw e (none_kept key header told early.written);
+  kept = rw e (none_kept each key header told early.written);
   seen = rw (e, f) (seen_none jobs.taken pieces.taken);
 }
 

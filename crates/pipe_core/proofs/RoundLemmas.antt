@@ -20,10 +20,11 @@ use Rattle.pipe_core.specs.declared.round.Round.{Round}
 use Rattle.pipe_core.specs.Intake.{HasRead, seen}
 use Rattle.pipe_core.specs.Order.{behind, empty, AreWritten, Follows, HasBegun, IsOrdered}
 use Rattle.pipe_core.specs.Hands.{hand, all_numbers}
-use Rattle.pipe_core.specs.Pieces.{IsChunk, IsPart, IsTask, task_numbers}
-use Rattle.pipe_core.specs.Round.{AreJobs, AreRounds, IsHanded, IsInHand, IsLast, IsRead, IsUnderWay}
+use Rattle.pipe_core.specs.Pieces.{block, room, IsChunk, IsPart, IsTask, task_numbers}
+use Rattle.pipe_core.specs.Round.{AreJobs, AreRounds, IsHanded, IsInHand, IsLast, IsPlan, IsRead, IsUnderWay}
 use Rattle.pipe_core.specs.Pipe.{read_failed}
 use Rattle.pipe_core.specs.Rounds.{HasSealedRounds}
+use Rattle.pipe_core.proofs.BlockLemmas.{pos_times}
 use Rattle.pipe_core.proofs.ChunkLemmas.{begun_none, begun_now}
 use Rattle.pipe_core.proofs.Orders.{order_all, order_none}
 
@@ -48,75 +49,81 @@ same_if b c e = ap (λ (b : Bool). cond {A = ℕ} b 1 0) e
 -- ---- the round in hand
 
 -- one job more
-pub jobs_push : (header : List ℕ) (told : Option (List ℕ)) (put : ℕ) (ts : List Task) (t : Task) → AreJobs header told put ts
-    → IsTask header told t → task_numbers t ≡ (put + length ts) ∷ [] → AreJobs header told put (ts ++ t ∷ [])
-jobs_push header told put [] t jobs good number = (good, number ∙ ap (λ (n : ℕ). n ∷ []) (omega arith), tt)
-jobs_push header told put (x ∷ ts) t jobs good number =
-    (jobs.0, jobs.1, jobs_push header told (put + 1) ts t jobs.2 good (number ∙ ap (λ (n : ℕ). n ∷ []) (omega arith)))
+pub jobs_push : (each : ℕ) (header : List ℕ) (told : Option (List ℕ)) (put : ℕ) (ts : List Task) (t : Task) → AreJobs each header told put ts
+    → IsTask each header told t → task_numbers t ≡ (put + length ts) ∷ [] → AreJobs each header told put (ts ++ t ∷ [])
+jobs_push each header told put [] t jobs good number = (good, number ∙ ap (λ (n : ℕ). n ∷ []) (omega arith), tt)
+jobs_push each header told put (x ∷ ts) t jobs good number =
+    (jobs.0, jobs.1, jobs_push each header told (put + 1) ts t jobs.2 good (number ∙ ap (λ (n : ℕ). n ∷ []) (omega arith)))
 
-pub jobs_tasks : (header : List ℕ) (told : Option (List ℕ)) (put : ℕ) (ts : List Task) → AreJobs header told put ts
-    → (t : Task) (rest : List Task) → ts ≡ t ∷ rest → IsTask header told t × (task_numbers t ≡ put ∷ []) × AreJobs header told (put + 1) rest
-jobs_tasks header told put ts jobs t rest e = subst (AreJobs header told put) e jobs
+pub jobs_tasks : (each : ℕ) (header : List ℕ) (told : Option (List ℕ)) (put : ℕ) (ts : List Task) → AreJobs each header told put ts
+    → (t : Task) (rest : List Task) → ts ≡ t ∷ rest → IsTask each header told t × (task_numbers t ≡ put ∷ []) × AreJobs each header told (put + 1) rest
+jobs_tasks each header told put ts jobs t rest e = subst (AreJobs each header told put) e jobs
 
 -- nothing was read
-pub hand_none : (key header : List ℕ) (left : Option (List ℕ)) (limit : ℕ) (round : Round) → HasRead (size_in header) limit left left round.intake
-    → round.intake.ended ≡ false → round.intake.chunks ≡ 0 → round.held.items ≡ [] → round.is_sealed ≡ false
-    → IsInHand key header left left limit 0 round
-hand_none key header left limit round read going none held plain = record {
+pub hand_none : (each : ℕ) (key header : List ℕ) (left : Option (List ℕ)) (limit : ℕ) (round : Round) → HasRead (block each header) limit left left round.intake
+    → round.intake.ended ≡ false → round.intake.blocks ≡ 0 → round.held.items ≡ [] → round.is_sealed ≡ false
+    → IsInHand each key header left left limit 0 round
+hand_none each key header left limit round read going none held plain = record {
   read = read;
-  jobs = subst (AreJobs header left 0) (sym held) tt;
+  jobs = subst (AreJobs each header left 0) (sym held) tt;
   count = let l = ap (λ (ts : List Task). length ts) held in let e = none_if _ going in omega arith;
   few = omega arith;
+  numbers = let n = ap (λ (m : ℕ). each * m) none in omega arith;
   unsealed = λ _. plain;
   last = λ ended. absurd (not_both _ ended going);
 }
 
--- a full chunk was read
-pub hand_full : (key header : List ℕ) (told left left' : Option (List ℕ)) (limit put : ℕ) (round round' : Round) (t : Task)
-    → HasRead (size_in header) limit told left' round'.intake → round'.intake.ended ≡ false
-    → round'.intake.chunks ≡ round.intake.chunks + 1 → round'.intake.chunks ≤ 4294967295 → round.intake.ended ≡ false
+-- a full block was read
+pub hand_full : (each : ℕ) (key header : List ℕ) (told left left' : Option (List ℕ)) (limit put : ℕ) (round round' : Round) (t : Task)
+    → HasRead (block each header) limit told left' round'.intake → round'.intake.ended ≡ false
+    → round'.intake.blocks ≡ round.intake.blocks + 1 → round'.intake.blocks ≤ 4294967295 → each * round'.intake.blocks ≤ 4294967295
+    → round.intake.ended ≡ false
     → round'.held.items ≡ round.held.items ++ t ∷ [] → round'.is_sealed ≡ round.is_sealed
-    → IsTask header told t → task_numbers t ≡ round.intake.chunks ∷ []
-    → IsInHand key header told left limit put round → IsInHand key header told left' limit put round'
-hand_full key header told left left' limit put round round' t read going grown few before held plain good number was =
+    → IsTask each header told t → task_numbers t ≡ round.intake.blocks ∷ []
+    → IsInHand each key header told left limit put round → IsInHand each key header told left' limit put round'
+hand_full each key header told left left' limit put round round' t read going grown few numbers before held plain good number was =
     let count = was.count in
     let none_more = none_if _ before in
     let none_now = none_if _ going in
-    let chunks : round.intake.chunks ≡ put + length round.held.items = omega arith in
+    let chunks : round.intake.blocks ≡ put + length round.held.items = omega arith in
     let long = ap (λ (ts : List Task). length ts) held ∙ length-append round.held.items (t ∷ []) in
     record {
       read = read;
-      jobs = subst (AreJobs header told put) (sym held) (jobs_push header told put round.held.items t was.jobs good (number ∙ ap (λ (n : ℕ). n ∷ []) chunks));
+      jobs = subst (AreJobs each header told put) (sym held) (jobs_push each header told put round.held.items t was.jobs good (number ∙ ap (λ (n : ℕ). n ∷ []) chunks));
       count = omega arith;
       few = few;
+      numbers = numbers;
       unsealed = λ _. plain ∙ was.unsealed before;
       last = λ ended. absurd (not_both _ ended going);
     }
 
--- the last one was
-pub hand_last : (key header : List ℕ) (told left left' : Option (List ℕ)) (limit put : ℕ) (round round' : Round)
-    → HasRead (size_in header) limit told left' round'.intake → round'.intake.ended ≡ true
-    → round'.intake.chunks ≡ round.intake.chunks + 1 → round'.intake.chunks ≤ 4294967295 → round.intake.ended ≡ false
+-- the last block was
+pub hand_last : (each : ℕ) (key header : List ℕ) (told left left' : Option (List ℕ)) (limit put : ℕ) (round round' : Round)
+    → HasRead (block each header) limit told left' round'.intake → round'.intake.ended ≡ true
+    → round'.intake.blocks ≡ round.intake.blocks + 1 → round'.intake.blocks ≤ 4294967295 → each * round'.intake.blocks ≤ 4294967295
+    → round.intake.ended ≡ false
     → round'.held ≡ round.held → round'.is_sealed ≡ round.is_sealed
-    → length round'.last.items ≡ size_in header + 16 → round'.filled ≤ size_in header
-    → IsChunk (size_in header) told round.intake.chunks true (take round'.filled round'.last.items)
-    → IsInHand key header told left limit put round → IsInHand key header told left' limit put round'
-hand_last key header told left left' limit put round round' read ended grown few before held plain long filled chunk was =
+    → length round'.last.items ≡ room each header → round'.filled ≤ block each header
+    → IsChunk (block each header) told round.intake.blocks true (take round'.filled round'.last.items)
+    → IsInHand each key header told left limit put round → IsInHand each key header told left' limit put round'
+hand_last each key header told left left' limit put round round' read ended grown few numbers before held plain long filled chunk was =
     let count = was.count in
     let none_more = none_if _ before in
     let one_more = one_if _ ended in
     let same = ap (λ v. length v.items) held in
-    let chunks : round.intake.chunks ≡ put + length round'.held.items = omega arith in
+    let chunks : round.intake.blocks ≡ put + length round'.held.items = omega arith in
     record {
       read = read;
-      jobs = subst (λ v. AreJobs header told put v.items) (sym held) was.jobs;
+      jobs = subst (λ v. AreJobs each header told put v.items) (sym held) was.jobs;
       count = omega arith;
       few = few;
+      numbers = numbers;
       unsealed = λ going. absurd (not_both _ ended going);
       last = λ _. record {
         long = long;
-        filled = filled;
-        plain = λ _. subst (λ (n : ℕ). IsChunk (size_in header) told n true (take round'.filled round'.last.items)) chunks chunk;
+        filled = λ _. filled;
+        within = omega arith;
+        plain = λ _. subst (λ (n : ℕ). IsChunk (block each header) told n true (take round'.filled round'.last.items)) chunks chunk;
         sealed = λ is. absurd (not_both _ is (plain ∙ was.unsealed before));
       };
     }
@@ -130,120 +137,124 @@ not_long size limit left left' intake had ended = elim (cases_Bool intake.over) 
 ]
 
 -- all of it was put
-pub hand_put : (key header : List ℕ) (told left : Option (List ℕ)) (limit put : ℕ) (round round' : Round) → round'.intake ≡ round.intake
+pub hand_put : (each : ℕ) (key header : List ℕ) (told left : Option (List ℕ)) (limit put : ℕ) (round round' : Round) → round'.intake ≡ round.intake
     → round'.held.items ≡ [] → round'.last ≡ round.last → round'.filled ≡ round.filled → round'.is_sealed ≡ round.is_sealed
-    → IsInHand key header told left limit put round → IsInHand key header told left limit (put + length round.held.items) round'
-hand_put key header told left limit put round round' same held last filled sealed was =
+    → IsInHand each key header told left limit put round → IsInHand each key header told left limit (put + length round.held.items) round'
+hand_put each key header told left limit put round round' same held last filled sealed was =
     let none_held = ap (λ (ts : List Task). length ts) held in
     let now : round.intake.ended ≡ round'.intake.ended = ap (λ (i : Intake). i.ended) (sym same) in
     let one = same_if _ _ now in
-    let chunks = ap (λ (i : Intake). i.chunks) same in
+    let chunks = ap (λ (i : Intake). i.blocks) same in
     let count = was.count in
     let few = was.few in
     record {
-      read = subst (HasRead (size_in header) limit told left) (sym same) was.read;
-      jobs = subst (AreJobs header told (put + length round.held.items)) (sym held) tt;
+      read = subst (HasRead (block each header) limit told left) (sym same) was.read;
+      jobs = subst (AreJobs each header told (put + length round.held.items)) (sym held) tt;
       count = omega arith;
       few = omega arith;
+      numbers = subst (λ (i : Intake). each * i.blocks ≤ 4294967295) (sym same) was.numbers;
       unsealed = λ going. sealed ∙ was.unsealed (now ∙ going);
       last = λ ended. let is = was.last (now ∙ ended) in
           let number : put + length round.held.items ≡ put + length round.held.items + length round'.held.items = omega arith in
-          subst (λ (n : ℕ). IsLast key header told n round') number
+          subst (λ (n : ℕ). IsLast each key header told n round') number
           (record {
             long = ap (λ v. length v.items) last ∙ is.long;
-            filled = let f = is.filled in omega arith;
+            filled = λ p. let f = is.filled (sym sealed ∙ p) in omega arith;
+            within = let f = is.within in omega arith;
             plain = λ p. rw (filled, last) (is.plain (sym sealed ∙ p));
             sealed = λ p. rw (filled, last) (is.sealed (sym sealed ∙ p));
           });
     }
 
--- the last chunk was sealed
-pub hand_sealed : (key header : List ℕ) (told left : Option (List ℕ)) (limit put : ℕ) (round round' : Round) → round'.intake ≡ round.intake
+-- the last block was sealed
+pub hand_sealed : (each : ℕ) (key header : List ℕ) (told left : Option (List ℕ)) (limit put : ℕ) (round round' : Round) → round'.intake ≡ round.intake
     → round'.held ≡ round.held → (round.intake.ended ≡ false → round' ≡ round)
-    → ((number : ℕ) → round.intake.chunks ≡ number + 1 → IsLast key header told number round → IsLast key header told number round')
-    → IsInHand key header told left limit put round → IsInHand key header told left limit put round'
-hand_sealed key header told left limit put round round' same held kept step was =
+    → ((number : ℕ) → round.intake.blocks ≡ number + 1 → IsLast each key header told number round → IsLast each key header told number round')
+    → IsInHand each key header told left limit put round → IsInHand each key header told left limit put round'
+hand_sealed each key header told left limit put round round' same held kept step was =
     let now : round.intake.ended ≡ round'.intake.ended = ap (λ (i : Intake). i.ended) (sym same) in
     let one = same_if _ _ now in
-    let chunks = ap (λ (i : Intake). i.chunks) same in
+    let chunks = ap (λ (i : Intake). i.blocks) same in
     let count = was.count in
     let few = was.few in
     let long = ap (λ v. length v.items) held in
     record {
-      read = subst (HasRead (size_in header) limit told left) (sym same) was.read;
-      jobs = subst (λ v. AreJobs header told put v.items) (sym held) was.jobs;
+      read = subst (HasRead (block each header) limit told left) (sym same) was.read;
+      jobs = subst (λ v. AreJobs each header told put v.items) (sym held) was.jobs;
       count = omega arith;
       few = omega arith;
+      numbers = subst (λ (i : Intake). each * i.blocks ≤ 4294967295) (sym same) was.numbers;
       unsealed = λ going. ap (λ (r : Round). r.is_sealed) (kept (now ∙ going)) ∙ was.unsealed (now ∙ going);
       last = λ ended. let is = now ∙ ended in let two = one_if _ is in
-          subst (λ (n : ℕ). IsLast key header told (put + n) round') (sym long) (step (put + length round.held.items) (omega arith) (was.last is));
+          subst (λ (n : ℕ). IsLast each key header told (put + n) round') (sym long) (step (put + length round.held.items) (omega arith) (was.last is));
     }
 
 -- a full round was put
-rounds_more : (key header : List ℕ) (told left : Option (List ℕ)) (limit group put : ℕ) (round : Round) → IsInHand key header told left limit put round
+rounds_more : (each : ℕ) (key header : List ℕ) (told left : Option (List ℕ)) (limit group put : ℕ) (round : Round) → IsInHand each key header told left limit put round
     → 0 < group → round.intake.ended ≡ false → round.intake.over ≡ false → length round.held.items ≡ group
-    → AreRounds (size_in header) limit group put → AreRounds (size_in header) limit group (put + length round.held.items)
-rounds_more key header told left limit group put round was some going unmet full rounds =
+    → AreRounds (block each header) limit group put → AreRounds (block each header) limit group (put + length round.held.items)
+rounds_more each key header told left limit group put round was some going unmet full rounds =
+    let s = block each header in
     let read = was.read in
     let g = (read.going going unmet).0 in
     let within = (read.going going unmet).1 in
     let none_more = none_if _ going in
     let count = was.count in
-    let chunks : round.intake.chunks ≡ put + length round.held.items = omega arith in
+    let chunks : round.intake.blocks ≡ put + length round.held.items = omega arith in
     let one_behind = g.behind (omega arith) in
-    let long : length read.bytes ≡ round.intake.chunks * size_in header + 1 =
+    let long : length read.bytes ≡ round.intake.blocks * s + 1 =
     ap (λ (l : List ℕ). length l) g.read ∙ length-append g.past (seen round.intake.ahead) ∙ (let w = g.whole in omega arith) in
-    let product : round.intake.chunks * size_in header ≡ (put + length round.held.items) * size_in header = ap (λ (n : ℕ). n * size_in header) chunks in
-    let multiple : suc rounds.0 * group ≡ rounds.0 * group + group = grind arith in
+    let product : round.intake.blocks * s ≡ (put + length round.held.items) * s = ap (λ (n : ℕ). n * s) chunks in
+    let multiple : suc rounds.0 * group ≡ rounds.0 * group + group = omega arith in
     let r = rounds.1 in
     (suc rounds.0, omega arith, λ _. omega arith)
 
 -- what is in hand was put
-pub way_put : (key header : List ℕ) (told left : Option (List ℕ)) (plan : Plan) (early early' : Early) (jobs jobs' pieces : Hand) (round round' : Round)
+pub way_put : (each : ℕ) (key header : List ℕ) (told left : Option (List ℕ)) (plan : Plan) (early early' : Early) (jobs jobs' pieces : Hand) (round round' : Round)
     → 0 < plan.group → round'.intake ≡ round.intake → round'.held.items ≡ [] → round'.last ≡ round.last → round'.filled ≡ round.filled
     → round'.is_sealed ≡ round.is_sealed
     → early'.places.items ≡ early.places.items ++ empty (length round.held.items) → early'.written ≡ early.written
     → jobs' ≡ hand jobs.parts (jobs.put ++ all_numbers task_numbers round.held.items) jobs.taken
     → length round.held.items ≤ plan.group → (round.intake.over ≡ true → length round.held.items < plan.group)
     → (round.intake.ended ≡ false → plan.group ≤ length round.held.items)
-    → IsUnderWay key header told left plan early jobs pieces round → IsUnderWay key header told left plan early' jobs' pieces round'
-way_put key header told left plan early early' jobs jobs' pieces round round' some same held last filled sealed places written view few over full was = record {
+    → IsUnderWay each key header told left plan early jobs pieces round → IsUnderWay each key header told left plan early' jobs' pieces round'
+way_put each key header told left plan early early' jobs jobs' pieces round round' some same held last filled sealed places written view few over full was = record {
   put = was.put + length round.held.items;
-  order = order_all key header told was.put early early' jobs jobs' pieces round.held.items was.hand.jobs places written view was.order;
-  hand = hand_put key header told left plan.limit was.put round round' same held last filled sealed was.hand;
+  order = order_all each key header told was.put early early' jobs jobs' pieces round.held.items was.hand.jobs places written view was.order;
+  hand = hand_put each key header told left plan.limit was.put round round' same held last filled sealed was.hand;
   rounds = λ going.
       let g : round.intake.ended ≡ false = ap (λ (i : Intake). i.ended) (sym same) ∙ going in
       let long = full g in
       elim (cases_Bool round.intake.over) [
         | inl is ↦ let less = over is in absurd (omega arith)
-        | inr isnt ↦ rounds_more key header told left plan.limit plan.group was.put round was.hand some g isnt (omega arith) (was.rounds g)
+        | inr isnt ↦ rounds_more each key header told left plan.limit plan.group was.put round was.hand some g isnt (omega arith) (was.rounds g)
       ];
 }
 
 -- nothing was put
-pub way_none : (key header : List ℕ) (told left : Option (List ℕ)) (plan : Plan) (early : Early) (jobs pieces : Hand) (round : Round)
+pub way_none : (each : ℕ) (key header : List ℕ) (told left : Option (List ℕ)) (plan : Plan) (early : Early) (jobs pieces : Hand) (round : Round)
     → early.places.items ≡ [] → early.written ≡ 0 → jobs.put ≡ [] → pieces.put ≡ []
-    → IsInHand key header told left plan.limit 0 round → IsUnderWay key header told left plan early jobs pieces round
-way_none key header told left plan early jobs pieces round places written put silent was = record {
+    → IsInHand each key header told left plan.limit 0 round → IsUnderWay each key header told left plan early jobs pieces round
+way_none each key header told left plan early jobs pieces round places written put silent was = record {
   put = 0;
-  order = order_none key header told 0 early jobs pieces refl places written put silent;
+  order = order_none each key header told 0 early jobs pieces refl places written put silent;
   hand = was;
   rounds = λ _. (0, sym (zero-mul plan.group), λ some. absurd (omega arith));
 }
 
 -- a piece was written, or taken back, or made
-pub way_step : (key header : List ℕ) (told left : Option (List ℕ)) (plan : Plan) (early early' : Early) (jobs jobs' pieces pieces' : Hand) (round : Round)
-    → ((put : ℕ) → IsOrdered key header told put early jobs pieces → IsOrdered key header told put early' jobs' pieces')
-    → IsUnderWay key header told left plan early jobs pieces round → IsUnderWay key header told left plan early' jobs' pieces' round
-way_step key header told left plan early early' jobs jobs' pieces pieces' round step was =
+pub way_step : (each : ℕ) (key header : List ℕ) (told left : Option (List ℕ)) (plan : Plan) (early early' : Early) (jobs jobs' pieces pieces' : Hand) (round : Round)
+    → ((put : ℕ) → IsOrdered each key header told put early jobs pieces → IsOrdered each key header told put early' jobs' pieces')
+    → IsUnderWay each key header told left plan early jobs pieces round → IsUnderWay each key header told left plan early' jobs' pieces' round
+way_step each key header told left plan early early' jobs jobs' pieces pieces' round step was =
     record { put = was.put; order = step was.put was.order; hand = was.hand; rounds = was.rounds }
 
--- a chunk was read
-pub way_read : (key header : List ℕ) (told left left' : Option (List ℕ)) (plan : Plan) (early : Early) (jobs pieces : Hand) (round round' : Round)
+-- a block was read
+pub way_read : (each : ℕ) (key header : List ℕ) (told left left' : Option (List ℕ)) (plan : Plan) (early : Early) (jobs pieces : Hand) (round round' : Round)
     → round.intake.ended ≡ false
-    → ((put : ℕ) → IsInHand key header told left plan.limit put round → IsInHand key header told left' plan.limit put round')
-    → IsUnderWay key header told left plan early jobs pieces round → IsUnderWay key header told left' plan early jobs pieces round'
-way_read key header told left left' plan early jobs pieces round round' going step was =
+    → ((put : ℕ) → IsInHand each key header told left plan.limit put round → IsInHand each key header told left' plan.limit put round')
+    → IsUnderWay each key header told left plan early jobs pieces round → IsUnderWay each key header told left' plan early jobs pieces round'
+way_read each key header told left left' plan early jobs pieces round round' going step was =
     record { put = was.put; order = was.order; hand = step was.put was.hand; rounds = λ _. was.rounds going }
 
 pub handed_as : (group : ℕ) (round round' : Round) → round'.intake ≡ round.intake → round'.held ≡ round.held → IsHanded group round → IsHanded group round'
@@ -252,26 +263,30 @@ handed_as group round round' same held was = (
   λ ended. ap (λ v. v.items) held ∙ was.1 (ap (λ (i : Intake). i.ended) (sym same) ∙ ended),
 )
 
--- the last chunk was sealed
-pub way_sealed : (key header : List ℕ) (told left : Option (List ℕ)) (plan : Plan) (early : Early) (jobs pieces : Hand) (round round' : Round)
+-- the last block was sealed
+pub way_sealed : (each : ℕ) (key header : List ℕ) (told left : Option (List ℕ)) (plan : Plan) (early : Early) (jobs pieces : Hand) (round round' : Round)
     → round'.intake ≡ round.intake → round'.held ≡ round.held → (round.intake.ended ≡ false → round' ≡ round)
-    → ((number : ℕ) → round.intake.chunks ≡ number + 1 → IsLast key header told number round → IsLast key header told number round')
-    → IsUnderWay key header told left plan early jobs pieces round → IsUnderWay key header told left plan early jobs pieces round'
-way_sealed key header told left plan early jobs pieces round round' same held kept step was = record {
+    → ((number : ℕ) → round.intake.blocks ≡ number + 1 → IsLast each key header told number round → IsLast each key header told number round')
+    → IsUnderWay each key header told left plan early jobs pieces round → IsUnderWay each key header told left plan early jobs pieces round'
+way_sealed each key header told left plan early jobs pieces round round' same held kept step was = record {
   put = was.put;
   order = was.order;
-  hand = hand_sealed key header told left plan.limit was.put round round' same held kept step was.hand;
+  hand = hand_sealed each key header told left plan.limit was.put round round' same held kept step was.hand;
   rounds = λ going. was.rounds (ap (λ (i : Intake). i.ended) (sym same) ∙ going);
 }
+
+-- a plan in other words
+pub plan_as : (each each' : ℕ) (header header' : List ℕ) (plan : Plan) → each ≡ each' → header ≡ header' → IsPlan each header plan → IsPlan each' header' plan
+plan_as each each' header header' plan e h is = subst (λ (n : ℕ). IsPlan n header' plan) e (subst (λ (l : List ℕ). IsPlan each l plan) h is)
 
 -- ---- what was done
 
 -- the end was met, and all is written
-pub rounds_end : (front key header : List ℕ) (told left taken now : Option (List ℕ)) (limit group : ℕ) (failures failures' refusals refusals' : Option ℕ)
-    (intake : Intake) → HasRead (size_in header) limit told left intake → intake.ended ≡ true
+pub rounds_end : (each : ℕ) (front key header : List ℕ) (told left taken now : Option (List ℕ)) (limit group : ℕ) (failures failures' refusals refusals' : Option ℕ)
+    (intake : Intake) → HasRead (block each header) limit told left intake → intake.ended ≡ true
     → IfSome told (λ input. Appends taken now (behind front key header input)) → failures' ≡ failures → refusals' ≡ refusals
     → HasSealedRounds front key header (limit - 1) group told left failures failures' taken now refusals refusals' (Ok intake.total)
-rounds_end front key header told left taken now limit group failures failures' refusals refusals' intake had ended was reads writes =
+rounds_end each front key header told left taken now limit group failures failures' refusals refusals' intake had ended was reads writes =
     let end = had.end ended in
     let all = Consumes-all told left had.bytes [] had.bytes had.consumed end.0 refl in
     record {
@@ -311,22 +326,23 @@ some_times zero s m is some = absurd (omega (arith, is, some))
 some_times (suc n) s m is some = omega arith
 
 -- a byte too many was met, and all that was put is written
-pub rounds_long : (front key header : List ℕ) (told left taken now : Option (List ℕ)) (limit group put : ℕ) (failures failures' refusals refusals' : Option ℕ)
-    (round : Round) → 0 < limit → 0 < size_in header → IsInHand key header told left limit put round → round.intake.ended ≡ false → round.intake.over ≡ true
-    → length round.held.items < group → AreRounds (size_in header) limit group put → AreWritten front key header told taken now put
+pub rounds_long : (each : ℕ) (front key header : List ℕ) (told left taken now : Option (List ℕ)) (limit group put : ℕ) (failures failures' refusals refusals' : Option ℕ)
+    (round : Round) → 0 < limit → 0 < size_in header → 0 < each → IsInHand each key header told left limit put round → round.intake.ended ≡ false → round.intake.over ≡ true
+    → length round.held.items < group → AreRounds (block each header) limit group put → AreWritten each front key header told taken now put
     → failures' ≡ failures → refusals' ≡ refusals
-    → HasSealedRounds front key header (limit - 1) group told left failures failures' taken now refusals refusals' (Err TooLong)
-rounds_long front key header told left taken now limit group put failures failures' refusals refusals' round some size held_now going over few rounds was reads writes =
+    → HasSealedRounds front key header (limit - 1) (group * each) told left failures failures' taken now refusals refusals' (Err TooLong)
+rounds_long each front key header told left taken now limit group put failures failures' refusals refusals' round some size one held_now going over few rounds was reads writes =
     let had = held_now.read in
     let met = (had.over over).0 in
     let near = (had.over over).1 in
     let sum = had.sum going in
     let none_more = none_if _ going in
     let count = held_now.count in
-    let s = size_in header in
-    let chunks : round.intake.chunks ≡ put + length round.held.items = omega arith in
-    let product : round.intake.chunks * s ≡ (put + length round.held.items) * s = ap (λ (n : ℕ). n * s) chunks in
-    let parted : (put + length round.held.items) * s + s ≡ put * s + (length round.held.items + 1) * s = grind arith in
+    let s = block each header in
+    let full = pos_times each (size_in header) one size in
+    let chunks : round.intake.blocks ≡ put + length round.held.items = omega arith in
+    let product : round.intake.blocks * s ≡ (put + length round.held.items) * s = ap (λ (n : ℕ). n * s) chunks in
+    let parted : (put + length round.held.items) * s + s ≡ put * s + (length round.held.items + 1) * s = omega arith in
     let most : (length round.held.items + 1) * s ≤ group * s = mul-le-mul_right s (omega arith) in
     let long = was.long in
     let after_put = rounds.2 in
@@ -345,13 +361,13 @@ rounds_long front key header told left taken now limit group put failures failur
         drop (length was.past) had.bytes,
         rounds.0,
         front_of_read told left was.past had.bytes (omega arith) was.of had.consumed,
-        long ∙ ap (λ (n : ℕ). n * s) rounds.1 ∙ mul_assoc rounds.0 group s,
+        long ∙ ap (λ (n : ℕ). n * s) rounds.1 ∙ mul_assoc rounds.0 group s ∙ ap (λ (n : ℕ). rounds.0 * n) (sym (mul_assoc group each (size_in header))),
         λ more. let b = after_put (some_times put s (length was.past) long more) in omega arith,
         omega arith,
         omega arith,
         was.grown,
       );
-      begun = begun_now front key header told taken now put size was;
+      begun = begun_now each front key header told taken now put size one was;
       unwritten = λ e. cc;
       by_bytes = λ e. cc;
       read = reads;
@@ -420,19 +436,19 @@ rounds_write front key header told left taken now limit group failures failures'
   write = writes;
 }
 
--- the last chunk, sealed, behind all that was put
-pub last_part : (key header : List ℕ) (told left : Option (List ℕ)) (limit group put : ℕ) (round round' : Round)
-    → IsInHand key header told left limit put round → IsHanded group round → round.intake.ended ≡ true
+-- the last block, sealed, behind all that was put
+pub last_part : (each : ℕ) (key header : List ℕ) (told left : Option (List ℕ)) (limit group put : ℕ) (round round' : Round)
+    → IsInHand each key header told left limit put round → IsHanded group round → round.intake.ended ≡ true
     → round'.intake ≡ round.intake → (round'.intake.ended ≡ true → round'.is_sealed ≡ true)
-    → ((number : ℕ) → round.intake.chunks ≡ number + 1 → IsLast key header told number round → IsLast key header told number round')
-    → IsPart key header told put true (take (round'.filled + 16) round'.last.items) × (round'.intake.chunks ≡ put + 1)
-last_part key header told left limit group put round round' was handed ended same sealed step =
+    → ((number : ℕ) → round.intake.blocks ≡ number + 1 → IsLast each key header told number round → IsLast each key header told number round')
+    → IsPart each key header told put true (take round'.filled round'.last.items) × (round'.intake.blocks ≡ put + 1)
+last_part each key header told left limit group put round round' was handed ended same sealed step =
     let none_held = ap (λ (ts : List Task). length ts) (handed.1 ended) in
     let one = one_if _ ended in
     let count = was.count in
-    let chunks = ap (λ (i : Intake). i.chunks) same in
+    let chunks = ap (λ (i : Intake). i.blocks) same in
     let number : put + length round.held.items ≡ put = omega arith in
-    let last = step put (omega arith) (subst (λ (n : ℕ). IsLast key header told n round) number (was.last ended)) in
+    let last = step put (omega arith) (subst (λ (n : ℕ). IsLast each key header told n round) number (was.last ended)) in
     (last.sealed (sealed (ap (λ (i : Intake). i.ended) same ∙ ended)), omega arith)
 
 pub not_ended : (size limit : ℕ) (left left' : Option (List ℕ)) (intake : Intake) → HasRead size limit left left' intake → intake.over ≡ true
@@ -465,29 +481,30 @@ rounds_counts front front' key header most window told left taken now failures f
     (subst (λ (n : Option ℕ). HasSealedRounds front' key header most window told left failures' reads taken now n writes result) g did))
 
 -- some jobs of the only round are done
-pub hand_alone : (key header : List ℕ) (told left : Option (List ℕ)) (limit number : ℕ) (first round : Round) → round.intake ≡ first.intake
-    → first.intake.ended ≡ true → number + length round.held.items ≡ length first.held.items → AreJobs header told number round.held.items
-    → IsLast key header told (length first.held.items) round → IsInHand key header told left limit 0 first
-    → IsInHand key header told left limit number round
-hand_alone key header told left limit number first round same ended counts jobs last was =
+pub hand_alone : (each : ℕ) (key header : List ℕ) (told left : Option (List ℕ)) (limit number : ℕ) (first round : Round) → round.intake ≡ first.intake
+    → first.intake.ended ≡ true → number + length round.held.items ≡ length first.held.items → AreJobs each header told number round.held.items
+    → IsLast each key header told (length first.held.items) round → IsInHand each key header told left limit 0 first
+    → IsInHand each key header told left limit number round
+hand_alone each key header told left limit number first round same ended counts jobs last was =
     let one = one_if _ ended in
     let one' = same_if _ _ (ap (λ (i : Intake). i.ended) same) in
-    let chunks = ap (λ (i : Intake). i.chunks) same in
+    let chunks = ap (λ (i : Intake). i.blocks) same in
     let count = was.count in
     let few = was.few in
     record {
-      read = subst (HasRead (size_in header) limit told left) (sym same) was.read;
+      read = subst (HasRead (block each header) limit told left) (sym same) was.read;
       jobs = jobs;
       count = omega arith;
       few = omega arith;
+      numbers = subst (λ (i : Intake). each * i.blocks ≤ 4294967295) (sym same) was.numbers;
       unsealed = λ going. absurd (not_both _ (ap (λ (i : Intake). i.ended) same ∙ ended) going);
-      last = λ _. subst (λ (n : ℕ). IsLast key header told n round) (sym counts) last;
+      last = λ _. subst (λ (n : ℕ). IsLast each key header told n round) (sym counts) last;
     }
 
 -- nothing was read
-pub read_none : (key header : List ℕ) (told left : Option (List ℕ)) (plan : Plan) (round : Round) → IsInHand key header told left plan.limit 0 round
-    → round.held.items ≡ [] → plan.group ≤ deque_capacity round.held → round.intake.over ≡ false → IsRead key header told left plan round
-read_none key header told left plan round was none_held room within = record {
+pub read_none : (each : ℕ) (key header : List ℕ) (told left : Option (List ℕ)) (plan : Plan) (round : Round) → IsInHand each key header told left plan.limit 0 round
+    → round.held.items ≡ [] → plan.group ≤ deque_capacity round.held → round.intake.over ≡ false → IsRead each key header told left plan round
+read_none each key header told left plan round was none_held room within = record {
   hand = was;
   few = let e = ap (λ (ts : List Task). length ts) none_held in omega arith;
   room = room;

@@ -25,11 +25,11 @@ begun_told key header (Some input) taken mid now grown begun =
     subst (λ (l : List ℕ). AppendsFront taken now (whole key header l)) (sym begun.1)
     (begun_behind taken mid now header (stream key header 0 (chunks (size_in header) begun.0)) grown begun.2)
 
-pub piped_of : (key header : List ℕ) (most bytes : ℕ) (told left taken mid now : Option (List ℕ)) (failures failures' refusals refusals' : Option ℕ)
+pub piped_of : (key header : List ℕ) (most bytes window : ℕ) (told left taken mid now : Option (List ℕ)) (failures failures' refusals refusals' : Option ℕ)
     (result : Result ℕ SealFault) → bytes ≡ most * size_in header → Appends taken mid header
-    → HasSealedRounds [] key header bytes 1 told left failures failures' mid now refusals refusals' result
+    → HasSealedRounds [] key header bytes window told left failures failures' mid now refusals refusals' result
     → HasPiped key header most told left failures failures' taken now refusals refusals' (answer_of_stream result)
-piped_of key header most bytes told left taken mid now failures failures' refusals refusals' (Ok n) sized grown did = record {
+piped_of key header most bytes window told left taken mid now failures failures' refusals refusals' (Ok n) sized grown did = record {
   end = did.end;
   written = if_some told (λ input was. Appends-trans taken mid now header (stream key header 0 (chunks (size_in header) input)) grown was) did.written;
   answer = did.answer;
@@ -41,7 +41,7 @@ piped_of key header most bytes told left taken mid now failures failures' refusa
   read = did.read;
   write = did.write;
 }
-piped_of key header most bytes told left taken mid now failures failures' refusals refusals' (Err TooLong) sized grown did = record {
+piped_of key header most bytes window told left taken mid now failures failures' refusals refusals' (Err TooLong) sized grown did = record {
   end = tt;
   written = tt;
   answer = tt;
@@ -53,7 +53,7 @@ piped_of key header most bytes told left taken mid now failures failures' refusa
   read = did.read;
   write = did.write;
 }
-piped_of key header most bytes told left taken mid now failures failures' refusals refusals' (Err OutOfMemory) sized grown did = record {
+piped_of key header most bytes window told left taken mid now failures failures' refusals refusals' (Err OutOfMemory) sized grown did = record {
   end = tt;
   written = tt;
   answer = tt;
@@ -65,7 +65,7 @@ piped_of key header most bytes told left taken mid now failures failures' refusa
   read = did.read;
   write = did.write;
 }
-piped_of key header most bytes told left taken mid now failures failures' refusals refusals' (Err Read) sized grown did = record {
+piped_of key header most bytes window told left taken mid now failures failures' refusals refusals' (Err Read) sized grown did = record {
   end = tt;
   written = tt;
   answer = tt;
@@ -77,7 +77,7 @@ piped_of key header most bytes told left taken mid now failures failures' refusa
   read = did.read;
   write = did.write;
 }
-piped_of key header most bytes told left taken mid now failures failures' refusals refusals' (Err Write) sized grown did = record {
+piped_of key header most bytes window told left taken mid now failures failures' refusals refusals' (Err Write) sized grown did = record {
   end = tt;
   written = tt;
   answer = tt;
@@ -89,7 +89,7 @@ piped_of key header most bytes told left taken mid now failures failures' refusa
   read = did.read;
   write = did.write;
 }
-piped_of key header most bytes told left taken mid now failures failures' refusals refusals' (Err TooManyChunks) sized grown did = absurd (did.by_bytes refl)
+piped_of key header most bytes window told left taken mid now failures failures' refusals refusals' (Err TooManyChunks) sized grown did = absurd (did.by_bytes refl)
 
 -- nothing was read, and the header couldn't be written
 pub piped_header : (key header : List ℕ) (most : ℕ) (told taken now : Option (List ℕ)) (failures refusals refusals' : Option ℕ) → AppendsFront taken now header
@@ -119,8 +119,16 @@ pub piped_as : (key header k h : List ℕ) (most : ℕ) (left told left' taken t
     → HasPiped key header most left left' failures failures' taken taken' refusals refusals' result
 piped_as key header k h most left told left' taken taken' failures failures' refusals refusals' result a b c p = rw (a, b, c) p
 
-pub rounds_as : (key header k h : List ℕ) (most bytes window : ℕ) (left told left' taken taken' : Option (List ℕ)) (failures failures' refusals refusals' : Option ℕ)
-    (result : Result ℕ SealFault) → key ≡ k → header ≡ h → left ≡ told → most ≡ bytes
-    → HasSealedRounds h k h bytes window told left' failures failures' taken taken' refusals refusals' result
+-- the same window in other words
+pub rounds_window : (front key header : List ℕ) (most window window' : ℕ) (left left' taken taken' : Option (List ℕ)) (failures failures' refusals refusals' : Option ℕ)
+    (result : Result ℕ SealFault) → window' ≡ window
+    → HasSealedRounds front key header most window' left left' failures failures' taken taken' refusals refusals' result
+    → HasSealedRounds front key header most window left left' failures failures' taken taken' refusals refusals' result
+rounds_window front key header most window window' left left' taken taken' failures failures' refusals refusals' result e p =
+    subst (λ (n : ℕ). HasSealedRounds front key header most n left left' failures failures' taken taken' refusals refusals' result) e p
+
+pub rounds_as : (key header k h : List ℕ) (most bytes window window' : ℕ) (left told left' taken taken' : Option (List ℕ)) (failures failures' refusals refusals' : Option ℕ)
+    (result : Result ℕ SealFault) → key ≡ k → header ≡ h → left ≡ told → most ≡ bytes → window ≡ window'
+    → HasSealedRounds h k h bytes window' told left' failures failures' taken taken' refusals refusals' result
     → HasSealedRounds header key header most window left left' failures failures' taken taken' refusals refusals' result
-rounds_as key header k h most bytes window left told left' taken taken' failures failures' refusals refusals' result a b c d p = rw (a, b, c, d) p
+rounds_as key header k h most bytes window window' left told left' taken taken' failures failures' refusals refusals' result a b c d e p = rw (a, b, c, d, e) p

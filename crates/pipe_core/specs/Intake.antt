@@ -3,18 +3,18 @@ use Rattle.std.specs.Prelude.{◌≡◌, ℕ, ◌+◌, ◌*◌, ◌<◌, ◌≤�
 use Rattle.io_core.specs.Streams.{Consumes, IsAtEnd}
 use Rattle.pipe_core.specs.declared.intake.Intake.{Intake}
 
--- the byte that was seen behind the chunks
+-- the byte that was seen behind the blocks
 abbrev pub seen : Option ℕ → List ℕ
 seen None = []
 seen (Some byte) = byte ∷ []
 
--- whole chunks, and the byte behind the last of them; nothing before the first
+-- whole blocks, and the byte behind the last of them; nothing before the first
 pub record IsGoing (size : ℕ) (intake : Intake) (bytes : List ℕ) : Type 0 where
   pub past : List ℕ
   pub read : bytes ≡ past ++ seen intake.ahead
-  pub whole : length past ≡ intake.chunks * size
-  pub first : intake.chunks ≡ 0 → intake.ahead ≡ None
-  pub behind : 0 < intake.chunks → length (seen intake.ahead) ≡ 1
+  pub whole : length past ≡ intake.blocks * size
+  pub first : intake.blocks ≡ 0 → intake.ahead ≡ None
+  pub behind : 0 < intake.blocks → length (seen intake.ahead) ≡ 1
 
 -- of what the reader had at first so much was read: fewer bytes than the limit while it goes on, or all of them; or as
 -- many, and it is too long
@@ -22,7 +22,7 @@ pub record HasRead (size limit : ℕ) (left left' : Option (List ℕ)) (intake :
   pub bytes : List ℕ
   pub consumed : Consumes left left' bytes
   pub bound : length bytes ≤ limit
-  pub sum : intake.ended ≡ false → intake.total ≡ intake.chunks * size
+  pub sum : intake.ended ≡ false → intake.total ≡ intake.blocks * size
   pub going : intake.ended ≡ false → intake.over ≡ false → IsGoing size intake bytes × (length bytes < limit)
   pub end : intake.ended ≡ true → IsAtEnd left' × (intake.total ≡ length bytes) × (length bytes < limit)
   pub over : intake.over ≡ true → (length bytes ≡ limit) × (limit ≤ intake.total + size + 1)

@@ -8,7 +8,7 @@ use Rattle.io_core.specs.Streams.{Appends, AppendsFront}
 use Rattle.pipe_core.specs.declared.early.Early.{Early}
 use Rattle.pipe_core.specs.declared.line.Hand.{Hand}
 use Rattle.pipe_core.specs.declared.piece.Piece.{Piece}
-use Rattle.pipe_core.specs.Pieces.{IsPiece}
+use Rattle.pipe_core.specs.Pieces.{block, IsPiece}
 use Rattle.pipe_core.specs.Hands.{times}
 
 -- the piece on its place, where the first place is of the number `written`
@@ -21,9 +21,9 @@ empty zero = []
 empty (suc n) = None ∷ empty n
 
 -- each piece stands on its place, and is of the input
-abbrev pub AreKept : List ℕ → List ℕ → Option (List ℕ) → ℕ → List (Option Piece) → Type 0
-AreKept key header told written places = (k : ℕ) (p : Piece) → slice_index_or places k None ≡ Some p
-    → (p.number ≡ written + k) × IsPiece key header told p
+abbrev pub AreKept : ℕ → List ℕ → List ℕ → Option (List ℕ) → ℕ → List (Option Piece) → Type 0
+AreKept each key header told written places = (k : ℕ) (p : Piece) → slice_index_or places k None ≡ Some p
+    → (p.number ≡ written + k) × IsPiece each key header told p
 
 -- what is written once these bytes are sealed in full chunks, none of which is the last: nothing before the first
 abbrev pub chunks_so_far : List ℕ → List ℕ → List ℕ → List ℕ → List ℕ
@@ -34,19 +34,20 @@ chunks_so_far front key header (byte ∷ bytes) = front ++ stream_by key header 
 abbrev pub behind : List ℕ → List ℕ → List ℕ → List ℕ → List ℕ
 behind front key header input = front ++ stream key header 0 (chunks (size_in header) input)
 
--- what stands before a chunk of this number
+-- what stands before a block of this number
 abbrev pub front_at : List ℕ → ℕ → List ℕ
 front_at front zero = front
 front_at front (suc number) = []
 
--- the input begins so, and goes on behind the chunks
+-- the input begins so, and goes on behind the blocks
 abbrev pub Follows : List ℕ → List ℕ → Type 0
 Follows past input = (rest : List ℕ) × (input ≡ past ++ rest) × (0 < length past → 0 < length rest)
 
--- the first so many full chunks were written, and what stands before them
-pub record AreWritten (front key header : List ℕ) (told taken taken' : Option (List ℕ)) (written : ℕ) : Type 0 where
+-- the first so many full blocks were written, and what stands before them
+pub record AreWritten (each : ℕ) (front key header : List ℕ) (told taken taken' : Option (List ℕ)) (written : ℕ)
+    : Type 0 where
   pub past : List ℕ
-  pub long : length past ≡ written * size_in header
+  pub long : length past ≡ written * block each header
   pub of : IfSome told (Follows past)
   pub grown : Appends taken taken' (chunks_so_far front key header past)
 
@@ -70,11 +71,11 @@ pub record HasSeen (written : ℕ) (places : List (Option Piece)) (mine back : L
   pub kept : (k : ℕ) (p : Piece) → slice_index_or places k None ≡ Some p
       → 0 < times p.number mine + times p.number back
 
--- so many full chunks were put once each as a job, and each that isn't written yet has its place
-pub record IsOrdered (key header : List ℕ) (told : Option (List ℕ)) (chunks : ℕ) (early : Early) (jobs pieces : Hand)
-    : Type 0 where
-  pub put : jobs.put ≡ below chunks
+-- so many full blocks were put once each as a job, and each that isn't written yet has its place
+pub record IsOrdered (each : ℕ) (key header : List ℕ) (told : Option (List ℕ)) (blocks : ℕ) (early : Early)
+    (jobs pieces : Hand) : Type 0 where
+  pub put : jobs.put ≡ below blocks
   pub silent : pieces.put ≡ []
-  pub count : early.written + length early.places.items ≡ chunks
-  pub kept : AreKept key header told early.written early.places.items
+  pub count : early.written + length early.places.items ≡ blocks
+  pub kept : AreKept each key header told early.written early.places.items
   pub seen : HasSeen early.written early.places.items jobs.taken pieces.taken

@@ -1,12 +1,26 @@
--- What a job and a piece are, by the input, where the reader tells it.
-use Rattle.std.specs.Prelude.{◌≡◌, ℕ, ◌+◌, ◌*◌, ◌<◌, ◌≤◌, Bool, true, false, List, [], ◌∷◌, ◌++◌, length, take, Option, IfSome, ⊤}
+-- What a job and a piece are, by the input, where the reader tells it. Both are a block: so many chunks, one behind the
+-- other, of which only the input's last block has fewer.
+use Rattle.std.specs.Prelude.{◌≡◌, ℕ, ◌+◌, ◌*◌, ◌^◌, ◌<◌, ◌≤◌, Bool, true, false, List, [], ◌∷◌, ◌++◌, length, take, Option, IfSome, ⊤}
+use Rattle.container_core.specs.Chunks.{chunks}
 use Rattle.container_core.specs.Container.{size_in}
-use Rattle.container_core.specs.Stream.{sealed_chunk}
+use Rattle.container_core.specs.Stream.{stream_by}
 use Rattle.pipe_core.specs.declared.piece.Task.{Task}
 use Rattle.pipe_core.specs.declared.piece.Task.TheVariants.{Job, Stop}
 use Rattle.pipe_core.specs.declared.piece.Piece.{Piece}
 
--- the chunk stands in the input behind so many full ones; something follows, unless it is the last
+-- plaintext bytes of a block of so many chunks, under a header
+abbrev pub block : ℕ → List ℕ → ℕ
+block each header = each * size_in header
+
+-- the bytes of a sealed block: each chunk has its tag behind it
+abbrev pub room : ℕ → List ℕ → ℕ
+room each header = each * (size_in header + 16)
+
+-- a block has a chunk at least, and is no longer than the longest chunk
+abbrev pub IsBlock : ℕ → List ℕ → Type 0
+IsBlock each header = (0 < each) × (block each header ≤ 2 ^ 20)
+
+-- the text stands in the input behind so many full ones of its size; something follows, unless it is the last
 pub record StandsIn (size : ℕ) (input : List ℕ) (number : ℕ) (last : Bool) (chunk : List ℕ) : Type 0 where
   pub before : List ℕ
   pub after : List ℕ
@@ -15,29 +29,33 @@ pub record StandsIn (size : ℕ) (input : List ℕ) (number : ℕ) (last : Bool)
   pub more : last ≡ false → 0 < length after
   pub end : last ≡ true → after ≡ []
 
--- this is a chunk of this number: a full one, or the last
+-- of an input that is cut behind each so many bytes this is the part of that number: a full one, or the last
 pub record IsChunk (size : ℕ) (told : Option (List ℕ)) (number : ℕ) (last : Bool) (chunk : List ℕ) : Type 0 where
   pub few : length chunk ≤ size
   pub full : last ≡ false → length chunk ≡ size
   pub some : 0 < number → 0 < length chunk
   pub of : IfSome told (λ input. StandsIn size input number last chunk)
 
--- the bytes are the sealed chunk of this number
-pub record IsPart (key header : List ℕ) (told : Option (List ℕ)) (number : ℕ) (last : Bool) (bytes : List ℕ) : Type 0 where
+-- the bytes are the sealed chunks of the block of this number: their own numbers go on behind those of the blocks before,
+-- and of the last block the last chunk is STREAM's last
+pub record IsPart (each : ℕ) (key header : List ℕ) (told : Option (List ℕ)) (number : ℕ) (last : Bool) (bytes : List ℕ)
+    : Type 0 where
   pub text : List ℕ
-  pub chunk : IsChunk (size_in header) told number last text
-  pub is : bytes ≡ sealed_chunk key header number last text
+  pub chunk : IsChunk (block each header) told number last text
+  pub is : bytes ≡ stream_by key header (each * number) last (chunks (size_in header) text)
 
--- a job is a number and that full chunk of the input, in a buffer with room for its tag
-abbrev pub IsTask : List ℕ → Option (List ℕ) → Task → Type 0
-IsTask header told (Job number buffer) = (length buffer.items ≡ size_in header + 16)
-    × IsChunk (size_in header) told number false (take (size_in header) buffer.items)
-IsTask header told Stop = ⊤
+-- a job is a number and that full block of the input, in a buffer with room for its tags; its chunks have numbers of 32
+-- bits
+abbrev pub IsTask : ℕ → List ℕ → Option (List ℕ) → Task → Type 0
+IsTask each header told (Job number buffer) = (length buffer.items ≡ room each header)
+    × IsChunk (block each header) told number false (take (block each header) buffer.items)
+    × (each * (number + 1) ≤ 4294967295)
+IsTask each header told Stop = ⊤
 
--- a piece is a number and that chunk's sealed bytes
-abbrev pub IsPiece : List ℕ → List ℕ → Option (List ℕ) → Piece → Type 0
-IsPiece key header told piece = (length piece.buffer.items ≡ size_in header + 16)
-    × IsPart key header told piece.number false piece.buffer.items
+-- a piece is a number and that block's sealed bytes
+abbrev pub IsPiece : ℕ → List ℕ → List ℕ → Option (List ℕ) → Piece → Type 0
+IsPiece each key header told piece = (length piece.buffer.items ≡ room each header)
+    × IsPart each key header told piece.number false piece.buffer.items
 
 abbrev pub task_numbers : Task → List ℕ
 task_numbers (Job number buffer) = number ∷ []

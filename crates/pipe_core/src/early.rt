@@ -7,7 +7,7 @@ use crate::piece::Piece;
 use std::alloc::{AllocError, Global};
 use std::collections::VecDeque;
 
-/// A place for each chunk that was read and not written, of which the first is of the number `written`.
+/// A place for each block that was read and not written, of which the first is of the number `written`.
 #[derive(Drop)]
 pub(crate) struct Early {
     places: VecDeque<Option<Piece>>,

@@ -1,4 +1,5 @@
-//! A stream of any length: rounds of one chunk, under a limit of chunks.
+//! A stream of any length: rounds of one chunk, under a limit of chunks. Each block is one chunk, so that it is written as
+//! soon as it was read.
 ghost use Rattle.std.specs.Prelude.{◌≡◌, ◌<◌, ◌≤◌, take, drop};
 ghost use Rattle.container_core.specs.Container.{hint_of};
 ghost use Rattle.pipe_core.specs.Pipe.{HasPiped, answer_of_stream};
@@ -43,7 +44,7 @@ fn pipe_named<
     depth: u32,
     gate: &G,
 ) -> Result<u64, SealFault>
-    requires named { (key.now ≡ N.key) × (header.now ≡ N.header) × (R.left reader.old ≡ N.told) }
+    requires named { (key.now ≡ N.key) × (header.now ≡ N.header) × (1 ≡ N.each) × (R.left reader.old ≡ N.told) }
     requires most { 0 < max_chunks }
     requires workers { (0 < workers) × (workers ≤ MAX_WORKERS) }
     requires depth { (0 < depth) × (depth ≤ MAX_DEPTH) }
@@ -55,6 +56,7 @@ fn pipe_named<
         limit: max_chunks as u64 * header.chunk() as u64 + 1,
         group: 1,
         depth: depth as usize,
+        each: 1,
         eager: true,
     };
     let Ok(mut round) = Round::new(alloc, plan.group) else {

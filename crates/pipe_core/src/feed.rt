@@ -1,4 +1,4 @@
-//! The caller's thread: it reads and writes, and seals a chunk itself where it may not read on.
+//! The caller's thread: it reads and writes, and seals a block itself where it may not read on.
 ghost use Rattle.std.specs.Prelude.{◌≡◌, ℕ, ◌+◌, ◌-◌, ◌*◌, ◌^◌, ◌<◌, ◌≤◌, ◌⊎◌, ◌++◌, [], ◌∷◌, All, Option, List, OnOk, OnErr, IfOk, IfSome};
 ghost use Rattle.std.specs.Prelude.{length, true, false, is_err, not};
 ghost use Rattle.std.specs.VecDeque.{deque_capacity, deque_len};
@@ -8,18 +8,19 @@ ghost use Rattle.io_core.specs.Reads.{ConsumesUpTo};
 ghost use Rattle.io_core.specs.Streams.{Appends, AppendsFront, counted};
 ghost use Rattle.pipe_core.specs.Hands.{all_numbers, hand};
 ghost use Rattle.pipe_core.specs.Order.{below, empty, front_at, AreKept, AreWritten, HasBegun, IsOrdered, IsSeen};
-ghost use Rattle.pipe_core.specs.Pieces.{task_numbers};
-ghost use Rattle.pipe_core.specs.Round.{front_of, AreJobs, AreRounds, IsHanded, IsInHand, IsLast, IsPlan, IsRead, IsUnderWay};
+ghost use Rattle.pipe_core.specs.Pieces.{block, room, task_numbers, IsBlock};
+ghost use Rattle.pipe_core.specs.Round.{front_of, AreJobs, AreRounds, IsHanded, IsInHand, IsLast, IsPlan, IsRead, IsUnderWay, MayEnd};
 ghost use Rattle.pipe_core.specs.Rounds.{HasSealedRounds};
 ghost use Rattle.pipe_core.specs.declared.line.Hand.{Hand};
 ghost use Rattle.pipe_core.specs.declared.round.Plan.{Plan};
 
+use crate::block::{block_bytes, room_bytes};
 use crate::early::Early;
 use crate::line::{Hand, JobLine, Naming, PieceLine, put_task, take_piece, take_task};
 use crate::piece::{Piece, Task, make_piece};
 use crate::round::{Plan, Round};
 use crate::worker::rest;
-use container_core::{Header, Key, SealFault, TAG};
+use container_core::{Header, Key, SealFault};
 use crossbeam_queue::Pass;
 use io_core::{Failed, Sink, Source, write_all};
 use std::alloc::{AllocError, Global};
@@ -28,7 +29,7 @@ use std::sync::Wait;
 use std::thread::Parker;
 use worker_core::Gate;
 
-// So many buffers, each for a chunk and its tag.
+// So many buffers, each for a block and its tags.
 fn buffers(alloc: Global, count: usize, size: usize) -> Result<Vec<Vec<u8>>, AllocError>
     ensures { IfOk result (λ spare. All (λ b. length b.items ≡ size) spare.items) }
 {
@@ -39,7 +40,7 @@ fn buffers(alloc: Global, count: usize, size: usize) -> Result<Vec<Vec<u8>>, All
     Ok(spare)
 }
 
-// A buffer for another chunk, where reading needn't wait, and so many chunks are fewer than may be read.
+// A buffer for another block, where reading needn't wait, and so many blocks are fewer than may be read.
 fn take_spare(
     spare: &mut Vec<Vec<u8>>,
     size: usize,
@@ -60,7 +61,7 @@ fn take_spare(
     }
 }
 
-// Keeps a buffer for another chunk, where there is a place for it.
+// Keeps a buffer for another block, where there is a place for it.
 fn keep(spare: &mut Vec<Vec<u8>>, buffer: Vec<u8>, size: usize)
     requires spare { All (λ b. length b.items ≡ size) spare.old.items }
     requires buffer { length buffer.items ≡ size }
@@ -71,7 +72,7 @@ fn keep(spare: &mut Vec<Vec<u8>>, buffer: Vec<u8>, size: usize)
     }
 }
 
-/// Writes a chunk's sealed bytes, and before chunk 0 what stands before it.
+/// Writes a block's sealed bytes, and before block 0 what stands before it.
 pub(crate) fn write_part<W: Sink>(
     writer: &mut W,
     front: &[u8],
@@ -102,19 +103,20 @@ fn write_next<N: Naming, W: Sink>(
     size: usize,
 ) -> Result<bool, Failed>
     requires few { early.old.written + length early.old.places.items ≤ 4294967295 }
-    requires size { size ≡ size_in N.header + 16 }
-    requires kept { AreKept N.key N.header N.told early.old.written early.old.places.items }
+    requires each { 0 < N.each }
+    requires size { size ≡ room N.each N.header }
+    requires kept { AreKept N.each N.key N.header N.told early.old.written early.old.places.items }
     requires spare { All (λ b. length b.items ≡ size) spare.old.items }
     ensures spare { All (λ b. length b.items ≡ size) spare.new.items }
     ensures room { deque_capacity early.new.places ≡ deque_capacity early.old.places }
     ensures places { length early.new.places.items ≤ length early.old.places.items }
-    ensures order { (chunks : ℕ) (jobs pieces : Hand) → IsOrdered N.key N.header N.told chunks early.old jobs pieces
-        → OnOk result (IsOrdered N.key N.header N.told chunks early.new jobs pieces) }
+    ensures order { (blocks : ℕ) (jobs pieces : Hand) → IsOrdered N.each N.key N.header N.told blocks early.old jobs pieces
+        → OnOk result (IsOrdered N.each N.key N.header N.told blocks early.new jobs pieces) }
     ensures written { (taken : Option (List ℕ))
-        → AreWritten front.now N.key N.header N.told taken (W.taken writer.old) early.old.written
-        → OnOk result (AreWritten front.now N.key N.header N.told taken (W.taken writer.new) early.new.written) }
+        → AreWritten N.each front.now N.key N.header N.told taken (W.taken writer.old) early.old.written
+        → OnOk result (AreWritten N.each front.now N.key N.header N.told taken (W.taken writer.new) early.new.written) }
     ensures begun { (taken : Option (List ℕ))
-        → AreWritten front.now N.key N.header N.told taken (W.taken writer.old) early.old.written
+        → AreWritten N.each front.now N.key N.header N.told taken (W.taken writer.old) early.old.written
         → OnErr result (HasBegun front.now N.key N.header N.told taken (W.taken writer.new)) }
     ensures count { W.failures writer.new ≡ counted (is_err result) (W.failures writer.old) }
 {
@@ -141,8 +143,8 @@ fn take_back<N: Naming>(
     ensures same { (early.new.written ≡ early.old.written)
         × (deque_capacity early.new.places ≡ deque_capacity early.old.places)
         × (length early.new.places.items ≡ length early.old.places.items) }
-    ensures order { (chunks : ℕ) (jobs : Hand) → IsOrdered N.key N.header N.told chunks early.old jobs (view from.old)
-        → IsOrdered N.key N.header N.told chunks early.new jobs (view from.new) }
+    ensures order { (blocks : ℕ) (jobs : Hand) → IsOrdered N.each N.key N.header N.told blocks early.old jobs (view from.old)
+        → IsOrdered N.each N.key N.header N.told blocks early.new jobs (view from.new) }
 {
     match take_piece(pieces, from) {
         None => false,
@@ -165,20 +167,21 @@ fn turn<N: Naming, W: Sink>(
 ) -> Result<bool, Failed>
     requires from { IsPassOf pieces.now from.old × (0 < (view from.old).parts) }
     requires few { early.old.written + length early.old.places.items ≤ 4294967295 }
-    requires size { size ≡ size_in N.header + 16 }
-    requires kept { AreKept N.key N.header N.told early.old.written early.old.places.items }
+    requires each { 0 < N.each }
+    requires size { size ≡ room N.each N.header }
+    requires kept { AreKept N.each N.key N.header N.told early.old.written early.old.places.items }
     requires spare { All (λ b. length b.items ≡ size) spare.old.items }
     ensures from { IsPassOf pieces.now from.new × ((view from.new).parts ≡ (view from.old).parts) }
     ensures spare { All (λ b. length b.items ≡ size) spare.new.items }
     ensures room { deque_capacity early.new.places ≡ deque_capacity early.old.places }
     ensures places { length early.new.places.items ≤ length early.old.places.items }
-    ensures order { (chunks : ℕ) (jobs : Hand) → IsOrdered N.key N.header N.told chunks early.old jobs (view from.old)
-        → OnOk result (IsOrdered N.key N.header N.told chunks early.new jobs (view from.new)) }
+    ensures order { (blocks : ℕ) (jobs : Hand) → IsOrdered N.each N.key N.header N.told blocks early.old jobs (view from.old)
+        → OnOk result (IsOrdered N.each N.key N.header N.told blocks early.new jobs (view from.new)) }
     ensures written { (taken : Option (List ℕ))
-        → AreWritten front.now N.key N.header N.told taken (W.taken writer.old) early.old.written
-        → OnOk result (AreWritten front.now N.key N.header N.told taken (W.taken writer.new) early.new.written) }
+        → AreWritten N.each front.now N.key N.header N.told taken (W.taken writer.old) early.old.written
+        → OnOk result (AreWritten N.each front.now N.key N.header N.told taken (W.taken writer.new) early.new.written) }
     ensures begun { (taken : Option (List ℕ))
-        → AreWritten front.now N.key N.header N.told taken (W.taken writer.old) early.old.written
+        → AreWritten N.each front.now N.key N.header N.told taken (W.taken writer.old) early.old.written
         → OnErr result (HasBegun front.now N.key N.header N.told taken (W.taken writer.new)) }
     ensures count { W.failures writer.new ≡ counted (is_err result) (W.failures writer.old) }
 {
@@ -194,23 +197,24 @@ fn work_here<N: Naming, G: Gate>(
     jobs: &JobLine<N>,
     key: &Key,
     header: &Header,
+    each: u32,
     gate: &G,
     early: &mut Early,
     into: &mut Pass<Task, Hand>,
 ) -> bool
-    requires named { (key.now ≡ N.key) × (header.now ≡ N.header) }
+    requires named { (key.now ≡ N.key) × (header.now ≡ N.header) × (each ≡ N.each) }
+    requires each { IsBlock N.each N.header }
     requires into { IsPassOf jobs.now into.old × (0 < (view into.old).parts) }
     ensures into { IsPassOf jobs.now into.new × ((view into.new).parts ≡ (view into.old).parts) }
     ensures same { (early.new.written ≡ early.old.written)
         × (deque_capacity early.new.places ≡ deque_capacity early.old.places)
         × (length early.new.places.items ≡ length early.old.places.items) }
-    ensures order { (chunks : ℕ) (pieces : Hand) → IsOrdered N.key N.header N.told chunks early.old (view into.old) pieces
-        → IsOrdered N.key N.header N.told chunks early.new (view into.new) pieces }
+    ensures order { (blocks : ℕ) (pieces : Hand) → IsOrdered N.each N.key N.header N.told blocks early.old (view into.old) pieces
+        → IsOrdered N.each N.key N.header N.told blocks early.new (view into.new) pieces }
 {
     match take_task(jobs, into) {
         Some(Task::Job { number, buffer }) => {
-            gate.pass(0, number);
-            early.place(make_piece(key, header, number, buffer));
+            early.place(make_piece::<N, G>(key, header, gate, 0, each, number, buffer));
             true
         }
         Some(Task::Stop) | None => false,
@@ -244,7 +248,7 @@ fn put_all<N: Naming, T: Wait>(
     early: &mut Early,
     into: &mut Pass<Task, Hand>,
 )
-    requires jobs { (put : ℕ) × AreJobs N.header N.told put held.old.items }
+    requires jobs { (put : ℕ) × AreJobs N.each N.header N.told put held.old.items }
     requires room { length early.old.places.items + length held.old.items ≤ deque_capacity early.old.places }
     requires into { IsPassOf jobs.now into.old × (0 < (view into.old).parts) }
     ensures into { IsPassOf jobs.now into.new × (view into.new ≡ hand (view into.old).parts
@@ -271,7 +275,7 @@ fn put_round<N: Naming, T: Wait>(
     into: &mut Pass<Task, Hand>,
 )
     requires group { 0 < plan.group }
-    requires jobs { (put : ℕ) × AreJobs N.header N.told put round.old.held.items }
+    requires jobs { (put : ℕ) × AreJobs N.each N.header N.told put round.old.held.items }
     requires room { length early.old.places.items + length round.old.held.items ≤ deque_capacity early.old.places }
     requires into { IsPassOf jobs.now into.old × (0 < (view into.old).parts) }
     ensures into { IsPassOf jobs.now into.new × ((view into.new).parts ≡ (view into.old).parts) }
@@ -283,8 +287,8 @@ fn put_round<N: Naming, T: Wait>(
     ensures handed { length round.old.held.items ≤ plan.group → IsHanded plan.group round.new }
     ensures way { (left : Option (List ℕ)) (pieces : Hand) → length round.old.held.items ≤ plan.group
         → (round.old.intake.over ≡ true → length round.old.held.items < plan.group)
-        → IsUnderWay N.key N.header N.told left plan early.old (view into.old) pieces round.old
-        → IsUnderWay N.key N.header N.told left plan early.new (view into.new) pieces round.new }
+        → IsUnderWay N.each N.key N.header N.told left plan early.old (view into.old) pieces round.old
+        → IsUnderWay N.each N.key N.header N.told left plan early.new (view into.new) pieces round.new }
 {
     if !round.is_full(plan.group) {
         return;
@@ -305,7 +309,7 @@ fn hand_over<N: Naming, T: Wait>(
     into: &mut Pass<Task, Hand>,
 )
     requires group { 0 < plan.group }
-    requires jobs { (put : ℕ) × AreJobs N.header N.told put round.old.held.items }
+    requires jobs { (put : ℕ) × AreJobs N.each N.header N.told put round.old.held.items }
     requires room { length early.old.places.items + length round.old.held.items ≤ deque_capacity early.old.places }
     requires into { IsPassOf jobs.now into.old × (0 < (view into.old).parts) }
     ensures into { IsPassOf jobs.now into.new × ((view into.new).parts ≡ (view into.old).parts) }
@@ -317,43 +321,45 @@ fn hand_over<N: Naming, T: Wait>(
     ensures handed { length round.old.held.items ≤ plan.group → IsHanded plan.group round.new }
     ensures way { (left : Option (List ℕ)) (pieces : Hand) → length round.old.held.items ≤ plan.group
         → (round.old.intake.over ≡ true → length round.old.held.items < plan.group)
-        → IsUnderWay N.key N.header N.told left plan early.old (view into.old) pieces round.old
-        → IsUnderWay N.key N.header N.told left plan early.new (view into.new) pieces round.new }
+        → IsUnderWay N.each N.key N.header N.told left plan early.old (view into.old) pieces round.old
+        → IsUnderWay N.each N.key N.header N.told left plan early.new (view into.new) pieces round.new }
 {
     put_round(rt, jobs, plan, bells, round, early, into);
     early.ripen(plan.eager || !round.is_open());
 }
 
-// Seals the last chunk, unless this worker is alone: whether there was something to seal.
+// Seals the last block, unless this worker is alone: whether there was something to seal.
 fn seal_first<N: Naming, G: Gate>(
     key: &Key,
     header: &Header,
+    each: u32,
     gate: &G,
     bells: &[Parker],
     round: &mut Round,
 ) -> bool
-    requires named { (key.now ≡ N.key) × (header.now ≡ N.header) }
-    requires last { round.old.intake.ended ≡ true → (0 < round.old.intake.chunks)
-        × (length round.old.last.items ≡ size_in N.header + 16) × (round.old.filled ≤ size_in N.header) }
-    ensures same { (round.new.intake ≡ round.old.intake) × (round.new.held ≡ round.old.held)
-        × (round.new.filled ≡ round.old.filled) × (length round.new.last.items ≡ length round.old.last.items) }
-    ensures last { (number : ℕ) → round.old.intake.chunks ≡ number + 1
-        → IsLast N.key N.header N.told number round.old → IsLast N.key N.header N.told number round.new }
+    requires named { (key.now ≡ N.key) × (header.now ≡ N.header) × (each ≡ N.each) }
+    requires each { IsBlock N.each N.header }
+    requires last { round.old.intake.ended ≡ true → MayEnd N.each N.header round.old }
+    ensures same { (round.new.intake ≡ round.old.intake) × (round.new.held ≡ round.old.held) }
+    ensures may { round.old.intake.ended ≡ true → MayEnd N.each N.header round.new }
+    ensures last { (number : ℕ) → round.old.intake.blocks ≡ number + 1
+        → IsLast N.each N.key N.header N.told number round.old → IsLast N.each N.key N.header N.told number round.new }
     ensures going { round.old.intake.ended ≡ false → round.new ≡ round.old }
 {
     if bells.len() > 1 {
-        return round.seal_last::<N, G>(key, header, gate);
+        return round.seal_last::<N, G>(key, header, each, gate);
     }
     false
 }
 
-// Seals a chunk on this thread, or rests where there is none: the last one first, which no other worker can, unless this
+// Seals a block on this thread, or rests where there is none: the last one first, which no other worker can, unless this
 // one is alone. Answers how often it has looked for one since.
 fn busy<N: Naming, T: Wait, G: Gate>(
     rt: &T,
     jobs: &JobLine<N>,
     key: &Key,
     header: &Header,
+    each: u32,
     gate: &G,
     bells: &[Parker],
     looks: u32,
@@ -361,27 +367,27 @@ fn busy<N: Naming, T: Wait, G: Gate>(
     early: &mut Early,
     into: &mut Pass<Task, Hand>,
 ) -> u32
-    requires named { (key.now ≡ N.key) × (header.now ≡ N.header) }
+    requires named { (key.now ≡ N.key) × (header.now ≡ N.header) × (each ≡ N.each) }
+    requires each { IsBlock N.each N.header }
     requires bells { 0 < length bells.now }
     requires into { IsPassOf jobs.now into.old × (0 < (view into.old).parts) }
-    requires last { round.old.intake.ended ≡ true → (0 < round.old.intake.chunks)
-        × (length round.old.last.items ≡ size_in N.header + 16) × (round.old.filled ≤ size_in N.header) }
+    requires last { round.old.intake.ended ≡ true → MayEnd N.each N.header round.old }
     ensures into { IsPassOf jobs.now into.new × ((view into.new).parts ≡ (view into.old).parts) }
     ensures same { (early.new.written ≡ early.old.written)
         × (deque_capacity early.new.places ≡ deque_capacity early.old.places)
         × (length early.new.places.items ≡ length early.old.places.items)
         × (round.new.intake ≡ round.old.intake) × (round.new.held ≡ round.old.held) }
     ensures way { (left : Option (List ℕ)) (plan : Plan) (pieces : Hand)
-        → IsUnderWay N.key N.header N.told left plan early.old (view into.old) pieces round.old
-        → IsUnderWay N.key N.header N.told left plan early.new (view into.new) pieces round.new }
+        → IsUnderWay N.each N.key N.header N.told left plan early.old (view into.old) pieces round.old
+        → IsUnderWay N.each N.key N.header N.told left plan early.new (view into.new) pieces round.new }
 {
-    if seal_first::<N, G>(key, header, gate, bells, round) {
+    if seal_first::<N, G>(key, header, each, gate, bells, round) {
         return 0;
     }
-    if work_here(jobs, key, header, gate, early, into) {
+    if work_here(jobs, key, header, each, gate, early, into) {
         return 0;
     }
-    if round.seal_last::<N, G>(key, header, gate) {
+    if round.seal_last::<N, G>(key, header, each, gate) {
         return 0;
     }
     rest(rt, &bells[0], looks)
@@ -407,24 +413,24 @@ fn take_in<N: Naming, T: Wait, R: Source, W: Sink, G: Gate>(
     from: &mut Pass<Piece, Hand>,
 ) -> Result<bool, Failed>
     requires named { (key.now ≡ N.key) × (header.now ≡ N.header) }
-    requires plan { IsPlan N.header plan }
+    requires plan { IsPlan N.each N.header plan }
     requires bells { 0 < length bells.now }
     requires into { IsPassOf jobs.now into.old × (0 < (view into.old).parts) }
     requires from { IsPassOf pieces.now from.old × (0 < (view from.old).parts) }
-    requires way { IsUnderWay N.key N.header N.told (R.left reader.old) plan early.old (view into.old) (view from.old) round.old }
+    requires way { IsUnderWay N.each N.key N.header N.told (R.left reader.old) plan early.old (view into.old) (view from.old) round.old }
     requires handed { IsHanded plan.group round.old }
     requires room { (plan.depth ≤ deque_capacity early.old.places) × (plan.group ≤ deque_capacity round.old.held)
         × (length early.old.places.items + length round.old.held.items ≤ plan.depth) }
-    requires spare { All (λ b. length b.items ≡ size_in N.header + 16) spare.old.items }
+    requires spare { All (λ b. length b.items ≡ room N.each N.header) spare.old.items }
     requires fresh { early.old.written ≡ 0 }
     ensures into { IsPassOf jobs.now into.new × ((view into.new).parts ≡ (view into.old).parts) }
     ensures from { IsPassOf pieces.now from.new × ((view from.new).parts ≡ (view from.old).parts) }
-    ensures spare { All (λ b. length b.items ≡ size_in N.header + 16) spare.new.items }
+    ensures spare { All (λ b. length b.items ≡ room N.each N.header) spare.new.items }
     ensures all { IfOk result (λ all. all ≡ true
-        → IsUnderWay N.key N.header N.told (R.left reader.new) plan early.new (view into.new) (view from.new) round.new
+        → IsUnderWay N.each N.key N.header N.told (R.left reader.new) plan early.new (view into.new) (view from.new) round.new
         × IsHanded plan.group round.new × (round.new.intake.over ≡ false → round.new.intake.ended ≡ true)) }
     ensures bound { ConsumesUpTo N.told (R.left reader.new) plan.limit }
-    ensures written { OnOk result (AreWritten front.now N.key N.header N.told
+    ensures written { OnOk result (AreWritten N.each front.now N.key N.header N.told
         (W.taken writer.old) (W.taken writer.new) early.new.written) }
     ensures begun { OnErr result (HasBegun front.now N.key N.header N.told
         (W.taken writer.old) (W.taken writer.new)) }
@@ -432,10 +438,11 @@ fn take_in<N: Naming, T: Wait, R: Source, W: Sink, G: Gate>(
     ensures unread { OnErr result (R.failures reader.new ≡ R.failures reader.old) }
     ensures writes { W.failures writer.new ≡ counted (is_err result) (W.failures writer.old) }
 {
-    let size = header.chunk();
+    let size = block_bytes::<N>(header, plan.each);
+    let room = room_bytes::<N>(header, plan.each);
     let mut looks = 0;
     for _ in rt.forever() {
-        match turn::<N, W>(pieces, early, writer, front, spare, size + TAG, from) {
+        match turn::<N, W>(pieces, early, writer, front, spare, room, from) {
             Ok(true) => {
                 looks = 0;
                 continue;
@@ -449,7 +456,7 @@ fn take_in<N: Naming, T: Wait, R: Source, W: Sink, G: Gate>(
         // A round is read once those are written that may be: so no write follows a read that fails.
         let waits = !plan.eager && early.is_ripe();
         let count = early.len() + round.held.len();
-        if let Some(buffer) = take_spare(spare, size + TAG, waits, count, plan.depth) {
+        if let Some(buffer) = take_spare(spare, room, waits, count, plan.depth) {
             match round.read::<N, R>(reader, size, plan.limit, buffer) {
                 Err(Failed) => return Ok(false),
                 Ok(()) => {}
@@ -458,7 +465,7 @@ fn take_in<N: Naming, T: Wait, R: Source, W: Sink, G: Gate>(
             continue;
         }
         looks = busy(
-            rt, jobs, key, header, gate, bells, looks, round, early, into,
+            rt, jobs, key, header, plan.each, gate, bells, looks, round, early, into,
         );
     }
     unreachable!()
@@ -471,6 +478,7 @@ fn drain<N: Naming, T: Wait, W: Sink, G: Gate>(
     pieces: &PieceLine<N>,
     key: &Key,
     header: &Header,
+    each: u32,
     writer: &mut W,
     front: &[u8],
     gate: &G,
@@ -481,35 +489,36 @@ fn drain<N: Naming, T: Wait, W: Sink, G: Gate>(
     into: &mut Pass<Task, Hand>,
     from: &mut Pass<Piece, Hand>,
 ) -> Result<(), Failed>
-    requires named { (key.now ≡ N.key) × (header.now ≡ N.header) }
+    requires named { (key.now ≡ N.key) × (header.now ≡ N.header) × (each ≡ N.each) }
+    requires each { IsBlock N.each N.header }
     requires bells { 0 < length bells.now }
     requires into { IsPassOf jobs.now into.old × (0 < (view into.old).parts) }
     requires from { IsPassOf pieces.now from.old × (0 < (view from.old).parts) }
     requires way { (left : Option (List ℕ)) × (plan : Plan)
-        × IsUnderWay N.key N.header N.told left plan early.old (view into.old) (view from.old) round.old }
-    requires spare { All (λ b. length b.items ≡ size_in N.header + 16) spare.old.items }
+        × IsUnderWay N.each N.key N.header N.told left plan early.old (view into.old) (view from.old) round.old }
+    requires spare { All (λ b. length b.items ≡ room N.each N.header) spare.old.items }
     ensures into { IsPassOf jobs.now into.new × ((view into.new).parts ≡ (view into.old).parts) }
     ensures from { IsPassOf pieces.now from.new × ((view from.new).parts ≡ (view from.old).parts) }
     ensures same { (round.new.intake ≡ round.old.intake) × (round.new.held ≡ round.old.held) }
     ensures all { OnOk result (length early.new.places.items ≡ 0) }
     ensures way { (left : Option (List ℕ)) (plan : Plan)
-        → IsUnderWay N.key N.header N.told left plan early.old (view into.old) (view from.old) round.old
-        → OnOk result (IsUnderWay N.key N.header N.told left plan early.new (view into.new) (view from.new) round.new) }
+        → IsUnderWay N.each N.key N.header N.told left plan early.old (view into.old) (view from.old) round.old
+        → OnOk result (IsUnderWay N.each N.key N.header N.told left plan early.new (view into.new) (view from.new) round.new) }
     ensures written { (taken : Option (List ℕ))
-        → AreWritten front.now N.key N.header N.told taken (W.taken writer.old) early.old.written
-        → OnOk result (AreWritten front.now N.key N.header N.told taken (W.taken writer.new) early.new.written) }
+        → AreWritten N.each front.now N.key N.header N.told taken (W.taken writer.old) early.old.written
+        → OnOk result (AreWritten N.each front.now N.key N.header N.told taken (W.taken writer.new) early.new.written) }
     ensures begun { (taken : Option (List ℕ))
-        → AreWritten front.now N.key N.header N.told taken (W.taken writer.old) early.old.written
+        → AreWritten N.each front.now N.key N.header N.told taken (W.taken writer.old) early.old.written
         → OnErr result (HasBegun front.now N.key N.header N.told taken (W.taken writer.new)) }
     ensures count { W.failures writer.new ≡ counted (is_err result) (W.failures writer.old) }
 {
-    let size = header.chunk();
+    let room = room_bytes::<N>(header, each);
     let mut looks = 0;
     for _ in rt.forever() {
         if early.len() == 0 {
             return Ok(());
         }
-        match turn::<N, W>(pieces, early, writer, front, spare, size + TAG, from) {
+        match turn::<N, W>(pieces, early, writer, front, spare, room, from) {
             Ok(true) => {
                 looks = 0;
                 continue;
@@ -518,38 +527,40 @@ fn drain<N: Naming, T: Wait, W: Sink, G: Gate>(
             Err(Failed) => return Err(Failed),
         }
         looks = busy(
-            rt, jobs, key, header, gate, bells, looks, round, early, into,
+            rt, jobs, key, header, each, gate, bells, looks, round, early, into,
         );
     }
     unreachable!()
 }
 
-/// Ends what was read, once all before is written: the last chunk is written, unless there is a byte too many.
+/// Ends what was read, once all before is written: the last block is written, unless there is a byte too many.
 pub(crate) fn end<N: Naming, W: Sink, G: Gate>(
     key: &Key,
     header: &Header,
+    each: u32,
     writer: &mut W,
     front: &[u8],
     round: &mut Round,
     gate: &G,
 ) -> Result<u64, SealFault>
-    requires named { (key.now ≡ N.key) × (header.now ≡ N.header) }
+    requires named { (key.now ≡ N.key) × (header.now ≡ N.header) × (each ≡ N.each) }
+    requires each { IsBlock N.each N.header }
     requires closed { round.old.intake.over ≡ false → round.old.intake.ended ≡ true }
     requires hand { (left : Option (List ℕ)) × (limit : ℕ) × (put : ℕ)
-        × IsInHand N.key N.header N.told left limit put round.old }
+        × IsInHand N.each N.key N.header N.told left limit put round.old }
     ensures sealed { (left taken : Option (List ℕ)) (failures : Option ℕ) (limit group put : ℕ) → 0 < limit
-        → IsInHand N.key N.header N.told left limit put round.old → IsHanded group round.old
-        → (round.old.intake.ended ≡ false → AreRounds (size_in N.header) limit group put)
-        → AreWritten front.now N.key N.header N.told taken (W.taken writer.old) put
-        → HasSealedRounds front.now N.key N.header (limit - 1) group N.told left failures failures
+        → IsInHand N.each N.key N.header N.told left limit put round.old → IsHanded group round.old
+        → (round.old.intake.ended ≡ false → AreRounds (block N.each N.header) limit group put)
+        → AreWritten N.each front.now N.key N.header N.told taken (W.taken writer.old) put
+        → HasSealedRounds front.now N.key N.header (limit - 1) (group * N.each) N.told left failures failures
         taken (W.taken writer.new) (W.failures writer.old) (W.failures writer.new) result }
 {
     if round.intake.over {
         return Err(SealFault::TooLong);
     }
-    round.seal_last::<N, G>(key, header, gate);
-    let sealed = &round.last[..round.filled + TAG];
-    match write_part(writer, front, round.intake.chunks - 1, sealed) {
+    round.seal_last::<N, G>(key, header, each, gate);
+    let sealed = &round.last[..round.filled];
+    match write_part(writer, front, round.intake.blocks - 1, sealed) {
         Ok(()) => Ok(round.intake.total),
         Err(Failed) => Err(SealFault::Write),
     }
@@ -574,14 +585,14 @@ pub(crate) fn feed<N: Naming, T: Wait, R: Source, W: Sink, G: Gate>(
     from: &mut Pass<Piece, Hand>,
 ) -> Result<u64, SealFault>
     requires named { (key.now ≡ N.key) × (header.now ≡ N.header) }
-    requires plan { IsPlan N.header plan }
-    requires read { IsRead N.key N.header N.told (R.left reader.old) plan round.old }
+    requires plan { IsPlan N.each N.header plan }
+    requires read { IsRead N.each N.key N.header N.told (R.left reader.old) plan round.old }
     requires bells { 0 < length bells.now }
     requires into { IsPassOf jobs.now into.old × (0 < (view into.old).parts) × ((view into.old).put ≡ []) }
     requires from { IsPassOf pieces.now from.old × (0 < (view from.old).parts) × ((view from.old).put ≡ []) }
     ensures into { IsPassOf jobs.now into.new × ((view into.new).parts ≡ (view into.old).parts) }
     ensures from { IsPassOf pieces.now from.new × ((view from.new).parts ≡ (view from.old).parts) }
-    ensures sealed { HasSealedRounds (front_of N.header plan) N.key N.header (plan.limit - 1) plan.group
+    ensures sealed { HasSealedRounds (front_of N.header plan) N.key N.header (plan.limit - 1) (plan.group * N.each)
         N.told (R.left reader.new) (R.failures reader.old) (R.failures reader.new)
         (W.taken writer.old) (W.taken writer.new) (W.failures writer.old) (W.failures writer.new) result }
     ensures seen { OnOk result ((n : ℕ) × ((view into.new).put ≡ below n) × ((view from.new).put ≡ [])
@@ -595,7 +606,8 @@ pub(crate) fn feed<N: Naming, T: Wait, R: Source, W: Sink, G: Gate>(
     } else {
         0
     };
-    let Ok(mut spare) = buffers(alloc, count, header.chunk() + TAG) else {
+    let room = room_bytes::<N>(header, plan.each);
+    let Ok(mut spare) = buffers(alloc, count, room) else {
         return Err(SealFault::OutOfMemory);
     };
     let front = plan.front(header);
@@ -611,11 +623,11 @@ pub(crate) fn feed<N: Naming, T: Wait, R: Source, W: Sink, G: Gate>(
         return Err(SealFault::Read);
     }
     match drain(
-        rt, jobs, pieces, key, header, writer, front, gate, bells, &mut spare, round, &mut early,
-        into, from,
+        rt, jobs, pieces, key, header, plan.each, writer, front, gate, bells, &mut spare, round,
+        &mut early, into, from,
     ) {
         Ok(()) => {}
         Err(Failed) => return Err(SealFault::Write),
     }
-    end::<N, W, G>(key, header, writer, front, round, gate)
+    end::<N, W, G>(key, header, plan.each, writer, front, round, gate)
 }

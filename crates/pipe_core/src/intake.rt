@@ -1,4 +1,4 @@
-//! Reading the input chunk by chunk, each with one byte behind it, by which it is known whether the chunk is the last. No
+//! Reading the input block by block, each with one byte behind it, by which it is known whether the block is the last. No
 //! more than a limit is read of it: where so many bytes were, the input is too long.
 ghost use Rattle.std.specs.Prelude.{◌≡◌, ◌+◌, ◌-◌, ◌*◌, ◌^◌, ◌<◌, ◌≤◌, ◌++◌, ◌∷◌, List, ℕ, Option, None, true, false, length, take};
 ghost use Rattle.std.specs.Prelude.{IfOk, OnOk, OnErr, Some, is_err, slice_index};
@@ -9,11 +9,11 @@ ghost use Rattle.pipe_core.specs.Pieces.{IsChunk};
 
 use io_core::{Failed, Source, fill};
 
-/// What was read of the input: whole chunks, and the byte that was seen behind them; or all of it; or a byte more than it
+/// What was read of the input: whole blocks, and the byte that was seen behind them; or all of it; or a byte more than it
 /// may have.
 #[derive(Drop)]
 pub(crate) struct Intake {
-    pub(crate) chunks: u32,
+    pub(crate) blocks: u32,
     pub(crate) total: u64,
     pub(crate) ahead: Option<u8>,
     pub(crate) ended: bool,
@@ -61,10 +61,10 @@ fn fill_behind<R: Source>(
 impl Intake {
     pub(crate) fn new() -> Intake
         ensures read { (left : Option (List ℕ)) (size limit : ℕ) → 0 < limit → HasRead size limit left left result }
-        ensures fresh { (result.ended ≡ false) × (result.over ≡ false) × (result.chunks ≡ 0) }
+        ensures fresh { (result.ended ≡ false) × (result.over ≡ false) × (result.blocks ≡ 0) }
     {
         Intake {
-            chunks: 0,
+            blocks: 0,
             total: 0,
             ahead: None,
             ended: false,
@@ -72,27 +72,27 @@ impl Intake {
         }
     }
 
-    // Takes in what stands in the buffer, where so many bytes might be read. Answers how many bytes the chunk has.
+    // Takes in what stands in the buffer, where so many bytes might be read. Answers how many bytes the block has.
     fn take_in(&mut self, size: usize, room: u64, text: &[u8], n: usize) -> usize
         requires size { (0 < size) × (size ≤ 2 ^ 20) × (n ≤ length text.now) × (n ≤ size + 1) }
         requires room { n ≤ room }
         requires going { (self.old.ended ≡ false) × (self.old.over ≡ false) }
-        requires few { (self.old.chunks < 4294967295) × (self.old.total ≤ 2 ^ 53) }
+        requires few { (self.old.blocks < 4294967295) × (self.old.total ≤ 2 ^ 53) }
         ensures within { result ≤ size }
         ensures over { (self.new.over ≡ true → n ≡ room) × (self.new.over ≡ false → n < room) }
-        ensures kept { self.new.over ≡ true → (self.new.ended ≡ false) × (self.new.chunks ≡ self.old.chunks)
+        ensures kept { self.new.over ≡ true → (self.new.ended ≡ false) × (self.new.blocks ≡ self.old.blocks)
             × (self.new.total ≡ self.old.total) }
         ensures full { self.new.over ≡ false → size < n → (result ≡ size) × (self.new.ended ≡ false)
-            × (self.new.chunks ≡ self.old.chunks + 1) × (self.new.total ≡ self.old.total + size)
+            × (self.new.blocks ≡ self.old.blocks + 1) × (self.new.total ≡ self.old.total + size)
             × (self.new.ahead ≡ Some (slice_index text.now size)) }
         ensures last { self.new.over ≡ false → n ≤ size → (result ≡ n) × (self.new.ended ≡ true)
-            × (self.new.chunks ≡ self.old.chunks + 1) × (self.new.total ≡ self.old.total + n) }
+            × (self.new.blocks ≡ self.old.blocks + 1) × (self.new.total ≡ self.old.total + n) }
     {
         if n as u64 == room {
             self.over = true;
             return 0;
         }
-        self.chunks += 1;
+        self.blocks += 1;
         if n > size {
             self.ahead = Some(text[size]);
             self.total += size as u64;
@@ -104,8 +104,8 @@ impl Intake {
         }
     }
 
-    /// Reads the next chunk to the front of a buffer that is longer, and a byte behind it, unless the input ends with the
-    /// chunk; and no more than so many bytes of the input. Answers how many bytes the chunk has.
+    /// Reads the next block to the front of a buffer that is longer, and a byte behind it, unless the input ends with the
+    /// block; and no more than so many bytes of the input. Answers how many bytes the block has.
     pub(crate) fn next<R: Source>(
         &mut self,
         reader: &mut R,
@@ -115,16 +115,16 @@ impl Intake {
     ) -> Result<usize, Failed>
         requires size { (0 < size) × (size ≤ 2 ^ 20) × (size < length buffer.old) }
         requires going { (self.old.ended ≡ false) × (self.old.over ≡ false) }
-        requires few { (self.old.chunks < 4294967295) × (limit ≤ 2 ^ 53) }
-        requires sum { (self.old.total < limit) × (self.old.total ≡ self.old.chunks * size) }
+        requires few { (self.old.blocks < 4294967295) × (limit ≤ 2 ^ 53) }
+        requires sum { (self.old.total < limit) × (self.old.total ≡ self.old.blocks * size) }
         ensures within { IfOk result (λ n. n ≤ size) }
         ensures length { length buffer.new ≡ length buffer.old }
-        ensures chunks { OnOk result ((self.new.over ≡ false → self.new.chunks ≡ self.old.chunks + 1)
-            × (self.new.over ≡ true → self.new.chunks ≡ self.old.chunks)) }
+        ensures blocks { OnOk result ((self.new.over ≡ false → self.new.blocks ≡ self.old.blocks + 1)
+            × (self.new.over ≡ true → self.new.blocks ≡ self.old.blocks)) }
         ensures read { OnOk result ((left : Option (List ℕ)) → HasRead size limit left (R.left reader.old) self.old
             → HasRead size limit left (R.left reader.new) self.new) }
         ensures chunk { IfOk result (λ n. (left : Option (List ℕ)) → HasRead size limit left (R.left reader.old) self.old
-            → self.new.over ≡ false → IsChunk size left self.old.chunks self.new.ended (take n buffer.new)) }
+            → self.new.over ≡ false → IsChunk size left self.old.blocks self.new.ended (take n buffer.new)) }
         ensures same { OnErr result (self.new ≡ self.old) }
         ensures lost { OnErr result ((left : Option (List ℕ)) → HasRead size limit left (R.left reader.old) self.old
             → ConsumesUpTo left (R.left reader.new) limit) }

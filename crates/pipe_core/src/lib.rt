@@ -4,6 +4,7 @@
 //! The caller's thread reads and writes. Each worker lives as long as the input; while there is nothing to do it sleeps.
 #![tactic(auto)]
 
+mod block;
 mod early;
 mod endless;
 mod feed;

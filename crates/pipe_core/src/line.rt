@@ -1,7 +1,7 @@
 //! The two queues and their rules.
 //!
-//! Each rule says two things: every item is the definition's (a job is a number and that chunk of the input, a piece a
-//! number and that chunk's sealed bytes), and each number was put as often as it was taken or stands in the queue.
+//! Each rule says two things: every item is the definition's (a job is a number and that block of the input, a piece a
+//! number and that block's sealed bytes), and each number was put as often as it was taken or stands in the queue.
 ghost use Rattle.std.specs.Prelude.{◌≡◌, ◌++◌, ◌<◌, IfSome, IfNone};
 ghost use Rattle.crossbeam_queue.specs.Passes.{view, IsPassOf};
 ghost use Rattle.pipe_core.specs.Pieces.{IsTask, IsPiece, task_numbers, piece_numbers};
@@ -31,6 +31,9 @@ pub(crate) trait Naming {
 
     ghost header: { List ℕ };
 
+    // How many chunks a block has.
+    ghost each: { ℕ };
+
     // The input, where the reader tells it.
     ghost told: { Option (List ℕ) };
 }
@@ -41,6 +44,8 @@ impl Naming for Brand {
     ghost key = { [] };
 
     ghost header = { [] };
+
+    ghost each = { 1 };
 
     ghost told = { None };
 }
@@ -54,7 +59,7 @@ impl<N: Naming> Protocol<Task, Hand> for Jobs<N> {
     ghost use Rattle.pipe_core.specs.Pieces.{IsTask, task_numbers};
     ghost use Rattle.pipe_core.specs.Hands.{hand, Holds};
 
-    ghost holds = { Holds (IsTask N.header N.told) task_numbers };
+    ghost holds = { Holds (IsTask N.each N.header N.told) task_numbers };
 
     ghost first = { hand 1024 [] [] };
 }
@@ -68,7 +73,7 @@ impl<N: Naming> Protocol<Piece, Hand> for Pieces<N> {
     ghost use Rattle.pipe_core.specs.Pieces.{IsPiece, piece_numbers};
     ghost use Rattle.pipe_core.specs.Hands.{hand, Holds};
 
-    ghost holds = { Holds (IsPiece N.key N.header N.told) piece_numbers };
+    ghost holds = { Holds (IsPiece N.each N.key N.header N.told) piece_numbers };
 
     ghost first = { hand 1024 [] [] };
 }
@@ -120,7 +125,7 @@ impl<N: Naming> Outcome<Task, Hand> for Take<N> {
     ghost use Rattle.pipe_core.specs.Pieces.{IsTask, task_numbers};
     ghost use Rattle.pipe_core.specs.Hands.{hand};
 
-    ghost then = { λ v x w. IsTask N.header N.told x × (w ≡ hand v.parts v.put (v.taken ++ task_numbers x)) };
+    ghost then = { λ v x w. IsTask N.each N.header N.told x × (w ≡ hand v.parts v.put (v.taken ++ task_numbers x)) };
 }
 
 impl<N: Naming> Outcome<Piece, Hand> for Take<N> {
@@ -128,7 +133,7 @@ impl<N: Naming> Outcome<Piece, Hand> for Take<N> {
     ghost use Rattle.pipe_core.specs.Pieces.{IsPiece, piece_numbers};
     ghost use Rattle.pipe_core.specs.Hands.{hand};
 
-    ghost then = { λ v x w. IsPiece N.key N.header N.told x × (w ≡ hand v.parts v.put (v.taken ++ piece_numbers x)) };
+    ghost then = { λ v x w. IsPiece N.each N.key N.header N.told x × (w ≡ hand v.parts v.put (v.taken ++ piece_numbers x)) };
 }
 
 /// What was put is what was taken and what the queue holds.
@@ -160,7 +165,7 @@ pub(crate) fn put_task<N: Naming, R: Wait>(
     task: Task,
 )
     requires pass { IsPassOf jobs.now pass.old × (0 < (view pass.old).parts) }
-    requires task { IsTask N.header N.told task }
+    requires task { IsTask N.each N.header N.told task }
     ensures pass { IsPassOf jobs.now pass.new }
     ensures view { view pass.new ≡ hand (view pass.old).parts ((view pass.old).put ++ task_numbers task) (view pass.old).taken }
 {
@@ -183,7 +188,7 @@ pub(crate) fn put_piece<N: Naming, R: Wait>(
     piece: Piece,
 )
     requires pass { IsPassOf pieces.now pass.old × (0 < (view pass.old).parts) }
-    requires piece { IsPiece N.key N.header N.told piece }
+    requires piece { IsPiece N.each N.key N.header N.told piece }
     ensures pass { IsPassOf pieces.now pass.new }
     ensures view { view pass.new ≡ hand (view pass.old).parts ((view pass.old).put ++ piece_numbers piece) (view pass.old).taken }
 {
@@ -202,7 +207,7 @@ pub(crate) fn put_piece<N: Naming, R: Wait>(
 pub(crate) fn take_task<N: Naming>(jobs: &JobLine<N>, pass: &mut Pass<Task, Hand>) -> Option<Task>
     requires pass { IsPassOf jobs.now pass.old × (0 < (view pass.old).parts) }
     ensures pass { IsPassOf jobs.now pass.new }
-    ensures some { IfSome result (λ x. IsTask N.header N.told x × (view pass.new ≡ hand (view pass.old).parts (view pass.old).put ((view pass.old).taken ++ task_numbers x))) }
+    ensures some { IfSome result (λ x. IsTask N.each N.header N.told x × (view pass.new ≡ hand (view pass.old).parts (view pass.old).put ((view pass.old).taken ++ task_numbers x))) }
     ensures none { IfNone result (view pass.new ≡ view pass.old) }
 {
     jobs.try_pop_as::<Take<N>>(pass)
@@ -215,7 +220,7 @@ pub(crate) fn take_piece<N: Naming>(
 ) -> Option<Piece>
     requires pass { IsPassOf pieces.now pass.old × (0 < (view pass.old).parts) }
     ensures pass { IsPassOf pieces.now pass.new }
-    ensures some { IfSome result (λ x. IsPiece N.key N.header N.told x × (view pass.new ≡ hand (view pass.old).parts (view pass.old).put ((view pass.old).taken ++ piece_numbers x))) }
+    ensures some { IfSome result (λ x. IsPiece N.each N.key N.header N.told x × (view pass.new ≡ hand (view pass.old).parts (view pass.old).put ((view pass.old).taken ++ piece_numbers x))) }
     ensures none { IfNone result (view pass.new ≡ view pass.old) }
 {
     pieces.try_pop_as::<Take<N>>(pass)

@@ -1,10 +1,12 @@
 //! An input sealed in rounds of some chunks. The first round is read before anything else: of a short input this thread
 //! seals it, without a queue.
-ghost use Rattle.std.specs.Prelude.{◌≡◌, ℕ, ◌+◌, ◌-◌, ◌<◌, ◌≤◌, List, [], ◌∷◌, Option, OnOk, OnErr, is_err, true, take, drop};
-ghost use Rattle.container_core.specs.Container.{hint_of};
+//!
+//! Small chunks go through the queues in blocks of several, so that one read, one job and one write carry some 64 KiB.
+ghost use Rattle.std.specs.Prelude.{◌≡◌, ℕ, ◌+◌, ◌-◌, ◌*◌, ◌/◌, ◌^◌, ◌<◌, ◌≤◌, List, [], ◌∷◌, Option, OnOk, OnErr, is_err, true, take, drop};
+ghost use Rattle.container_core.specs.Container.{hint_of, size_in};
 ghost use Rattle.io_core.specs.Streams.{counted};
 ghost use Rattle.pipe_core.specs.Order.{AreWritten, HasBegun};
-ghost use Rattle.pipe_core.specs.Pieces.{IsTask, task_numbers};
+ghost use Rattle.pipe_core.specs.Pieces.{block, IsBlock, IsTask, task_numbers};
 ghost use Rattle.pipe_core.specs.Round.{IsInHand};
 ghost use Rattle.pipe_core.specs.Rounds.{HasSealedRounds};
 
@@ -21,29 +23,33 @@ use std::sync::Wait;
 use std::thread::Threads;
 use worker_core::{Gate, MAX_WINDOW, MAX_WORKERS};
 
+// Plaintext bytes of a block of small chunks.
+const BLOCK: usize = 1 << 16;
+
 // Seals and writes a job of the only round.
 fn write_job<N: Naming, W: Sink, G: Gate>(
     key: &Key,
     header: &Header,
+    each: u32,
     writer: &mut W,
     task: Task,
     gate: &G,
 ) -> Result<(), Failed>
-    requires named { (key.now ≡ N.key) × (header.now ≡ N.header) }
-    requires task { IsTask N.header N.told task }
+    requires named { (key.now ≡ N.key) × (header.now ≡ N.header) × (each ≡ N.each) }
+    requires each { IsBlock N.each N.header }
+    requires task { IsTask N.each N.header N.told task }
     ensures written { (taken : Option (List ℕ)) (number : ℕ) → task_numbers task ≡ number ∷ []
-        → AreWritten N.header N.key N.header N.told taken (W.taken writer.old) number
-        → OnOk result (AreWritten N.header N.key N.header N.told taken (W.taken writer.new) (number + 1)) }
+        → AreWritten N.each N.header N.key N.header N.told taken (W.taken writer.old) number
+        → OnOk result (AreWritten N.each N.header N.key N.header N.told taken (W.taken writer.new) (number + 1)) }
     ensures begun { (taken : Option (List ℕ)) (number : ℕ) → task_numbers task ≡ number ∷ []
-        → AreWritten N.header N.key N.header N.told taken (W.taken writer.old) number
+        → AreWritten N.each N.header N.key N.header N.told taken (W.taken writer.old) number
         → OnErr result (HasBegun N.header N.key N.header N.told taken (W.taken writer.new)) }
     ensures count { W.failures writer.new ≡ counted (is_err result) (W.failures writer.old) }
 {
     match task {
         Task::Stop => Ok(()),
         Task::Job { number, buffer } => {
-            gate.pass(0, number);
-            let piece = make_piece(key, header, number, buffer);
+            let piece = make_piece::<N, G>(key, header, gate, 0, each, number, buffer);
             write_part(writer, header.bytes(), number, piece.buffer.as_slice())
         }
     }
@@ -53,25 +59,62 @@ fn write_job<N: Naming, W: Sink, G: Gate>(
 fn alone<N: Naming, W: Sink, G: Gate>(
     key: &Key,
     header: &Header,
+    each: u32,
     writer: &mut W,
     round: &mut Round,
     gate: &G,
 ) -> Result<u64, SealFault>
-    requires named { (key.now ≡ N.key) × (header.now ≡ N.header) }
+    requires named { (key.now ≡ N.key) × (header.now ≡ N.header) × (each ≡ N.each) }
+    requires each { IsBlock N.each N.header }
     requires ended { round.old.intake.ended ≡ true }
-    requires hand { (left : Option (List ℕ)) × (limit : ℕ) × IsInHand N.key N.header N.told left limit 0 round.old }
+    requires hand { (left : Option (List ℕ)) × (limit : ℕ) × IsInHand N.each N.key N.header N.told left limit 0 round.old }
     ensures sealed { (left : Option (List ℕ)) (failures : Option ℕ) (limit group : ℕ) → 0 < limit
-        → IsInHand N.key N.header N.told left limit 0 round.old
-        → HasSealedRounds N.header N.key N.header (limit - 1) group N.told left failures failures
+        → IsInHand N.each N.key N.header N.told left limit 0 round.old
+        → HasSealedRounds N.header N.key N.header (limit - 1) (group * N.each) N.told left failures failures
         (W.taken writer.old) (W.taken writer.new) (W.failures writer.old) (W.failures writer.new) result }
 {
     'jobs: while !round.held.is_empty() {
-        match write_job::<N, W, G>(key, header, writer, first_of(&mut round.held), gate) {
+        match write_job::<N, W, G>(key, header, each, writer, first_of(&mut round.held), gate) {
             Ok(()) => {}
             Err(Failed) => return Err(SealFault::Write),
         }
     }
-    end::<N, W, G>(key, header, writer, header.bytes(), round, gate)
+    end::<N, W, G>(key, header, each, writer, header.bytes(), round, gate)
+}
+
+// Whether blocks of so many chunks fill a window, with one for each worker at least.
+#[tactic(auto, using(crate::proofs::BlockLemmas::whole_parts))]
+fn fills(window: u32, each: u32, workers: u32) -> bool
+    requires each { 0 < each }
+    requires workers { 0 < workers }
+    ensures rounds { result ≡ true → window / each * each ≡ window }
+    ensures groups { result ≡ true → 0 < window / each }
+{
+    if window % each != 0 {
+        return false;
+    }
+    window / each >= workers
+}
+
+// How many chunks of a size go through the queues as one block: so many that it has 64 KiB, or fewer, so that blocks fill a
+// round, and each worker has one.
+fn each_of(size: usize, workers: u32, window: u32) -> u32
+    requires size { (0 < size) × (size ≤ 2 ^ 20) }
+    requires workers { 0 < workers }
+    requires window { 0 < window }
+    ensures some { 0 < result }
+    ensures bytes { result * size ≤ 2 ^ 20 }
+    ensures rounds { window / result * result ≡ window }
+    ensures groups { 0 < window / result }
+{
+    let mut each = (BLOCK / size) as u32;
+    'halves: while each > 1 {
+        if fills(window, each, workers) {
+            return each;
+        }
+        each /= 2;
+    }
+    1
 }
 
 fn rounds_named<
@@ -89,40 +132,44 @@ fn rounds_named<
     writer: &mut W,
     max_bytes: u64,
     workers: u32,
-    window: u32,
+    group: u32,
+    each: u32,
     gate: &G,
 ) -> Result<u64, SealFault>
-    requires named { (key.now ≡ N.key) × (header.now ≡ N.header) × (R.left reader.old ≡ N.told) }
+    requires named { (key.now ≡ N.key) × (header.now ≡ N.header) × (each ≡ N.each) × (R.left reader.old ≡ N.told) }
+    requires each { IsBlock each header.now }
     requires max_bytes { max_bytes ≤ MAX_PLAIN }
+    requires numbers { max_bytes + block each header.now ≤ 4294967296 * size_in header.now }
     requires workers { (0 < workers) × (workers ≤ MAX_WORKERS) }
-    requires window { (0 < window) × (window ≤ MAX_WINDOW) }
-    ensures sealed { HasSealedRounds header.now key.now header.now max_bytes window (R.left reader.old) (R.left reader.new)
+    requires group { (0 < group) × (group ≤ MAX_WINDOW) }
+    ensures sealed { HasSealedRounds header.now key.now header.now max_bytes (group * each) (R.left reader.old) (R.left reader.new)
         (R.failures reader.old) (R.failures reader.new) (W.taken writer.old) (W.taken writer.new)
         (W.failures writer.old) (W.failures writer.new) result }
 {
-    let group = window as usize;
+    let group = group as usize;
     let plan = Plan {
         limit: max_bytes + 1,
         group,
         depth: 2 * group,
+        each,
         eager: false,
     };
     let Ok(mut round) = Round::new(alloc, group) else {
         return Err(SealFault::OutOfMemory);
     };
-    if let Err(fault) = round.read_first::<N, R>(alloc, reader, header.chunk(), plan) {
+    if let Err(fault) = round.read_first::<N, R>(alloc, reader, header, plan) {
         return Err(fault);
     }
     if round.intake.over {
         return Err(SealFault::TooLong);
     }
     let workers = if round.intake.ended {
-        workers.min(round.intake.chunks)
+        workers.min(round.intake.blocks)
     } else {
         workers
     };
     if round.intake.ended && workers == 1 {
-        return alone::<N, W, G>(key, header, writer, &mut round, gate);
+        return alone::<N, W, G>(key, header, each, writer, &mut round, gate);
     }
     through::<N, T, R, W, G>(
         rt, alloc, key, header, reader, writer, plan, &mut round, workers, gate,
@@ -134,11 +181,12 @@ fn rounds_named<
 /// the caller's thread is worker 0 and does all reading and writing, in rounds of `window` chunks (1 to 256). Answers the
 /// input's length in bytes.
 ///
-/// A round is sealed once a byte behind it, or the end, was seen, and no chunk is read while two windows of chunks are
-/// read and not written. The header is written with the first round. `TooLong` where a byte more was read, and nothing
+/// Chunks of less than 64 KiB are read, handed to a worker and written in blocks of several, of 64 KiB at the most: of so
+/// many that blocks fill the window, and there is one for each worker. A round is sealed once a byte behind it, or the end,
+/// was seen, and nothing is read while two windows of chunks are read and not written. The header is written with the first round. `TooLong` where a byte more was read, and nothing
 /// past it is; the round in hand is dropped then, and those before it are written. `OutOfMemory` where a queue, the
 /// workers' bells or the buffers of two windows find no memory: nothing is written then. An input that ends within the
-/// first round takes as many buffers as it has chunks, and, where one worker suffices, no queue.
+/// first round takes as many buffers as it has blocks, and, where one worker suffices, no queue.
 pub fn pipe_rounds<T: Threads + Wait + Sync, R: Source, W: Sink, G: Gate + Sync>(
     rt: &T,
     alloc: Global,
@@ -159,7 +207,9 @@ pub fn pipe_rounds<T: Threads + Wait + Sync, R: Source, W: Sink, G: Gate + Sync>
         (R.failures reader.old) (R.failures reader.new) (W.taken writer.old) (W.taken writer.new)
         (W.failures writer.old) (W.failures writer.new) result }
 {
+    let each = each_of(header.chunk(), workers, window);
+    let group = window / each;
     rounds_named::<Brand, T, R, W, G>(
-        rt, alloc, key, header, reader, writer, max_bytes, workers, window, gate,
+        rt, alloc, key, header, reader, writer, max_bytes, workers, group, each, gate,
     )
 }

@@ -1,8 +1,9 @@
 //! The workers and the caller's thread together.
-ghost use Rattle.std.specs.Prelude.{◌≡◌, ℕ, ◌+◌, ◌-◌, ◌^◌, ◌<◌, ◌≤◌, [], OnOk, IfOk, IfSome, length};
+ghost use Rattle.std.specs.Prelude.{◌≡◌, ℕ, ◌+◌, ◌-◌, ◌*◌, ◌^◌, ◌<◌, ◌≤◌, [], OnOk, IfOk, IfSome, length};
 ghost use Rattle.std.specs.Thread.{IsSync};
 ghost use Rattle.crossbeam_queue.specs.Passes.{view, IsPassOf};
 ghost use Rattle.pipe_core.specs.Hands.{newcomer, HasRelayed, HasAll, EachOnce};
+ghost use Rattle.pipe_core.specs.Pieces.{IsBlock};
 ghost use Rattle.pipe_core.specs.Round.{front_of, IsPlan, IsRead};
 ghost use Rattle.pipe_core.specs.Rounds.{HasSealedRounds};
 
@@ -85,14 +86,14 @@ fn lead<N: Naming, T: Wait, R: Source, W: Sink, G: Gate>(
     from: &mut Pass<Piece, Hand>,
 ) -> Result<u64, SealFault>
     requires named { (key.now ≡ N.key) × (header.now ≡ N.header) }
-    requires plan { IsPlan N.header plan }
-    requires read { IsRead N.key N.header N.told (R.left reader.old) plan round.old }
+    requires plan { IsPlan N.each N.header plan }
+    requires read { IsRead N.each N.key N.header N.told (R.left reader.old) plan round.old }
     requires bells { 0 < length bells.now }
     requires into { IsPassOf jobs.now into.old × (0 < (view into.old).parts) × ((view into.old).put ≡ []) }
     requires from { IsPassOf pieces.now from.old × (0 < (view from.old).parts) × ((view from.old).put ≡ []) }
     ensures into { IsPassOf jobs.now into.new × ((view into.new).parts ≡ (view into.old).parts) }
     ensures from { IsPassOf pieces.now from.new × ((view from.new).parts ≡ (view from.old).parts) }
-    ensures sealed { HasSealedRounds (front_of N.header plan) N.key N.header (plan.limit - 1) plan.group
+    ensures sealed { HasSealedRounds (front_of N.header plan) N.key N.header (plan.limit - 1) (plan.group * N.each)
         N.told (R.left reader.new) (R.failures reader.old) (R.failures reader.new)
         (W.taken writer.old) (W.taken writer.new) (W.failures writer.old) (W.failures writer.new) result }
     ensures all { OnOk result ((n : ℕ) × HasAll n (view into.new) (view from.new)) }
@@ -128,14 +129,14 @@ fn crew<N: Naming + Send + Sync, T: Threads + Wait + Sync, R: Source, W: Sink, G
     from: &mut Pass<Piece, Hand>,
 ) -> Result<u64, SealFault>
     requires named { (key.now ≡ N.key) × (header.now ≡ N.header) }
-    requires plan { IsPlan N.header plan }
-    requires read { IsRead N.key N.header N.told (R.left reader.old) plan round.old }
+    requires plan { IsPlan N.each N.header plan }
+    requires read { IsRead N.each N.key N.header N.told (R.left reader.old) plan round.old }
     requires upto { (0 < upto) × (upto ≤ length bells.now) }
     requires into { IsPassOf jobs.now into.old × (upto ≤ (view into.old).parts) × ((view into.old).put ≡ []) }
     requires from { IsPassOf pieces.now from.old × (upto ≤ (view from.old).parts) × ((view from.old).put ≡ []) }
     ensures into { IsPassOf jobs.now into.new × ((view into.new).parts ≡ (view into.old).parts) }
     ensures from { IsPassOf pieces.now from.new × ((view from.new).parts ≡ (view from.old).parts) }
-    ensures sealed { HasSealedRounds (front_of N.header plan) N.key N.header (plan.limit - 1) plan.group
+    ensures sealed { HasSealedRounds (front_of N.header plan) N.key N.header (plan.limit - 1) (plan.group * N.each)
         N.told (R.left reader.new) (R.failures reader.old) (R.failures reader.new)
         (W.taken writer.old) (W.taken writer.new) (W.failures writer.old) (W.failures writer.new) result }
     ensures all { OnOk result ((n : ℕ) × HasAll n (view into.new) (view from.new)) }
@@ -147,11 +148,12 @@ fn crew<N: Naming + Send + Sync, T: Threads + Wait + Sync, R: Source, W: Sink, G
         );
     }
     let last = upto - 1;
+    let each = plan.each;
     let mut theirs = jobs.another::<Cut>(into);
     let mut back = pieces.another::<Cut>(from);
     let mut other = ||
         requires { IsSync T.row × (0 < last) × (last < length bells.now) × (key.now ≡ N.key) × (header.now ≡ N.header)
-            × IsPassOf jobs.now theirs × (view theirs ≡ newcomer) × IsPassOf pieces.now back × (view back ≡ newcomer) }
+            × (each ≡ N.each) × IsBlock N.each N.header × IsPassOf jobs.now theirs × (view theirs ≡ newcomer) × IsPassOf pieces.now back × (view back ≡ newcomer) }
         ensures { IsPassOf jobs.entry.now theirs.exit × IsPassOf pieces.entry.now back.exit
             × HasRelayed 1 (view theirs.exit) (view back.exit) }
     {
@@ -164,19 +166,20 @@ fn crew<N: Naming + Send + Sync, T: Threads + Wait + Sync, R: Source, W: Sink, G
             gate,
             bells,
             last,
+            each,
             &mut theirs,
             &mut back,
         )
     };
     let mut here = || -> Result<u64, SealFault>
-        requires { IsSync T.row × (key.now ≡ N.key) × (header.now ≡ N.header) × IsPlan N.header plan
-            × IsRead N.key N.header N.told (R.left reader.now) plan round.now × (0 < last) × (last ≤ length bells.now)
+        requires { IsSync T.row × (key.now ≡ N.key) × (header.now ≡ N.header) × IsPlan N.each N.header plan
+            × IsRead N.each N.key N.header N.told (R.left reader.now) plan round.now × (0 < last) × (last ≤ length bells.now)
             × IsPassOf jobs.now into.now × (last ≤ (view into.now).parts) × ((view into.now).put ≡ [])
             × IsPassOf pieces.now from.now × (last ≤ (view from.now).parts) × ((view from.now).put ≡ []) }
         ensures { OnOk result ((n : ℕ) × HasAll n (view into.exit.now) (view from.exit.now))
             × (IsPassOf jobs.entry.now into.exit.now × ((view into.exit.now).parts ≡ (view into.entry.now).parts))
             × (IsPassOf pieces.entry.now from.exit.now × ((view from.exit.now).parts ≡ (view from.entry.now).parts))
-            × HasSealedRounds (front_of N.header plan) N.key N.header (plan.limit - 1) plan.group N.told (R.left reader.exit.now)
+            × HasSealedRounds (front_of N.header plan) N.key N.header (plan.limit - 1) (plan.group * N.each) N.told (R.left reader.exit.now)
             (R.failures reader.entry.now) (R.failures reader.exit.now) (W.taken writer.entry.now)
             (W.taken writer.exit.now) (W.failures writer.entry.now) (W.failures writer.exit.now) result }
     {
@@ -224,10 +227,10 @@ pub(crate) fn through<
     Option<(Pass<Task, Hand>, Pass<Piece, Hand>)>,
 )
     requires named { (key.now ≡ N.key) × (header.now ≡ N.header) }
-    requires plan { IsPlan N.header plan × (plan.depth ≤ 2 ^ 20) }
-    requires read { IsRead N.key N.header N.told (R.left reader.old) plan round.old }
+    requires plan { IsPlan N.each N.header plan × (plan.depth ≤ 2 ^ 20) }
+    requires read { IsRead N.each N.key N.header N.told (R.left reader.old) plan round.old }
     requires workers { (0 < workers) × (workers ≤ MAX_WORKERS) }
-    ensures sealed { HasSealedRounds (front_of N.header plan) N.key N.header (plan.limit - 1) plan.group
+    ensures sealed { HasSealedRounds (front_of N.header plan) N.key N.header (plan.limit - 1) (plan.group * N.each)
         N.told (R.left reader.new) (R.failures reader.old) (R.failures reader.new)
         (W.taken writer.old) (W.taken writer.new) (W.failures writer.old) (W.failures writer.new) result.0 }
     ensures once { OnOk result.0 (IfSome result.1 (λ hands. (n : ℕ) × EachOnce n (view hands.0) (view hands.1))) }

@@ -2,6 +2,7 @@
 ghost use Rattle.std.specs.Prelude.{◌≡◌, [], ◌<◌, length};
 ghost use Rattle.crossbeam_queue.specs.Passes.{view, IsPassOf};
 ghost use Rattle.pipe_core.specs.Hands.{hand, newcomer, HasRelayed};
+ghost use Rattle.pipe_core.specs.Pieces.{IsBlock};
 
 use crate::line::{Hand, JobLine, Naming, PieceLine, put_piece, take_task};
 use crate::piece::{Piece, Task, make_piece};
@@ -36,11 +37,13 @@ pub(crate) fn worker<N: Naming, R: Wait, G: Gate>(
     gate: &G,
     bells: &[Parker],
     me: u32,
+    each: u32,
     from: &mut Pass<Task, Hand>,
     into: &mut Pass<Piece, Hand>,
 )
     requires me { (0 < me) × (me < length bells.now) }
-    requires named { (key.now ≡ N.key) × (header.now ≡ N.header) }
+    requires named { (key.now ≡ N.key) × (header.now ≡ N.header) × (each ≡ N.each) }
+    requires each { IsBlock N.each N.header }
     requires from { IsPassOf jobs.now from.old × (view from.old ≡ newcomer) }
     requires into { IsPassOf pieces.now into.old × (view into.old ≡ newcomer) }
     ensures { IsPassOf jobs.now from.new × IsPassOf pieces.now into.new × HasRelayed 1 (view from.new) (view into.new) }
@@ -49,8 +52,7 @@ pub(crate) fn worker<N: Naming, R: Wait, G: Gate>(
     for _ in rt.forever() {
         match take_task(jobs, from) {
             Some(Task::Job { number, buffer }) => {
-                gate.pass(me, number);
-                let piece = make_piece(key, header, number, buffer);
+                let piece = make_piece::<N, G>(key, header, gate, me, each, number, buffer);
                 put_piece(rt, pieces, into, piece);
                 bells[0].unpark();
                 looks = 0;

@@ -2,15 +2,15 @@
 ghost use Rattle.std.specs.Prelude.{◌≡◌, drop, take, true};
 ghost use Rattle.container_core.specs.Container.{hint_of};
 
-use container_core::{Header, Key, SealFault, Shape, seal};
+use container_core::{Header, Key, MAX_PLAIN, SealFault, Shape, seal};
 use io_core::{Sink, Source};
 use io_memory::{FromMemory, Schedule, ToMemory};
-use pipe_core::{MAX_DEPTH, pipe};
+use pipe_core::{MAX_DEPTH, pipe, pipe_rounds};
 use sha2::{Digest, Sha256};
 use std::alloc::{AllocError, Global};
 use std::sync::Wait;
 use std::thread::Threads;
-use worker_core::{Free, Gate, MAX_WORKERS};
+use worker_core::{Free, Gate, MAX_WINDOW, MAX_WORKERS};
 
 /// 00 01 .. 1f.
 const COUNTING: [u8; 32] = [
@@ -99,6 +99,39 @@ pub fn piped<T: Threads + Wait + Sync, R: Source, W: Sink, G: Gate + Sync>(
     Some(pipe(
         rt, alloc, &key, &header, reader, writer, max_chunks, workers, depth, gate,
     ))
+}
+
+/// What the sealing in rounds answers, or `None` where it is asked for what it doesn't take.
+pub fn in_rounds<T: Threads + Wait + Sync, R: Source, W: Sink, G: Gate + Sync>(
+    rt: &T,
+    alloc: Global,
+    shape: &Shape,
+    reader: &mut R,
+    writer: &mut W,
+    max_bytes: u64,
+    workers: u32,
+    window: u32,
+    gate: &G,
+) -> Option<Result<u64, SealFault>> {
+    let key = Key::new(COUNTING);
+    let header = Header::of(&key, shape, PREFIX);
+    if max_bytes > MAX_PLAIN
+        || workers == 0
+        || workers > MAX_WORKERS
+        || window == 0
+        || window > MAX_WINDOW
+        || !is_of(&header, &key)
+    {
+        return None;
+    }
+    Some(pipe_rounds(
+        rt, alloc, &key, &header, reader, writer, max_bytes, workers, window, gate,
+    ))
+}
+
+/// The container of a plaintext.
+pub fn container(alloc: Global, shape: &Shape, plain: &[u8]) -> Option<Vec<u8>> {
+    seal(alloc, &Key::new(COUNTING), shape, PREFIX, plain).ok()
 }
 
 /// The answer over memory where nothing fails, and what was written, where so many bytes are read and written a call.

@@ -1,5 +1,4 @@
-use Rattle.std.proofs.Common.{◌≡◌, ◌+◌, ℕ, ap, ◌∙◌}
-use Rattle.container_core.specs.Container.{size_in}
+use Rattle.std.proofs.Common.{◌∙◌}
 use Rattle.pipe_core.proofs.ChunkLemmas.{written_at}
 use Rattle.pipe_core.proofs.RoundLemmas.{way_step}
 use Rattle.pipe_core.proofs.feed.drain.Goals as goal
@@ -8,14 +7,14 @@ pub loop-preserved-in-Ok-true : goal.loop-preserved-in-Ok-true
 loop-preserved-in-Ok-true g c =
     let was = c.loop.invariant in
     let t = c.in-Ok-true.ensures in
-    let sizes : c.chunk-size.result + 16 ≡ size_in g.N.Naming.header + 16 = ap (λ (s : ℕ). s + 16) (c.chunk-size.ensures.value ∙ ap size_in c.requires.named.1) in
+    let sizes = c.room_bytes-room.ensures.value in
     record {
       jobs = was.jobs;
       pieces = t.from.0;
       parts = (was.parts.0, t.from.1 ∙ was.parts.1);
       same = was.same;
-      some = (was.some.0, was.some.1, way_step _ _ _ _ was.some.1 _ _ _ _ _ _ _ (λ put order. t.order put _ order) was.some.2);
-      way = λ left plan old. way_step _ _ _ _ plan _ _ _ _ _ _ _ (λ put order. t.order put _ order) (was.way left plan old);
+      some = (was.some.0, was.some.1, way_step _ _ _ _ _ was.some.1 _ _ _ _ _ _ _ (λ put order. t.order put _ order) was.some.2);
+      way = λ left plan old. way_step _ _ _ _ _ plan _ _ _ _ _ _ _ (λ put order. t.order put _ order) (was.way left plan old);
       spare = λ k d less. t.spare k d less ∙ sizes;
       written = λ taken old. t.written taken (was.written taken old);
       refusals = t.count ∙ was.refusals;
@@ -26,16 +25,16 @@ loop-preserved g c =
     let was = c.loop.invariant in
     let t = c.in-Ok-false.ensures in
     let b = c.busy-looks.ensures in
-    let sizes : c.chunk-size.result + 16 ≡ size_in g.N.Naming.header + 16 = ap (λ (s : ℕ). s + 16) (c.chunk-size.ensures.value ∙ ap size_in c.requires.named.1) in
+    let sizes = c.room_bytes-room.ensures.value in
     record {
       jobs = b.into.0;
       pieces = t.from.0;
       parts = (b.into.1 ∙ was.parts.0, t.from.1 ∙ was.parts.1);
       same = (b.same.3 ∙ was.same.0, b.same.4 ∙ was.same.1);
-      some = (was.some.0, was.some.1, b.way _ was.some.1 _ (way_step _ _ _ _ was.some.1 _ _ _ _ _ _ _ (λ put order. t.order put _ order) was.some.2));
-      way = λ left plan old. b.way left plan _ (way_step _ _ _ _ plan _ _ _ _ _ _ _ (λ put order. t.order put _ order) (was.way left plan old));
+      some = (was.some.0, was.some.1, b.way _ was.some.1 _ (way_step _ _ _ _ _ was.some.1 _ _ _ _ _ _ _ (λ put order. t.order put _ order) was.some.2));
+      way = λ left plan old. b.way left plan _ (way_step _ _ _ _ _ plan _ _ _ _ _ _ _ (λ put order. t.order put _ order) (was.way left plan old));
       spare = λ k d less. t.spare k d less ∙ sizes;
-      written = λ taken old. written_at _ _ _ _ _ _ _ _ b.same.0 (t.written taken (was.written taken old));
+      written = λ taken old. written_at _ _ _ _ _ _ _ _ _ b.same.0 (t.written taken (was.written taken old));
       refusals = t.count ∙ was.refusals;
     }
 

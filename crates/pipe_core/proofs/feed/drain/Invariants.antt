@@ -1,9 +1,9 @@
 -- What was put and written, however it was read and whatever stood before.
-use Rattle.std.proofs.Common.{◌≡◌, ◌+◌, All, ℕ, List, Option, length}
-use Rattle.container_core.specs.Container.{size_in}
+use Rattle.std.proofs.Common.{◌≡◌, All, ℕ, List, Option, length}
 use Rattle.crossbeam_queue.specs.Passes.{view, IsPassOf}
 use Rattle.pipe_core.specs.declared.round.Plan.{Plan}
 use Rattle.pipe_core.specs.Order.{AreWritten}
+use Rattle.pipe_core.specs.Pieces.{room}
 use Rattle.pipe_core.specs.Round.{IsUnderWay}
 use Rattle.pipe_core.proofs.feed.drain.Given as goal
 
@@ -14,13 +14,13 @@ invariant-loop g l = record {
   parts : ((view l.into).parts ≡ (view l.initial.into).parts) × ((view l.from).parts ≡ (view l.initial.from).parts);
   same : (l.round.intake ≡ l.initial.round.intake) × (l.round.held ≡ l.initial.round.held);
   some : (left : Option (List ℕ)) × (plan : Plan)
-      × IsUnderWay g.N.Naming.key g.N.Naming.header g.N.Naming.told left plan l.early (view l.into) (view l.from) l.round;
+      × IsUnderWay g.N.Naming.each g.N.Naming.key g.N.Naming.header g.N.Naming.told left plan l.early (view l.into) (view l.from) l.round;
   way : (left : Option (List ℕ)) (plan : Plan)
-      → IsUnderWay g.N.Naming.key g.N.Naming.header g.N.Naming.told left plan l.initial.early (view l.initial.into) (view l.initial.from) l.initial.round
-      → IsUnderWay g.N.Naming.key g.N.Naming.header g.N.Naming.told left plan l.early (view l.into) (view l.from) l.round;
-  spare : All (λ b. length b.items ≡ size_in g.N.Naming.header + 16) l.spare.items;
+      → IsUnderWay g.N.Naming.each g.N.Naming.key g.N.Naming.header g.N.Naming.told left plan l.initial.early (view l.initial.into) (view l.initial.from) l.initial.round
+      → IsUnderWay g.N.Naming.each g.N.Naming.key g.N.Naming.header g.N.Naming.told left plan l.early (view l.into) (view l.from) l.round;
+  spare : All (λ b. length b.items ≡ room g.N.Naming.each g.N.Naming.header) l.spare.items;
   written : (taken : Option (List ℕ))
-      → AreWritten l.front g.N.Naming.key g.N.Naming.header g.N.Naming.told taken (g.W.Sink.taken l.initial.writer) l.initial.early.written
-      → AreWritten l.front g.N.Naming.key g.N.Naming.header g.N.Naming.told taken (g.W.Sink.taken l.writer) l.early.written;
+      → AreWritten g.N.Naming.each l.front g.N.Naming.key g.N.Naming.header g.N.Naming.told taken (g.W.Sink.taken l.initial.writer) l.initial.early.written
+      → AreWritten g.N.Naming.each l.front g.N.Naming.key g.N.Naming.header g.N.Naming.told taken (g.W.Sink.taken l.writer) l.early.written;
   refusals : g.W.Sink.failures l.writer ≡ g.W.Sink.failures l.initial.writer;
 }

@@ -1,9 +1,9 @@
-use Rattle.std.proofs.Common.{arith, refl, ◌≡◌, ◌+◌, ◌-◌, ◌++◌, ℕ, List, ap, ◌∙◌, sym, subst, take}
+use Rattle.std.proofs.Common.{arith, refl, ◌≡◌, ◌-◌, ◌*◌, ◌++◌, ℕ, List, ap, ◌∙◌, sym, subst, take}
 use Rattle.io_core.specs.Streams.{Appends, AppendsFront}
-use Rattle.container_core.specs.Container.{size_in}
 use Rattle.container_core.proofs.OpeningLemmas.{some_size}
 use Rattle.pipe_core.specs.Intake.{HasRead}
 use Rattle.pipe_core.specs.Order.{front_at}
+use Rattle.pipe_core.specs.Pieces.{block}
 use Rattle.pipe_core.proofs.ChunkLemmas.{begun_last, written_last}
 use Rattle.pipe_core.proofs.RoundLemmas.{last_part, not_ended, rounds_end, rounds_long, rounds_write}
 use Rattle.pipe_core.proofs.feed.end.Goals as goal
@@ -12,7 +12,7 @@ pub returns-then-round : goal.returns-then-round
 returns-then-round g c = record {
   sealed = λ left taken failures limit group put some held handed rounds written.
       let going = not_ended _ _ _ _ _ held.read c.if-round.true in
-      rounds_long _ _ _ _ _ _ _ limit group put _ _ _ _ c.args.round.now some (some_size g.N.Naming.header) held going c.if-round.true (handed.0 going) (rounds going) written refl refl;
+      rounds_long _ _ _ _ _ _ _ _ limit group put _ _ _ _ c.args.round.now some (some_size g.N.Naming.header) c.requires.each.0 held going c.if-round.true (handed.0 going) (rounds going) written refl refl;
 }
 
 pub returns-in-Ok : goal.returns-in-Ok
@@ -23,14 +23,14 @@ returns-in-Ok g c = record {
       let round = c.seal_last.new.self in
       let ended = c.requires.closed c.if-round.false in
       let seal = c.seal_last.ensures in
-      let part = last_part _ _ _ _ _ group put c.args.round.now round held handed ended seal.same.0 seal.sealed seal.last in
-      let number : round.intake.chunks - 1 ≡ put = let p = part.1 in omega arith in
-      let grown = subst (λ (n : ℕ). Appends (g.W.Sink.taken c.args.writer.now) (g.W.Sink.taken c.write_part.new.writer) (front_at front n ++ take (round.filled + 16) round.last.items)) number
-      (subst (λ (l : List ℕ). Appends (g.W.Sink.taken c.args.writer.now) (g.W.Sink.taken c.write_part.new.writer) (front_at front (round.intake.chunks - 1) ++ take (round.filled + 16) l))
+      let part = last_part _ _ _ _ _ _ group put c.args.round.now round held handed ended seal.same.0 seal.sealed seal.last in
+      let number : round.intake.blocks - 1 ≡ put = let p = part.1 in omega arith in
+      let grown = subst (λ (n : ℕ). Appends (g.W.Sink.taken c.args.writer.now) (g.W.Sink.taken c.write_part.new.writer) (front_at front n ++ take round.filled round.last.items)) number
+      (subst (λ (l : List ℕ). Appends (g.W.Sink.taken c.args.writer.now) (g.W.Sink.taken c.write_part.new.writer) (front_at front (round.intake.blocks - 1) ++ take round.filled l))
       c.deref.ensures.value c.in-Ok.ensures.ok) in
-      rounds_end front g.N.Naming.key header g.N.Naming.told left taken _ limit group _ _ _ _ round.intake
-      (subst (HasRead (size_in header) limit g.N.Naming.told left) (sym seal.same.0) held.read) (ap (λ i. i.ended) seal.same.0 ∙ ended)
-      (written_last front g.N.Naming.key header g.N.Naming.told taken _ _ put _ (some_size header) part.0 written grown) refl c.in-Ok.ensures.count;
+      rounds_end g.N.Naming.each front g.N.Naming.key header g.N.Naming.told left taken _ limit (group * g.N.Naming.each) _ _ _ _ round.intake
+      (subst (HasRead (block g.N.Naming.each header) limit g.N.Naming.told left) (sym seal.same.0) held.read) (ap (λ i. i.ended) seal.same.0 ∙ ended)
+      (written_last _ front g.N.Naming.key header g.N.Naming.told taken _ _ put _ (some_size header) c.requires.each.0 part.0 written grown) refl c.in-Ok.ensures.count;
 }
 
 pub returns-in-Err : goal.returns-in-Err
@@ -41,11 +41,11 @@ returns-in-Err g c = record {
       let round = c.seal_last.new.self in
       let ended = c.requires.closed c.if-round.false in
       let seal = c.seal_last.ensures in
-      let part = last_part _ _ _ _ _ group put c.args.round.now round held handed ended seal.same.0 seal.sealed seal.last in
-      let number : round.intake.chunks - 1 ≡ put = let p = part.1 in omega arith in
-      let grown = subst (λ (n : ℕ). AppendsFront (g.W.Sink.taken c.args.writer.now) (g.W.Sink.taken c.write_part.new.writer) (front_at front n ++ take (round.filled + 16) round.last.items)) number
-      (subst (λ (l : List ℕ). AppendsFront (g.W.Sink.taken c.args.writer.now) (g.W.Sink.taken c.write_part.new.writer) (front_at front (round.intake.chunks - 1) ++ take (round.filled + 16) l))
+      let part = last_part _ _ _ _ _ _ group put c.args.round.now round held handed ended seal.same.0 seal.sealed seal.last in
+      let number : round.intake.blocks - 1 ≡ put = let p = part.1 in omega arith in
+      let grown = subst (λ (n : ℕ). AppendsFront (g.W.Sink.taken c.args.writer.now) (g.W.Sink.taken c.write_part.new.writer) (front_at front n ++ take round.filled round.last.items)) number
+      (subst (λ (l : List ℕ). AppendsFront (g.W.Sink.taken c.args.writer.now) (g.W.Sink.taken c.write_part.new.writer) (front_at front (round.intake.blocks - 1) ++ take round.filled l))
       c.deref.ensures.value c.in-Err.ensures.err) in
-      rounds_write front g.N.Naming.key header g.N.Naming.told left taken _ limit group _ _ _ _ some (held.read.bytes, held.read.consumed, held.read.bound)
-      (begun_last front g.N.Naming.key header g.N.Naming.told taken _ _ put _ (some_size header) part.0 written grown) refl c.in-Err.ensures.count;
+      rounds_write front g.N.Naming.key header g.N.Naming.told left taken _ limit (group * g.N.Naming.each) _ _ _ _ some (held.read.bytes, held.read.consumed, held.read.bound)
+      (begun_last _ front g.N.Naming.key header g.N.Naming.told taken _ _ put _ (some_size header) c.requires.each.0 part.0 written grown) refl c.in-Err.ensures.count;
 }

@@ -1,4 +1,4 @@
-use Rattle.std.proofs.Common.{arith, refl, ◌≡◌, ◌∙◌, ℕ, List, Bool, not, true, ap, subst}
+use Rattle.std.proofs.Common.{arith, refl, ◌≡◌, ◌*◌, ◌∙◌, ℕ, List, Bool, not, true, ap, subst}
 use Rattle.container_core.proofs.OpeningLemmas.{some_size}
 use Rattle.io_core.specs.Streams.{counted}
 use Rattle.pipe_core.specs.Order.{HasBegun}
@@ -10,18 +10,18 @@ use Rattle.pipe_core.proofs.feed.feed.Goals as goal
 pub returns-in_default-clause-sealed : goal.returns-in_default-clause-sealed
 returns-in_default-clause-sealed g c =
     let r = c.requires.read.hand.read in
-    rounds_memory _ _ _ _ _ _ c.args.plan.limit c.args.plan.group _ _ _ _ c.requires.plan.limit.0 (r.bytes, r.consumed, r.bound) refl refl
+    rounds_memory _ _ _ _ _ _ c.args.plan.limit (c.args.plan.group * g.N.Naming.each) _ _ _ _ c.requires.plan.limit.0 (r.bytes, r.consumed, r.bound) refl refl
 
 pub returns-in_default-buffers-clause-sealed : goal.returns-in_default-buffers-clause-sealed
 returns-in_default-buffers-clause-sealed g c =
     let r = c.requires.read.hand.read in
-    rounds_memory _ _ _ _ _ _ c.args.plan.limit c.args.plan.group _ _ _ _ c.requires.plan.limit.0 (r.bytes, r.consumed, r.bound) refl refl
+    rounds_memory _ _ _ _ _ _ c.args.plan.limit (c.args.plan.group * g.N.Naming.each) _ _ _ _ c.requires.plan.limit.0 (r.bytes, r.consumed, r.bound) refl refl
 
 pub take_in-requires-clause-way : goal.take_in-requires-clause-way
 take_in-requires-clause-way g c =
     let fresh = c.in-Ok.ensures in
     c.hand_over.ensures.way _ _ c.requires.read.few (λ over. absurd (not_both _ over c.requires.read.within))
-    (way_none _ _ _ _ c.args.plan _ _ _ _ fresh.0 fresh.1 c.requires.into.2 c.requires.from.2 c.requires.read.hand)
+    (way_none _ _ _ _ _ c.args.plan _ _ _ _ fresh.0 fresh.1 c.requires.into.2 c.requires.from.2 c.requires.read.hand)
 
 pub drain-requires-clause-way : goal.drain-requires-clause-way
 drain-requires-clause-way g c = (_, c.args.plan, (c.in-Ok-take_in.ensures.all c.if-not-all.false).0)
@@ -30,7 +30,7 @@ pub returns-in-Err-clause-sealed : goal.returns-in-Err-clause-sealed
 returns-in-Err-clause-sealed g c =
     let t = c.in-Err.ensures in
     let front = c.front-front.ensures ∙ ap (λ (h : List ℕ). front_of h c.args.plan) c.requires.named.1 in
-    rounds_write _ _ _ _ _ _ _ c.args.plan.limit c.args.plan.group _ _ _ _ c.requires.plan.limit.0 t.bound
+    rounds_write _ _ _ _ _ _ _ c.args.plan.limit (c.args.plan.group * g.N.Naming.each) _ _ _ _ c.requires.plan.limit.0 t.bound
     (subst (λ (l : List ℕ). HasBegun l g.N.Naming.key g.N.Naming.header g.N.Naming.told (g.W.Sink.taken c.args.writer.now) (g.W.Sink.taken c.take_in.new.writer)) front t.begun)
     t.unread t.writes
 
@@ -38,9 +38,9 @@ pub returns-then-not-all-clause-sealed : goal.returns-then-not-all-clause-sealed
 returns-then-not-all-clause-sealed g c =
     let t = c.in-Ok-take_in.ensures in
     let front = c.front-front.ensures ∙ ap (λ (h : List ℕ). front_of h c.args.plan) c.requires.named.1 in
-    rounds_read _ _ _ _ _ _ _ c.args.plan.limit c.args.plan.group _ _ _ _ c.requires.plan.limit.0 t.bound
+    rounds_read _ _ _ _ _ _ _ c.args.plan.limit (c.args.plan.group * g.N.Naming.each) _ _ _ _ c.requires.plan.limit.0 t.bound
     (subst (λ (l : List ℕ). HasBegun l g.N.Naming.key g.N.Naming.header g.N.Naming.told (g.W.Sink.taken c.args.writer.now) (g.W.Sink.taken c.take_in.new.writer)) front
-    (begun_now _ _ _ _ _ _ _ (some_size g.N.Naming.header) t.written))
+    (begun_now _ _ _ _ _ _ _ _ (some_size g.N.Naming.header) c.requires.plan.fits.0 t.written))
     (t.reads ∙ ap (λ (b : Bool). counted (not b) (g.R.Source.failures c.args.reader.now)) c.if-not-all.true) t.writes
 
 pub returns-in-Err-drain-clause-sealed : goal.returns-in-Err-drain-clause-sealed
@@ -48,7 +48,7 @@ returns-in-Err-drain-clause-sealed g c =
     let t = c.in-Ok-take_in.ensures in
     let d = c.in-Err-drain.ensures in
     let front = c.front-front.ensures ∙ ap (λ (h : List ℕ). front_of h c.args.plan) c.requires.named.1 in
-    rounds_write _ _ _ _ _ _ _ c.args.plan.limit c.args.plan.group _ _ _ _ c.requires.plan.limit.0 t.bound
+    rounds_write _ _ _ _ _ _ _ c.args.plan.limit (c.args.plan.group * g.N.Naming.each) _ _ _ _ c.requires.plan.limit.0 t.bound
     (subst (λ (l : List ℕ). HasBegun l g.N.Naming.key g.N.Naming.header g.N.Naming.told (g.W.Sink.taken c.args.writer.now) (g.W.Sink.taken c.drain.new.writer)) front
     (d.begun _ t.written))
     (t.reads ∙ ap (λ (b : Bool). counted (not b) (g.R.Source.failures c.args.reader.now)) c.if-not-all.false)
@@ -68,4 +68,4 @@ returns-clause-sealed g c =
     (d.count ∙ t.writes)
     (c.end.ensures.sealed _ _ (g.R.Source.failures c.take_in.new.reader) c.args.plan.limit c.args.plan.group way.put c.requires.plan.limit.0 way.hand
     (handed_as c.args.plan.group c.take_in.new.round c.drain.new.round d.same.0 d.same.1 all.1)
-    way.rounds (written_at _ _ _ _ _ _ _ way.put put (d.written _ t.written)))
+    way.rounds (written_at _ _ _ _ _ _ _ _ way.put put (d.written _ t.written)))

@@ -7,14 +7,14 @@ use Rattle.pipe_core.proofs.feed.put_all.Goals as goal
 pub put_task-requires-clause-task : goal.put_task-requires-clause-task
 put_task-requires-clause-task g c =
     let was = c.putting.invariant in
-    (jobs_tasks _ _ was.tasks.0 _ was.tasks.1 _ _ c.first_of.ensures.items).0
+    (jobs_tasks _ _ _ was.tasks.0 _ was.tasks.1 _ _ c.first_of.ensures.items).0
 
 pub putting-preserved : goal.putting-preserved
 putting-preserved g c =
     let was = c.putting.invariant in
     let first = c.first_of.ensures.items in
     let long = ap (λ ts. length ts) first in
-    let tasks = jobs_tasks _ _ was.tasks.0 _ was.tasks.1 _ _ first in
+    let tasks = jobs_tasks _ _ _ was.tasks.0 _ was.tasks.1 _ _ first in
     let view = c.put_task.ensures.view in
     let opened = c.open_place.ensures in
     record {

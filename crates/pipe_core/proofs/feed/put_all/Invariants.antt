@@ -13,7 +13,7 @@ invariant-putting g l = record {
   parts : (view l.into).parts ≡ (view l.initial.into).parts;
   taken : (view l.into).taken ≡ (view l.initial.into).taken;
   put : (view l.into).put ++ all_numbers task_numbers l.held.items ≡ (view l.initial.into).put ++ all_numbers task_numbers l.initial.held.items;
-  tasks : (put : ℕ) × AreJobs g.N.Naming.header g.N.Naming.told put l.held.items;
+  tasks : (put : ℕ) × AreJobs g.N.Naming.each g.N.Naming.header g.N.Naming.told put l.held.items;
   places : l.early.places.items ++ empty (length l.held.items) ≡ l.initial.early.places.items ++ empty (length l.initial.held.items);
   room : length l.early.places.items + length l.held.items ≤ deque_capacity l.early.places;
   same : (l.early.written ≡ l.initial.early.written) × (deque_capacity l.early.places ≡ deque_capacity l.initial.early.places)

@@ -8,7 +8,7 @@ pub returns-clause-way : goal.returns-clause-way
 returns-clause-way g c = λ left pieces few over was.
     let put = c.put_all.ensures in
     let ripe = c.ripen.ensures.same in
-    way_put _ _ _ _ c.args.plan _ _ _ _ pieces _ _ c.requires.group refl put.held.0 refl refl refl
+    way_put _ _ _ _ _ c.args.plan _ _ _ _ pieces _ _ c.requires.group refl put.held.0 refl refl refl
     (put.places ∙ ap (λ v. v.items ++ empty (length c.args.round.now.held.items)) ripe.0) (put.same.0 ∙ ripe.1) put.into.1 few over
     (c.is_full.ensures.full c.if-not-is_full.false) was
 

@@ -1,8 +1,8 @@
 -- What was read, put, written, and is in hand.
 use Rattle.std.proofs.Common.{◌≡◌, ◌+◌, ◌≤◌, All, length, deque_capacity}
-use Rattle.container_core.specs.Container.{size_in}
 use Rattle.crossbeam_queue.specs.Passes.{view, IsPassOf}
 use Rattle.pipe_core.specs.Order.{AreWritten}
+use Rattle.pipe_core.specs.Pieces.{room}
 use Rattle.pipe_core.specs.Round.{IsHanded, IsUnderWay}
 use Rattle.pipe_core.proofs.feed.take_in.Given as goal
 
@@ -11,12 +11,12 @@ invariant-loop g l = record {
   jobs : IsPassOf l.jobs l.into;
   pieces : IsPassOf l.pieces l.from;
   parts : ((view l.into).parts ≡ (view l.initial.into).parts) × ((view l.from).parts ≡ (view l.initial.from).parts);
-  way : IsUnderWay g.N.Naming.key g.N.Naming.header g.N.Naming.told (g.R.Source.left l.reader) l.plan l.early (view l.into) (view l.from) l.round;
+  way : IsUnderWay g.N.Naming.each g.N.Naming.key g.N.Naming.header g.N.Naming.told (g.R.Source.left l.reader) l.plan l.early (view l.into) (view l.from) l.round;
   handed : IsHanded l.plan.group l.round;
+  spare : All (λ b. length b.items ≡ room g.N.Naming.each g.N.Naming.header) l.spare.items;
   room : (l.plan.depth ≤ deque_capacity l.early.places) × (l.plan.group ≤ deque_capacity l.round.held)
       × (length l.early.places.items + length l.round.held.items ≤ l.plan.depth);
-  spare : All (λ b. length b.items ≡ size_in g.N.Naming.header + 16) l.spare.items;
-  written : AreWritten l.front g.N.Naming.key g.N.Naming.header g.N.Naming.told (g.W.Sink.taken l.fn.writer) (g.W.Sink.taken l.writer) l.early.written;
+  written : AreWritten g.N.Naming.each l.front g.N.Naming.key g.N.Naming.header g.N.Naming.told (g.W.Sink.taken l.fn.writer) (g.W.Sink.taken l.writer) l.early.written;
   failures : g.R.Source.failures l.reader ≡ g.R.Source.failures l.fn.reader;
   refusals : g.W.Sink.failures l.writer ≡ g.W.Sink.failures l.fn.writer;
 }

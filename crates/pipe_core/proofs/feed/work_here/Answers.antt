@@ -1,13 +1,12 @@
 use Rattle.std.proofs.Common.{rules, ◌≡◌, ◌++◌, ◌∷◌, []}
 use Rattle.crossbeam_queue.specs.Passes.{view}
 use Rattle.pipe_core.specs.Hands.{hand}
-use Rattle.pipe_core.specs.Pieces.{IsPiece}
 use Rattle.pipe_core.proofs.Orders.{order_mine}
 use Rattle.pipe_core.proofs.feed.work_here.Goals as goal
 
 pub returns-in-Some-Job-clause-order : goal.returns-in-Some-Job-clause-order
 returns-in-Some-Job-clause-order g c = λ chunks pieces was.
     let p = c.make_piece.result in
-    let good : IsPiece g.N.Naming.key g.N.Naming.header g.N.Naming.told p = search rules in
+    let good = c.make_piece.ensures.piece in
     let hands : view c.take_task.new.pass ≡ hand (view c.args.into.now).parts (view c.args.into.now).put ((view c.args.into.now).taken ++ p.number ∷ []) = search rules in
-    order_mine _ _ _ chunks _ _ _ _ pieces p c.place.ensures.places c.place.ensures.same.0 hands good was
+    order_mine _ _ _ _ chunks _ _ _ _ pieces p c.place.ensures.places c.place.ensures.same.0 hands good was

@@ -5,23 +5,23 @@ use Rattle.pipe_core.proofs.feed.write_next.Goals as goal
 
 pub keep-requires-clause-buffer : goal.keep-requires-clause-buffer
 keep-requires-clause-buffer g c =
-    let good = (first_is _ _ _ _ _ _ c.in-Some.piece c.in-Some.ensures.some.0 c.requires.kept).1 in
+    let good = (first_is _ _ _ _ _ _ _ c.in-Some.piece c.in-Some.ensures.some.0 c.requires.kept).1 in
     let e = c.requires.size in
     let b = good.0 in
     omega arith
 
 pub returns-in_default-clause-order : goal.returns-in_default-clause-order
 returns-in_default-clause-order g c = λ chunks jobs pieces was.
-    order_next _ _ _ chunks c.args.early.now c.next.new.self jobs pieces c.in-Some.piece c.in-Some.ensures.some.0 c.in-Some.ensures.some.1 was
+    order_next _ _ _ _ chunks c.args.early.now c.next.new.self jobs pieces c.in-Some.piece c.in-Some.ensures.some.0 c.in-Some.ensures.some.1 was
 
 pub returns-in_default-clause-written : goal.returns-in_default-clause-written
 returns-in_default-clause-written g c = λ taken was.
     let p = c.in-Some.piece in
-    let first = first_is _ _ _ _ _ _ p c.in-Some.ensures.some.0 c.requires.kept in
-    written_next _ _ _ _ taken _ _ p.number _ _ _ _ first.0 c.in-Some.ensures.some.1 c.as_slice.ensures.value first.1.1 was c.in_default.ensures.ok
+    let first = first_is _ _ _ _ _ _ _ p c.in-Some.ensures.some.0 c.requires.kept in
+    written_next _ _ _ _ _ taken _ _ p.number _ _ _ _ c.requires.each first.0 c.in-Some.ensures.some.1 c.as_slice.ensures.value first.1.1 was c.in_default.ensures.ok
 
 pub returns-in-Err-clause-begun : goal.returns-in-Err-clause-begun
 returns-in-Err-clause-begun g c = λ taken was.
     let p = c.in-Some.piece in
-    let first = first_is _ _ _ _ _ _ p c.in-Some.ensures.some.0 c.requires.kept in
-    begun_next _ _ _ _ taken _ _ p.number _ _ _ first.0 c.as_slice.ensures.value first.1.1 was c.in-Err.ensures.err
+    let first = first_is _ _ _ _ _ _ _ p c.in-Some.ensures.some.0 c.requires.kept in
+    begun_next _ _ _ _ _ taken _ _ p.number _ _ _ c.requires.each first.0 c.as_slice.ensures.value first.1.1 was c.in-Err.ensures.err

@@ -1,4 +1,4 @@
-use Rattle.std.proofs.Common.{arith, refl, ◌∙◌, true, ℕ, List, ap, sym, subst, deque_len}
+use Rattle.std.proofs.Common.{arith, refl, ◌*◌, ◌∙◌, true, ℕ, List, ap, sym, subst, deque_len}
 use Rattle.std.proofs.lemmas.Bool.Decides.{Decides-eqb}
 use Rattle.pipe_core.specs.Order.{AreWritten}
 use Rattle.io_core.specs.Streams.{counted}
@@ -10,8 +10,8 @@ pub returns-in-Err : goal.returns-in-Err
 returns-in-Err g c = record {
   sealed = λ left failures limit group some hand.
       let was = c.jobs.invariant in
-      let task = jobs_tasks _ _ _ _ was.jobs _ _ c.first_of.ensures.items in
-      rounds_write _ _ _ _ left _ _ limit group _ _ _ _ some (hand.read.bytes, hand.read.consumed, hand.read.bound)
+      let task = jobs_tasks _ _ _ _ _ was.jobs _ _ c.first_of.ensures.items in
+      rounds_write _ _ _ _ left _ _ limit (group * g.N.Naming.each) _ _ _ _ some (hand.read.bytes, hand.read.consumed, hand.read.bound)
       (c.in-Err.ensures.begun _ was.number task.1 was.written) refl (c.in-Err.ensures.count ∙ ap (counted true) was.refusals);
 }
 
@@ -25,9 +25,9 @@ returns g c = record {
       let is = c.is_empty.ensures in
       rounds_counts _ _ _ _ _ _ _ _ _ _ _ _ _ _ _ _ _ (c.bytes.ensures.bytes ∙ c.requires.named.1) refl was.refusals
       (c.end.ensures.sealed left _ failures limit group was.number some
-      (hand_alone _ _ _ left limit was.number c.args.round.now round was.same c.requires.ended was.count was.jobs was.last hand)
+      (hand_alone _ _ _ _ left limit was.number c.args.round.now round was.same c.requires.ended was.count was.jobs was.last hand)
       (λ going. absurd (not_both _ ended going), λ _. none_left round.held.items (let z = (Decides-eqb (deque_len round.held) 0).0 (sym is ∙ empty) in omega arith))
       (λ going. absurd (not_both _ ended going))
-      (subst (λ (l : List ℕ). AreWritten l g.N.Naming.key g.N.Naming.header g.N.Naming.told (g.W.Sink.taken c.args.writer.now) (g.W.Sink.taken c.jobs.writer) was.number)
+      (subst (λ (l : List ℕ). AreWritten g.N.Naming.each l g.N.Naming.key g.N.Naming.header g.N.Naming.told (g.W.Sink.taken c.args.writer.now) (g.W.Sink.taken c.jobs.writer) was.number)
       (sym (c.bytes.ensures.bytes ∙ c.requires.named.1)) was.written));
 }

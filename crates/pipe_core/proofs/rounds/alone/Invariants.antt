@@ -8,10 +8,10 @@ abbrev pub invariant-jobs : goal.invariant-jobs
 invariant-jobs g l = record {
   number : ℕ;
   count : number + length l.round.held.items ≡ length l.initial.round.held.items;
-  jobs : AreJobs g.N.Naming.header g.N.Naming.told number l.round.held.items;
-  last : IsLast g.N.Naming.key g.N.Naming.header g.N.Naming.told (length l.initial.round.held.items) l.round;
+  jobs : AreJobs g.N.Naming.each g.N.Naming.header g.N.Naming.told number l.round.held.items;
+  last : IsLast g.N.Naming.each g.N.Naming.key g.N.Naming.header g.N.Naming.told (length l.initial.round.held.items) l.round;
   same : l.round.intake ≡ l.initial.round.intake;
-  written : AreWritten g.N.Naming.header g.N.Naming.key g.N.Naming.header g.N.Naming.told (g.W.Sink.taken l.initial.writer) (g.W.Sink.taken l.writer) number;
+  written : AreWritten g.N.Naming.each g.N.Naming.header g.N.Naming.key g.N.Naming.header g.N.Naming.told (g.W.Sink.taken l.initial.writer) (g.W.Sink.taken l.writer) number;
   refusals : g.W.Sink.failures l.writer ≡ g.W.Sink.failures l.initial.writer;
 }
 

@@ -1,4 +1,4 @@
-use Rattle.std.proofs.Common.{refl, rules}
+use Rattle.std.proofs.Common.{refl, rules, ◌*◌}
 use Rattle.pipe_core.proofs.Moves.{learns}
 use Rattle.crossbeam_queue.specs.Passes.{view}
 use Rattle.pipe_core.specs.Hands.{HasAll}
@@ -27,14 +27,14 @@ returns-clause-once g c =
 pub returns-in_default-clause-sealed : goal.returns-in_default-clause-sealed
 returns-in_default-clause-sealed g c =
     let r = c.requires.read.hand.read in
-    rounds_memory _ _ _ _ _ _ c.args.plan.limit c.args.plan.group _ _ _ _ c.requires.plan.0.limit.0 (r.bytes, r.consumed, r.bound) refl refl
+    rounds_memory _ _ _ _ _ _ c.args.plan.limit (c.args.plan.group * g.N.Naming.each) _ _ _ _ c.requires.plan.0.limit.0 (r.bytes, r.consumed, r.bound) refl refl
 
 pub returns-in_default-ruled-clause-sealed : goal.returns-in_default-ruled-clause-sealed
 returns-in_default-ruled-clause-sealed g c =
     let r = c.requires.read.hand.read in
-    rounds_memory _ _ _ _ _ _ c.args.plan.limit c.args.plan.group _ _ _ _ c.requires.plan.0.limit.0 (r.bytes, r.consumed, r.bound) refl refl
+    rounds_memory _ _ _ _ _ _ c.args.plan.limit (c.args.plan.group * g.N.Naming.each) _ _ _ _ c.requires.plan.0.limit.0 (r.bytes, r.consumed, r.bound) refl refl
 
 pub returns-in_default-ruled-2-clause-sealed : goal.returns-in_default-ruled-2-clause-sealed
 returns-in_default-ruled-2-clause-sealed g c =
     let r = c.requires.read.hand.read in
-    rounds_memory _ _ _ _ _ _ c.args.plan.limit c.args.plan.group _ _ _ _ c.requires.plan.0.limit.0 (r.bytes, r.consumed, r.bound) refl refl
+    rounds_memory _ _ _ _ _ _ c.args.plan.limit (c.args.plan.group * g.N.Naming.each) _ _ _ _ c.requires.plan.0.limit.0 (r.bytes, r.consumed, r.bound) refl refl

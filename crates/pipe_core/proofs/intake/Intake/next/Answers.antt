@@ -57,9 +57,9 @@ returns-in-Ok-clause-chunk g c = λ left had shut.
     let front : (k : ℕ) → k ≤ length text → take k text ≡ take k (text ++ rest) = λ k some. sym (take-append-le k text rest some) in
     elim (cases_lt c.args.size n) [
       | inl more ↦ let full = take_in.full shut more in
-          rw (full.0, full.1) (subst (IsChunk c.args.size left c.args.self.now.chunks _) (front c.args.size (omega arith))
+          rw (full.0, full.1) (subst (IsChunk c.args.size left c.args.self.now.blocks _) (front c.args.size (omega arith))
           (full_chunk c.args.size c.args.limit n left _ _ c.args.self.now text now.0 had c.requires.going.0 c.requires.going.1 now.1 now.2 (omega arith) more size.0))
       | inr few ↦ let last = take_in.last shut few in
-          rw (last.0, last.1) (subst (IsChunk c.args.size left c.args.self.now.chunks _) (front n (omega arith))
+          rw (last.0, last.1) (subst (IsChunk c.args.size left c.args.self.now.blocks _) (front n (omega arith))
           (end_chunk c.args.size c.args.limit n left _ _ c.args.self.now text now.0 had c.requires.going.0 c.requires.going.1 now.1 (c.in-Ok.ensures.end (omega arith)) now.2 (omega arith) few))
     ]

@@ -5,7 +5,7 @@ use Rattle.pipe_core.proofs.round.Round.read_first.Given as goal
 
 abbrev pub invariant-first : goal.invariant-first
 invariant-first g l = record {
-  hand : IsInHand g.N.Naming.key g.N.Naming.header g.N.Naming.told (g.R.Source.left l.reader) l.plan.limit 0 l.self;
+  hand : IsInHand g.N.Naming.each g.N.Naming.key g.N.Naming.header g.N.Naming.told (g.R.Source.left l.reader) l.plan.limit 0 l.self;
   room : l.plan.group ≤ deque_capacity l.self.held;
   few : length l.self.held.items ≤ l.plan.group;
   over : l.self.intake.over ≡ true → length l.self.held.items < l.plan.group;
