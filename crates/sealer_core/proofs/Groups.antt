@@ -32,11 +32,11 @@ use Rattle.command_core.specs.declared.line.FileOutcome.{FileOutcome}
 use Rattle.command_core.specs.declared.line.FileOutcome.TheVariants.{Sealed, Opened, Good, Shown, Failed}
 use Rattle.command_core.specs.Lines.{FileLine}
 use Rattle.command_core.specs.Work.{AreTold}
-use Rattle.sealer_core.specs.Group.{holds, HasEnded, IsHeld, AreHeld, AreOwing, AreOwed, OwesAt, SettledAt, IsCounted, IsEnding, AreEnded, AreEnding, IsGroup, refused_lines, name_of, IsPrepared, read_of, left_by, void_by, void_in}
+use Rattle.sealer_core.specs.Group.{holds, HasEnded, IsHeld, AreHeld, AreOwing, AreOwed, OwesAt, SettledAt, IsCounted, IsEnding, AreEnded, refused_lines, name_of, IsPrepared, read_of, left_by, void_by, void_in}
 use Rattle.sealer_core.specs.declared.prepare.Prepared.{Prepared}
 use Rattle.sealer_core.specs.declared.prepare.Prepared.TheVariants.{Refused, Unread, Read}
 use Rattle.command_core.specs.declared.line.FileFault.TheVariants.{OutOfMemory}
-use Rattle.sealer_core.specs.Sealing.{Accounts, AreSealed, IsOfSealing, line_of, operations_of, seals, spoils, tells_of, times_in, times_sealed, times_voided, void_at}
+use Rattle.sealer_core.specs.Sealing.{Accounts, AreSealed, IsOfSealing, line_of, operations_of, seals, spoils, tells_of, times_sealed, times_voided, void_at}
 use Rattle.sealer_core.proofs.Numbering.{adds_failure, in_append, in_push, mine_of, told_push, sum_below_zeros, sum_below_first}
 use Rattle.sealer_core.proofs.Sealings.{sealed_more}
 
@@ -227,9 +227,6 @@ owed_number seats o os number its a = λ v at.
     let one : cond {A = ℕ} (holds number o) 1 0 ≡ 1 = ap (λ b. cond {A = ℕ} b 1 0) its in
     omega arith
 
-pub owed_as : (seats : List SeatView) (os os' : List Outcome) → os ≡ os' → AreOwed seats os → AreOwed seats os'
-owed_as seats os os' is a = subst (AreOwed seats) is a
-
 -- new seats owe none
 pub owed_none : (seats : List SeatView) → operations_of seats ≡ [] → AreOwed seats []
 owed_none seats none = record { each = λ i n v at. let is = mine_none seats none i v at in let s = ap (times_settled n) is in let g = ap (times_granted n) is in omega arith }
@@ -249,6 +246,9 @@ owed_none seats none = record { each = λ i n v at. let is = mine_none seats non
         mine_none xs (empty (operations_of xs) (omega arith)) i v at
 
 -- ---- the first of the outcomes
+
+pub first_as : (outcomes rest : List Outcome) (o its : Outcome) → outcomes ≡ o ∷ rest → o ≡ its → outcomes ≡ its ∷ rest
+first_as outcomes rest o its is named = is ∙ ap (λ x. x ∷ rest) named
 
 -- its number was granted by the seat at this place, and is to be settled there
 module _ (ledger : LedgerView) (old : List SeatView) (outcomes rest : List Outcome) (o : Outcome) (place : ℕ) (spent : SpentView)
@@ -637,6 +637,15 @@ none_left files (o ∷ os) none few = let no = ap (λ l. length (flat_map read_o
 
 -- ---- files of a group that have their lines
 
+-- So far it stands with these files, of which the latter have no line yet.
+pub record AreEnding {W : Type 0} (happened : List FileLine → List ℕ → Type 0) (files left : List (Prepared W))
+    (outcomes outcomes' : List Outcome) (operations operations' : List Entry) (status status' : ℕ)
+    (old new : Option (List ℕ)) (failures failures' : Option ℕ) : Type 0 where
+  pub names : List (List ℕ)
+  pub named : names ++ map name_of left ≡ map name_of files
+  pub ended : AreEnded happened names outcomes outcomes' operations operations' status status'
+      old new failures failures'
+
 -- none has one yet
 pub nothing_ended : (happened : List FileLine → List ℕ → Type 0) (outcomes : List Outcome) (operations : List Entry) (status : ℕ) (taken : Option (List ℕ)) (failures : Option ℕ) → happened [] []
     → AreEnded happened [] outcomes outcomes operations operations status status taken taken failures failures
@@ -681,14 +690,14 @@ pub group_of : (happened happened' : List FileLine → List ℕ → Type 0) (nam
     → AreEnded happened names outcomes [] operations' operations'' status status' old new failures failures'
     → names ≡ names' → ((lines : List FileLine) (voids : List ℕ) → Accounts lines voids operations → AreHeld lines voids outcomes operations')
     → ((lines : List FileLine) (voids : List ℕ) → happened lines voids → happened' lines voids)
-    → IsGroup happened' names' operations operations'' status status' old new failures failures'
+    → AreEnded happened' names' [] [] operations operations'' status status' old new failures failures'
 group_of happened happened' names names' outcomes operations operations' operations'' status status' old new failures failures' e same held also = record {
   lines = e.lines;
   voids = e.voids;
   named = e.named ∙ same;
   fitting = e.fitting;
   told = e.told;
-  accounts = λ before earlier a. let_go (before ++ e.lines) (earlier ++ e.voids) operations'' (e.accounts before earlier (held before earlier a));
+  accounts = λ before earlier a. e.accounts before earlier (held before earlier (let_go before earlier operations a));
   done = also e.lines e.voids e.done;
 }
 
@@ -782,14 +791,14 @@ refused_more names names' name before longer =
 pub refused_group : (happened : List FileLine → List ℕ → Type 0) (names : List (List ℕ)) (operations : List Entry) (status status' : ℕ) (old new : Option (List ℕ)) (failures failures' : Option ℕ)
     → ((before : List FileLine) (first : Option (List ℕ)) (count : Option ℕ) → AreTold status before first old count failures
     → AreTold status' (before ++ refused_lines names) first new count failures')
-    → happened (refused_lines names) [] → IsGroup happened names operations operations status status' old new failures failures'
+    → happened (refused_lines names) [] → AreEnded happened names [] [] operations operations status status' old new failures failures'
 refused_group happened names operations status status' old new failures failures' told done = record {
   lines = refused_lines names;
   voids = [];
   named = refused_named names;
   fitting = refused_fitting names;
   told = told;
-  accounts = λ before earlier a. refused_accounts names before earlier operations a;
+  accounts = λ before earlier a. nothing_held (before ++ refused_lines names) (earlier ++ []) operations (refused_accounts names before earlier operations (let_go before earlier operations a));
   done = done;
 }
 
@@ -805,14 +814,14 @@ pub one_group : (happened : List FileLine → List ℕ → Type 0) (name : List 
     → ((before : List FileLine) (first : Option (List ℕ)) (count : Option ℕ) → AreTold status before first old count failures
     → AreTold status' (before ++ line_of name outcome ∷ []) first new count failures')
     → ((before : List FileLine) (earlier : List ℕ) → Accounts before earlier operations → Accounts (before ++ line_of name outcome ∷ []) (earlier ++ void) operations')
-    → happened (line_of name outcome ∷ []) void → IsGroup happened names' operations operations' status status' old new failures failures'
+    → happened (line_of name outcome ∷ []) void → AreEnded happened names' [] [] operations operations' status status' old new failures failures'
 one_group happened name names' outcome void operations operations' status status' old new failures failures' named fit told accounts done = record {
   lines = line_of name outcome ∷ [];
   voids = void;
   named = sym named;
   fitting = All-cons (λ (l : FileLine). IsOfSealing l.outcome) (line_of name outcome) [] fit (All-nil (λ (l : FileLine). IsOfSealing l.outcome));
   told = told;
-  accounts = accounts;
+  accounts = λ before earlier a. nothing_held (before ++ line_of name outcome ∷ []) (earlier ++ void) operations' (accounts before earlier (let_go before earlier operations a));
   done = done;
 }
 
@@ -822,13 +831,13 @@ one_group happened name names' outcome void operations operations' status status
 pub groups_more : (happened happened' : List (List FileLine) → List ℕ → Type 0) (also : List FileLine → List ℕ → Type 0) (lanes : ℕ) (names more names' : List (List ℕ)) (operations operations' : List Entry) (status status' : ℕ)
     (old mid new : Option (List ℕ)) (failures failures' failures'' : Option ℕ)
     → (s : AreSealed happened lanes names operations status old mid failures failures') → All (λ (g : List FileLine). length g ≡ lanes) s.worked.groups
-    → (g : IsGroup also more operations operations' status status' mid new failures' failures'') → length more ≤ lanes → names ++ more ≡ names'
+    → (g : AreEnded also more [] [] operations operations' status status' mid new failures' failures'') → length more ≤ lanes → names ++ more ≡ names'
     → happened' (s.worked.groups ++ g.lines ∷ []) (s.worked.voids ++ g.voids)
     → (t : AreSealed happened' lanes names' operations' status' old new failures failures'') × (length more ≡ lanes → All (λ (g : List FileLine). length g ≡ lanes) t.worked.groups)
 groups_more happened happened' also lanes names more names' operations operations' status status' old mid new failures failures' failures'' s full g few longer done =
     let long : length more ≡ length g.lines = ap length (sym g.named) ∙ length-map g.lines (λ (l : FileLine). l.name) in
     let (t, each) = sealed_more happened happened' lanes names more names' g.lines g.voids operations operations' status status' old mid new failures failures' failures'' s full (omega arith)
-    g.named g.fitting (g.told s.worked.lines old failures s.worked.told) longer (g.accounts s.worked.lines s.worked.voids s.accounts) done in
+    g.named g.fitting (g.told s.worked.lines old failures s.worked.told) longer (let_go (s.worked.lines ++ g.lines) (s.worked.voids ++ g.voids) operations' (g.accounts s.worked.lines s.worked.voids (nothing_held s.worked.lines s.worked.voids operations s.accounts))) done in
     (t, λ is. each (sym long ∙ is))
 
 pub rest_all : {X : Type 0} (P : X → Type 0) (xs ys : List X) (x : X) → xs ≡ x ∷ ys → All P xs → All P ys

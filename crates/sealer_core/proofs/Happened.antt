@@ -19,7 +19,7 @@ use Rattle.command_core.specs.declared.line.FileFault.TheVariants.{CannotOpen, O
 use Rattle.command_core.specs.declared.line.FileOutcome.{FileOutcome}
 use Rattle.command_core.specs.declared.line.FileOutcome.TheVariants.{Sealed, Opened, Good, Shown, Failed}
 use Rattle.command_core.specs.Lines.{FileLine}
-use Rattle.command_core.specs.Trace.{Event, Reading, Created, Refused, Finished, Does, Nothing, Opens, Creates, Refuses, Discards, tape}
+use Rattle.command_core.specs.Trace.{Event, Reading, Created, Refused, Finished, Does, Opens, Creates, Refuses, Discards, tape}
 use Rattle.command_core.proofs.Traces.{nothing, weaken, chain, known, finished_as, discarded_as}
 use Rattle.sealer_core.specs.Group.{EndsBy, IsMade, IsPut, IsRefusal, IsRefused}
 use Rattle.sealer_core.specs.Sealing.{AreOfGroups, IsCause, IsClosed, Happened, IsDiscarded, Part, Sealing, group_events, group_voids, line_of, prepared, sealed_name, unissued_as, void_at}
@@ -28,11 +28,6 @@ use Rattle.sealer_core.specs.Sealing.{AreOfGroups, IsCause, IsClosed, Happened, 
 
 pub kept_appends : (a b : Option (List ℕ)) → Keeps a b → Appends a b []
 kept_appends a b kept = Appends-kept a a b [] (Appends-nil a) kept
-
--- behind nothing, an output that came back is given up with what it took
-pub discards_behind : (taken taken' : Option (List ℕ)) (one two three : Option (List Event)) → taken' ≡ taken → Does Nothing one two → Does (Discards taken') two three → Does (Discards taken) one three
-discards_behind taken taken' one two three back none discards = chain (Discards taken)
-    (λ x y n d. subst (Discards taken) (sym (ap (λ l. l ++ y) n)) (subst (λ t. Discards t y) back d)) one two three none discards
 
 -- What the writer of an output took, of whose input this was to be read. Where no number is void it took nothing; under
 -- a void number it took a beginning of the input's container.

@@ -1,7 +1,7 @@
 -- What happened for a group: of each file before the sealing and behind it. A file that was read goes with the first of
 -- the inputs and with the first of the outcomes, and leaves the others to the files behind it.
 use Rattle.std.proofs.Common.{◌≡◌, ◌≤◌, ◌⊎◌, ◌∙◌, ℕ, suc, refl, sym, ap, subst, arith, List, [], ◌∷◌, ◌++◌, length, map, append-nil, append_assoc, All, Bor, Vec, Global, Option, Some, None, ⊎_elim}
-use Rattle.std.specs.Prelude.{⊤, drop, flat_map, slice_get}
+use Rattle.std.specs.Prelude.{⊤, drop, flat_map}
 use Rattle.std.proofs.lemmas.List.{map-append}
 use Rattle.std.proofs.lemmas.List.Elements.{All-nil, All-cons, All-head, All-tail}
 use Rattle.container_core.specs.Shape.{ShapeView}
@@ -14,7 +14,6 @@ use Rattle.crew_core.specs.declared.outcome.Outcome.TheVariants as job
 use Rattle.journal_core.specs.Range.{prefix_of}
 use Rattle.ledger_core.specs.declared.fault.IssueFault.{IssueFault}
 use Rattle.ledger_core.specs.Shared.{SpentView}
-use Rattle.ledger_core.specs.declared.fault.IssueFault.TheVariants as issue_fault
 use Rattle.std.proofs.KnownBytes.{Keeps-refl}
 use Rattle.io_core.specs.Streams.{Consumes, IsAtEnd, Keeps}
 use Rattle.command_core.specs.declared.line.FileFault.{FileFault}
@@ -26,7 +25,7 @@ use Rattle.command_core.specs.Trace.{Event, Does, Discards, tape}
 use Rattle.command_core.proofs.Traces.{nothing, weaken, chain}
 use Rattle.sealer_core.specs.declared.prepare.Prepared.{Prepared}
 use Rattle.sealer_core.specs.declared.prepare.Prepared.TheVariants.{Refused, Unread, Read}
-use Rattle.sealer_core.specs.Group.{AreBegun, EndsSoFar, HasEnded, IsBegun, IsBegunWith, IsEndBy, IsEndIn, IsEndOfAll, IsHeld, IsMade, IsPut, IsRefusal, left_by, name_of, refused_lines, void_by, void_in}
+use Rattle.sealer_core.specs.Group.{AreBegun, HasEnded, IsBegun, IsBegunWith, IsEndBy, IsEndIn, IsEndOfAll, IsHeld, IsMade, IsPut, IsRefusal, left_by, name_of, refused_lines, void_by, void_in}
 use Rattle.sealer_core.specs.Sealing.{AreOfGroups, Happened, IsCause, IsClosed, Part, Sealing, group_voids, line_of, prepared, sealed_name, unissued_as}
 use Rattle.sealer_core.proofs.Happened.{IsPart, PutsUnder, cause_kept, cause_unissued, failed_as, group_done, kept_appends, put_as, refused_as}
 
@@ -94,6 +93,14 @@ module _ {W : Type 0} (taken : W → Option (List ℕ)) (most : ℕ) where
       (subst (λ j. AreBegun taken most (files ++ file ∷ []) j (x ++ y)) (sym m.1) (begun_push files file jobs m.0 x y b m.2))) told told' told'' so more
 
 -- ---- behind the sealing
+
+-- So far files ended in turn, and where the files that are left do so too all of them do.
+pub record EndsSoFar {W : Type 0} (taken : W → Option (List ℕ)) (files left : List (Prepared W))
+    (outcomes outcomes' : List Outcome) (lines : List FileLine) (voids : List ℕ) (events : List Event)
+    : Type 0 where
+  pub all : (more : List FileLine) (others : List ℕ) (rest : List Event)
+      → IsEndOfAll taken left outcomes' more others rest
+      → IsEndOfAll taken files outcomes (lines ++ more) (voids ++ others) (events ++ rest)
 
 module _ (bytes : ℕ) (old new : Option (List ℕ)) (outcomes rest : List Outcome) (outcome : Outcome) (end : FileOutcome) (is : outcomes ≡ outcome ∷ rest) where
   -- a file ends by the first of the outcomes

@@ -155,16 +155,6 @@ after_spoiling lines voids old mid new name k fault one two a =
     subst (Accounts (lines ++ line_of name (Failed fault) ∷ []) (voids ++ k ∷ [])) (sym (both_of old mid new k (Settled k ended.Void) one two))
     (adds_void lines voids old.mine old.number name a k fault)
 
--- the same, of what is left to be settled
-pub after_end : (lines : List FileLine) (voids : List ℕ) (old mid new : SeatView) (name : List ℕ) (spent : SpentView) (number bytes : ℕ)
-    → Extends old (Granted spent.number) mid → spent.way ≡ ended.Sealed → number ≡ spent.number
-    → Extends mid (Settled spent.number spent.way) new
-    → Accounts lines voids old.mine → Accounts (lines ++ line_of name (Sealed number bytes) ∷ []) (voids ++ []) new.mine
-after_end lines voids old mid new name spent number bytes one is same how a =
-    subst (λ (n : ℕ). Accounts (lines ++ line_of name (Sealed n bytes) ∷ []) (voids ++ []) new.mine) (sym same)
-    (after_sealing lines voids old mid new name spent.number bytes one
-    (subst (λ (w : Way). Extends mid (Settled spent.number w) new) is how) a)
-
 -- the same, of what a sealing gave back
 pub after_run : (lines : List FileLine) (voids : List ℕ) (old mid new : SeatView) (name : List ℕ) (grant : GrantView) (spent : SpentView) (number bytes : ℕ)
     → Extends old (Granted grant.number) mid → spent ≡ spent_as grant ended.Sealed → number ≡ grant.number
@@ -174,10 +164,6 @@ after_run lines voids old mid new name grant spent number bytes one is same how 
     subst (λ (n : ℕ). Accounts (lines ++ line_of name (Sealed n bytes) ∷ []) (voids ++ []) new.mine) (sym same)
     (after_sealing lines voids old mid new name grant.number bytes one
     (subst (λ (s : SpentView). Extends mid (Settled s.number s.way) new) is how) a)
-
-pub granted_as : (old mid : SeatView) (grant : GrantView) (spent : SpentView) (way : Way) → spent ≡ spent_as grant way
-    → Extends old (Granted grant.number) mid → Extends old (Granted spent.number) mid
-granted_as old mid grant spent way is one = subst (λ (s : SpentView). Extends old (Granted s.number) mid) (sym is) one
 
 pub after_fault : (lines : List FileLine) (voids : List ℕ) (old mid new : SeatView) (name : List ℕ) (grant : GrantView) (spent : SpentView) (fault : FileFault)
     → Extends old (Granted grant.number) mid → spent ≡ spent_as grant ended.Void

@@ -1,15 +1,13 @@
 -- One group of files more: what stood of the sealed files so far, and what stands with it.
-use Rattle.std.proofs.Common.{◌≡◌, ℕ, ◌≤◌, refl, sym, ap, subst, ◌∙◌, List, [], ◌∷◌, ◌++◌, map, append-nil, Option, flat_map, All, take, length, ◌+◌, ◌-◌, arith, lit≤}
+use Rattle.std.proofs.Common.{◌≡◌, ℕ, ◌≤◌, refl, sym, ap, subst, ◌∙◌, List, [], ◌∷◌, ◌++◌, map, append-nil, Option, flat_map, All, take, length, ◌+◌, ◌-◌, arith}
 use Rattle.std.proofs.Math.Seq.{take-append_seam}
 use Rattle.std.proofs.lemmas.List.{map-append, length-append}
 use Rattle.command_core.specs.Lines.{FileLine}
 use Rattle.journal_core.specs.declared.entry.Entry.{Entry}
-use Rattle.command_core.specs.Trace.{Event}
-use Rattle.container_core.specs.Shape.{ShapeView}
-use Rattle.sealer_core.specs.Sealing.{Accounts, AreSealed, Happened, IsOfSealing}
+use Rattle.sealer_core.specs.Sealing.{Accounts, AreSealed, IsOfSealing}
 use Rattle.command_core.specs.Work.{AreTold}
 use Rattle.std.proofs.lemmas.Grind.{flat_map-append}
-use Rattle.std.proofs.lemmas.List.Elements.{All-push, All-append, All-cons, All-nil}
+use Rattle.std.proofs.lemmas.List.Elements.{All-push, All-append, All-nil}
 use Rattle.command_core.proofs.Telling.{nothing_told}
 
 all_but_last : {X : Type 0} (xs : List X) (x : X) → take (length (xs ++ x ∷ []) - 1) (xs ++ x ∷ []) ≡ xs
@@ -46,19 +44,6 @@ sealed_more happened happened' lanes names more names' group void operations ope
   λ is. All-push (λ (g : List FileLine). length g ≡ lanes) s.worked.groups group full is,
 )
 
--- one file more was sealed by one lane
-pub sealed_one : (happened happened' : List (List FileLine) → List ℕ → Type 0) (names names' : List (List ℕ)) (line : FileLine) (void : List ℕ) (operations operations' : List Entry) (status status' : ℕ)
-    (old mid new : Option (List ℕ)) (failures failures' failures'' : Option ℕ)
-    → (s : AreSealed happened 1 names operations status old mid failures failures') → All (λ (g : List FileLine). length g ≡ 1) s.worked.groups → IsOfSealing line.outcome
-    → AreTold status' (s.worked.lines ++ line ∷ []) old new failures failures''
-    → names ++ line.name ∷ [] ≡ names' → Accounts (s.worked.lines ++ line ∷ []) (s.worked.voids ++ void) operations'
-    → happened' (s.worked.groups ++ (line ∷ []) ∷ []) (s.worked.voids ++ void)
-    → (t : AreSealed happened' 1 names' operations' status' old new failures failures'') × All (λ (g : List FileLine). length g ≡ 1) t.worked.groups
-sealed_one happened happened' names names' line void operations operations' status status' old mid new failures failures' failures'' s full fit told longer accounts done =
-    let (t, each) = sealed_more happened happened' 1 names (line.name ∷ []) names' (line ∷ []) void operations operations' status status' old mid new failures failures' failures'' s full (lit≤ tt) refl
-    (All-cons (λ (l : FileLine). IsOfSealing l.outcome) line [] fit (All-nil (λ (l : FileLine). IsOfSealing l.outcome))) told longer accounts done in
-    (t, each refl)
-
 -- before the first file
 pub nothing_sealed : (happened : List (List FileLine) → List ℕ → Type 0) (lanes : ℕ) (operations : List Entry) (taken : Option (List ℕ)) (failures : Option ℕ) → Accounts [] [] operations → happened [] []
     → (t : AreSealed happened lanes [] operations 0 taken taken failures failures) × All (λ (g : List FileLine). length g ≡ lanes) t.worked.groups
@@ -80,13 +65,3 @@ nothing_sealed happened lanes operations taken failures accounts done = (
   },
   All-nil (λ (g : List FileLine). length g ≡ lanes),
 )
-
--- the same, by the device, the lanes and the operations of a ledger
-pub sealed_as : (key : List ℕ) (shape : ShapeView) (most device device' : ℕ) (events events' : Option (List Event)) (lanes lanes' : ℕ) (names : List (List ℕ)) (operations operations' : List Entry) (status : ℕ)
-    (old new : Option (List ℕ)) (failures failures' : Option ℕ) → device ≡ device' → lanes ≡ lanes' → operations ≡ operations'
-    → AreSealed (Happened key shape most device events events') lanes names operations status old new failures failures'
-    → AreSealed (Happened key shape most device' events events') lanes' names operations' status old new failures failures'
-sealed_as key shape most device device' events events' lanes lanes' names operations operations' status old new failures failures' same count grown s =
-    subst (λ (d : ℕ). AreSealed (Happened key shape most d events events') lanes' names operations' status old new failures failures') same
-    (subst (λ (n : ℕ). AreSealed (Happened key shape most device events events') n names operations' status old new failures failures') count
-    (subst (λ (o : List Entry). AreSealed (Happened key shape most device events events') lanes names o status old new failures failures') grown s))

@@ -25,7 +25,7 @@ use Rattle.command_core.specs.declared.line.FileFault.TheVariants.{Unsealed}
 use Rattle.command_core.specs.declared.folder.FolderFault.{FolderFault}
 use Rattle.command_core.specs.declared.folder.FolderFault.TheVariants as folder_fault
 use Rattle.command_core.specs.Lines.{FileLine}
-use Rattle.sealer_core.specs.Sealing.{IsOfSealing, Accounts, unissued_as, line_of, prepared, sealed_name, void_at}
+use Rattle.sealer_core.specs.Sealing.{IsOfSealing, unissued_as, line_of, prepared, sealed_name, void_at}
 use Rattle.sealer_core.specs.Sealing.{IsCause, IsClosed, times_in, times_sealed, times_voided, times_told}
 use Rattle.command_core.specs.Trace.{Discards, tape}
 use Rattle.command_core.specs.Trace as trace
@@ -79,8 +79,8 @@ IsRefusal name CannotCreate events = IsRefused name folder_fault.Failed events
 IsRefusal name _ events = ⊥
 
 module _ {W : Type 0} (taken : W → Option (List ℕ)) (most : ℕ) where
-  -- What happens for a file before the sealing, and its input, where this was read: of at most so many bytes. Its output
-  -- took nothing so far.
+  -- What happens for a file before the sealing, and its input, where this was read: of at most so many bytes. Its
+  -- output took nothing so far.
   abbrev pub IsBegun : Prepared W → List (List ℕ) → List trace.Event → Type 0
   IsBegun (Refused name fault) inputs events = (inputs ≡ []) × IsRefusal name.now fault events
   IsBegun (Unread name writer fault) inputs events =
@@ -163,15 +163,14 @@ IsEnding number old new _ = IsCounted old new (Settled number ended.Void)
 
 -- ---- how a file ends
 
--- So an output ends whose sealing ended so, under this number: where all was sealed it is finished, or else it couldn't be
--- written.
+-- So an output ends whose sealing ended so, under this number: where all was sealed it is finished, or couldn't be.
 abbrev pub EndsBy : Result ℕ SealFault → ℕ → FileOutcome → Type 0
 EndsBy (Ok bytes) number (Sealed n m) = (n ≡ number) × (m ≡ bytes)
 EndsBy (Ok bytes) number end = end ≡ Failed (Unsealed sealing_fault.Write)
 EndsBy (Err fault) number end = end ≡ Failed (Unsealed fault)
 
--- An output gets this container: whole, and then the line tells this number and so many bytes; or cut short, or whole where it
--- couldn't be finished, and then the file failed.
+-- An output gets this container: whole, and then the line tells this number and so many bytes; or cut short, or whole
+-- where it couldn't be finished, and then the file failed.
 abbrev pub IsPut : List ℕ → ℕ → ℕ → Option (List ℕ) → Option (List ℕ) → FileOutcome → Type 0
 IsPut container number bytes old new (Sealed n m) = (n ≡ number) × (m ≡ bytes) × Appends old new container
 IsPut container number bytes old new end = (end ≡ Failed (Unsealed sealing_fault.Write))
@@ -225,14 +224,6 @@ IsEndOfAll taken (file ∷ files) outcomes lines voids events = (end : FileOutco
     × (lines ≡ line_of (name_of file) end ∷ more) × (voids ≡ void_in file outcomes end ++ others)
     × (events ≡ first ++ rest)
 
--- So far they did, and where the files that are left do so too all of them do.
-pub record EndsSoFar {W : Type 0} (taken : W → Option (List ℕ)) (files left : List (Prepared W))
-    (outcomes outcomes' : List Outcome) (lines : List FileLine) (voids : List ℕ) (events : List trace.Event)
-    : Type 0 where
-  pub all : (more : List FileLine) (others : List ℕ) (rest : List trace.Event)
-      → IsEndOfAll taken left outcomes' more others rest
-      → IsEndOfAll taken files outcomes (lines ++ more) (voids ++ others) (events ++ rest)
-
 -- ---- the lines of a group
 
 -- the lines of files for which memory was refused before anything was done with them
@@ -253,28 +244,4 @@ pub record AreEnded (happened : List FileLine → List ℕ → Type 0) (names : 
       → AreTold status' (before ++ lines) first new count failures'
   pub accounts : (before : List FileLine) (earlier : List ℕ) → AreHeld before earlier outcomes operations
       → AreHeld (before ++ lines) (earlier ++ voids) outcomes' operations'
-  pub done : happened lines voids
-
--- So far it stands with these files, of which the latter have no line yet.
-pub record AreEnding {W : Type 0} (happened : List FileLine → List ℕ → Type 0) (files left : List (Prepared W))
-    (outcomes outcomes' : List Outcome) (operations operations' : List Entry) (status status' : ℕ)
-    (old new : Option (List ℕ)) (failures failures' : Option ℕ) : Type 0 where
-  pub names : List (List ℕ)
-  pub named : names ++ map name_of left ≡ map name_of files
-  pub ended : AreEnded happened names outcomes outcomes' operations operations' status status'
-      old new failures failures'
-
--- A group was worked: its files have their lines, and so stand status and operations behind them.
-pub record IsGroup (happened : List FileLine → List ℕ → Type 0) (names : List (List ℕ))
-    (operations operations' : List Entry) (status status' : ℕ)
-    (old new : Option (List ℕ)) (failures failures' : Option ℕ) : Type 0 where
-  pub lines : List FileLine
-  pub voids : List ℕ
-  pub named : map (λ line. line.name) lines ≡ names
-  pub fitting : All (λ line. IsOfSealing line.outcome) lines
-  pub told : (before : List FileLine) (first : Option (List ℕ)) (count : Option ℕ)
-      → AreTold status before first old count failures
-      → AreTold status' (before ++ lines) first new count failures'
-  pub accounts : (before : List FileLine) (earlier : List ℕ) → Accounts before earlier operations
-      → Accounts (before ++ lines) (earlier ++ voids) operations'
   pub done : happened lines voids

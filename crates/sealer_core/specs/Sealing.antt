@@ -1,6 +1,6 @@
 -- What `seal_all` does with a list of files, and how its lines stand to the operations of the ledger.
 use Rattle.std.specs.Prelude.{⊤, ◌≡◌, ◌≢◌, ℕ, ◌+◌, ◌-◌, ◌^◌, ◌<◌, ◌≤◌, ◌⊎◌, IsTrue, Bool, true, false, nat_eq, List, []}
-use Rattle.std.specs.Prelude.{◌∷◌, ◌++◌, count_by, slice_get, length, take, map, All, codes, Option, Some, None, IfSome}
+use Rattle.std.specs.Prelude.{◌∷◌, ◌++◌, count_by, slice_get, length, take, map, All, codes, Option, Some, None}
 use Rattle.std.specs.Prelude.{flat_map}
 use Rattle.journal_core.specs.declared.entry.Entry.{Entry}
 use Rattle.journal_core.specs.declared.entry.Event.TheVariants.{Granted, Exhausted, Settled}
@@ -10,7 +10,7 @@ use Rattle.journal_core.specs.History.{Legal, tally_of, times_granted}
 use Rattle.journal_core.specs.Range.{Numbers, prefix_of}
 use Rattle.container_core.specs.Container.{container}
 use Rattle.container_core.specs.Shape.{ShapeView}
-use Rattle.io_core.specs.Streams.{Appends, AppendsFront, IsFront, Keeps}
+use Rattle.io_core.specs.Streams.{Appends, AppendsFront, IsFront}
 use Rattle.container_core.specs.declared.fault.SealFault.TheVariants as sealing_fault
 use Rattle.ledger_core.specs.declared.fault.IssueFault.{IssueFault}
 use Rattle.ledger_core.specs.declared.fault.IssueFault.TheVariants as issue_fault
@@ -41,13 +41,15 @@ use Rattle.command_core.specs.Trace.{Event, Does}
 use Rattle.command_core.specs.Trace as trace
 use Rattle.command_core.specs.Work.{AreTold}
 
--- ---- one file
+-- ---- options
 
 -- the options of a run that are limited: the bytes of a file, and how many workers and chunks at a time there are
 pub record AreLawful (options : SealOptions) : Type 0 where
   pub max_bytes : options.max_bytes ≤ 2 ^ 40
   pub workers : (0 < options.workers) × (options.workers ≤ 16)
   pub window : (0 < options.window) × (options.window ≤ 256)
+
+-- ---- one file
 
 -- the name of a sealed file's output
 abbrev pub sealed_name : List ℕ → List ℕ

@@ -1,13 +1,13 @@
-//! Files sealed in groups of as many as a ledger has lanes. The file of a group of one is sealed as it is read. Of a
-//! larger group each file in turn is prepared; those that were read are sealed side by side; then each container in turn
-//! is written, its output finished, and its number settled.
+//! Files sealed in groups of as many as a ledger has lanes. By one lane the file is sealed as it is read. By several each
+//! file in turn is prepared; those that were read are sealed side by side; then each container in turn is written, its
+//! output finished, and its number settled.
 ghost use Rattle.std.specs.Prelude.{◌≡◌, ◌⊎◌, ℕ, Option, ◌<◌, ◌≤◌, List, [], ◌∷◌, ◌++◌, length, map, All, flat_map};
 ghost use Rattle.command_core.specs.Lines.{FileLine};
 ghost use Rattle.command_core.specs.Trace.{Does};
 ghost use Rattle.command_core.specs.Work.{AreTold};
 ghost use Rattle.crew_core.specs.Batch.{AreOutcomes};
 ghost use Rattle.ledger_core.specs.Closing.{AreAllSeats};
-ghost use Rattle.sealer_core.specs.Group.{AreEnded, AreHeld, AreOwing, IsEndIn, IsEndOfAll, IsGroup, IsPrepared};
+ghost use Rattle.sealer_core.specs.Group.{AreEnded, AreHeld, AreOwing, IsEndIn, IsEndOfAll, IsPrepared};
 ghost use Rattle.sealer_core.specs.Group.{left_by, name_of, read_of, refused_lines, void_in};
 ghost use Rattle.sealer_core.specs.Sealing.{Accounts, AreLawful, AreSealed, Happened, IsOfSealing, line_of};
 ghost use Rattle.sealer_core.specs.Sealing.{operations_of};
@@ -90,8 +90,8 @@ fn end_group<F: Folder, L: Sink>(
     requires prepared { All IsPrepared files.items }
     requires few { length outcomes.items ≤ length (flat_map read_of files.items) }
     ensures owing { AreOwing ledger.now seats.new [] }
-    ensures ended { AreEnded (λ lines voids. Does (IsEndOfAll F.Writer.taken files.entry.items outcomes.items lines voids)
-        (F.told folder.old) (F.told folder.new)) (map name_of files.entry.items) outcomes.items []
+    ensures ended { AreEnded (λ lines voids. Does (IsEndOfAll F.Writer.taken files.entry.items outcomes.items lines
+        voids) (F.told folder.old) (F.told folder.new)) (map name_of files.entry.items) outcomes.items []
         (operations_of seats.old) (operations_of seats.new) start result
         (L.taken lines.old) (L.taken lines.new) (L.failures lines.old) (L.failures lines.new) }
 {
@@ -107,8 +107,8 @@ fn end_group<F: Folder, L: Sink>(
 // Bytes of a job that is worth a lane, at least. To seal fewer takes less time than to start a thread.
 const LANE_BYTES: usize = 1 << 15;
 
-// By how many lanes a group of jobs is sealed: as many as it has jobs that are worth one, and at least one where there is
-// any.
+// By how many lanes a group of jobs is sealed: as many as it has jobs that are worth one, and at least one where there
+// is any.
 fn lanes_for(jobs: &[Vec<u8>]) -> u32
     requires few { length jobs.now ≤ MAX_LANES }
     ensures within { result ≤ length jobs.now }
@@ -133,7 +133,8 @@ fn seal_jobs<T: Threads + Sync>(
     requires few { length jobs.now ≤ length seats.old }
     requires short { All (λ job. length job.items ≤ MAX_BYTES) jobs.now }
     ensures owing { AreOwing ledger.now seats.new result.items }
-    ensures outcomes { (result.items ≡ []) ⊎ AreOutcomes key.now shape.now (map (λ job. job.items) jobs.now) result.items }
+    ensures outcomes { (result.items ≡ [])
+        ⊎ AreOutcomes key.now shape.now (map (λ job. job.items) jobs.now) result.items }
     ensures accounts { (lines : List FileLine) (voids : List ℕ) → Accounts lines voids (operations_of seats.old)
         → AreHeld lines voids result.items (operations_of seats.new) }
 {
@@ -180,9 +181,9 @@ fn seal_group<T: Threads + Wait + Sync, F: Folder, L: Sink>(
     requires options { AreLawful options.now }
     requires few { (0 < length names.now) × (length names.now ≤ length seats.old) }
     ensures owing { AreOwing ledger.now seats.new [] }
-    ensures group { IsGroup (λ lines. Happened key.now options.now.shape.now options.now.max_bytes
+    ensures group { AreEnded (λ lines. Happened key.now options.now.shape.now options.now.max_bytes
         ledger.now.terms.range.device (F.told folder.old) (F.told folder.new) (lines ∷ []))
-        (map (λ name. name.now) names.now) (operations_of seats.old) (operations_of seats.new) status result
+        (map (λ name. name.now) names.now) [] [] (operations_of seats.old) (operations_of seats.new) status result
         (L.taken lines.old) (L.taken lines.new) (L.failures lines.old) (L.failures lines.new) }
 {
     if seats.len() == 1 {

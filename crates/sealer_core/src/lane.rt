@@ -109,8 +109,8 @@ pub(crate) fn give_up<F: Folder>(folder: &mut F, writer: F::Writer, fault: FileF
     FileOutcome::Failed(fault)
 }
 
-/// Ends an output as its sealing ended. One that holds its whole container is finished, and its number settled as sealed;
-/// where either failed the number is void, and the output is given up.
+/// Ends an output as its sealing ended. One that holds its whole container is finished, and its number settled as
+/// sealed; where the sealing or the finishing failed the number is void, and the output is given up.
 pub(crate) fn end_output<F: Folder>(
     ledger: &Ledger,
     seats: &mut [Seat],

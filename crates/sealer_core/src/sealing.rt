@@ -1,7 +1,7 @@
 //! The command that seals: one range of file numbers is reserved, and each file is sealed under one of them.
 //!
-//! A range is reserved for good before any file is touched, and stands in the ledger file itself, so a number that a run
-//! didn't use is given up. Files are sealed in turn by one lane, or in groups by several.
+//! A range is reserved for good before any file is touched, and stands in the ledger file itself, so a number that a
+//! run didn't use is given up. Files are sealed in turn by one lane, or in groups by several.
 ghost use Rattle.std.specs.Prelude.{◌≡◌, ◌≢◌, ◌⊎◌, ℕ, Bool, ◌<◌, ◌≤◌, List, length, map, IsTrue, IfOk, OnErr, is_ok};
 ghost use Rattle.std.specs.Prelude.{if◌then◌else◌};
 ghost use Rattle.sha2.specs.Sha256.{sha256};
@@ -156,11 +156,12 @@ fn work_ledger<T: Threads + Wait + Sync, F: Folder, W: Sink, J: Sink>(
 }
 
 /// Seals each file to its name and `.stm`, which must not be there yet, in the options' shape and under a number of its
-/// own. The answer is the exit status: 0 where every file was sealed, 1 where one failed, 2 where no range was reserved, the ledger file not
-/// folded or no ledger opened (then no file was touched), where a line couldn't be written (no further line is tried,
-/// and the files and the journal are still worked), or where the journal couldn't be written whole. Each of these but a
-/// line has a text on standard error. An output whose file failed is given up: it is removed, and what it held begins
-/// the container of its input under a number that is void, or is nothing.
+/// own. A file of more than `max_bytes` bytes is too long. The answer is the exit status: 0 where every file was sealed,
+/// 1 where one failed, 2 where no range was reserved, the ledger file not folded or no ledger opened (then no file was
+/// touched), where a line couldn't be written (no further line is tried, and the files and the journal are still
+/// worked), or where the journal couldn't be written whole. Each of these but a line has a text on standard error. An
+/// output whose file failed is given up: it is removed, and what it held begins the container of its input under a
+/// number that is void, or is nothing.
 ///
 /// One range is reserved at most, with as many numbers as there are files, and for good: what it leaves unused is given
 /// up. Before the first file is opened the ledger file is folded, so that it has the range without its log; after that

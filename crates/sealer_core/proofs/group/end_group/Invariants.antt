@@ -1,7 +1,9 @@
 -- The files so far have their lines.
 use Rattle.std.proofs.Common.{◌≤◌, length, All, flat_map}
 use Rattle.command_core.specs.Trace.{Does}
-use Rattle.sealer_core.specs.Group.{EndsSoFar, IsPrepared, AreEnding, AreOwing, read_of}
+use Rattle.sealer_core.specs.Group.{IsPrepared, AreOwing, read_of}
+use Rattle.sealer_core.proofs.Groups.{AreEnding}
+use Rattle.sealer_core.proofs.Matches.{EndsSoFar}
 use Rattle.sealer_core.specs.Sealing.{operations_of}
 use Rattle.sealer_core.proofs.group.end_group.Given as goal
 

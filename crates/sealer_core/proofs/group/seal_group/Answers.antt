@@ -1,4 +1,4 @@
-use Rattle.std.proofs.Common.{◌≡◌, ◌∷◌, [], ap, arith, length, map, sym}
+use Rattle.std.proofs.Common.{ap, arith, length, map}
 use Rattle.sealer_core.proofs.Groups.{few_jobs, few_outcomes, group_of, one_group, refused_group, single_name}
 use Rattle.sealer_core.proofs.Matches.{group_happened, refused_happened}
 use Rattle.sealer_core.proofs.group.seal_group.Goals as goal
