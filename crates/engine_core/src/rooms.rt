@@ -1,4 +1,4 @@
-//! The room of a sealing or an opening in rounds.
+//! The room of an opening in rounds.
 ghost use Rattle.std.specs.Prelude.{◌≡◌, ◌<◌, ◌≤◌, [], length, min, slice_index, IfOk};
 ghost use Rattle.round_core.specs.Parts.{room_of};
 ghost use Rattle.worker_core.specs.Crew.{idle};

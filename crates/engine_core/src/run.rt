@@ -26,9 +26,10 @@ use std::thread::Threads;
 /// and a grant's prefix, in rounds of `window` chunks (1 to 256), sealed by 1 to 16 workers that live as long as the
 /// input, where at most two windows of chunks are read and not written. Answers the input's length. `TooLong` where a
 /// byte more was read, and nothing past it is; the round in hand is dropped then, and those before it were written. At
-/// every fault what was written begins the container of some plaintext that begins with what was read, and at
-/// `OutOfMemory` it is nothing. Memory is taken before anything is written: two windows of chunks, two queues and a bell
-/// for each worker; of an input that ends within the first round its chunks, and no queue where one worker suffices.
+/// every fault what was written begins the container of the input (or, where the reader tells nothing, of some
+/// plaintext), and at `OutOfMemory` it is nothing. Memory is taken before anything is written: two windows of chunks, two
+/// queues and a bell for each worker; of an input that ends within the first round a buffer for each chunk, or for each
+/// block of small ones, and no queue where one worker suffices.
 pub fn run_seal_by<T: Threads + Wait + Sync, R: Source, W: Sink, G: Gate + Sync>(
     rt: &T,
     alloc: Global,

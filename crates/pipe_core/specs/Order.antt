@@ -1,5 +1,6 @@
 -- Pieces on their places, and what is written.
-use Rattle.std.specs.Prelude.{◌≡◌, ℕ, zero, suc, ◌+◌, ◌-◌, ◌*◌, ◌<◌, List, [], ◌∷◌, ◌++◌, Option, Some, None, slice_index_or, slice_set}
+use Rattle.std.specs.Prelude.{◌≡◌, ℕ, zero, suc, ◌+◌, ◌-◌, ◌*◌, ◌<◌, List, [], ◌∷◌, ◌++◌, Option, Some, None}
+use Rattle.std.specs.Prelude.{slice_index_or, slice_set}
 use Rattle.std.specs.Prelude.{nat_lt, if◌then◌else◌, false, IfSome, length}
 use Rattle.container_core.specs.Chunks.{chunks}
 use Rattle.container_core.specs.Container.{size_in}
@@ -28,7 +29,8 @@ AreKept each key header told written places = (k : ℕ) (p : Piece) → slice_in
 -- what is written once these bytes are sealed in full chunks, none of which is the last: nothing before the first
 abbrev pub chunks_so_far : List ℕ → List ℕ → List ℕ → List ℕ → List ℕ
 chunks_so_far front key header [] = []
-chunks_so_far front key header (byte ∷ bytes) = front ++ stream_by key header 0 false (chunks (size_in header) (byte ∷ bytes))
+chunks_so_far front key header (byte ∷ bytes) = front
+    ++ stream_by key header 0 false (chunks (size_in header) (byte ∷ bytes))
 
 -- STREAM of an input's chunks, behind what stands before it
 abbrev pub behind : List ℕ → List ℕ → List ℕ → List ℕ → List ℕ

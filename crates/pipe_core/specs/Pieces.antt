@@ -1,6 +1,7 @@
 -- What a job and a piece are, by the input, where the reader tells it. Both are a block: so many chunks, one behind the
 -- other, of which only the input's last block has fewer.
-use Rattle.std.specs.Prelude.{◌≡◌, ℕ, ◌+◌, ◌*◌, ◌^◌, ◌<◌, ◌≤◌, Bool, true, false, List, [], ◌∷◌, ◌++◌, length, take, Option, IfSome, ⊤}
+use Rattle.std.specs.Prelude.{◌≡◌, ℕ, ◌+◌, ◌*◌, ◌^◌, ◌<◌, ◌≤◌, Bool, true, false, List, [], ◌∷◌, ◌++◌, length, take}
+use Rattle.std.specs.Prelude.{Option, IfSome, ⊤}
 use Rattle.container_core.specs.Chunks.{chunks}
 use Rattle.container_core.specs.Container.{size_in}
 use Rattle.container_core.specs.Stream.{stream_by}
@@ -36,8 +37,8 @@ pub record IsChunk (size : ℕ) (told : Option (List ℕ)) (number : ℕ) (last 
   pub some : 0 < number → 0 < length chunk
   pub of : IfSome told (λ input. StandsIn size input number last chunk)
 
--- the bytes are the sealed chunks of the block of this number: their own numbers go on behind those of the blocks before,
--- and of the last block the last chunk is STREAM's last
+-- the bytes are the sealed chunks of the block of this number: their own numbers go on behind those of the blocks
+-- before, and of the last block the last chunk is STREAM's last
 pub record IsPart (each : ℕ) (key header : List ℕ) (told : Option (List ℕ)) (number : ℕ) (last : Bool) (bytes : List ℕ)
     : Type 0 where
   pub text : List ℕ

@@ -1,5 +1,6 @@
 -- What a pipe did with its reader and its writer.
-use Rattle.std.specs.Prelude.{◌≡◌, ℕ, ◌+◌, ◌*◌, ◌<◌, ◌≤◌, Bool, false, List, length, Option, Result, Ok, Err, OnOk, OnErr, IfOk, IfSome}
+use Rattle.std.specs.Prelude.{◌≡◌, ℕ, ◌+◌, ◌*◌, ◌<◌, ◌≤◌, Bool, false, List, length, Option, Result, Ok, Err, OnOk}
+use Rattle.std.specs.Prelude.{OnErr, IfOk, IfSome}
 use Rattle.container_core.specs.Container.{size_in}
 use Rattle.container_core.specs.Faults.{is_failed_read, is_failed_write}
 use Rattle.container_core.specs.declared.fault.SealFault.{SealFault}

@@ -1,5 +1,6 @@
 -- The round in hand, and the last block.
-use Rattle.std.specs.Prelude.{◌≡◌, ℕ, ◌+◌, ◌*◌, ◌^◌, ◌<◌, ◌≤◌, true, false, List, [], ◌∷◌, length, take, Option, if◌then◌else◌, ⊤}
+use Rattle.std.specs.Prelude.{◌≡◌, ℕ, ◌+◌, ◌*◌, ◌^◌, ◌<◌, ◌≤◌, true, false, List, [], ◌∷◌, length, take, Option}
+use Rattle.std.specs.Prelude.{if◌then◌else◌, ⊤}
 use Rattle.std.specs.VecDeque.{deque_capacity}
 use Rattle.container_core.specs.Container.{size_in}
 use Rattle.pipe_core.specs.declared.piece.Task.{Task}
@@ -11,8 +12,8 @@ use Rattle.pipe_core.specs.Intake.{HasRead}
 use Rattle.pipe_core.specs.Order.{IsOrdered}
 use Rattle.pipe_core.specs.Pieces.{block, room, IsBlock, IsChunk, IsPart, IsTask, task_numbers}
 
--- something may be read, no round is empty or larger than what may be held, and the chunks have numbers of 32 bits: also
--- those that a block behind the limit's last byte would have
+-- something may be read, no round is empty or larger than what may be held, and the chunks have numbers of 32 bits:
+-- also those that a block behind the limit's last byte would have
 pub record IsPlan (each : ℕ) (header : List ℕ) (plan : Plan) : Type 0 where
   pub limit : (0 < plan.limit) × (plan.limit ≤ 2 ^ 53)
   pub group : 0 < plan.group
@@ -36,7 +37,8 @@ pub record IsLast (each : ℕ) (key header : List ℕ) (told : Option (List ℕ)
   pub long : length round.last.items ≡ room each header
   pub filled : round.is_sealed ≡ false → round.filled ≤ block each header
   pub within : round.filled ≤ room each header
-  pub plain : round.is_sealed ≡ false → IsChunk (block each header) told number true (take round.filled round.last.items)
+  pub plain : round.is_sealed ≡ false
+      → IsChunk (block each header) told number true (take round.filled round.last.items)
   pub sealed : round.is_sealed ≡ true → IsPart each key header told number true (take round.filled round.last.items)
 
 -- what the input ended with is in its buffer, and its chunks have numbers of 32 bits

@@ -99,9 +99,9 @@ fn before_last(size: usize, filled: usize) -> usize
     filled.saturating_sub(1) / size
 }
 
-/// Seals the first `filled` bytes chunk by chunk, the first of which has the number `first`; `last` says whether the last
-/// of them is STREAM's last. Passes the gate with a chunk's number right before it seals the chunk. Answers how many bytes
-/// the sealed chunks have.
+/// Seals the first `filled` bytes chunk by chunk, the first of which has the number `first`; `last` says whether the
+/// last of them is STREAM's last. Passes the gate with a chunk's number right before it seals the chunk. Answers how
+/// many bytes the sealed chunks have.
 pub(crate) fn seal_block<G: Gate>(
     key: &Key,
     header: &Header,

@@ -81,7 +81,8 @@ impl Early {
             × (self.new.written ≡ self.old.written + 1)
             × (deque_capacity self.new.places ≡ deque_capacity self.old.places)) }
         ensures none { IfNone result ((self.new.places.items ≡ self.old.places.items)
-            × (self.new.written ≡ self.old.written) × (deque_capacity self.new.places ≡ deque_capacity self.old.places)) }
+            × (self.new.written ≡ self.old.written)
+            × (deque_capacity self.new.places ≡ deque_capacity self.old.places)) }
     {
         if self.ripe == 0 || self.places.is_empty() || self.places[0].is_none() {
             return None;

@@ -1,5 +1,5 @@
-//! A stream of any length: rounds of one chunk, under a limit of chunks. Each block is one chunk, so that it is written as
-//! soon as it was read.
+//! A stream of any length: rounds of one chunk, under a limit of chunks. Each block is one chunk, so that it is
+//! written as soon as it was read.
 ghost use Rattle.std.specs.Prelude.{◌≡◌, ◌<◌, ◌≤◌, take, drop};
 ghost use Rattle.container_core.specs.Container.{hint_of};
 ghost use Rattle.pipe_core.specs.Pipe.{HasPiped, answer_of_stream};
@@ -73,14 +73,15 @@ fn pipe_named<
     )
 }
 
-/// Seals a stream under a header of this key, by 1 to 16 workers, of which the caller's thread is worker 0 and does all reading and
-/// writing, where at most `depth` chunks are read and not written. Answers the stream's length in bytes.
+/// Seals a stream under a header of this key, by 1 to 16 workers, of which the caller's thread is worker 0 and does
+/// all reading and writing, where at most `depth` chunks are read and not written. Answers the stream's length in
+/// bytes.
 ///
 /// A chunk is sealed once a byte behind it, or the end, was seen, and written once those before it are. The caller's
 /// thread seals the last chunk, and others where it may not read on. `TooManyChunks` where a byte stands behind
 /// `max_chunks` full chunks: nothing past that byte is read. `OutOfMemory` where a queue, the workers' bells or the
-/// `depth` buffers find no memory, each of which holds a chunk and is used again: no more than the header is written then.
-/// The header is written before anything is read. Where a thread can't be started the others do its work.
+/// `depth` buffers find no memory, each of which holds a chunk and is used again: no more than the header is written
+/// then. The header is written before anything is read. Where a thread can't be started the others do its work.
 pub fn pipe<T: Threads + Wait + Sync, R: Source, W: Sink, G: Gate + Sync>(
     rt: &T,
     alloc: Global,

@@ -1,5 +1,6 @@
 //! The caller's thread: it reads and writes, and seals a block itself where it may not read on.
-ghost use Rattle.std.specs.Prelude.{◌≡◌, ℕ, ◌+◌, ◌-◌, ◌*◌, ◌^◌, ◌<◌, ◌≤◌, ◌⊎◌, ◌++◌, [], ◌∷◌, All, Option, List, OnOk, OnErr, IfOk, IfSome};
+ghost use Rattle.std.specs.Prelude.{◌≡◌, ℕ, ◌+◌, ◌-◌, ◌*◌, ◌^◌, ◌<◌, ◌≤◌, ◌⊎◌, ◌++◌, [], ◌∷◌, All, Option, List};
+ghost use Rattle.std.specs.Prelude.{OnOk, OnErr, IfOk, IfSome};
 ghost use Rattle.std.specs.Prelude.{length, true, false, is_err, not};
 ghost use Rattle.std.specs.VecDeque.{deque_capacity, deque_len};
 ghost use Rattle.container_core.specs.Container.{size_in};
@@ -9,7 +10,8 @@ ghost use Rattle.io_core.specs.Streams.{Appends, AppendsFront, counted};
 ghost use Rattle.pipe_core.specs.Hands.{all_numbers, hand};
 ghost use Rattle.pipe_core.specs.Order.{below, empty, front_at, AreKept, AreWritten, HasBegun, IsOrdered, IsSeen};
 ghost use Rattle.pipe_core.specs.Pieces.{block, room, task_numbers, IsBlock};
-ghost use Rattle.pipe_core.specs.Round.{front_of, AreJobs, AreRounds, IsHanded, IsInHand, IsLast, IsPlan, IsRead, IsUnderWay, MayEnd};
+ghost use Rattle.pipe_core.specs.Round.{front_of, AreJobs, AreRounds, IsHanded, IsInHand, IsLast, IsPlan, IsRead};
+ghost use Rattle.pipe_core.specs.Round.{IsUnderWay, MayEnd};
 ghost use Rattle.pipe_core.specs.Rounds.{HasSealedRounds};
 ghost use Rattle.pipe_core.specs.declared.line.Hand.{Hand};
 ghost use Rattle.pipe_core.specs.declared.round.Plan.{Plan};
@@ -110,7 +112,8 @@ fn write_next<N: Naming, W: Sink>(
     ensures spare { All (λ b. length b.items ≡ size) spare.new.items }
     ensures room { deque_capacity early.new.places ≡ deque_capacity early.old.places }
     ensures places { length early.new.places.items ≤ length early.old.places.items }
-    ensures order { (blocks : ℕ) (jobs pieces : Hand) → IsOrdered N.each N.key N.header N.told blocks early.old jobs pieces
+    ensures order { (blocks : ℕ) (jobs pieces : Hand)
+        → IsOrdered N.each N.key N.header N.told blocks early.old jobs pieces
         → OnOk result (IsOrdered N.each N.key N.header N.told blocks early.new jobs pieces) }
     ensures written { (taken : Option (List ℕ))
         → AreWritten N.each front.now N.key N.header N.told taken (W.taken writer.old) early.old.written
@@ -143,7 +146,8 @@ fn take_back<N: Naming>(
     ensures same { (early.new.written ≡ early.old.written)
         × (deque_capacity early.new.places ≡ deque_capacity early.old.places)
         × (length early.new.places.items ≡ length early.old.places.items) }
-    ensures order { (blocks : ℕ) (jobs : Hand) → IsOrdered N.each N.key N.header N.told blocks early.old jobs (view from.old)
+    ensures order { (blocks : ℕ) (jobs : Hand)
+        → IsOrdered N.each N.key N.header N.told blocks early.old jobs (view from.old)
         → IsOrdered N.each N.key N.header N.told blocks early.new jobs (view from.new) }
 {
     match take_piece(pieces, from) {
@@ -175,7 +179,8 @@ fn turn<N: Naming, W: Sink>(
     ensures spare { All (λ b. length b.items ≡ size) spare.new.items }
     ensures room { deque_capacity early.new.places ≡ deque_capacity early.old.places }
     ensures places { length early.new.places.items ≤ length early.old.places.items }
-    ensures order { (blocks : ℕ) (jobs : Hand) → IsOrdered N.each N.key N.header N.told blocks early.old jobs (view from.old)
+    ensures order { (blocks : ℕ) (jobs : Hand)
+        → IsOrdered N.each N.key N.header N.told blocks early.old jobs (view from.old)
         → OnOk result (IsOrdered N.each N.key N.header N.told blocks early.new jobs (view from.new)) }
     ensures written { (taken : Option (List ℕ))
         → AreWritten N.each front.now N.key N.header N.told taken (W.taken writer.old) early.old.written
@@ -209,7 +214,8 @@ fn work_here<N: Naming, G: Gate>(
     ensures same { (early.new.written ≡ early.old.written)
         × (deque_capacity early.new.places ≡ deque_capacity early.old.places)
         × (length early.new.places.items ≡ length early.old.places.items) }
-    ensures order { (blocks : ℕ) (pieces : Hand) → IsOrdered N.each N.key N.header N.told blocks early.old (view into.old) pieces
+    ensures order { (blocks : ℕ) (pieces : Hand)
+        → IsOrdered N.each N.key N.header N.told blocks early.old (view into.old) pieces
         → IsOrdered N.each N.key N.header N.told blocks early.new (view into.new) pieces }
 {
     match take_task(jobs, into) {
@@ -352,8 +358,8 @@ fn seal_first<N: Naming, G: Gate>(
     false
 }
 
-// Seals a block on this thread, or rests where there is none: the last one first, which no other worker can, unless this
-// one is alone. Answers how often it has looked for one since.
+// Seals a block on this thread, or rests where there is none: the last one first, which no other worker can, unless
+// this one is alone. Answers how often it has looked for one since.
 fn busy<N: Naming, T: Wait, G: Gate>(
     rt: &T,
     jobs: &JobLine<N>,
@@ -393,7 +399,8 @@ fn busy<N: Naming, T: Wait, G: Gate>(
     rest(rt, &bells[0], looks)
 }
 
-// Reads to the end of the input or to a byte too many, and puts and writes what it may meanwhile: whether no read failed.
+// Reads to the end of the input or to a byte too many, and puts and writes what it may meanwhile: whether no read
+// failed.
 fn take_in<N: Naming, T: Wait, R: Source, W: Sink, G: Gate>(
     rt: &T,
     jobs: &JobLine<N>,

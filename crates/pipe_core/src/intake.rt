@@ -1,6 +1,7 @@
-//! Reading the input block by block, each with one byte behind it, by which it is known whether the block is the last. No
-//! more than a limit is read of it: where so many bytes were, the input is too long.
-ghost use Rattle.std.specs.Prelude.{◌≡◌, ◌+◌, ◌-◌, ◌*◌, ◌^◌, ◌<◌, ◌≤◌, ◌++◌, ◌∷◌, List, ℕ, Option, None, true, false, length, take};
+//! Reading the input block by block, each with one byte behind it, by which it is known whether the block is the
+//! last. No more than a limit is read of it: where so many bytes were, the input is too long.
+ghost use Rattle.std.specs.Prelude.{◌≡◌, ◌+◌, ◌-◌, ◌*◌, ◌^◌, ◌<◌, ◌≤◌, ◌++◌, ◌∷◌, List, ℕ, Option, None, true, false};
+ghost use Rattle.std.specs.Prelude.{length, take};
 ghost use Rattle.std.specs.Prelude.{IfOk, OnOk, OnErr, Some, is_err, slice_index};
 ghost use Rattle.io_core.specs.Reads.{ConsumesUpTo};
 ghost use Rattle.io_core.specs.Streams.{Consumes, IsAtEnd, counted};
@@ -9,8 +10,8 @@ ghost use Rattle.pipe_core.specs.Pieces.{IsChunk};
 
 use io_core::{Failed, Source, fill};
 
-/// What was read of the input: whole blocks, and the byte that was seen behind them; or all of it; or a byte more than it
-/// may have.
+/// What was read of the input: whole blocks, and the byte that was seen behind them; or all of it; or a byte more
+/// than it may have.
 #[derive(Drop)]
 pub(crate) struct Intake {
     pub(crate) blocks: u32,
@@ -49,7 +50,8 @@ fn fill_behind<R: Source>(
     ensures read { IfOk result (λ n. (read : List ℕ) × Consumes (R.left reader.old) (R.left reader.new) read
         × (take n buffer.new ≡ seen ahead ++ read)) }
     ensures end { IfOk result (λ n. n < length buffer.new → IsAtEnd (R.left reader.new)) }
-    ensures lost { OnErr result (ConsumesUpTo (R.left reader.old) (R.left reader.new) (length buffer.new - length (seen ahead))) }
+    ensures lost { OnErr result (ConsumesUpTo (R.left reader.old) (R.left reader.new)
+        (length buffer.new - length (seen ahead))) }
     ensures count { R.failures reader.new ≡ counted (is_err result) (R.failures reader.old) }
 {
     match ahead {
@@ -104,8 +106,8 @@ impl Intake {
         }
     }
 
-    /// Reads the next block to the front of a buffer that is longer, and a byte behind it, unless the input ends with the
-    /// block; and no more than so many bytes of the input. Answers how many bytes the block has.
+    /// Reads the next block to the front of a buffer that is longer, and a byte behind it, unless the input ends with
+    /// the block; and no more than so many bytes of the input. Answers how many bytes the block has.
     pub(crate) fn next<R: Source>(
         &mut self,
         reader: &mut R,
@@ -123,7 +125,8 @@ impl Intake {
             × (self.new.over ≡ true → self.new.blocks ≡ self.old.blocks)) }
         ensures read { OnOk result ((left : Option (List ℕ)) → HasRead size limit left (R.left reader.old) self.old
             → HasRead size limit left (R.left reader.new) self.new) }
-        ensures chunk { IfOk result (λ n. (left : Option (List ℕ)) → HasRead size limit left (R.left reader.old) self.old
+        ensures chunk { IfOk result (λ n. (left : Option (List ℕ))
+            → HasRead size limit left (R.left reader.old) self.old
             → self.new.over ≡ false → IsChunk size left self.old.blocks self.new.ended (take n buffer.new)) }
         ensures same { OnErr result (self.new ≡ self.old) }
         ensures lost { OnErr result ((left : Option (List ℕ)) → HasRead size limit left (R.left reader.old) self.old

@@ -1,7 +1,8 @@
 //! An input sealed through two queues: jobs to the workers, and pieces back. `pipe` seals a stream of any length,
 //! `pipe_rounds` an input of bounded length in rounds of some chunks.
 //!
-//! The caller's thread reads and writes. Each worker lives as long as the input; while there is nothing to do it sleeps.
+//! The caller's thread reads and writes. Each worker lives as long as the input; while there is nothing to do it
+//! sleeps.
 #![tactic(auto)]
 
 mod block;

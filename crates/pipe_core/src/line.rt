@@ -133,7 +133,8 @@ impl<N: Naming> Outcome<Piece, Hand> for Take<N> {
     ghost use Rattle.pipe_core.specs.Pieces.{IsPiece, piece_numbers};
     ghost use Rattle.pipe_core.specs.Hands.{hand};
 
-    ghost then = { λ v x w. IsPiece N.each N.key N.header N.told x × (w ≡ hand v.parts v.put (v.taken ++ piece_numbers x)) };
+    ghost then = { λ v x w. IsPiece N.each N.key N.header N.told x
+        × (w ≡ hand v.parts v.put (v.taken ++ piece_numbers x)) };
 }
 
 /// What was put is what was taken and what the queue holds.
@@ -167,7 +168,8 @@ pub(crate) fn put_task<N: Naming, R: Wait>(
     requires pass { IsPassOf jobs.now pass.old × (0 < (view pass.old).parts) }
     requires task { IsTask N.each N.header N.told task }
     ensures pass { IsPassOf jobs.now pass.new }
-    ensures view { view pass.new ≡ hand (view pass.old).parts ((view pass.old).put ++ task_numbers task) (view pass.old).taken }
+    ensures view { view pass.new
+        ≡ hand (view pass.old).parts ((view pass.old).put ++ task_numbers task) (view pass.old).taken }
 {
     let mut task = task;
     for _ in rt.forever() {
@@ -190,7 +192,8 @@ pub(crate) fn put_piece<N: Naming, R: Wait>(
     requires pass { IsPassOf pieces.now pass.old × (0 < (view pass.old).parts) }
     requires piece { IsPiece N.each N.key N.header N.told piece }
     ensures pass { IsPassOf pieces.now pass.new }
-    ensures view { view pass.new ≡ hand (view pass.old).parts ((view pass.old).put ++ piece_numbers piece) (view pass.old).taken }
+    ensures view { view pass.new
+        ≡ hand (view pass.old).parts ((view pass.old).put ++ piece_numbers piece) (view pass.old).taken }
 {
     let mut piece = piece;
     for _ in rt.forever() {
@@ -207,7 +210,8 @@ pub(crate) fn put_piece<N: Naming, R: Wait>(
 pub(crate) fn take_task<N: Naming>(jobs: &JobLine<N>, pass: &mut Pass<Task, Hand>) -> Option<Task>
     requires pass { IsPassOf jobs.now pass.old × (0 < (view pass.old).parts) }
     ensures pass { IsPassOf jobs.now pass.new }
-    ensures some { IfSome result (λ x. IsTask N.each N.header N.told x × (view pass.new ≡ hand (view pass.old).parts (view pass.old).put ((view pass.old).taken ++ task_numbers x))) }
+    ensures some { IfSome result (λ x. IsTask N.each N.header N.told x
+        × (view pass.new ≡ hand (view pass.old).parts (view pass.old).put ((view pass.old).taken ++ task_numbers x))) }
     ensures none { IfNone result (view pass.new ≡ view pass.old) }
 {
     jobs.try_pop_as::<Take<N>>(pass)
@@ -220,7 +224,8 @@ pub(crate) fn take_piece<N: Naming>(
 ) -> Option<Piece>
     requires pass { IsPassOf pieces.now pass.old × (0 < (view pass.old).parts) }
     ensures pass { IsPassOf pieces.now pass.new }
-    ensures some { IfSome result (λ x. IsPiece N.each N.key N.header N.told x × (view pass.new ≡ hand (view pass.old).parts (view pass.old).put ((view pass.old).taken ++ piece_numbers x))) }
+    ensures some { IfSome result (λ x. IsPiece N.each N.key N.header N.told x
+        × (view pass.new ≡ hand (view pass.old).parts (view pass.old).put ((view pass.old).taken ++ piece_numbers x))) }
     ensures none { IfNone result (view pass.new ≡ view pass.old) }
 {
     pieces.try_pop_as::<Take<N>>(pass)

@@ -1,5 +1,5 @@
-//! A job and a piece. Both own the buffer of their block, which has room for the tags of its chunks. The input's last block
-//! is none of them: the caller's thread seals it.
+//! A job and a piece. Both own the buffer of their block, which has room for the tags of its chunks. The input's last
+//! block is none of them: the caller's thread seals it.
 ghost use Rattle.std.specs.Prelude.{◌≡◌, ◌+◌, ◌*◌, ◌≤◌, false, length, take};
 ghost use Rattle.pipe_core.specs.Pieces.{block, room, IsBlock, IsChunk, IsPiece};
 

@@ -20,9 +20,10 @@ use std::alloc::{AllocError, Global};
 use std::collections::VecDeque;
 use worker_core::Gate;
 
-/// How an input is sealed: at most `limit` bytes are read of it, the last of which is one too many. It is cut into blocks of
-/// `each` chunks; at most `depth` blocks are read and not written. Full blocks are put by `group`. What was put may be written at once where it is eager,
-/// behind a header that was written before; else once the next group is put, and the header is written with it.
+/// How an input is sealed: at most `limit` bytes are read of it, the last of which is one too many. It is cut into
+/// blocks of `each` chunks; at most `depth` blocks are read and not written. Full blocks are put by `group`. What was
+/// put may be written at once where it is eager, behind a header that was written before; else once the next group is
+/// put, and the header is written with it.
 #[derive(Clone, Copy)]
 pub(crate) struct Plan {
     pub(crate) limit: u64,
@@ -146,7 +147,8 @@ impl Round {
         ensures sealed { self.new.intake.ended ≡ true → self.new.is_sealed ≡ true }
         ensures may { self.old.intake.ended ≡ true → MayEnd N.each N.header self.new }
         ensures last { (number : ℕ) → self.old.intake.blocks ≡ number + 1
-            → IsLast N.each N.key N.header N.told number self.old → IsLast N.each N.key N.header N.told number self.new }
+            → IsLast N.each N.key N.header N.told number self.old
+            → IsLast N.each N.key N.header N.told number self.new }
         ensures going { self.old.intake.ended ≡ false → self.new ≡ self.old }
     {
         if !self.intake.ended {

@@ -2,7 +2,8 @@
 //! seals it, without a queue.
 //!
 //! Small chunks go through the queues in blocks of several, so that one read, one job and one write carry some 64 KiB.
-ghost use Rattle.std.specs.Prelude.{◌≡◌, ℕ, ◌+◌, ◌-◌, ◌*◌, ◌/◌, ◌^◌, ◌<◌, ◌≤◌, List, [], ◌∷◌, Option, OnOk, OnErr, is_err, true, take, drop};
+ghost use Rattle.std.specs.Prelude.{◌≡◌, ℕ, ◌+◌, ◌-◌, ◌*◌, ◌/◌, ◌^◌, ◌<◌, ◌≤◌, List, [], ◌∷◌, Option, OnOk, OnErr};
+ghost use Rattle.std.specs.Prelude.{is_err, true, take, drop};
 ghost use Rattle.container_core.specs.Container.{hint_of, size_in};
 ghost use Rattle.io_core.specs.Streams.{counted};
 ghost use Rattle.pipe_core.specs.Order.{AreWritten, HasBegun};
@@ -67,7 +68,8 @@ fn alone<N: Naming, W: Sink, G: Gate>(
     requires named { (key.now ≡ N.key) × (header.now ≡ N.header) × (each ≡ N.each) }
     requires each { IsBlock N.each N.header }
     requires ended { round.old.intake.ended ≡ true }
-    requires hand { (left : Option (List ℕ)) × (limit : ℕ) × IsInHand N.each N.key N.header N.told left limit 0 round.old }
+    requires hand { (left : Option (List ℕ)) × (limit : ℕ)
+        × IsInHand N.each N.key N.header N.told left limit 0 round.old }
     ensures sealed { (left : Option (List ℕ)) (failures : Option ℕ) (limit group : ℕ) → 0 < limit
         → IsInHand N.each N.key N.header N.told left limit 0 round.old
         → HasSealedRounds N.header N.key N.header (limit - 1) (group * N.each) N.told left failures failures
@@ -96,8 +98,8 @@ fn fills(window: u32, each: u32, workers: u32) -> bool
     window / each >= workers
 }
 
-// How many chunks of a size go through the queues as one block: so many that it has 64 KiB, or fewer, so that blocks fill a
-// round, and each worker has one.
+// How many chunks of a size go through the queues as one block: so many that it has 64 KiB, or fewer, so that blocks
+// fill a round, and each worker has one.
 fn each_of(size: usize, workers: u32, window: u32) -> u32
     requires size { (0 < size) × (size ≤ 2 ^ 20) }
     requires workers { 0 < workers }
@@ -108,11 +110,11 @@ fn each_of(size: usize, workers: u32, window: u32) -> u32
     ensures groups { 0 < window / result }
 {
     let mut each = (BLOCK / size) as u32;
-    'halves: while each > 1 {
+    'fewer: while each > 1 {
         if fills(window, each, workers) {
             return each;
         }
-        each /= 2;
+        each -= 1;
     }
     1
 }
@@ -142,7 +144,8 @@ fn rounds_named<
     requires numbers { max_bytes + block each header.now ≤ 4294967296 * size_in header.now }
     requires workers { (0 < workers) × (workers ≤ MAX_WORKERS) }
     requires group { (0 < group) × (group ≤ MAX_WINDOW) }
-    ensures sealed { HasSealedRounds header.now key.now header.now max_bytes (group * each) (R.left reader.old) (R.left reader.new)
+    ensures sealed { HasSealedRounds header.now key.now header.now max_bytes (group * each) (R.left reader.old)
+        (R.left reader.new)
         (R.failures reader.old) (R.failures reader.new) (W.taken writer.old) (W.taken writer.new)
         (W.failures writer.old) (W.failures writer.new) result }
 {
@@ -177,16 +180,17 @@ fn rounds_named<
     .0
 }
 
-/// Seals an input of at most `max_bytes` bytes (2^40 at most) under a header of this key, by 1 to 16 workers, of which
-/// the caller's thread is worker 0 and does all reading and writing, in rounds of `window` chunks (1 to 256). Answers the
-/// input's length in bytes.
+/// Seals an input of at most `max_bytes` bytes (2^40 at most) under a header of this key, by 1 to 16 workers, of
+/// which the caller's thread is worker 0 and does all reading and writing, in rounds of `window` chunks (1 to 256).
+/// Answers the input's length in bytes.
 ///
-/// Chunks of less than 64 KiB are read, handed to a worker and written in blocks of several, of 64 KiB at the most: of so
-/// many that blocks fill the window, and there is one for each worker. A round is sealed once a byte behind it, or the end,
-/// was seen, and nothing is read while two windows of chunks are read and not written. The header is written with the first round. `TooLong` where a byte more was read, and nothing
-/// past it is; the round in hand is dropped then, and those before it are written. `OutOfMemory` where a queue, the
-/// workers' bells or the buffers of two windows find no memory: nothing is written then. An input that ends within the
-/// first round takes as many buffers as it has blocks, and, where one worker suffices, no queue.
+/// Chunks of less than 64 KiB are read, handed to a worker and written in blocks of several, of 64 KiB at the most:
+/// of so many that blocks fill the window, and that there is one for each worker, where the window has so many
+/// chunks. A round is sealed once a byte behind it, or the end, was seen, and nothing is read while two windows of
+/// chunks are read and not written. The header is written with the first round. `TooLong` where a byte more was read,
+/// and nothing past it is; the round in hand is dropped then, and those before it are written. `OutOfMemory` where a
+/// queue, the workers' bells or the buffers of two windows find no memory: nothing is written then. An input that
+/// ends within the first round takes as many buffers as it has blocks, and, where one worker suffices, no queue.
 pub fn pipe_rounds<T: Threads + Wait + Sync, R: Source, W: Sink, G: Gate + Sync>(
     rt: &T,
     alloc: Global,
@@ -203,7 +207,8 @@ pub fn pipe_rounds<T: Threads + Wait + Sync, R: Source, W: Sink, G: Gate + Sync>
     requires max_bytes { max_bytes ≤ MAX_PLAIN }
     requires workers { (0 < workers) × (workers ≤ MAX_WORKERS) }
     requires window { (0 < window) × (window ≤ MAX_WINDOW) }
-    ensures sealed { HasSealedRounds header.now key.now header.now max_bytes window (R.left reader.old) (R.left reader.new)
+    ensures sealed { HasSealedRounds header.now key.now header.now max_bytes window (R.left reader.old)
+        (R.left reader.new)
         (R.failures reader.old) (R.failures reader.new) (W.taken writer.old) (W.taken writer.new)
         (W.failures writer.old) (W.failures writer.new) result }
 {

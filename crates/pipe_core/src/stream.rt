@@ -153,7 +153,8 @@ fn crew<N: Naming + Send + Sync, T: Threads + Wait + Sync, R: Source, W: Sink, G
     let mut back = pieces.another::<Cut>(from);
     let mut other = ||
         requires { IsSync T.row × (0 < last) × (last < length bells.now) × (key.now ≡ N.key) × (header.now ≡ N.header)
-            × (each ≡ N.each) × IsBlock N.each N.header × IsPassOf jobs.now theirs × (view theirs ≡ newcomer) × IsPassOf pieces.now back × (view back ≡ newcomer) }
+            × (each ≡ N.each) × IsBlock N.each N.header × IsPassOf jobs.now theirs × (view theirs ≡ newcomer)
+            × IsPassOf pieces.now back × (view back ≡ newcomer) }
         ensures { IsPassOf jobs.entry.now theirs.exit × IsPassOf pieces.entry.now back.exit
             × HasRelayed 1 (view theirs.exit) (view back.exit) }
     {
@@ -173,13 +174,15 @@ fn crew<N: Naming + Send + Sync, T: Threads + Wait + Sync, R: Source, W: Sink, G
     };
     let mut here = || -> Result<u64, SealFault>
         requires { IsSync T.row × (key.now ≡ N.key) × (header.now ≡ N.header) × IsPlan N.each N.header plan
-            × IsRead N.each N.key N.header N.told (R.left reader.now) plan round.now × (0 < last) × (last ≤ length bells.now)
+            × IsRead N.each N.key N.header N.told (R.left reader.now) plan round.now × (0 < last)
+            × (last ≤ length bells.now)
             × IsPassOf jobs.now into.now × (last ≤ (view into.now).parts) × ((view into.now).put ≡ [])
             × IsPassOf pieces.now from.now × (last ≤ (view from.now).parts) × ((view from.now).put ≡ []) }
         ensures { OnOk result ((n : ℕ) × HasAll n (view into.exit.now) (view from.exit.now))
             × (IsPassOf jobs.entry.now into.exit.now × ((view into.exit.now).parts ≡ (view into.entry.now).parts))
             × (IsPassOf pieces.entry.now from.exit.now × ((view from.exit.now).parts ≡ (view from.entry.now).parts))
-            × HasSealedRounds (front_of N.header plan) N.key N.header (plan.limit - 1) (plan.group * N.each) N.told (R.left reader.exit.now)
+            × HasSealedRounds (front_of N.header plan) N.key N.header (plan.limit - 1)
+            (plan.group * N.each) N.told (R.left reader.exit.now)
             (R.failures reader.entry.now) (R.failures reader.exit.now) (W.taken writer.entry.now)
             (W.taken writer.exit.now) (W.failures writer.entry.now) (W.failures writer.exit.now) result }
     {

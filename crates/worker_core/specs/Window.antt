@@ -4,4 +4,5 @@ use Rattle.std.specs.Prelude.{ℕ, ◌*◌, ◌/◌, ◌==◌, min, max, if◌th
 -- of chunks of so many plaintext bytes: as many as 1 MiB has. One worker takes 16 of them at most and one at least;
 -- several take 256 at most, and two each at least
 abbrev pub usual : ℕ → ℕ → ℕ
-usual chunk workers = if workers == 1 then max (min (1048576 / chunk) 16) 1 else max (min (1048576 / chunk) 256) (2 * workers)
+usual chunk workers = if workers == 1 then max (min (1048576 / chunk) 16) 1
+    else max (min (1048576 / chunk) 256) (2 * workers)

@@ -1,5 +1,5 @@
-//! Workers over the rounds of `round_core`: so many, each with room of its own, draw the pieces of a round one by one and
-//! make them, while the caller's thread does a chore beside them.
+//! Workers over the rounds of `round_core`: so many, each with room of its own, draw the pieces of a round one by one
+//! and make them, while the caller's thread does a chore beside them.
 //!
 //! `rounds` has the crew, `gate` what every worker passes before each piece, `window` how many chunks a round has.
 #![tactic(auto)]

@@ -103,9 +103,10 @@ impl Crew {
         })
     }
 
-    /// Makes all pieces of a round, each by the worker that draws its number, while the caller's thread, worker 0, does
-    /// a chore first and then draws as the others do. Each worker passes the gate before each piece. A worker that can't
-    /// be started makes nothing, and where memory for the numbers' word is refused the caller's thread makes all.
+    /// Makes all pieces of a round, each by the worker that draws its number, while the caller's thread, worker 0,
+    /// does a chore first and then draws as the others do. Each worker passes the gate before each piece. A worker
+    /// that can't be started makes nothing, and where memory for the numbers' word is refused the caller's thread
+    /// makes all.
     pub fn make<R: Threads + Sync, G: Gate + Sync, C: FnMut() -> A, A>(
         &mut self,
         rt: &R,

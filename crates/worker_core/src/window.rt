@@ -1,7 +1,7 @@
 //! How many chunks a round of a file has where no number of them is asked for.
 //!
 //! One worker alone is quickest where a round stays in its processor's nearer cache; several want a round that is worth
-//! waking them for.
+//! waking them for, with two chunks each, so that the others needn't wait for the slowest.
 ghost use Rattle.std.specs.Prelude.{◌≡◌, ◌<◌, ◌≤◌};
 ghost use Rattle.worker_core.specs.Window.{usual};
 
@@ -13,7 +13,7 @@ pub const ROUND_BYTES: usize = 1 << 20;
 
 /// The chunks of a round of a file where no number of them is asked for, where a chunk has so many plaintext bytes: as
 /// many as `ROUND_BYTES` have, by one worker at most `DEFAULT_WINDOW` and at least one, by several at most `MAX_WINDOW`
-/// and at least two each, so that none waits long for the slowest.
+/// and at least two each.
 pub fn usual_window(chunk: usize, workers: u32) -> u32
     requires chunk { 0 < chunk }
     requires workers { (0 < workers) × (workers ≤ MAX_WORKERS) }

@@ -172,8 +172,8 @@ fn make_by<R: Threads + Sync, G: Gate + Sync, C: FnMut() -> A, A>(
     done
 }
 
-// Makes the pieces of a round by as many workers as there are benches, each on its bench, while the caller's thread does
-// a chore first.
+// Makes the pieces of a round by as many workers as there are benches, each on its bench, while the caller's thread
+// does a chore first.
 pub(crate) fn make_round<R: Threads + Sync, G: Gate + Sync, C: FnMut() -> A, A>(
     rt: &R,
     alloc: Global,

@@ -2,8 +2,8 @@
 use Rattle.std.proofs.Common.{◌*◌, ◌≤◌}
 use Rattle.pipe_core.proofs.rounds.each_of.Given as goal
 
-abbrev pub invariant-halves : goal.invariant-halves
-invariant-halves l = l.each * l.size ≤ 65536
+abbrev pub invariant-fewer : goal.invariant-fewer
+invariant-fewer l = l.each * l.size ≤ 65536
 
-abbrev pub decreases-halves : goal.decreases-halves
-decreases-halves l = l.each
+abbrev pub decreases-fewer : goal.decreases-fewer
+decreases-fewer l = l.each
