@@ -75,7 +75,7 @@ module _ (key : List ℕ) (opens : Opens key) (differ : Differ key) (shape : Sha
 -- ---- runs
 
 -- what a call of `open_all` opened is what its input opens to
-opened_to : (key : List ℕ) (call : OpenedFiles key) (file bytes plain : List ℕ) → WasOpened call.events file bytes plain → (most : ℕ) × (opening key most bytes ≡ Ok plain)
+pub opened_to : (key : List ℕ) (call : OpenedFiles key) (file bytes plain : List ℕ) → WasOpened call.events file bytes plain → (most : ℕ) × (opening key most bytes ≡ Ok plain)
 opened_to key call file bytes plain was =
     let (most, label, status, old, new, failures, later, worked) = call.opened in
     let (events, done, joined) = worked.done in

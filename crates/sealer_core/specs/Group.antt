@@ -1,4 +1,5 @@
--- Inside: files that are sealed in a group, by several lanes: before the sealing, and between it and their lines.
+-- Inside: how a file begins, and how its output ends, by one lane and by several; and what becomes of the files of a
+-- group.
 use Rattle.std.specs.Prelude.{⊤, ◌≡◌, ◌≢◌, ℕ, ◌+◌, ◌<◌, ◌≤◌, Bool, false, nat_eq, if◌then◌else◌, List, [], ◌∷◌, ◌++◌}
 use Rattle.std.specs.Prelude.{drop, length, map, All, count_by, slice_get, Option, Some, Result, Ok, Err}
 use Rattle.journal_core.specs.declared.entry.Entry.{Entry}
@@ -163,7 +164,7 @@ IsEnding number old new _ = IsCounted old new (Settled number ended.Void)
 
 -- ---- how a file ends
 
--- So an output ends whose sealing ended so, under this number: where all was sealed it is finished, or couldn't be.
+-- How an output ends, by how its sealing ended under this number: where all was sealed it is finished, or couldn't be.
 abbrev pub EndsBy : Result ℕ SealFault → ℕ → FileOutcome → Type 0
 EndsBy (Ok bytes) number (Sealed n m) = (n ≡ number) × (m ≡ bytes)
 EndsBy (Ok bytes) number end = end ≡ Failed (Unsealed sealing_fault.Write)
@@ -177,8 +178,8 @@ IsPut container number bytes old new end = (end ≡ Failed (Unsealed sealing_fau
     × AppendsFront old new container
 
 -- A file of so many bytes ends by the first of the outcomes: its output gets the container that was sealed, under the
--- number that this was sealed under; or the file failed as the outcome says, and its output gets nothing. Where there is
--- no outcome memory for them was refused.
+-- number that this was sealed under; or the file failed as the outcome says, and its output gets nothing. Where there
+-- is no outcome memory for them was refused.
 abbrev pub IsEndBy : ℕ → Option (List ℕ) → Option (List ℕ) → List Outcome → FileOutcome → Type 0
 IsEndBy bytes old new [] end = (end ≡ Failed (Unsealed sealing_fault.OutOfMemory)) × Keeps old new
 IsEndBy bytes old new (job.Sealed seat container spent ∷ outcomes) end =

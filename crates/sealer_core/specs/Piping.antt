@@ -15,8 +15,9 @@ use Rattle.sealer_core.specs.Sealing.{Accounts, AreNumbered, IsSettled, line_of}
 
 -- ---- what was read and written
 
--- The reader had `left` to be read, and has `left'` now; the writer had taken `taken`, and has `taken'` now. Of failed reads there
--- were `failures`, and are `failures'`; of failed writes `refusals` and `refusals'`. There may be `most` chunks.
+-- The reader had `left` to be read, and has `left'` now; the writer had taken `taken`, and has `taken'` now. Of
+-- failed reads there were `failures`, and are `failures'`; of failed writes `refusals` and `refusals'`. There may be
+-- `most` chunks.
 module _ (key : List ℕ) (shape : ShapeView) (most : ℕ) (left left' : Option (List ℕ)) (failures failures' : Option ℕ)
     (taken taken' : Option (List ℕ)) (refusals refusals' : Option ℕ) where
   -- nothing was read or written
@@ -45,7 +46,8 @@ abbrev pub stream_name : List ℕ
 stream_name = codes "-"
 
 -- A stream was worked, and these void numbers and these operations of a ledger go with its line.
-pub record IsPiped (key : List ℕ) (shape : ShapeView) (most : ℕ) (left left' : Option (List ℕ)) (failures failures' : Option ℕ)
+pub record IsPiped (key : List ℕ) (shape : ShapeView) (most : ℕ) (left left' : Option (List ℕ))
+    (failures failures' : Option ℕ)
     (taken taken' : Option (List ℕ)) (refusals refusals' : Option ℕ) (device : ℕ) (operations : List Entry)
     (outcome : FileOutcome) : Type 0 where
   pub voids : List ℕ
@@ -53,13 +55,14 @@ pub record IsPiped (key : List ℕ) (shape : ShapeView) (most : ℕ) (left left'
       voids
   pub accounts : Accounts (line_of stream_name outcome ∷ []) voids operations
 
--- So it was, over one legal history, with a number of the range, and none is open; and its line was told, by a writer that had
--- taken `old` and has `new` now, with so many failures.
+-- So it was, over one legal history, with a number of the range, and none is open; and its line was told, by a writer
+-- that had taken `old` and has `new` now, with so many failures.
 pub record HasSealedStream (key : List ℕ) (shape : ShapeView) (most : ℕ) (left left' : Option (List ℕ))
     (failures failures' : Option ℕ) (taken taken' : Option (List ℕ)) (refusals refusals' : Option ℕ) (terms : Terms)
     (history : List Entry) (status : ℕ) (old new : Option (List ℕ)) (faults faults' : Option ℕ) : Type 0 where
   pub outcome : FileOutcome
-  pub piped : IsPiped key shape most left left' failures failures' taken taken' refusals refusals' terms.range.device history
+  pub piped : IsPiped key shape most left left' failures failures' taken taken' refusals
+      refusals' terms.range.device history
       outcome
   pub told : AreTold status (line_of stream_name outcome ∷ []) old new faults faults'
   pub numbered : AreNumbered terms.range (line_of stream_name outcome ∷ [])

@@ -98,7 +98,7 @@ HeldUnder key shape device input [] held = held ≡ []
 HeldUnder key shape device input (number ∷ []) held = IsFront held (container key shape (prefix_of device number) input)
 HeldUnder key shape device input (number ∷ another ∷ numbers) held = ⊥
 
--- Why the output of a file was given up: what the fault tells of the void number, of the input and of what the output
+-- What the fault of a file whose output was given up tells of the void number, of the input and of what the output
 -- held. Only under a number can a write fail, and memory is refused before anything is written. A file is bounded by
 -- bytes, so it never has too many chunks. Of a reader that failed nothing is said.
 abbrev pub IsCause : ℕ → FileFault → List ℕ → List ℕ → List ℕ → Type 0
@@ -214,8 +214,8 @@ pub record AreNumbered (range : Numbers) (lines : List FileLine) : Type 0 where
 
 -- ---- a run
 
--- A range of so many numbers of the device was reserved: where the database holds lists, it stands at the end of that of the
--- key id and device, and every crash leaves it there.
+-- A range of so many numbers of the device was reserved: where the database holds lists, it stands at the end of that
+-- of the key id and device, and every crash leaves it there.
 pub record IsReserved (key_id : List ℕ) (device count : ℕ) (old new : State) (range : Numbers) : Type 0 where
   pub asked : (range.device ≡ device) × (range.size ≡ count)
   pub appended : HasCleanDisk new → (lists : Lists) → Holds old.now lists
@@ -234,8 +234,8 @@ CrashesAround key_id device count old new =
     Survives old new (λ trees. (lists : Lists) → Holds old.now lists
     → (db : Database) × Holds db (with_range lists key_id device count) × (trees ≡ db.trees))
 
--- A ledger file's keeper appended at most one range, whatever outlived a crash still does, and it stands as it then was; or
--- it was folded, and this is left of it.
+-- A ledger file's keeper appended at most one range, whatever outlived a crash still does, and it stands as it then
+-- was; or it was folded, and this is left of it.
 abbrev pub ReservesOnce : {S L F : Type 0} → Ghosts S → (Held S → F) → (L → F) → (S → L → Type 0) → List ℕ → ℕ → ℕ
     → F → F → Type 0
 ReservesOnce g kept folded is_left key_id device count old new =
@@ -244,7 +244,8 @@ ReservesOnce g kept folded is_left key_id device count old new =
     × ((new ≡ kept mid) ⊎ ((left : _) × (new ≡ folded left) × LeftBy g is_left mid left))
 
 -- so over files
-abbrev pub ReservesFilesOnce : {D F : Type 0} {g : disk.Ghosts D} → (Held (FileStore D g) → F) → (Files D → F) → List ℕ → ℕ
+abbrev pub ReservesFilesOnce : {D F : Type 0} {g : disk.Ghosts D} → (Held (FileStore D g) → F) → (Files D → F)
+    → List ℕ → ℕ
     → ℕ → F → F → Type 0
 ReservesFilesOnce kept folded = ReservesOnce over_files kept folded AreLeft
 

@@ -1,4 +1,5 @@
--- No nonce is used twice: what the runs under one key did, and the chunks that their outputs held.
+-- No nonce is used twice, and what was opened was sealed: what the runs under one key did, the chunks that their outputs
+-- held, and what a call opened of them.
 --
 -- A run is a call of `seal_all` or of `pipe_all` that reserved numbers of the key and a device. It ended, or it was
 -- killed. A killed run did what a run does whose every later call fails, of its folder, its reader, its writers and its
@@ -14,7 +15,8 @@
 -- - Nobody else writes a ledger file. (`Follows`: a run finds what those before it left.)
 -- - Its disk returns what was written to it. (`AreClean`, there.)
 -- - No two ledger files share key and device. (All runs of a device stand in one list.)
-use Rattle.std.specs.Prelude.{⊤, ◌≡◌, ◌⊎◌, ℕ, ◌+◌, ◌*◌, ◌^◌, ◌<◌, ◌≤◌, List, [], ◌∷◌, ◌++◌, length, slice_get, Option, Some}
+use Rattle.std.specs.Prelude.{⊤, ◌≡◌, ◌⊎◌, ℕ, ◌+◌, ◌*◌, ◌^◌, ◌<◌, ◌≤◌, List, [], ◌∷◌, ◌++◌, length, slice_get, Option}
+use Rattle.std.specs.Prelude.{Some}
 use Rattle.std.specs.List.{AllByRecursion}
 use Rattle.sha2.specs.Sha256.{sha256}
 use Rattle.io_core.specs.Streams.{IsFront}
@@ -50,12 +52,13 @@ pub record WroteFiles (key : List ℕ) (terms : Terms) (history : List Entry) (o
   pub before : List Event
   pub events : List Event
   pub sealed : (most : ℕ) × (status : ℕ) × (old : Option (List ℕ)) × (new : Option (List ℕ)) × (failures : Option ℕ)
-      × (later : Option ℕ) × HasSealed (Happened key shape most terms.range.device (Some before) (Some (before ++ events)))
+      × (later : Option ℕ) × HasSealed (Happened key shape most terms.range.device (Some before)
+      (Some (before ++ events)))
       names terms history status old new failures later
   pub held : outputs ≡ written_in events
 
 -- A run of `pipe_all` (its clause `run`), over a reader that had this input and a writer that took these bytes: they
--- are its one output, where there are any. Its line says this of it.
+-- are its one output, where there are any. Its line says `outcome` of it.
 pub record WroteStream (key : List ℕ) (terms : Terms) (history : List Entry) (outputs : List (List ℕ)) : Type 0 where
   pub shape : ShapeView
   pub is_shape : IsShape shape
@@ -64,7 +67,8 @@ pub record WroteStream (key : List ℕ) (terms : Terms) (history : List Entry) (
   pub bytes : List ℕ
   pub outcome : FileOutcome
   pub sealed : (most : ℕ) × (left : Option (List ℕ)) × (failures : Option ℕ) × (failures' : Option ℕ)
-      × (refusals : Option ℕ) × (refusals' : Option ℕ) × (status : ℕ) × (old : Option (List ℕ)) × (new : Option (List ℕ))
+      × (refusals : Option ℕ) × (refusals' : Option ℕ) × (status : ℕ) × (old : Option (List ℕ))
+      × (new : Option (List ℕ))
       × (faults : Option ℕ) × (faults' : Option ℕ)
       × (stream : HasSealedStream key shape most (Some input) left failures failures' (Some taken)
       (Some (taken ++ bytes)) refusals refusals' terms history status old new faults faults')
@@ -147,7 +151,8 @@ pub record HasChunk (key bytes : List ℕ) (chunk : ℕ) (nonce : List ℕ) : Ty
   pub begins : IsFront bytes (container key shape prefix plain)
   pub reached : length (header_of key shape prefix) + chunk * (size_of shape + tag_size) < length bytes
   pub numbered : chunk < 2 ^ 32
-  pub nonce_is : slice_get (stream_nonces (header_of key shape prefix) 0 (chunks (size_of shape) plain)) chunk ≡ Some nonce
+  pub nonce_is : slice_get (stream_nonces (header_of key shape prefix) 0 (chunks (size_of shape) plain)) chunk
+      ≡ Some nonce
 
 -- ---- what was read and finished, for a line
 

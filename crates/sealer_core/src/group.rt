@@ -1,6 +1,6 @@
-//! Files sealed in groups of as many as a ledger has lanes. By one lane the file is sealed as it is read. By several each
-//! file in turn is prepared; those that were read are sealed side by side; then each container in turn is written, its
-//! output finished, and its number settled.
+//! Files sealed in groups of as many as a ledger has lanes. By one lane the file is sealed as it is read. By several
+//! each file in turn is prepared; those that were read are sealed side by side; then each container in turn is
+//! written, its output finished, and its number settled.
 ghost use Rattle.std.specs.Prelude.{◌≡◌, ◌⊎◌, ℕ, Option, ◌<◌, ◌≤◌, List, [], ◌∷◌, ◌++◌, length, map, All, flat_map};
 ghost use Rattle.command_core.specs.Lines.{FileLine};
 ghost use Rattle.command_core.specs.Trace.{Does};

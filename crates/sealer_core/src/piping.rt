@@ -121,8 +121,8 @@ fn pipe_alone<T: Threads + Wait + Sync, R: Source, W: Sink>(
     pipe_next(rt, alloc, key, ledger, seat, reader, writer, options)
 }
 
-// Seals what a reader gives over a new ledger, tells its line, and ends the ledger. The answer is the status of the line,
-// and how the ledger ended.
+// Seals what a reader gives over a new ledger, tells its line, and ends the ledger. The answer is the status of the
+// line, and how the ledger ended.
 fn pipe_over<T: Threads + Wait + Sync, R: Source, W: Sink, E: Sink, J: Sink>(
     rt: &T,
     alloc: Global,
@@ -164,15 +164,16 @@ fn pipe_over<T: Threads + Wait + Sync, R: Source, W: Sink, E: Sink, J: Sink>(
 }
 
 /// Seals what a reader gives, to its end and as it comes, and writes its container, in the options' shape and under a
-/// number of its own. Its line, `sealed - file NUMBER bytes N` or `failed -: FAULT`, goes to `out.faults`, since standard
-/// output is the container's. The answer is the exit status: 0 where the stream was sealed, 1 where that failed, 2 where
-/// no range was reserved, the ledger file not folded or no ledger opened (then nothing was read or written), where the
-/// line couldn't be written, or where the journal couldn't be written whole. Each of these but the line has a text on
-/// standard error.
+/// number of its own. Its line, `sealed - file NUMBER bytes N` or `failed -: FAULT`, goes to `out.faults`, since
+/// standard output is the container's. The answer is the exit status: 0 where the stream was sealed, 1 where that
+/// failed, 2 where no range was reserved, the ledger file not folded or no ledger opened (then nothing was read or
+/// written), where the line couldn't be written, or where the journal couldn't be written whole. Each of these but
+/// the line has a text on standard error.
 ///
-/// At a fault what was written begins the stream's container: whoever reads it must have the status, or open it. One range
-/// of one number is reserved, for good, and in the ledger file itself before the stream is read; nobody else may write the
-/// ledger file, and no ledger file that was copied or restored may be used again with the same key and device.
+/// At a fault what was written begins the stream's container: whoever reads it must have the status, or open it. One
+/// range of one number is reserved, for good, and in the ledger file itself before the stream is read; nobody else
+/// may write the ledger file, and no ledger file that was copied or restored may be used again with the same key and
+/// device.
 pub fn pipe_all<
     T: Threads + Wait + Sync,
     S: Fold,
@@ -196,8 +197,8 @@ pub fn pipe_all<
     requires most { 0 < options.now.max_chunks }
     ensures status { result ≤ 2 }
     // Nothing was read or written; or the stream was sealed over a range of one number that was reserved, in a ledger
-    // file that has it without its log, with one legal history, which the journal tells. Behind the line there is at most
-    // the journal's fault.
+    // file that has it without its log, with one legal history, which the journal tells. Behind the line there is at
+    // most the journal's fault.
     ensures run { ((result ≡ 2) × (reader.new ≡ reader.old) × (writer.new ≡ writer.old)
         × (out.new.journal ≡ out.old.journal))
         ⊎ ((range : Numbers) × (history : List Entry) × (told : ℕ) × (written : Bool) × (lines : Option (List ℕ))

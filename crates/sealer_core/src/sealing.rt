@@ -41,8 +41,8 @@ pub struct SealOptions<'a> {
     pub files: &'a [&'a str],
     /// The number of workers that seal a file: 1 to 16. With more than one lane each file is sealed by its lane alone.
     pub workers: u32,
-    /// How many files are sealed at once, at most: 1 to 16. With more than one, so many inputs and containers are in memory
-    /// at a time, and a group is sealed by as many lanes as it has files of 32 KiB and more, by one at least.
+    /// How many files are sealed at once, at most: 1 to 16. With more than one, so many inputs and containers are in
+    /// memory at a time, and a group is sealed by as many lanes as it has files of 32 KiB and more, by one at least.
     pub lanes: u32,
     /// How many chunks of a file are sealed at a time by one lane: 1 to 256. With more than one lane it has no effect.
     pub window: u32,
@@ -146,7 +146,8 @@ fn work_ledger<T: Threads + Wait + Sync, F: Folder, W: Sink, J: Sink>(
     requires options { AreLawful options.now }
     ensures { (history : List Entry)
         × HasSealed (Happened key.now options.now.shape.now options.now.max_bytes ledger.terms.range.device
-        (F.told folder.old) (F.told folder.new)) (map (λ name. name.now) options.now.files.now) ledger.terms history result.0
+        (F.told folder.old) (F.told folder.new)) (map (λ name. name.now) options.now.files.now)
+        ledger.terms history result.0
         (W.taken lines.old) (W.taken lines.new) (W.failures lines.old) (W.failures lines.new)
         × IsWritten J.taken (journal_text ledger.terms history) (is_ok result.1) journal.old journal.new }
 {
@@ -155,18 +156,18 @@ fn work_ledger<T: Threads + Wait + Sync, F: Folder, W: Sink, J: Sink>(
     (told, end_ledger(alloc, ledger, seats, journal))
 }
 
-/// Seals each file to its name and `.stm`, which must not be there yet, in the options' shape and under a number of its
-/// own. A file of more than `max_bytes` bytes is too long. The answer is the exit status: 0 where every file was sealed,
-/// 1 where one failed, 2 where no range was reserved, the ledger file not folded or no ledger opened (then no file was
-/// touched), where a line couldn't be written (no further line is tried, and the files and the journal are still
-/// worked), or where the journal couldn't be written whole. Each of these but a line has a text on standard error. An
-/// output whose file failed is given up: it is removed, and what it held begins the container of its input under a
-/// number that is void, or is nothing.
+/// Seals each file to its name and `.stm`, which must not be there yet, in the options' shape and under a number of
+/// its own. A file of more than `max_bytes` bytes is too long. The answer is the exit status: 0 where every file was
+/// sealed, 1 where one failed, 2 where no range was reserved, the ledger file not folded or no ledger opened (then no
+/// file was touched), where a line couldn't be written (no further line is tried, and the files and the journal are
+/// still worked), or where the journal couldn't be written whole. Each of these but a line has a text on standard
+/// error. An output whose file failed is given up: it is removed, and what it held begins the container of its input
+/// under a number that is void, or is nothing.
 ///
-/// One range is reserved at most, with as many numbers as there are files, and for good: what it leaves unused is given
-/// up. Before the first file is opened the ledger file is folded, so that it has the range without its log; after that
-/// it is no keeper's, and a further run opens it anew. Nobody else may write the ledger file, and no ledger file that was
-/// copied or restored may be used again with the same key and device.
+/// One range is reserved at most, with as many numbers as there are files, and for good: what it leaves unused is
+/// given up. Before the first file is opened the ledger file is folded, so that it has the range without its log;
+/// after that it is no keeper's, and a further run opens it anew. Nobody else may write the ledger file, and no
+/// ledger file that was copied or restored may be used again with the same key and device.
 pub fn seal_all<
     T: Threads + Wait + Sync,
     S: Fold,
@@ -189,8 +190,8 @@ pub fn seal_all<
     requires lanes { (0 < options.now.lanes) × (options.now.lanes ≤ MAX_LANES) }
     requires max_bytes { options.now.max_bytes ≤ MAX_BYTES }
     ensures status { result ≤ 2 }
-    // No file was touched; or the files were sealed over a range that was reserved, in a ledger file that has it without
-    // its log, with one legal history, which the journal tells.
+    // No file was touched; or the files were sealed over a range that was reserved, in a ledger file that has it
+    // without its log, with one legal history, which the journal tells.
     ensures run { ((result ≡ 2) × (folder.new ≡ folder.old) × (out.new.lines ≡ out.old.lines)
         × (out.new.journal ≡ out.old.journal))
         ⊎ ((range : Numbers) × (history : List Entry) × (told : ℕ) × (written : Bool)

@@ -1,9 +1,11 @@
 //! The theorems over runs: under one key no nonce is used twice, and what was opened was sealed. Their definitions are
 //! in `specs/Theorem.antt`.
 ghost use Rattle.std.specs.Prelude.{◌≡◌, ◌<◌, ◌≤◌, ℕ, ◌+◌, ◌*◌, ◌^◌, List, [], ◌∷◌, ◌++◌, length, map, Option, Some};
+ghost use Rattle.std.specs.Prelude.{Ok};
 ghost use Rattle.sha2.specs.Sha256.{sha256};
 ghost use Rattle.container_core.specs.Chunks.{tag_size};
 ghost use Rattle.container_core.specs.Container.{container, header_of};
+ghost use Rattle.container_core.specs.Opening.{opening};
 ghost use Rattle.container_core.specs.Shape.{IsShape, ShapeView, size_of};
 ghost use Rattle.command_core.specs.declared.line.FileOutcome.TheVariants.{Opened, Sealed};
 ghost use Rattle.command_core.specs.Trace.{Event, Finished};
@@ -116,8 +118,8 @@ pub fn a_call_is_a_run<D: Disk + Drop>()
 /// that the run finished is what the run had read of the file of that output, byte for byte; and of the bytes of a
 /// stream that the run sealed it is the run's input. Nothing is asked of a ledger file or of a disk.
 ///
-/// Of each alone: what the call finished was opened of a file that it had read right before, and what the run finished
-/// is the container of what it had read of a file before.
+/// Of each alone: what the call finished is what the bytes open to of a file that it had read right before, and what
+/// the run finished is the container of what it had read of a file before.
 ///
 /// The last two clauses are of two lines, whatever runs they are of. Take what happened for a line `sealed` of
 /// `seal_all`, or a stream that `pipe_all` sealed, and what happened for a line `opened` of `open_all` under the same
@@ -134,7 +136,8 @@ pub fn what_was_opened_was_sealed()
         → run.outcome ≡ Sealed number count → WasOpened call.events file run.bytes plain → plain ≡ run.input }
     ensures opened { (key : List ℕ) (call : OpenedFiles key) (output plain : List ℕ)
         → IsAmong (Finished output plain) call.events
-        → (file : List ℕ) × (bytes : List ℕ) × (output ≡ output_of file) × WasOpened call.events file bytes plain }
+        → (file : List ℕ) × (bytes : List ℕ) × (output ≡ output_of file) × WasOpened call.events file bytes plain
+        × (most : ℕ) × (opening key most bytes ≡ Ok plain) }
     ensures sealed { (key : List ℕ) (terms : Terms) (history : List Entry) (outputs : List (List ℕ))
         (run : WroteFiles key terms history outputs) (output bytes : List ℕ)
         → IsAmong (Finished output bytes) run.events
@@ -147,7 +150,8 @@ pub fn what_was_opened_was_sealed()
         → Opening key most label other (Opened n) events → read_in events ≡ finished_in after
         → (finished_in events ≡ read_in before) × (n ≡ bytes) }
     ensures streams { (key : List ℕ) (shape : ShapeView) (device number bytes chunks most n : ℕ)
-        (label left : Option (List ℕ)) (failures later refusals more : Option ℕ) (input taken written other void : List ℕ)
+        (label left : Option (List ℕ)) (failures later refusals more : Option ℕ)
+        (input taken written other void : List ℕ)
         (events : List Event)
         → IsShape shape → WorksStream key shape chunks (Some input) left failures later (Some taken)
         (Some (taken ++ written)) refusals more device (Sealed number bytes) void

@@ -1,4 +1,4 @@
-use Rattle.sealer_core.proofs.Openings.{each_opened, held_of_run, of_files, of_run, of_stream_run, of_streams}
+use Rattle.sealer_core.proofs.Openings.{each_opened, held_of_run, of_files, of_run, of_stream_run, of_streams, opened_to}
 use Rattle.sealer_core.proofs.theorem.what_was_opened_was_sealed.Goals as goal
 
 pub returns-clause-runs : goal.returns-clause-runs
@@ -14,7 +14,10 @@ returns-clause-piped c key terms history outputs run call number count file plai
     terms history outputs call run number count file plain is was
 
 pub returns-clause-opened : goal.returns-clause-opened
-returns-clause-opened c key call output plain at = each_opened key call output plain at
+returns-clause-opened c key call output plain at =
+    let (file, bytes, named, was) = each_opened key call output plain at in
+    let (most, opens) = opened_to key call file bytes plain was in
+    (file, bytes, named, was, most, opens)
 
 pub returns-clause-sealed : goal.returns-clause-sealed
 returns-clause-sealed c key terms history outputs run output bytes at = held_of_run key terms history outputs run output bytes at
