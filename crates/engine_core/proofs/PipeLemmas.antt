@@ -11,6 +11,7 @@ use Rattle.engine_core.specs.Engine.{BeginsContainer, DropsRound, HasReadPlain, 
 use Rattle.engine_core.specs.Piped.{HasPipedContainer}
 use Rattle.io_core.specs.Reads.{ConsumesExactly}
 use Rattle.io_core.specs.Streams.{Appends, AppendsFront, counted}
+use Rattle.output_core.specs.Bounds.{Admits, Bound}
 use Rattle.pipe_core.specs.Order.{HasBegun, chunks_so_far}
 use Rattle.pipe_core.specs.Rounds.{DropsInHand, HasSealedRounds}
 use Rattle.pipe_core.specs.Pipe.{HasPiped, read_failed, whole, write_failed}
@@ -31,6 +32,12 @@ whole-container key prefix header input shape named =
     let h = header_of key shape prefix in
     ap (λ (h : List ℕ). h ++ stream key h 0 (chunks (size_in h) input)) named
     ∙ ap (λ (s : ℕ). h ++ stream key h 0 (chunks s input)) (size-header_of key prefix shape)
+
+-- an output that may hold the container may hold the stream
+pub may-container : (key prefix header : List ℕ) (shape : ShapeView) (bound : Option Bound) (taken : Option (List ℕ)) → header ≡ header_of key shape prefix
+    → ((plain : List ℕ) → Admits bound taken (container key shape prefix plain)) → (plain : List ℕ) → Admits bound taken (whole key header plain)
+may-container key prefix header shape bound taken named may plain =
+    subst (Admits bound taken) (sym (whole-container key prefix header plain shape named)) (may plain)
 
 if_some : {A : Type 0} {P Q : A → Type 0} (o : Option A) → ((x : A) → P x → Q x) → IfSome o P → IfSome o Q
 if_some None f p = tt

@@ -1,13 +1,16 @@
 //! The engine that seals a stream of any length, in the memory of so many chunks.
-ghost use Rattle.std.specs.Prelude.{◌≡◌, ◌<◌, ◌≤◌, OnOk, OnErr};
+ghost use Rattle.std.specs.Prelude.{◌≡◌, ℕ, ◌<◌, ◌≤◌, List, OnOk, OnErr};
+ghost use Rattle.container_core.specs.Container.{container};
 ghost use Rattle.crew_core.specs.Spending.{spent_as};
 ghost use Rattle.engine_core.specs.Piped.{HasPipedContainer};
 ghost use Rattle.journal_core.specs.declared.entry.Way.TheVariants.{Sealed, Void};
 ghost use Rattle.ledger_core.specs.Range.{prefix_of};
+ghost use Rattle.output_core.specs.Bounds.{Admits};
 
 use container_core::{Header, Key, SealFault, Shape};
 use crew_core::{Gate, MAX_DEPTH, MAX_WORKERS, pipe};
-use ledger_core::{Grant, Sink, Source, Spent};
+use ledger_core::{Grant, Source, Spent};
+use output_core::Output;
 use std::alloc::Global;
 use std::sync::Wait;
 use std::thread::Threads;
@@ -18,7 +21,9 @@ use std::thread::Threads;
 /// full chunks, and nothing past it is read; never `TooLong`. At every fault what was written begins the container of
 /// the whole stream. The header is written before anything is read. Memory is taken for at most `depth` chunks, two
 /// queues and a bell for each worker.
-pub fn run_pipe<T: Threads + Wait + Sync, R: Source, W: Sink, G: Gate + Sync>(
+///
+/// What the writer may hold, where that is bounded, has to allow the container of any plaintext.
+pub fn run_pipe<T: Threads + Wait + Sync, R: Source, W: Output, G: Gate + Sync>(
     rt: &T,
     alloc: Global,
     key: &Key,
@@ -34,6 +39,8 @@ pub fn run_pipe<T: Threads + Wait + Sync, R: Source, W: Sink, G: Gate + Sync>(
     requires most { 0 < max_chunks }
     requires workers { (0 < workers) × (workers ≤ MAX_WORKERS) }
     requires depth { (0 < depth) × (depth ≤ MAX_DEPTH) }
+    requires may { (plain : List ℕ) → Admits (W.bound writer.old) (W.taken writer.old)
+        (container key.now shape.now (prefix_of grant.device grant.number) plain) }
     ensures pipes { HasPipedContainer key.now shape.now (prefix_of grant.device grant.number) max_chunks
         (R.left reader.old) (R.left reader.new) (R.failures reader.old) (R.failures reader.new)
         (W.taken writer.old) (W.taken writer.new) (W.failures writer.old) (W.failures writer.new) result.0 }

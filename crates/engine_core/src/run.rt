@@ -4,18 +4,21 @@
 //! A container is written as its plaintext is read, and the grant comes back spent: sealed with `Ok`, else void.
 //! Nothing of a container's plaintext is written before all was checked. A window is so many chunks of the size that
 //! the shape or the container's header names, 2^12 to 2^20 bytes.
-ghost use Rattle.std.specs.Prelude.{◌≡◌, ◌≢◌, ◌<◌, ◌≤◌, Ok, Err, IfOk, OnOk, OnErr, IfSome};
+ghost use Rattle.std.specs.Prelude.{◌≡◌, ◌≢◌, ℕ, ◌<◌, ◌≤◌, List, Ok, Err, IfOk, OnOk, OnErr, IfSome};
+ghost use Rattle.container_core.specs.Container.{container};
 ghost use Rattle.container_core.specs.Opening.{opening};
 ghost use Rattle.crew_core.specs.Spending.{spent_as};
 ghost use Rattle.journal_core.specs.declared.entry.Way.TheVariants.{Sealed, Void};
 ghost use Rattle.ledger_core.specs.Range.{prefix_of};
 ghost use Rattle.engine_core.specs.Engine.{HasReadPlain, HasWrittenRounds, HasReadContainer, HasWrittenPlain};
 ghost use Rattle.engine_core.specs.Engine.{HasHeader, OpensTo};
+ghost use Rattle.output_core.specs.Bounds.{Admits};
 
 use crate::windows::open_rounds;
 use container_core::{Header, Key, MAX_OPENED, MAX_PLAIN, OpenFault, SealFault, Shape};
 use crew_core::{DEFAULT_WINDOW, Gate, MAX_WINDOW, MAX_WORKERS};
 use ledger_core::{Failed, Grant, Sink, Source, Spent, write_all};
+use output_core::Output;
 use pipe_core::pipe_rounds;
 use round_core::Task;
 use std::alloc::Global;
@@ -30,7 +33,10 @@ use std::thread::Threads;
 /// plaintext), and at `OutOfMemory` it is nothing. Memory is taken before anything is written: two windows of chunks, two
 /// queues and a bell for each worker; of an input that ends within the first round a buffer for each chunk, or for each
 /// block of small ones, and no queue where one worker suffices.
-pub fn run_seal_by<T: Threads + Wait + Sync, R: Source, W: Sink, G: Gate + Sync>(
+///
+/// What the writer may hold, where that is bounded, has to allow the container of any plaintext. So a run
+/// that is killed left no more than a beginning of that.
+pub fn run_seal_by<T: Threads + Wait + Sync, R: Source, W: Output, G: Gate + Sync>(
     rt: &T,
     alloc: Global,
     key: &Key,
@@ -46,6 +52,8 @@ pub fn run_seal_by<T: Threads + Wait + Sync, R: Source, W: Sink, G: Gate + Sync>
     requires max_bytes { max_bytes ≤ MAX_PLAIN }
     requires workers { (0 < workers) × (workers ≤ MAX_WORKERS) }
     requires window { (0 < window) × (window ≤ MAX_WINDOW) }
+    requires may { (plain : List ℕ) → Admits (W.bound writer.old) (W.taken writer.old)
+        (container key.now shape.now (prefix_of grant.device grant.number) plain) }
     ensures reads { HasReadPlain max_bytes (R.left reader.old) (R.left reader.new)
         (R.failures reader.old) (R.failures reader.new) result.0 }
     ensures writes { HasWrittenRounds key.now shape.now (prefix_of grant.device grant.number) max_bytes window
@@ -68,7 +76,7 @@ pub fn run_seal_by<T: Threads + Wait + Sync, R: Source, W: Sink, G: Gate + Sync>
 }
 
 /// `run_seal_by` in rounds of `DEFAULT_WINDOW` chunks, 16.
-pub fn run_seal<T: Threads + Wait + Sync, R: Source, W: Sink, G: Gate + Sync>(
+pub fn run_seal<T: Threads + Wait + Sync, R: Source, W: Output, G: Gate + Sync>(
     rt: &T,
     alloc: Global,
     key: &Key,
@@ -82,6 +90,8 @@ pub fn run_seal<T: Threads + Wait + Sync, R: Source, W: Sink, G: Gate + Sync>(
 ) -> (Result<u64, SealFault>, Spent)
     requires max_bytes { max_bytes ≤ MAX_PLAIN }
     requires workers { (0 < workers) × (workers ≤ MAX_WORKERS) }
+    requires may { (plain : List ℕ) → Admits (W.bound writer.old) (W.taken writer.old)
+        (container key.now shape.now (prefix_of grant.device grant.number) plain) }
     ensures reads { HasReadPlain max_bytes (R.left reader.old) (R.left reader.new)
         (R.failures reader.old) (R.failures reader.new) result.0 }
     ensures writes { HasWrittenRounds key.now shape.now (prefix_of grant.device grant.number) max_bytes DEFAULT_WINDOW

@@ -48,7 +48,7 @@ so_far_some front key header [] some = absurd (omega arith)
 so_far_some front key header (x ∷ bytes) some = refl
 
 -- what was written, and what follows in the whole
-behind_part : (each : ℕ) (front key header past text : List ℕ) (number : ℕ) → 0 < size_in header → 0 < each
+pub behind_part : (each : ℕ) (front key header past text : List ℕ) (number : ℕ) → 0 < size_in header → 0 < each
     → length past ≡ number * block each header → (0 < number → 0 < length text)
     → behind front key header (past ++ text)
     ≡ chunks_so_far front key header past ++ (front_at front number ++ stream_by key header (each * number) true (chunks (size_in header) text))
@@ -79,7 +79,7 @@ same_past past rest before text after n a b e =
     sym (take_at before (text ++ after) n b) ∙ ap (take n) (sym e) ∙ take_at past rest n a
 
 -- what follows a full block, where the input is told; else it may be any byte
-after_of : (size number : ℕ) (told : Option (List ℕ)) (past text : List ℕ) → length past ≡ number * size → IfSome told (Follows past)
+pub after_of : (size number : ℕ) (told : Option (List ℕ)) (past text : List ℕ) → length past ≡ number * size → IfSome told (Follows past)
     → IfSome told (λ input. StandsIn size input number false text)
     → (after : List ℕ) × (0 < length after) × IfSome told (λ input. input ≡ past ++ (text ++ after))
 after_of size number None past text long of stands = (0 ∷ [], omega arith, tt)

@@ -1,6 +1,7 @@
 pub mod BlockLemmas
 pub mod ChunkLemmas
 pub mod IntakeLemmas
+pub mod MayLemmas
 pub mod Moves
 pub mod Orders
 pub mod PieceLemmas

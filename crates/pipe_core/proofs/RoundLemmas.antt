@@ -451,6 +451,28 @@ last_part each key header told left limit group put round round' was handed ende
     let last = step put (omega arith) (subst (λ (n : ℕ). IsLast each key header told n round) number (was.last ended)) in
     (last.sealed (sealed (ap (λ (i : Intake). i.ended) same ∙ ended)), omega arith)
 
+-- the same by its own number
+pub last_at : (each : ℕ) (key header : List ℕ) (told left : Option (List ℕ)) (limit put : ℕ) (round round' : Round)
+    → IsInHand each key header told left limit put round → round.intake.ended ≡ true
+    → round'.intake ≡ round.intake → (round'.intake.ended ≡ true → round'.is_sealed ≡ true)
+    → ((number : ℕ) → round.intake.blocks ≡ number + 1 → IsLast each key header told number round → IsLast each key header told number round')
+    → IsPart each key header told (round'.intake.blocks - 1) true (take round'.filled round'.last.items)
+last_at each key header told left limit put round round' was ended same sealed step =
+    let one = one_if _ ended in
+    let count = was.count in
+    let chunks = ap (λ (i : Intake). i.blocks) same in
+    let number : put + length round.held.items ≡ round'.intake.blocks - 1 = omega arith in
+    let last = step (round'.intake.blocks - 1) (omega arith) (subst (λ (n : ℕ). IsLast each key header told n round) number (was.last ended)) in
+    last.sealed (sealed (ap (λ (i : Intake). i.ended) same ∙ ended))
+
+-- all blocks but the last were put
+pub put_all_but : (each : ℕ) (key header : List ℕ) (told left : Option (List ℕ)) (limit put : ℕ) (round : Round)
+    → IsInHand each key header told left limit put round → round.intake.ended ≡ true → length round.held.items ≡ 0 → round.intake.blocks - 1 ≡ put
+put_all_but each key header told left limit put round was ended none_held =
+    let one = one_if _ ended in
+    let count = was.count in
+    omega arith
+
 pub not_ended : (size limit : ℕ) (left left' : Option (List ℕ)) (intake : Intake) → HasRead size limit left left' intake → intake.over ≡ true
     → intake.ended ≡ false
 not_ended size limit left left' intake had over = elim (cases_Bool intake.ended) [

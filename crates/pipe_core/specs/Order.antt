@@ -6,6 +6,7 @@ use Rattle.container_core.specs.Chunks.{chunks}
 use Rattle.container_core.specs.Container.{size_in}
 use Rattle.container_core.specs.Stream.{stream, stream_by}
 use Rattle.io_core.specs.Streams.{Appends, AppendsFront}
+use Rattle.output_core.specs.Bounds.{Admits, Bound}
 use Rattle.pipe_core.specs.declared.early.Early.{Early}
 use Rattle.pipe_core.specs.declared.line.Hand.{Hand}
 use Rattle.pipe_core.specs.declared.piece.Piece.{Piece}
@@ -57,6 +58,14 @@ pub record AreWritten (each : ℕ) (front key header : List ℕ) (told taken tak
 abbrev pub HasBegun : List ℕ → List ℕ → List ℕ → Option (List ℕ) → Option (List ℕ) → Option (List ℕ) → Type 0
 HasBegun front key header told taken taken' = (plain : List ℕ) × IfSome told (λ input. input ≡ plain)
     × AppendsFront taken taken' (behind front key header plain)
+
+-- behind what the output had taken at first the first so many full blocks were written, and whatever the input turns
+-- out to be, the output may take all that is written of it
+pub record MayGoOn (each : ℕ) (front key header : List ℕ) (told : Option (List ℕ)) (bound : Option Bound)
+    (taken' : Option (List ℕ)) (written : ℕ) : Type 0 where
+  pub taken : Option (List ℕ)
+  pub sofar : AreWritten each front key header told taken taken' written
+  pub all : (plain : List ℕ) → Admits bound taken (behind front key header plain)
 
 -- the numbers below n, in order
 abbrev pub below : ℕ → List ℕ

@@ -1,15 +1,17 @@
 //! A stream of any length: rounds of one chunk, under a limit of chunks. Each block is one chunk, so that it is
 //! written as soon as it was read.
-ghost use Rattle.std.specs.Prelude.{◌≡◌, ◌<◌, ◌≤◌, take, drop};
+ghost use Rattle.std.specs.Prelude.{◌≡◌, ℕ, ◌<◌, ◌≤◌, List, take, drop};
 ghost use Rattle.container_core.specs.Container.{hint_of};
-ghost use Rattle.pipe_core.specs.Pipe.{HasPiped, answer_of_stream};
+ghost use Rattle.output_core.specs.Bounds.{Admits};
+ghost use Rattle.pipe_core.specs.Pipe.{HasPiped, answer_of_stream, whole};
 
 use crate::line::Naming;
 use crate::piece::MAX_DEPTH;
 use crate::round::{Plan, Round};
 use crate::stream::through;
 use container_core::{Header, Key, SealFault};
-use io_core::{Failed, Sink, Source, write_all};
+use io_core::{Failed, Source};
+use output_core::{Output, put_all};
 use std::alloc::Global;
 use std::marker::Brand;
 use std::sync::Wait;
@@ -30,7 +32,7 @@ fn pipe_named<
     N: Naming + Send + Sync,
     T: Threads + Wait + Sync,
     R: Source,
-    W: Sink,
+    W: Output,
     G: Gate + Sync,
 >(
     rt: &T,
@@ -48,6 +50,8 @@ fn pipe_named<
     requires most { 0 < max_chunks }
     requires workers { (0 < workers) × (workers ≤ MAX_WORKERS) }
     requires depth { (0 < depth) × (depth ≤ MAX_DEPTH) }
+    requires may { (plain : List ℕ)
+        → Admits (W.bound writer.old) (W.taken writer.old) (whole key.now header.now plain) }
     ensures piped { HasPiped key.now header.now max_chunks (R.left reader.old) (R.left reader.new)
         (R.failures reader.old) (R.failures reader.new) (W.taken writer.old) (W.taken writer.new)
         (W.failures writer.old) (W.failures writer.new) result }
@@ -62,7 +66,7 @@ fn pipe_named<
     let Ok(mut round) = Round::new(alloc, plan.group) else {
         return Err(SealFault::OutOfMemory);
     };
-    if let Err(Failed) = write_all(writer, header.bytes()) {
+    if let Err(Failed) = put_all(writer, header.bytes()) {
         return Err(SealFault::Write);
     }
     of_stream(
@@ -82,7 +86,9 @@ fn pipe_named<
 /// `max_chunks` full chunks: nothing past that byte is read. `OutOfMemory` where a queue, the workers' bells or the
 /// `depth` buffers find no memory, each of which holds a chunk and is used again: no more than the header is written
 /// then. The header is written before anything is read. Where a thread can't be started the others do its work.
-pub fn pipe<T: Threads + Wait + Sync, R: Source, W: Sink, G: Gate + Sync>(
+///
+/// What the writer may hold, where that is bounded, has to allow all that is written of any stream.
+pub fn pipe<T: Threads + Wait + Sync, R: Source, W: Output, G: Gate + Sync>(
     rt: &T,
     alloc: Global,
     key: &Key,
@@ -98,6 +104,8 @@ pub fn pipe<T: Threads + Wait + Sync, R: Source, W: Sink, G: Gate + Sync>(
     requires most { 0 < max_chunks }
     requires workers { (0 < workers) × (workers ≤ MAX_WORKERS) }
     requires depth { (0 < depth) × (depth ≤ MAX_DEPTH) }
+    requires may { (plain : List ℕ)
+        → Admits (W.bound writer.old) (W.taken writer.old) (whole key.now header.now plain) }
     ensures piped { HasPiped key.now header.now max_chunks (R.left reader.old) (R.left reader.new)
         (R.failures reader.old) (R.failures reader.new) (W.taken writer.old) (W.taken writer.new)
         (W.failures writer.old) (W.failures writer.new) result }

@@ -7,8 +7,10 @@ ghost use Rattle.container_core.specs.Container.{size_in};
 ghost use Rattle.crossbeam_queue.specs.Passes.{view, IsPassOf};
 ghost use Rattle.io_core.specs.Reads.{ConsumesUpTo};
 ghost use Rattle.io_core.specs.Streams.{Appends, AppendsFront, counted};
+ghost use Rattle.output_core.specs.Bounds.{Admits};
 ghost use Rattle.pipe_core.specs.Hands.{all_numbers, hand};
-ghost use Rattle.pipe_core.specs.Order.{below, empty, front_at, AreKept, AreWritten, HasBegun, IsOrdered, IsSeen};
+ghost use Rattle.pipe_core.specs.Order.{behind, below, empty, front_at, AreKept, AreWritten, HasBegun, IsOrdered};
+ghost use Rattle.pipe_core.specs.Order.{IsSeen, MayGoOn};
 ghost use Rattle.pipe_core.specs.Pieces.{block, room, task_numbers, IsBlock};
 ghost use Rattle.pipe_core.specs.Round.{front_of, AreJobs, AreRounds, IsHanded, IsInHand, IsLast, IsPlan, IsRead};
 ghost use Rattle.pipe_core.specs.Round.{IsUnderWay, MayEnd};
@@ -24,7 +26,8 @@ use crate::round::{Plan, Round};
 use crate::worker::rest;
 use container_core::{Header, Key, SealFault};
 use crossbeam_queue::Pass;
-use io_core::{Failed, Sink, Source, write_all};
+use io_core::{Failed, Source};
+use output_core::{Output, put_all};
 use std::alloc::{AllocError, Global};
 use std::collections::VecDeque;
 use std::sync::Wait;
@@ -75,29 +78,31 @@ fn keep(spare: &mut Vec<Vec<u8>>, buffer: Vec<u8>, size: usize)
 }
 
 /// Writes a block's sealed bytes, and before block 0 what stands before it.
-pub(crate) fn write_part<W: Sink>(
+pub(crate) fn write_part<W: Output>(
     writer: &mut W,
     front: &[u8],
     number: u32,
     bytes: &[u8],
 ) -> Result<(), Failed>
+    requires may { Admits (W.bound writer.old) (W.taken writer.old) (front_at front.now number ++ bytes.now) }
     ensures ok { OnOk result (Appends (W.taken writer.old) (W.taken writer.new)
         (front_at front.now number ++ bytes.now)) }
     ensures err { OnErr result (AppendsFront (W.taken writer.old) (W.taken writer.new)
         (front_at front.now number ++ bytes.now)) }
+    ensures same { W.bound writer.new ≡ W.bound writer.old }
     ensures count { W.failures writer.new ≡ counted (is_err result) (W.failures writer.old) }
 {
     if number > 0 {
-        return write_all(writer, bytes);
+        return put_all(writer, bytes);
     }
-    match write_all(writer, front) {
+    match put_all(writer, front) {
         Err(Failed) => Err(Failed),
-        Ok(()) => write_all(writer, bytes),
+        Ok(()) => put_all(writer, bytes),
     }
 }
 
 // Writes the piece whose turn it is: whether it was there.
-fn write_next<N: Naming, W: Sink>(
+fn write_next<N: Naming, W: Output>(
     early: &mut Early,
     writer: &mut W,
     front: &[u8],
@@ -109,6 +114,8 @@ fn write_next<N: Naming, W: Sink>(
     requires size { size ≡ room N.each N.header }
     requires kept { AreKept N.each N.key N.header N.told early.old.written early.old.places.items }
     requires spare { All (λ b. length b.items ≡ size) spare.old.items }
+    requires may { MayGoOn N.each front.now N.key N.header N.told
+        (W.bound writer.old) (W.taken writer.old) early.old.written }
     ensures spare { All (λ b. length b.items ≡ size) spare.new.items }
     ensures room { deque_capacity early.new.places ≡ deque_capacity early.old.places }
     ensures places { length early.new.places.items ≤ length early.old.places.items }
@@ -121,6 +128,7 @@ fn write_next<N: Naming, W: Sink>(
     ensures begun { (taken : Option (List ℕ))
         → AreWritten N.each front.now N.key N.header N.told taken (W.taken writer.old) early.old.written
         → OnErr result (HasBegun front.now N.key N.header N.told taken (W.taken writer.new)) }
+    ensures same { W.bound writer.new ≡ W.bound writer.old }
     ensures count { W.failures writer.new ≡ counted (is_err result) (W.failures writer.old) }
 {
     match early.next() {
@@ -160,7 +168,7 @@ fn take_back<N: Naming>(
 }
 
 // Writes a piece, or takes one back: whether there was one.
-fn turn<N: Naming, W: Sink>(
+fn turn<N: Naming, W: Output>(
     pieces: &PieceLine<N>,
     early: &mut Early,
     writer: &mut W,
@@ -175,6 +183,8 @@ fn turn<N: Naming, W: Sink>(
     requires size { size ≡ room N.each N.header }
     requires kept { AreKept N.each N.key N.header N.told early.old.written early.old.places.items }
     requires spare { All (λ b. length b.items ≡ size) spare.old.items }
+    requires may { MayGoOn N.each front.now N.key N.header N.told
+        (W.bound writer.old) (W.taken writer.old) early.old.written }
     ensures from { IsPassOf pieces.now from.new × ((view from.new).parts ≡ (view from.old).parts) }
     ensures spare { All (λ b. length b.items ≡ size) spare.new.items }
     ensures room { deque_capacity early.new.places ≡ deque_capacity early.old.places }
@@ -188,6 +198,7 @@ fn turn<N: Naming, W: Sink>(
     ensures begun { (taken : Option (List ℕ))
         → AreWritten N.each front.now N.key N.header N.told taken (W.taken writer.old) early.old.written
         → OnErr result (HasBegun front.now N.key N.header N.told taken (W.taken writer.new)) }
+    ensures same { W.bound writer.new ≡ W.bound writer.old }
     ensures count { W.failures writer.new ≡ counted (is_err result) (W.failures writer.old) }
 {
     match write_next::<N, W>(early, writer, front, spare, size) {
@@ -247,7 +258,7 @@ pub(crate) fn first_of(held: &mut VecDeque<Task>) -> Task
 }
 
 // Puts the jobs of the round in hand.
-fn put_all<N: Naming, T: Wait>(
+fn put_jobs<N: Naming, T: Wait>(
     rt: &T,
     jobs: &JobLine<N>,
     held: &mut VecDeque<Task>,
@@ -300,7 +311,7 @@ fn put_round<N: Naming, T: Wait>(
         return;
     }
     early.ripen(true);
-    put_all(rt, jobs, &mut round.held, early, into);
+    put_jobs(rt, jobs, &mut round.held, early, into);
     ring(bells);
 }
 
@@ -401,7 +412,7 @@ fn busy<N: Naming, T: Wait, G: Gate>(
 
 // Reads to the end of the input or to a byte too many, and puts and writes what it may meanwhile: whether no read
 // failed.
-fn take_in<N: Naming, T: Wait, R: Source, W: Sink, G: Gate>(
+fn take_in<N: Naming, T: Wait, R: Source, W: Output, G: Gate>(
     rt: &T,
     jobs: &JobLine<N>,
     pieces: &PieceLine<N>,
@@ -430,6 +441,8 @@ fn take_in<N: Naming, T: Wait, R: Source, W: Sink, G: Gate>(
         × (length early.old.places.items + length round.old.held.items ≤ plan.depth) }
     requires spare { All (λ b. length b.items ≡ room N.each N.header) spare.old.items }
     requires fresh { early.old.written ≡ 0 }
+    requires may { (plain : List ℕ)
+        → Admits (W.bound writer.old) (W.taken writer.old) (behind front.now N.key N.header plain) }
     ensures into { IsPassOf jobs.now into.new × ((view into.new).parts ≡ (view into.old).parts) }
     ensures from { IsPassOf pieces.now from.new × ((view from.new).parts ≡ (view from.old).parts) }
     ensures spare { All (λ b. length b.items ≡ room N.each N.header) spare.new.items }
@@ -443,6 +456,7 @@ fn take_in<N: Naming, T: Wait, R: Source, W: Sink, G: Gate>(
         (W.taken writer.old) (W.taken writer.new)) }
     ensures reads { IfOk result (λ all. R.failures reader.new ≡ counted (not all) (R.failures reader.old)) }
     ensures unread { OnErr result (R.failures reader.new ≡ R.failures reader.old) }
+    ensures same { W.bound writer.new ≡ W.bound writer.old }
     ensures writes { W.failures writer.new ≡ counted (is_err result) (W.failures writer.old) }
 {
     let size = block_bytes::<N>(header, plan.each);
@@ -479,7 +493,7 @@ fn take_in<N: Naming, T: Wait, R: Source, W: Sink, G: Gate>(
 }
 
 // Writes all that was put.
-fn drain<N: Naming, T: Wait, W: Sink, G: Gate>(
+fn drain<N: Naming, T: Wait, W: Output, G: Gate>(
     rt: &T,
     jobs: &JobLine<N>,
     pieces: &PieceLine<N>,
@@ -504,6 +518,8 @@ fn drain<N: Naming, T: Wait, W: Sink, G: Gate>(
     requires way { (left : Option (List ℕ)) × (plan : Plan)
         × IsUnderWay N.each N.key N.header N.told left plan early.old (view into.old) (view from.old) round.old }
     requires spare { All (λ b. length b.items ≡ room N.each N.header) spare.old.items }
+    requires may { MayGoOn N.each front.now N.key N.header N.told
+        (W.bound writer.old) (W.taken writer.old) early.old.written }
     ensures into { IsPassOf jobs.now into.new × ((view into.new).parts ≡ (view into.old).parts) }
     ensures from { IsPassOf pieces.now from.new × ((view from.new).parts ≡ (view from.old).parts) }
     ensures same { (round.new.intake ≡ round.old.intake) × (round.new.held ≡ round.old.held) }
@@ -517,6 +533,7 @@ fn drain<N: Naming, T: Wait, W: Sink, G: Gate>(
     ensures begun { (taken : Option (List ℕ))
         → AreWritten N.each front.now N.key N.header N.told taken (W.taken writer.old) early.old.written
         → OnErr result (HasBegun front.now N.key N.header N.told taken (W.taken writer.new)) }
+    ensures bound { W.bound writer.new ≡ W.bound writer.old }
     ensures count { W.failures writer.new ≡ counted (is_err result) (W.failures writer.old) }
 {
     let room = room_bytes::<N>(header, each);
@@ -541,7 +558,7 @@ fn drain<N: Naming, T: Wait, W: Sink, G: Gate>(
 }
 
 /// Ends what was read, once all before is written: the last block is written, unless there is a byte too many.
-pub(crate) fn end<N: Naming, W: Sink, G: Gate>(
+pub(crate) fn end<N: Naming, W: Output, G: Gate>(
     key: &Key,
     header: &Header,
     each: u32,
@@ -555,6 +572,9 @@ pub(crate) fn end<N: Naming, W: Sink, G: Gate>(
     requires closed { round.old.intake.over ≡ false → round.old.intake.ended ≡ true }
     requires hand { (left : Option (List ℕ)) × (limit : ℕ) × (put : ℕ)
         × IsInHand N.each N.key N.header N.told left limit put round.old }
+    requires may { round.old.intake.ended ≡ true
+        → MayGoOn N.each front.now N.key N.header N.told
+        (W.bound writer.old) (W.taken writer.old) (round.old.intake.blocks - 1) }
     ensures sealed { (left taken : Option (List ℕ)) (failures : Option ℕ) (limit group put : ℕ) → 0 < limit
         → IsInHand N.each N.key N.header N.told left limit put round.old → IsHanded group round.old
         → (round.old.intake.ended ≡ false → AreRounds (block N.each N.header) limit group put)
@@ -575,7 +595,7 @@ pub(crate) fn end<N: Naming, W: Sink, G: Gate>(
 
 /// Reads and writes to the end, or to the first fault, behind what was read. All room is made before anything is
 /// written.
-pub(crate) fn feed<N: Naming, T: Wait, R: Source, W: Sink, G: Gate>(
+pub(crate) fn feed<N: Naming, T: Wait, R: Source, W: Output, G: Gate>(
     rt: &T,
     alloc: Global,
     jobs: &JobLine<N>,
@@ -597,6 +617,8 @@ pub(crate) fn feed<N: Naming, T: Wait, R: Source, W: Sink, G: Gate>(
     requires bells { 0 < length bells.now }
     requires into { IsPassOf jobs.now into.old × (0 < (view into.old).parts) × ((view into.old).put ≡ []) }
     requires from { IsPassOf pieces.now from.old × (0 < (view from.old).parts) × ((view from.old).put ≡ []) }
+    requires may { (plain : List ℕ)
+        → Admits (W.bound writer.old) (W.taken writer.old) (behind (front_of N.header plan) N.key N.header plain) }
     ensures into { IsPassOf jobs.now into.new × ((view into.new).parts ≡ (view into.old).parts) }
     ensures from { IsPassOf pieces.now from.new × ((view from.new).parts ≡ (view from.old).parts) }
     ensures sealed { HasSealedRounds (front_of N.header plan) N.key N.header (plan.limit - 1) (plan.group * N.each)

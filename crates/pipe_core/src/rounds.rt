@@ -6,7 +6,8 @@ ghost use Rattle.std.specs.Prelude.{◌≡◌, ℕ, ◌+◌, ◌-◌, ◌*◌, �
 ghost use Rattle.std.specs.Prelude.{is_err, true, take, drop};
 ghost use Rattle.container_core.specs.Container.{hint_of, size_in};
 ghost use Rattle.io_core.specs.Streams.{counted};
-ghost use Rattle.pipe_core.specs.Order.{AreWritten, HasBegun};
+ghost use Rattle.output_core.specs.Bounds.{Admits};
+ghost use Rattle.pipe_core.specs.Order.{behind, AreWritten, HasBegun, MayGoOn};
 ghost use Rattle.pipe_core.specs.Pieces.{block, IsBlock, IsTask, task_numbers};
 ghost use Rattle.pipe_core.specs.Round.{IsInHand};
 ghost use Rattle.pipe_core.specs.Rounds.{HasSealedRounds};
@@ -17,7 +18,8 @@ use crate::piece::{Task, make_piece};
 use crate::round::{Plan, Round};
 use crate::stream::through;
 use container_core::{Header, Key, MAX_PLAIN, SealFault};
-use io_core::{Failed, Sink, Source};
+use io_core::{Failed, Source};
+use output_core::Output;
 use std::alloc::Global;
 use std::marker::Brand;
 use std::sync::Wait;
@@ -28,7 +30,7 @@ use worker_core::{Gate, MAX_WINDOW, MAX_WORKERS};
 const BLOCK: usize = 1 << 16;
 
 // Seals and writes a job of the only round.
-fn write_job<N: Naming, W: Sink, G: Gate>(
+fn write_job<N: Naming, W: Output, G: Gate>(
     key: &Key,
     header: &Header,
     each: u32,
@@ -39,12 +41,15 @@ fn write_job<N: Naming, W: Sink, G: Gate>(
     requires named { (key.now ≡ N.key) × (header.now ≡ N.header) × (each ≡ N.each) }
     requires each { IsBlock N.each N.header }
     requires task { IsTask N.each N.header N.told task }
+    requires may { (number : ℕ) → task_numbers task ≡ number ∷ []
+        → MayGoOn N.each N.header N.key N.header N.told (W.bound writer.old) (W.taken writer.old) number }
     ensures written { (taken : Option (List ℕ)) (number : ℕ) → task_numbers task ≡ number ∷ []
         → AreWritten N.each N.header N.key N.header N.told taken (W.taken writer.old) number
         → OnOk result (AreWritten N.each N.header N.key N.header N.told taken (W.taken writer.new) (number + 1)) }
     ensures begun { (taken : Option (List ℕ)) (number : ℕ) → task_numbers task ≡ number ∷ []
         → AreWritten N.each N.header N.key N.header N.told taken (W.taken writer.old) number
         → OnErr result (HasBegun N.header N.key N.header N.told taken (W.taken writer.new)) }
+    ensures same { W.bound writer.new ≡ W.bound writer.old }
     ensures count { W.failures writer.new ≡ counted (is_err result) (W.failures writer.old) }
 {
     match task {
@@ -57,7 +62,7 @@ fn write_job<N: Naming, W: Sink, G: Gate>(
 }
 
 // Seals and writes the only round on this thread alone.
-fn alone<N: Naming, W: Sink, G: Gate>(
+fn alone<N: Naming, W: Output, G: Gate>(
     key: &Key,
     header: &Header,
     each: u32,
@@ -70,6 +75,8 @@ fn alone<N: Naming, W: Sink, G: Gate>(
     requires ended { round.old.intake.ended ≡ true }
     requires hand { (left : Option (List ℕ)) × (limit : ℕ)
         × IsInHand N.each N.key N.header N.told left limit 0 round.old }
+    requires may { (plain : List ℕ)
+        → Admits (W.bound writer.old) (W.taken writer.old) (behind N.header N.key N.header plain) }
     ensures sealed { (left : Option (List ℕ)) (failures : Option ℕ) (limit group : ℕ) → 0 < limit
         → IsInHand N.each N.key N.header N.told left limit 0 round.old
         → HasSealedRounds N.header N.key N.header (limit - 1) (group * N.each) N.told left failures failures
@@ -123,7 +130,7 @@ fn rounds_named<
     N: Naming + Send + Sync,
     T: Threads + Wait + Sync,
     R: Source,
-    W: Sink,
+    W: Output,
     G: Gate + Sync,
 >(
     rt: &T,
@@ -144,6 +151,8 @@ fn rounds_named<
     requires numbers { max_bytes + block each header.now ≤ 4294967296 * size_in header.now }
     requires workers { (0 < workers) × (workers ≤ MAX_WORKERS) }
     requires group { (0 < group) × (group ≤ MAX_WINDOW) }
+    requires may { (plain : List ℕ)
+        → Admits (W.bound writer.old) (W.taken writer.old) (behind header.now key.now header.now plain) }
     ensures sealed { HasSealedRounds header.now key.now header.now max_bytes (group * each) (R.left reader.old)
         (R.left reader.new)
         (R.failures reader.old) (R.failures reader.new) (W.taken writer.old) (W.taken writer.new)
@@ -191,7 +200,10 @@ fn rounds_named<
 /// and nothing past it is; the round in hand is dropped then, and those before it are written. `OutOfMemory` where a
 /// queue, the workers' bells or the buffers of two windows find no memory: nothing is written then. An input that
 /// ends within the first round takes as many buffers as it has blocks, and, where one worker suffices, no queue.
-pub fn pipe_rounds<T: Threads + Wait + Sync, R: Source, W: Sink, G: Gate + Sync>(
+///
+/// What the writer may hold, where that is bounded, has to allow all that is written of any input. So a run
+/// that is killed left no more than a beginning of that.
+pub fn pipe_rounds<T: Threads + Wait + Sync, R: Source, W: Output, G: Gate + Sync>(
     rt: &T,
     alloc: Global,
     key: &Key,
@@ -207,6 +219,8 @@ pub fn pipe_rounds<T: Threads + Wait + Sync, R: Source, W: Sink, G: Gate + Sync>
     requires max_bytes { max_bytes ≤ MAX_PLAIN }
     requires workers { (0 < workers) × (workers ≤ MAX_WORKERS) }
     requires window { (0 < window) × (window ≤ MAX_WINDOW) }
+    requires may { (plain : List ℕ)
+        → Admits (W.bound writer.old) (W.taken writer.old) (behind header.now key.now header.now plain) }
     ensures sealed { HasSealedRounds header.now key.now header.now max_bytes window (R.left reader.old)
         (R.left reader.new)
         (R.failures reader.old) (R.failures reader.new) (W.taken writer.old) (W.taken writer.new)

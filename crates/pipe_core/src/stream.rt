@@ -1,8 +1,10 @@
 //! The workers and the caller's thread together.
-ghost use Rattle.std.specs.Prelude.{◌≡◌, ℕ, ◌+◌, ◌-◌, ◌*◌, ◌^◌, ◌<◌, ◌≤◌, [], OnOk, IfOk, IfSome, length};
+ghost use Rattle.std.specs.Prelude.{◌≡◌, ℕ, ◌+◌, ◌-◌, ◌*◌, ◌^◌, ◌<◌, ◌≤◌, List, [], OnOk, IfOk, IfSome, length};
 ghost use Rattle.std.specs.Thread.{IsSync};
 ghost use Rattle.crossbeam_queue.specs.Passes.{view, IsPassOf};
+ghost use Rattle.output_core.specs.Bounds.{Admits};
 ghost use Rattle.pipe_core.specs.Hands.{newcomer, HasRelayed, HasAll, EachOnce};
+ghost use Rattle.pipe_core.specs.Order.{behind};
 ghost use Rattle.pipe_core.specs.Pieces.{IsBlock};
 ghost use Rattle.pipe_core.specs.Round.{front_of, IsPlan, IsRead};
 ghost use Rattle.pipe_core.specs.Rounds.{HasSealedRounds};
@@ -14,7 +16,8 @@ use crate::round::{Plan, Round};
 use crate::worker::worker;
 use container_core::{Header, Key, SealFault};
 use crossbeam_queue::Pass;
-use io_core::{Sink, Source};
+use io_core::Source;
+use output_core::Output;
 use std::alloc::{AllocError, Global};
 use std::sync::Wait;
 use std::thread::{Parker, Threads, join_mut};
@@ -69,7 +72,7 @@ fn meet<N: Naming>(
 }
 
 // The caller's thread alone, and then a stop for each other worker: each has a bell.
-fn lead<N: Naming, T: Wait, R: Source, W: Sink, G: Gate>(
+fn lead<N: Naming, T: Wait, R: Source, W: Output, G: Gate>(
     rt: &T,
     alloc: Global,
     jobs: &JobLine<N>,
@@ -91,6 +94,8 @@ fn lead<N: Naming, T: Wait, R: Source, W: Sink, G: Gate>(
     requires bells { 0 < length bells.now }
     requires into { IsPassOf jobs.now into.old × (0 < (view into.old).parts) × ((view into.old).put ≡ []) }
     requires from { IsPassOf pieces.now from.old × (0 < (view from.old).parts) × ((view from.old).put ≡ []) }
+    requires may { (plain : List ℕ)
+        → Admits (W.bound writer.old) (W.taken writer.old) (behind (front_of N.header plan) N.key N.header plain) }
     ensures into { IsPassOf jobs.now into.new × ((view into.new).parts ≡ (view into.old).parts) }
     ensures from { IsPassOf pieces.now from.new × ((view from.new).parts ≡ (view from.old).parts) }
     ensures sealed { HasSealedRounds (front_of N.header plan) N.key N.header (plan.limit - 1) (plan.group * N.each)
@@ -111,7 +116,7 @@ fn lead<N: Naming, T: Wait, R: Source, W: Sink, G: Gate>(
 
 // So many workers: the caller's thread is the first of them.
 #[cycle(crew)]
-fn crew<N: Naming + Send + Sync, T: Threads + Wait + Sync, R: Source, W: Sink, G: Gate + Sync>(
+fn crew<N: Naming + Send + Sync, T: Threads + Wait + Sync, R: Source, W: Output, G: Gate + Sync>(
     rt: &T,
     alloc: Global,
     jobs: &JobLine<N>,
@@ -134,6 +139,8 @@ fn crew<N: Naming + Send + Sync, T: Threads + Wait + Sync, R: Source, W: Sink, G
     requires upto { (0 < upto) × (upto ≤ length bells.now) }
     requires into { IsPassOf jobs.now into.old × (upto ≤ (view into.old).parts) × ((view into.old).put ≡ []) }
     requires from { IsPassOf pieces.now from.old × (upto ≤ (view from.old).parts) × ((view from.old).put ≡ []) }
+    requires may { (plain : List ℕ)
+        → Admits (W.bound writer.old) (W.taken writer.old) (behind (front_of N.header plan) N.key N.header plain) }
     ensures into { IsPassOf jobs.now into.new × ((view into.new).parts ≡ (view into.old).parts) }
     ensures from { IsPassOf pieces.now from.new × ((view from.new).parts ≡ (view from.old).parts) }
     ensures sealed { HasSealedRounds (front_of N.header plan) N.key N.header (plan.limit - 1) (plan.group * N.each)
@@ -177,7 +184,9 @@ fn crew<N: Naming + Send + Sync, T: Threads + Wait + Sync, R: Source, W: Sink, G
             × IsRead N.each N.key N.header N.told (R.left reader.now) plan round.now × (0 < last)
             × (last ≤ length bells.now)
             × IsPassOf jobs.now into.now × (last ≤ (view into.now).parts) × ((view into.now).put ≡ [])
-            × IsPassOf pieces.now from.now × (last ≤ (view from.now).parts) × ((view from.now).put ≡ []) }
+            × IsPassOf pieces.now from.now × (last ≤ (view from.now).parts) × ((view from.now).put ≡ [])
+            × ((plain : List ℕ)
+            → Admits (W.bound writer.now) (W.taken writer.now) (behind (front_of N.header plan) N.key N.header plain)) }
         ensures { OnOk result ((n : ℕ) × HasAll n (view into.exit.now) (view from.exit.now))
             × (IsPassOf jobs.entry.now into.exit.now × ((view into.exit.now).parts ≡ (view into.entry.now).parts))
             × (IsPassOf pieces.entry.now from.exit.now × ((view from.exit.now).parts ≡ (view from.entry.now).parts))
@@ -212,7 +221,7 @@ pub(crate) fn through<
     N: Naming + Send + Sync,
     T: Threads + Wait + Sync,
     R: Source,
-    W: Sink,
+    W: Output,
     G: Gate + Sync,
 >(
     rt: &T,
@@ -233,6 +242,8 @@ pub(crate) fn through<
     requires plan { IsPlan N.each N.header plan × (plan.depth ≤ 2 ^ 20) }
     requires read { IsRead N.each N.key N.header N.told (R.left reader.old) plan round.old }
     requires workers { (0 < workers) × (workers ≤ MAX_WORKERS) }
+    requires may { (plain : List ℕ)
+        → Admits (W.bound writer.old) (W.taken writer.old) (behind (front_of N.header plan) N.key N.header plain) }
     ensures sealed { HasSealedRounds (front_of N.header plan) N.key N.header (plan.limit - 1) (plan.group * N.each)
         N.told (R.left reader.new) (R.failures reader.old) (R.failures reader.new)
         (W.taken writer.old) (W.taken writer.new) (W.failures writer.old) (W.failures writer.new) result.0 }

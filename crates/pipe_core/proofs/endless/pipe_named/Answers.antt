@@ -3,14 +3,24 @@ use Rattle.std.proofs.Math.Nat.{mul-le-mul_right}
 use Rattle.container_core.specs.Container.{size_in}
 use Rattle.io_core.specs.Streams.{Appends, AppendsFront}
 use Rattle.pipe_core.specs.Round.{IsInHand, IsPlan}
+use Rattle.pipe_core.proofs.MayLemmas.{may_header, may_stream}
 use Rattle.pipe_core.proofs.RoundLemmas.{plan_as, read_none, rounds_counts}
 use Rattle.pipe_core.proofs.StreamLemmas.{piped_as, piped_header, piped_of}
 use Rattle.pipe_core.proofs.endless.pipe_named.Goals as goal
 
+pub put_all-requires : goal.put_all-requires
+put_all-requires g c = record { may = may_header _ _ c.args.key.now c.args.header.now _ c.bytes.ensures.bytes c.requires.may }
+
+pub through-requires-clause-may : goal.through-requires-clause-may
+through-requires-clause-may g c κs within =
+    let n = c.requires.named in
+    let put = c.in_default-put_all.ensures in
+    may_stream _ _ _ _ _ _ _ _ _ c.bytes.ensures.bytes n.0 n.1 put.same put.ok c.requires.may
+
 pub returns-in-Err : goal.returns-in-Err
 returns-in-Err g c = record {
   piped = piped_header _ _ _ _ _ _ _ _ _
-      (subst (λ (l : List ℕ). AppendsFront (g.W.Sink.taken c.args.writer.now) (g.W.Sink.taken c.write_all.new.sink) l) c.bytes.ensures.bytes c.in-Err.ensures.err)
+      (subst (λ (l : List ℕ). AppendsFront (g.W.Output.taken c.args.writer.now) (g.W.Output.taken c.put_all.new.output) l) c.bytes.ensures.bytes c.in-Err.ensures.err)
       c.in-Err.ensures.count;
 }
 
@@ -30,8 +40,8 @@ returns g c =
       piped = rw c.of_stream.ensures
           (piped_as _ _ _ _ _ _ _ _ _ _ _ _ _ _ _ n.0 n.1 n.3
           (piped_of _ _ c.args.max_chunks (c.args.max_chunks * c.chunk.result + 1 - 1) _ _ _ _ _ _ _ _ _ _ _ (omega (arith, size))
-          (subst (λ (l : List ℕ). Appends (g.W.Sink.taken c.args.writer.now) (g.W.Sink.taken c.write_all.new.sink) l) (c.bytes.ensures.bytes ∙ n.1) c.in_default-write_all.ensures.ok)
-          (rounds_counts _ _ _ _ _ _ _ _ _ _ _ _ _ _ _ _ _ refl refl c.in_default-write_all.ensures.count c.through.ensures.sealed)));
+          (subst (λ (l : List ℕ). Appends (g.W.Output.taken c.args.writer.now) (g.W.Output.taken c.put_all.new.output) l) (c.bytes.ensures.bytes ∙ n.1) c.in_default-put_all.ensures.ok)
+          (rounds_counts _ _ _ _ _ _ _ _ _ _ _ _ _ _ _ _ _ refl refl c.in_default-put_all.ensures.count c.through.ensures.sealed)));
     }
 
 plan_is : (header : List ℕ) (max_chunks size depth : ℕ) → size ≡ size_in header → 4096 ≤ size → size ≤ 1048576 → max_chunks ≤ 4294967295 → 0 < depth

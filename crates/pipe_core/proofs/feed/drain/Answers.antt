@@ -1,5 +1,6 @@
 use Rattle.std.proofs.Common.{◌∙◌}
 use Rattle.pipe_core.proofs.ChunkLemmas.{written_at}
+use Rattle.pipe_core.proofs.MayLemmas.{may_more}
 use Rattle.pipe_core.proofs.RoundLemmas.{way_step}
 use Rattle.pipe_core.proofs.feed.drain.Goals as goal
 
@@ -17,6 +18,8 @@ loop-preserved-in-Ok-true g c =
       way = λ left plan old. way_step _ _ _ _ _ plan _ _ _ _ _ _ _ (λ put order. t.order put _ order) (was.way left plan old);
       spare = λ k d less. t.spare k d less ∙ sizes;
       written = λ taken old. t.written taken (was.written taken old);
+      bound = t.same ∙ was.bound;
+      may = may_more _ _ _ _ _ _ _ _ _ _ _ t.same (λ taken old. t.written taken old) was.may;
       refusals = t.count ∙ was.refusals;
     }
 
@@ -35,6 +38,8 @@ loop-preserved g c =
       way = λ left plan old. b.way left plan _ (way_step _ _ _ _ _ plan _ _ _ _ _ _ _ (λ put order. t.order put _ order) (was.way left plan old));
       spare = λ k d less. t.spare k d less ∙ sizes;
       written = λ taken old. written_at _ _ _ _ _ _ _ _ _ b.same.0 (t.written taken (was.written taken old));
+      bound = t.same ∙ was.bound;
+      may = may_more _ _ _ _ _ _ _ _ _ _ _ t.same (λ taken old. written_at _ _ _ _ _ _ _ _ _ b.same.0 (t.written taken old)) was.may;
       refusals = t.count ∙ was.refusals;
     }
 

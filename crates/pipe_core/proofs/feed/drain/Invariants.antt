@@ -2,7 +2,7 @@
 use Rattle.std.proofs.Common.{◌≡◌, All, ℕ, List, Option, length}
 use Rattle.crossbeam_queue.specs.Passes.{view, IsPassOf}
 use Rattle.pipe_core.specs.declared.round.Plan.{Plan}
-use Rattle.pipe_core.specs.Order.{AreWritten}
+use Rattle.pipe_core.specs.Order.{AreWritten, MayGoOn}
 use Rattle.pipe_core.specs.Pieces.{room}
 use Rattle.pipe_core.specs.Round.{IsUnderWay}
 use Rattle.pipe_core.proofs.feed.drain.Given as goal
@@ -20,7 +20,9 @@ invariant-loop g l = record {
       → IsUnderWay g.N.Naming.each g.N.Naming.key g.N.Naming.header g.N.Naming.told left plan l.early (view l.into) (view l.from) l.round;
   spare : All (λ b. length b.items ≡ room g.N.Naming.each g.N.Naming.header) l.spare.items;
   written : (taken : Option (List ℕ))
-      → AreWritten g.N.Naming.each l.front g.N.Naming.key g.N.Naming.header g.N.Naming.told taken (g.W.Sink.taken l.initial.writer) l.initial.early.written
-      → AreWritten g.N.Naming.each l.front g.N.Naming.key g.N.Naming.header g.N.Naming.told taken (g.W.Sink.taken l.writer) l.early.written;
-  refusals : g.W.Sink.failures l.writer ≡ g.W.Sink.failures l.initial.writer;
+      → AreWritten g.N.Naming.each l.front g.N.Naming.key g.N.Naming.header g.N.Naming.told taken (g.W.Output.taken l.initial.writer) l.initial.early.written
+      → AreWritten g.N.Naming.each l.front g.N.Naming.key g.N.Naming.header g.N.Naming.told taken (g.W.Output.taken l.writer) l.early.written;
+  bound : g.W.Output.bound l.writer ≡ g.W.Output.bound l.initial.writer;
+  may : MayGoOn g.N.Naming.each l.front g.N.Naming.key g.N.Naming.header g.N.Naming.told (g.W.Output.bound l.writer) (g.W.Output.taken l.writer) l.early.written;
+  refusals : g.W.Output.failures l.writer ≡ g.W.Output.failures l.initial.writer;
 }

@@ -6,7 +6,7 @@ use Rattle.pipe_core.proofs.feed.put_round.Goals as goal
 
 pub returns-clause-way : goal.returns-clause-way
 returns-clause-way g c = λ left pieces few over was.
-    let put = c.put_all.ensures in
+    let put = c.put_jobs.ensures in
     let ripe = c.ripen.ensures.same in
     way_put _ _ _ _ _ c.args.plan _ _ _ _ pieces _ _ c.requires.group refl put.held.0 refl refl refl
     (put.places ∙ ap (λ v. v.items ++ empty (length c.args.round.now.held.items)) ripe.0) (put.same.0 ∙ ripe.1) put.into.1 few over
@@ -14,7 +14,7 @@ returns-clause-way g c = λ left pieces few over was.
 
 pub returns-clause-room : goal.returns-clause-room
 returns-clause-room g c =
-    let put = c.put_all.ensures in
+    let put = c.put_jobs.ensures in
     let opened = length_opened c.ripen.new.self.places.items _ _ put.places in
     let ripe = ap (λ v. length v.items) c.ripen.ensures.same.0 in
     let none_held = ap (λ ts. length ts) put.held.0 in

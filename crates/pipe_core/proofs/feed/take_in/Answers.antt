@@ -1,5 +1,6 @@
 use Rattle.std.proofs.Common.{arith, refl, ◌≤◌, ap, ◌∙◌, length, deque_capacity}
 use Rattle.pipe_core.proofs.ChunkLemmas.{written_at, written_none}
+use Rattle.pipe_core.proofs.MayLemmas.{may_behind}
 use Rattle.pipe_core.proofs.RoundLemmas.{handed_as, way_read, way_step}
 use Rattle.pipe_core.proofs.feed.take_in.Goals as goal
 
@@ -13,9 +14,15 @@ loop-init g c = record {
   spare = c.requires.spare;
   room = c.requires.room;
   written = written_at _ _ _ _ _ _ _ _ _ c.requires.fresh (written_none _ _ _ _ _ _);
+  bound = refl;
   failures = refl;
   refusals = refl;
 }
+
+pub turn-requires-clause-may : goal.turn-requires-clause-may
+turn-requires-clause-may g c =
+    let was = c.loop.invariant in
+    may_behind _ _ _ _ _ _ _ _ _ _ was.bound c.requires.may was.written
 
 pub loop-preserved-in-Ok-true : goal.loop-preserved-in-Ok-true
 loop-preserved-in-Ok-true g c =
@@ -31,6 +38,7 @@ loop-preserved-in-Ok-true g c =
       room = (let r = was.room.0 in let s = t.room in omega arith, was.room.1, let r = was.room.2 in let p = t.places in omega arith);
       spare = λ k d less. t.spare k d less ∙ sizes;
       written = t.written _ was.written;
+      bound = t.same ∙ was.bound;
       failures = was.failures;
       refusals = t.count ∙ was.refusals;
     }
@@ -67,6 +75,7 @@ loop-preserved-in-Some-take_spare g c =
       );
       spare = λ k d less. c.take_spare.ensures.spare k d less ∙ sizes;
       written = written_at _ _ _ _ _ _ _ _ _ h.same.0 (t.written _ was.written);
+      bound = t.same ∙ was.bound;
       failures = r.count ∙ was.failures;
       refusals = t.count ∙ was.refusals;
     }
@@ -90,6 +99,7 @@ loop-preserved g c =
       );
       spare = λ k d less. c.take_spare.ensures.spare k d less ∙ sizes;
       written = written_at _ _ _ _ _ _ _ _ _ b.same.0 (t.written _ was.written);
+      bound = t.same ∙ was.bound;
       failures = was.failures;
       refusals = t.count ∙ was.refusals;
     }

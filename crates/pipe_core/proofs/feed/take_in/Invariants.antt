@@ -16,7 +16,8 @@ invariant-loop g l = record {
   spare : All (λ b. length b.items ≡ room g.N.Naming.each g.N.Naming.header) l.spare.items;
   room : (l.plan.depth ≤ deque_capacity l.early.places) × (l.plan.group ≤ deque_capacity l.round.held)
       × (length l.early.places.items + length l.round.held.items ≤ l.plan.depth);
-  written : AreWritten g.N.Naming.each l.front g.N.Naming.key g.N.Naming.header g.N.Naming.told (g.W.Sink.taken l.fn.writer) (g.W.Sink.taken l.writer) l.early.written;
+  written : AreWritten g.N.Naming.each l.front g.N.Naming.key g.N.Naming.header g.N.Naming.told (g.W.Output.taken l.fn.writer) (g.W.Output.taken l.writer) l.early.written;
+  bound : g.W.Output.bound l.writer ≡ g.W.Output.bound l.fn.writer;
   failures : g.R.Source.failures l.reader ≡ g.R.Source.failures l.fn.reader;
-  refusals : g.W.Sink.failures l.writer ≡ g.W.Sink.failures l.fn.writer;
+  refusals : g.W.Output.failures l.writer ≡ g.W.Output.failures l.fn.writer;
 }

@@ -1,5 +1,6 @@
 use Rattle.std.proofs.Common.{arith}
 use Rattle.pipe_core.proofs.ChunkLemmas.{written_next, begun_next}
+use Rattle.pipe_core.proofs.MayLemmas.{may_turn}
 use Rattle.pipe_core.proofs.Orders.{first_is, order_next}
 use Rattle.pipe_core.proofs.feed.write_next.Goals as goal
 
@@ -9,6 +10,12 @@ keep-requires-clause-buffer g c =
     let e = c.requires.size in
     let b = good.0 in
     omega arith
+
+pub write_part-requires : goal.write_part-requires
+write_part-requires g c =
+    let p = c.in-Some.piece in
+    let first = first_is _ _ _ _ _ _ _ p c.in-Some.ensures.some.0 c.requires.kept in
+    record { may = may_turn _ _ _ _ _ _ _ p.number _ p.buffer.items _ c.requires.each first.0 c.as_slice.ensures.value first.1.1 c.requires.may }
 
 pub returns-in_default-clause-order : goal.returns-in_default-clause-order
 returns-in_default-clause-order g c = λ chunks jobs pieces was.

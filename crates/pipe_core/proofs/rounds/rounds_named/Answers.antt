@@ -6,6 +6,7 @@ use Rattle.io_core.specs.Streams.{Consumes}
 use Rattle.pipe_core.specs.Pieces.{block, IsBlock}
 use Rattle.pipe_core.specs.Round.{IsInHand, IsPlan}
 use Rattle.pipe_core.proofs.ChunkLemmas.{written_none}
+use Rattle.pipe_core.proofs.MayLemmas.{may_as}
 use Rattle.pipe_core.proofs.RoundLemmas.{not_ended, plan_as, rounds_counts, rounds_first, rounds_long, rounds_memory}
 use Rattle.pipe_core.proofs.StreamLemmas.{rounds_as}
 use Rattle.pipe_core.proofs.rounds.rounds_named.Goals as goal
@@ -64,6 +65,12 @@ returns g c =
       sealed = rounds_as _ _ _ _ _ _ _ _ _ _ _ _ _ _ _ _ _ _ n.0 n.1 n.3 (omega arith) (ap (λ (e : ℕ). c.args.group * e) n.2)
           (rounds_counts _ _ _ _ _ _ _ _ _ _ _ _ _ _ _ _ _ refl r.count refl c.through.ensures.sealed);
     }
+
+pub alone-requires-clause-may : goal.alone-requires-clause-may
+alone-requires-clause-may g c = let n = c.requires.named in may_as _ _ _ _ _ _ _ _ n.1 n.0 n.1 c.requires.may
+
+pub through-requires-clause-may : goal.through-requires-clause-may
+through-requires-clause-may g c κs within = let n = c.requires.named in may_as _ _ _ _ _ _ _ _ n.1 n.0 n.1 c.requires.may
 
 plan_is : (each : ℕ) (header : List ℕ) (max_bytes group : ℕ) → IsBlock each header → 0 < group → max_bytes ≤ 1099511627776
     → max_bytes + block each header ≤ 4294967296 * size_in header
