@@ -2,5 +2,6 @@ pub mod Facts
 pub mod KeyFile
 pub mod Labels
 pub mod Lines
+pub mod Session
 pub mod Trace
 pub mod Work

@@ -1,5 +1,6 @@
 -- What a folder tells of a run: which files were read, and what became of its outputs.
-use Rattle.std.specs.Prelude.{⊤, ◌≡◌, ℕ, List, [], ◌∷◌, ◌++◌, length, Option, None, Some}
+use Rattle.std.specs.Prelude.{⊤, ◌≡◌, ℕ, List, [], ◌∷◌, ◌++◌, length, Option, None, Some, Ok}
+use Rattle.container_core.specs.Opening.{opening}
 use Rattle.command_core.specs.declared.folder.FolderFault.{FolderFault}
 
 -- A file was opened to be read, and these are the bytes that its reader has; a file could not be opened. An output was
@@ -54,3 +55,8 @@ Finishes taken events =
 abbrev pub Discards : Option (List ℕ) → List Event → Type 0
 Discards taken events =
     (name : List ℕ) × (bytes : List ℕ) × (taken ≡ Some (tape name bytes)) × (events ≡ Discarded name bytes ∷ [])
+
+-- a file of this name was read, and its bytes open to this plaintext
+abbrev pub IsOpenedBy : List ℕ → List ℕ → List ℕ → List Event → Type 0
+IsOpenedBy key name plain events = (bytes : List ℕ) × (most : ℕ) × (before : List Event) × (after : List Event)
+    × (events ≡ before ++ Reading name bytes ∷ after) × (opening key most bytes ≡ Ok plain)

@@ -16,7 +16,7 @@ ghost use Rattle.command_core.specs.Work.{output_of, AreInRange, IsOfOpening, Is
 ghost use Rattle.command_core.specs.Work.{AreTold, AreWorked, IsFaultOf, IsGood, Opening, Verifying, file_read_failed};
 
 use crate::facts::Facts;
-use crate::folder::{Folder, FolderFault, write_or_discard};
+use crate::folder::{Folder, FolderFault, OpeningFolder, write_or_discard};
 use crate::label::is_labelled;
 use crate::line::{FileFault, FileOutcome, Line};
 use container_core::{Key, MAX_OPENED, MAX_PLAIN, OpenFault};
@@ -132,7 +132,7 @@ fn check_labelled<T: Threads + Sync, R: Source>(
 }
 
 // Checks the whole container of one file, then creates its output, writes the plaintext and finishes the output.
-fn open_file<T: Threads + Sync, F: Folder>(
+fn open_file<T: Threads + Sync, F: OpeningFolder>(
     rt: &T,
     alloc: Global,
     key: &Key,
@@ -160,7 +160,7 @@ fn open_file<T: Threads + Sync, F: Folder>(
         Err(FolderFault::Exists) => return FileOutcome::Failed(FileFault::OutputExists),
         Err(FolderFault::Failed) => return FileOutcome::Failed(FileFault::CannotCreate),
     };
-    match write_or_discard(folder, writer, plain.as_slice()) {
+    match write_or_discard(folder, writer, key, name, plain.as_slice()) {
         Ok(()) => FileOutcome::Opened(plain.len() as u64),
         Err(Failed) => FileOutcome::Failed(FileFault::Unopened(OpenFault::Write)),
     }
@@ -237,7 +237,13 @@ pub fn tell<W: Sink>(
 /// which must not be there yet. Where a label is asked for, a container that has another one fails once it was checked,
 /// and its output isn't created. The answer is the exit status: 0 where every file was opened, 1 where one failed, 2
 /// where a line couldn't be written. An output that couldn't be written whole, or finished, is removed.
-pub fn open_all<T: Threads + Sync, F: Folder, L: Sink + Drop, E: Sink + Drop, J: Sink + Drop>(
+pub fn open_all<
+    T: Threads + Sync,
+    F: OpeningFolder,
+    L: Sink + Drop,
+    E: Sink + Drop,
+    J: Sink + Drop,
+>(
     rt: &T,
     alloc: Global,
     key: &Key,

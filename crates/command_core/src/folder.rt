@@ -1,10 +1,14 @@
 //! Folders: what the commands read files from and create outputs in.
-ghost use Rattle.std.specs.Prelude.{◌≡◌, ◌≢◌, ℕ, List, Option, None, Err, IfOk, IfErr, OnOk, OnErr};
+ghost use Rattle.std.specs.Prelude.{◌≡◌, ◌≢◌, ℕ, List, ◌++◌, Option, None, Err, IfOk, IfErr, IfSome, OnOk, OnErr};
 ghost use Rattle.io_core.specs.Streams.{Appends, AppendsFront};
+ghost use Rattle.output_core.specs.Bounds.{Admits, Exactly};
+ghost use Rattle.command_core.specs.Session.{IsBoundTo, IsNew, IsSound, Session};
 ghost use Rattle.command_core.specs.Trace.{Event, Creates, Discards, Does, FailsToOpen, Finishes, Nothing, Opens};
-ghost use Rattle.command_core.specs.Trace.{Refuses};
+ghost use Rattle.command_core.specs.Trace.{IsOpenedBy, Refuses};
 
-use ledger_core::{Failed, Sink, Source, write_all};
+use container_core::Key;
+use ledger_core::{Failed, Source};
+use output_core::{Output, put_all};
 use thiserror::Error;
 
 /// Why a folder refused a call.
@@ -24,25 +28,31 @@ pub trait Folder {
     type Reader: Source + Drop;
 
     /// What writes an output into this folder. Where it is let go, without `finish`, no fault at closing is told.
-    type Writer: Sink + Drop;
+    type Writer: Output + Drop;
 
     // What happened so far, where it is known. A folder may forget.
     ghost told: { Self → Option (List Event) } = { λ _. None };
+
+    // Under which key and range containers are written into outputs, and which of them began, where that is known.
+    ghost session: { Self → Option Session } = { λ _. None };
 
     /// Opens a file to be read from its beginning. Its only fault is `Failed`.
     fn open(&mut self, name: &str) -> Result<Self::Reader, FolderFault>
         ensures fault { result ≢ Err FolderFault.Exists }
         ensures opened { IfOk result (λ reader.
             Does (Opens name.now (Self.Reader.left reader)) (told self.old) (told self.new)) }
-        ensures unopened { OnErr result (Does (FailsToOpen name.now) (told self.old) (told self.new)) };
+        ensures unopened { OnErr result (Does (FailsToOpen name.now) (told self.old) (told self.new)) }
+        ensures session { session self.new ≡ session self.old };
 
     /// Creates an empty output. It never replaces a file: `Exists` where the name is there, and any other cause is
-    /// `Failed`.
+    /// `Failed`. Nothing can be written to a new output before it is said what it is to hold.
     fn create(&mut self, name: &str) -> Result<Self::Writer, FolderFault>
         ensures created { IfOk result (λ output.
             Does (Creates name.now (Self.Writer.taken output)) (told self.old) (told self.new)) }
+        ensures new { IfOk result (λ output. IsNew (Self.Writer.bound output) (Self.Writer.taken output)) }
         ensures uncreated { IfErr result (λ fault.
-            Does (Refuses name.now fault) (told self.old) (told self.new)) };
+            Does (Refuses name.now fault) (told self.old) (told self.new)) }
+        ensures session { session self.new ≡ session self.old };
 
     /// Nothing more is written to the output: a folder over real files puts it on the disk where that was asked for.
     /// Where that fails the output comes back, to be given up.
@@ -50,46 +60,71 @@ pub trait Folder {
         ensures finished { OnOk result
             (Does (Finishes (Self.Writer.taken output)) (told self.old) (told self.new)) }
         ensures back { IfErr result (λ back. Self.Writer.taken back ≡ Self.Writer.taken output) }
-        ensures unfinished { OnErr result (Does Nothing (told self.old) (told self.new)) };
+        ensures unfinished { OnErr result (Does Nothing (told self.old) (told self.new)) }
+        ensures session { session self.new ≡ session self.old };
 
     /// Gives an output up: its writer is let go, and its file removed. Its only fault is `Failed`.
     fn discard(&mut self, output: Self::Writer) -> Result<(), FolderFault>
         ensures fault { result ≢ Err FolderFault.Exists }
-        ensures discarded { Does (Discards (Self.Writer.taken output)) (told self.old) (told self.new) };
+        ensures discarded { Does (Discards (Self.Writer.taken output)) (told self.old) (told self.new) }
+        ensures session { session self.new ≡ session self.old };
+
+    // At every moment the containers that began have numbers of the range, no two of them the same.
+    ghost sound: { (folder : Self) → ∥ IfSome (session folder) IsSound ∥₁ };
 }
 
-/// Writes all of an output, and finishes it. Where a write fails, or the finishing, the output comes back, to be given
-/// up.
-pub fn write_output<F: Folder>(
-    folder: &mut F,
-    output: F::Writer,
-    bytes: &[u8],
-) -> Result<(), F::Writer>
+/// A folder into whose outputs plaintexts are written, of containers that were read in it.
+pub trait OpeningFolder: Folder {
+    /// Says, before anything is written to a new output, that it is to hold this plaintext: that of a container which
+    /// was read. A folder over real files has nothing to do here.
+    fn allow_plain(&mut self, output: &mut Self::Writer, key: &Key, name: &str, plain: &[u8])
+        requires new { IsNew (Self.Writer.bound output.old) (Self.Writer.taken output.old) }
+        requires read { IfSome (Self.told self.old) (IsOpenedBy key.now name.now plain.now) }
+        ensures told { Self.told self.new ≡ Self.told self.old }
+        ensures session { Self.session self.new ≡ Self.session self.old }
+        ensures taken { Self.Writer.taken output.new ≡ Self.Writer.taken output.old }
+        ensures bound { IfSome (Self.Writer.bound output.new)
+            (IsBoundTo (λ held. Exactly (held ++ plain.now)) (Self.Writer.taken output.old)) };
+}
+
+// Writes all of an output, and finishes it. Where a write fails, or the finishing, the output comes back, to be given
+// up.
+fn write_output<F: Folder>(folder: &mut F, output: F::Writer, bytes: &[u8]) -> Result<(), F::Writer>
+    requires may { Admits (F.Writer.bound output) (F.Writer.taken output) bytes.now }
     ensures ok { OnOk result ((taken : Option (List ℕ)) × Appends (F.Writer.taken output) taken bytes.now
         × Does (Finishes taken) (F.told folder.old) (F.told folder.new)) }
     ensures err { IfErr result (λ back. AppendsFront (F.Writer.taken output) (F.Writer.taken back) bytes.now) }
     ensures untold { OnErr result (Does Nothing (F.told folder.old) (F.told folder.new)) }
+    ensures session { F.session folder.new ≡ F.session folder.old }
 {
     let mut output = output;
-    match write_all(&mut output, bytes) {
+    match put_all(&mut output, bytes) {
         Ok(()) => folder.finish(output),
         Err(Failed) => Err(output),
     }
 }
 
-// Writes all of an output, and finishes it. Where that fails the output is given up.
-pub(crate) fn write_or_discard<F: Folder>(
+// Writes the plaintext of a container that was read into a new output, and finishes it. Where that fails the output is
+// given up.
+pub(crate) fn write_or_discard<F: OpeningFolder>(
     folder: &mut F,
     output: F::Writer,
-    bytes: &[u8],
+    key: &Key,
+    name: &str,
+    plain: &[u8],
 ) -> Result<(), Failed>
-    ensures ok { OnOk result ((taken : Option (List ℕ)) × Appends (F.Writer.taken output) taken bytes.now
+    requires new { IsNew (F.Writer.bound output) (F.Writer.taken output) }
+    requires read { IfSome (F.told folder.old) (IsOpenedBy key.now name.now plain.now) }
+    ensures ok { OnOk result ((taken : Option (List ℕ)) × Appends (F.Writer.taken output) taken plain.now
         × Does (Finishes taken) (F.told folder.old) (F.told folder.new)) }
     ensures err { OnErr result ((taken : Option (List ℕ)) × (between : Option (List Event))
-        × AppendsFront (F.Writer.taken output) taken bytes.now × Does Nothing (F.told folder.old) between
+        × AppendsFront (F.Writer.taken output) taken plain.now × Does Nothing (F.told folder.old) between
         × Does (Discards taken) between (F.told folder.new)) }
+    ensures session { F.session folder.new ≡ F.session folder.old }
 {
-    match write_output(folder, output, bytes) {
+    let mut output = output;
+    folder.allow_plain(&mut output, key, name, plain);
+    match write_output(folder, output, plain) {
         Ok(()) => Ok(()),
         Err(output) => {
             let _ = folder.discard(output);

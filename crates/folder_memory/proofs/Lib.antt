@@ -1,3 +1,4 @@
 mod Files
 mod Positions
+mod SessionLemmas
 mod Truth

@@ -16,9 +16,6 @@ use Rattle.folder_memory.specs.declared.memory.Told.{Told}
 equal : (a b : List ℕ) → bytes_eq a b ≡ true → a ≡ b
 equal a b is = (bytes_eq-Decides a b).0 is
 
-some_same : (a b : List ℕ) → Some a ≡ Some b → a ≡ b
-some_same a b same = cc
-
 -- ---- one event more
 
 left-push : (name : List ℕ) (left : Option (List ℕ)) (events : List Event) (event : Event)

@@ -1,13 +1,16 @@
 -- What a folder in memory stands for.
 use Rattle.std.specs.Prelude.{◌≡◌, ◌⊎◌, ⊤, ℕ, ◌-◌, ◌==◌, Bool, false, not, List, [], ◌∷◌, filter, Option, Some, None}
-use Rattle.std.specs.Prelude.{if◌then◌else◌, is_some, position, bytes_eq, string_bytes}
+use Rattle.std.specs.Prelude.{if◌then◌else◌, IfSome, is_some, option_map, position, bytes_eq, string_bytes}
+use Rattle.command_core.specs.Session.{IsSound, Session}
 use Rattle.command_core.specs.Trace.{Event, tape}
 use Rattle.command_core.specs.Trace as trace
 use Rattle.folder_memory.specs.declared.memory.Content.{Content}
 use Rattle.folder_memory.specs.declared.memory.Content.TheVariants.{Whole, Written}
 use Rattle.folder_memory.specs.declared.memory.File.{File}
-use Rattle.folder_memory.specs.declared.memory.MemoryWriter.{MemoryWriter}
-use Rattle.folder_memory.specs.declared.memory.Pace.{Pace}
+use Rattle.folder_memory.specs.declared.streams.MemoryWriter.{MemoryWriter}
+use Rattle.folder_memory.specs.declared.session.SessionNote.{SessionNote}
+use Rattle.folder_memory.specs.declared.streams.Pace.{Pace}
+use Rattle.folder_memory.specs.Noted.{session_of}
 use Rattle.folder_memory.specs.declared.memory.Told.{Told}
 use Rattle.folder_memory.specs.declared.memory.Told.TheVariants.{Reading, Unread, Created, Refused, Finished, Discarded}
 
@@ -62,17 +65,28 @@ abbrev pub taken_by : MemoryWriter → Option (List ℕ)
 taken_by writer = Some (tape (name_of writer) writer.bytes.taken)
 
 -- its files, how many calls are still answered before one fails, how readers and writers that are made from now on move
--- their bytes, and what happened, unless something was forgotten
+-- their bytes, what happened, unless something was forgotten, and the note of the session, where there is one
 pub record MemoryView : Type 0 where
   pub files : List FileView
   pub refused : Option ℕ
   pub readers : Pace
   pub writers : Pace
   pub log : Option (List Event)
+  pub session : Option SessionNote
 
-abbrev pub memory_view : List FileView → Option ℕ → Pace → Pace → Option (List Event) → MemoryView
-memory_view files refused readers writers log =
-    record { files = files; refused = refused; readers = readers; writers = writers; log = log }
+abbrev pub memory_view : List FileView → Option ℕ → Pace → Pace → Option (List Event) → Option SessionNote → MemoryView
+memory_view files refused readers writers log session =
+    record { files = files; refused = refused; readers = readers; writers = writers; log = log; session = session }
+
+-- the session that the folder tells, by its note
+abbrev pub session_told : MemoryView → Option Session
+session_told folder = option_map (λ note. session_of note.place.me.0) folder.session
+
+-- a note is of a sound session
+pub is_sound : (note : Option SessionNote)
+    → ∥ IfSome (option_map (λ (n : SessionNote). session_of n.place.me.0) note) IsSound ∥₁
+is_sound None = ∣ tt ∣₁
+is_sound (Some note) = note.sound
 
 abbrev pub event_of : Told → Event
 event_of (Reading name bytes) = trace.Reading (string_bytes name) bytes.items

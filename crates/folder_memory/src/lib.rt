@@ -3,5 +3,8 @@
 #![tactic(auto)]
 
 pub mod memory;
+pub mod session;
+pub mod streams;
 
-pub use crate::memory::{MemoryFolder, Pace, STEADY, Told};
+pub use crate::memory::{MemoryFolder, Told};
+pub use crate::streams::{MemoryReader, MemoryWriter, Pace, STEADY};

@@ -1,39 +1,30 @@
-//! A folder in memory, whose calls, readers and writers fail where they are told to.
+//! A folder in memory, whose calls fail where they are told to.
 //!
-//! It keeps what happened and tells it, refused calls too, and its readers and writers tell their bytes. Where memory
-//! is refused to a call, or for its event, it forgets, and tells nothing from then on: what it tells is never for want
-//! of memory.
+//! It keeps what happened and tells it, refused calls too. Where memory is refused to a call, or for its event, it
+//! forgets, and tells nothing from then on: what it tells is never for want of memory.
 ghost use Rattle.std.specs.Prelude.{◌≡◌, ◌≢◌, ◌⊎◌, ◌↔◌, Err, ◌<◌, [], ◌∷◌, ◌++◌, None, Some, true, false, length};
 ghost use Rattle.std.specs.Prelude.{IfErr, IfNone, IfOk, IfSome, OnErr, OnOk, map, option_map, position, bytes_eq};
 ghost use Rattle.std.specs.Prelude.{string_bytes};
 ghost use Rattle.command_core.specs.Trace.{Created, Discarded, Does, FailsToOpen, Finished, Opens, Reading, Refused};
 ghost use Rattle.command_core.specs.Trace.{Creates, Discards, Finishes, Nothing, Refuses, Unread};
+ghost use Rattle.command_core.specs.Session.{IsFree, Session, started, with_begun};
+ghost use Rattle.container_core.specs.Shape.{IsShape};
+ghost use Rattle.front_core.specs.Range.{IsHeld};
+ghost use Rattle.sha2.specs.Sha256.{sha256};
 ghost use Rattle.folder_memory.specs.Memory.{IsEvent, KeepsOrForgets, bytes_of, event_of, file_view, memory_view};
+ghost use Rattle.folder_memory.specs.Memory.{is_sound, session_told};
 ghost use Rattle.folder_memory.specs.Memory.{after_call, fails_now, is_there, name_of, taken_by, told_of, whole_of};
 ghost use Rattle.folder_memory.specs.Memory.{with_bytes, without};
 
-use command_core::{Folder, FolderFault};
-use io_memory::{FromMemory, Schedule, ToMemory};
-use ledger_core::{Failed, Sink, Source};
+use crate::session::{SessionNote, is_shape};
+use crate::streams::{MemoryReader, MemoryWriter, Pace, STEADY, Shown, new_writer};
+use command_core::{Folder, FolderFault, OpeningFolder};
+use container_core::{Key, Shape};
+use front_core::SealingFolder;
+use ledger_core::{Ledger, Seat};
+use reserve_core::{Fold, LedgerFile};
 use std::alloc::{AllocError, Global};
-use std::cell::RefCell;
 use std::marker::Model;
-use std::rc::Rc;
-
-/// How a reader or a writer moves its bytes: at most so many a call, failing by a schedule.
-#[derive(Clone, Copy, PartialEq, Eq, Debug)]
-pub struct Pace {
-    /// Bytes a call, at most. 0 is taken as 1.
-    pub most: usize,
-    /// Which calls fail.
-    pub schedule: Schedule,
-}
-
-/// All bytes at once, and no call fails.
-pub const STEADY: Pace = Pace {
-    most: usize::MAX,
-    schedule: Schedule::Never,
-};
 
 /// What happened in a folder.
 #[derive(Drop)]
@@ -51,9 +42,6 @@ pub enum Told {
     /// An output was given up with these bytes, and its removal was tried.
     Discarded(String, Vec<u8>),
 }
-
-// What the writer of an output took so far, which it shows to the folder.
-type Shown = Rc<RefCell<Vec<u8>>>;
 
 #[derive(Drop)]
 enum Content {
@@ -80,6 +68,8 @@ pub struct MemoryFolder {
     writers: Pace,
     // What happened, as long as nothing was forgotten.
     told: Option<Vec<Told>>,
+    // The session that it was told of, unless that was forgotten.
+    session: Option<SessionNote>,
 }
 
 impl Model for MemoryFolder {
@@ -89,45 +79,17 @@ impl Model for MemoryFolder {
     ghost Value = { MemoryView };
 
     ghost view = { λ f. memory_view (map file_of f.files.items) f.refused f.readers f.writers
-        (option_map (λ told. map event_of told.items) f.told) };
+        (option_map (λ told. map event_of told.items) f.told) f.session };
 
     // An output that was finished has the bytes that were told, until it is given up.
     ghost invariant = { λ f. AreAsTold (map file_of f.files.items)
         (option_map (λ told. map event_of told.items) f.told) };
 }
 
-/// A reader of the bytes that a file had when it was opened.
-#[derive(Drop)]
-pub struct MemoryReader {
-    bytes: Vec<u8>,
-    at: usize,
-    calls: u64,
-    pace: Pace,
-}
-
-// Contracts see the bytes that are left.
-impl Model for MemoryReader {
-    ghost use Rattle.std.specs.Prelude.{ℕ, ◌≤◌, List, drop, length};
-
-    ghost Value = { List ℕ };
-
-    ghost view = { λ r. drop r.at r.bytes.items };
-
-    ghost invariant = { λ r. r.at ≤ length r.bytes.items };
-}
-
-/// A writer of a file in memory.
-#[derive(Drop)]
-pub struct MemoryWriter {
-    name: String,
-    bytes: ToMemory,
-    shown: Shown,
-}
-
 impl MemoryFolder {
     /// An empty folder, in which nothing fails.
     pub fn new(alloc: Global) -> MemoryFolder
-        ensures { result ≡ memory_view [] None STEADY STEADY (Some []) }
+        ensures { result ≡ memory_view [] None STEADY STEADY (Some []) None }
     {
         MemoryFolder {
             alloc,
@@ -136,6 +98,7 @@ impl MemoryFolder {
             readers: STEADY,
             writers: STEADY,
             told: Some(Vec::new(alloc)),
+            session: None,
         }
     }
 
@@ -207,6 +170,13 @@ impl MemoryFolder {
             Some(told) => Some(told.as_slice()),
             None => None,
         }
+    }
+
+    /// A run is over: of its session the folder knows nothing any more, and the next run starts its own.
+    pub fn end_session(&mut self)
+        ensures { self.new ≡ record self.old { session = None } }
+    {
+        self.session = None;
     }
 
     fn add(&mut self, name: &str, content: Content) -> Result<(), FolderFault>
@@ -361,22 +331,6 @@ fn copy_of(alloc: Global, content: &Content) -> Result<Vec<u8>, AllocError>
     }
 }
 
-// Shows these bytes, unless memory for them is refused.
-fn show(shown: &Shown, bytes: &[u8]) {
-    if let Ok(mut shown) = shown.try_borrow_mut() {
-        let _ = shown.extend_from_slice(bytes);
-    }
-}
-
-fn new_writer(alloc: Global, name: &str, pace: Pace) -> Result<MemoryWriter, AllocError>
-    ensures { IfOk result (λ writer. (string_bytes writer.name ≡ name.now) × (writer.bytes.taken ≡ [])) }
-{
-    let name = String::from_str(alloc, name)?;
-    let bytes = ToMemory::new(alloc, 0, pace.most, pace.schedule)?;
-    let shown = Rc::new(alloc, RefCell::new(Vec::new(alloc)))?;
-    Ok(MemoryWriter { name, bytes, shown })
-}
-
 fn reading(alloc: Global, name: &str, bytes: &[u8]) -> Option<Told>
     ensures { IfSome result (λ told. event_of told ≡ Reading name.now bytes.now) }
 {
@@ -429,6 +383,8 @@ impl Folder for MemoryFolder {
 
     ghost told = { λ f. f.log };
 
+    ghost session = { session_told };
+
     fn open(&mut self, name: &str) -> Result<MemoryReader, FolderFault>
         ensures fault { result ≢ Err FolderFault.Exists }
         ensures opened { IfOk result (λ reader. Does (Opens name.now (Some reader)) self.old.log self.new.log) }
@@ -442,6 +398,7 @@ impl Folder for MemoryFolder {
             ⊎ (fails_now self.old.refused ≡ true) ⊎ (self.new.log ≡ None)) }
         ensures kept { self.new.files ≡ self.old.files }
         ensures counted { self.new.refused ≡ after_call self.old.refused }
+        ensures session { self.new.session ≡ self.old.session }
     {
         let Some(bytes) = self.bytes_to_read(name) else {
             let event = unread(self.alloc, name);
@@ -450,12 +407,7 @@ impl Folder for MemoryFolder {
         };
         let event = reading(self.alloc, name, bytes.as_slice());
         tell(&mut self.told, event);
-        Ok(MemoryReader {
-            bytes,
-            at: 0,
-            calls: 0,
-            pace: self.readers,
-        })
+        Ok(MemoryReader::new(bytes, self.readers))
     }
 
     fn create(&mut self, name: &str) -> Result<MemoryWriter, FolderFault>
@@ -472,6 +424,7 @@ impl Folder for MemoryFolder {
         ensures cause { result ≡ Err FolderFault.Failed → (fails_now self.old.refused ≡ true) ⊎ (self.new.log ≡ None) }
         ensures kept { OnErr result (self.new.files ≡ self.old.files) }
         ensures counted { self.new.refused ≡ after_call self.old.refused }
+        ensures session { self.new.session ≡ self.old.session }
     {
         match self.new_output(name) {
             Ok(writer) => {
@@ -501,6 +454,7 @@ impl Folder for MemoryFolder {
             ⊎ (fails_now self.old.refused ≡ true) ⊎ (self.new.log ≡ None)) }
         ensures kept { OnErr result (self.new.files ≡ self.old.files) }
         ensures counted { self.new.refused ≡ after_call self.old.refused }
+        ensures session { self.new.session ≡ self.old.session }
     {
         if self.is_refused() {
             return Err(output);
@@ -530,6 +484,7 @@ impl Folder for MemoryFolder {
         ensures cause { OnErr result
             ((is_there self.old.files (name_of output) ≡ false) ⊎ (fails_now self.old.refused ≡ true)) }
         ensures counted { self.new.refused ≡ after_call self.old.refused }
+        ensures session { self.new.session ≡ self.old.session }
     {
         let is_refused = self.is_refused();
         let name = output.name.as_str();
@@ -544,47 +499,53 @@ impl Folder for MemoryFolder {
         self.files.retain(|file| file.name.as_str() != name);
         Ok(())
     }
+
+    ghost sound = { λ f. is_sound f.session };
 }
 
-impl Source for MemoryReader {
-    ghost use Rattle.std.specs.Prelude.{Some};
+impl OpeningFolder for MemoryFolder {
+    // It tells no bound of what an output may hold.
+    fn allow_plain(&mut self, output: &mut MemoryWriter, _key: &Key, _name: &str, _plain: &[u8])
+        ensures folder { self.new ≡ self.old }
+        ensures output { output.new ≡ output.old }
+    {}
+}
 
-    ghost left = { λ r. Some r };
-
-    fn read(&mut self, buffer: &mut [u8]) -> Result<usize, Failed> {
-        let at = self.at;
-        let schedule = schedule_after(self.pace.schedule, self.calls, at as u64);
-        self.calls = self.calls.saturating_add(1);
-        let mut rest = FromMemory::new(&self.bytes.as_slice()[at..], self.pace.most, schedule);
-        let n = rest.read(buffer)?;
-        self.at += n;
-        Ok(n)
+// It tells no bound of what an output may hold. Both calls leave files, what happened, and what is to fail as they are.
+impl SealingFolder for MemoryFolder {
+    fn start<S: Fold>(&mut self, _file: &LedgerFile<S>, key: &Key, ledger: &Ledger)
+        ensures folder { self.new ≡ record self.old { session = self.new.session } }
+        ensures started { IfSome (session_told self.new) (λ session.
+            session ≡ started (sha256 key.now) ledger.now.terms.range) }
+    {
+        self.session = SessionNote::new(self.alloc, key, ledger);
     }
-}
 
-// What is left of a schedule after so many calls that moved so many bytes.
-fn schedule_after(schedule: Schedule, calls: u64, bytes: u64) -> Schedule {
-    match schedule {
-        Schedule::Never => Schedule::Never,
-        Schedule::Call(number) => {
-            if number < calls {
-                Schedule::Never
-            } else {
-                Schedule::Call(number - calls)
+    // It forgets the session only where the shape isn't one: each shape is, but no contract of a shape says so.
+    fn allow_container(
+        &mut self,
+        output: &mut MemoryWriter,
+        ledger: &Ledger,
+        seat: &Seat,
+        number: u32,
+        key: &Key,
+        shape: &Shape,
+    )
+        requires held { IsHeld ledger.now seat.now number }
+        requires started { IfSome (session_told self.old) (λ session.
+            (session.range ≡ ledger.now.terms.range) × IsFree number session) }
+        ensures folder { self.new ≡ record self.old { session = self.new.session } }
+        ensures begun { IfSome (session_told self.new) (λ session.
+            (was : Session) × (session_told self.old ≡ Some was) × (session ≡ with_begun number shape.now was)) }
+        // Of a shape nothing is forgotten.
+        ensures kept { IsShape shape.now
+            → session_told self.new ≡ option_map (with_begun number shape.now) (session_told self.old) }
+        ensures output { output.new ≡ output.old }
+    {
+        if let Some(note) = self.session.take() {
+            if is_shape(key, shape) {
+                self.session = Some(note.begin(ledger, seat, number, shape));
             }
         }
-        Schedule::Bytes(most) => Schedule::Bytes(most.saturating_sub(bytes)),
-    }
-}
-
-impl Sink for MemoryWriter {
-    ghost use Rattle.folder_memory.specs.Memory.{taken_by};
-
-    ghost taken = { taken_by };
-
-    fn write(&mut self, bytes: &[u8]) -> Result<usize, Failed> {
-        let n = self.bytes.write(bytes)?;
-        show(&self.shown, &bytes[..n]);
-        Ok(n)
     }
 }

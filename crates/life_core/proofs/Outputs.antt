@@ -21,7 +21,7 @@ use Rattle.container_core.specs.Shape.{size_of}
 use Rattle.container_core.proofs.LawLemmas.{nonce_of-injective}
 use Rattle.io_core.specs.Streams.{IsFront}
 use Rattle.life_core.specs.Life.{container_nonces, sealed_under}
-use Rattle.life_core.specs.Outputs.{Output, IsOutput, nonces_of, times_used, Written, HasWritten, AreRuns, Place, StandsAt, HoldsChunk}
+use Rattle.life_core.specs.Outputs.{AreGranted, IsInside, Output, IsOutput, nonces_of, times_used, Written, HasWritten, AreRuns, Place, StandsAt, HoldsChunk}
 use Rattle.life_core.proofs.Lives.{nonce_at, header_prefix, not_apart, grant_of, container_under}
 
 -- ---- what is counted in a list
@@ -127,6 +127,44 @@ granted_once terms history number legal =
     let there = also ∙ ap (λ (e : Entry). Some e) (granting_entry number y so) in
     not_apart i j (λ differ. once.once i j number number x.seat y.seat differ here there refl))
 
+-- ---- numbers that were granted lie in the range, and no two of them are the same
+
+pub granted_inside : (terms : Terms) (history : List Entry) (output : Output) → Legal terms history
+    → 0 < times_granted output.number history → IsInside terms.range output
+granted_inside terms history output legal some =
+    let (at, e, here, hit) = found (grants output.number) history some in
+    let entry_is = here ∙ ap (λ (e : Entry). Some e) (granting_entry output.number e hit) in
+    (numbers_once terms history legal).inside at output.number e.seat entry_is
+
+used_first : (output : Output) (outputs : List Output) → 0 < times_used output.number (output ∷ outputs)
+used_first output outputs =
+    counts (λ (o : Output). nat_eq output.number o.number) (output ∷ outputs) 0 output refl (eq-eqb output.number output.number refl)
+
+used_more : (number : ℕ) (output : Output) (outputs : List Output) → times_used number outputs ≤ times_used number (output ∷ outputs)
+used_more number output outputs =
+    let all = count_cons (λ (o : Output). nat_eq number o.number) output outputs in omega arith
+
+all_inside : (terms : Terms) (history : List Entry) (outputs : List Output) → Legal terms history
+    → ((number : ℕ) → times_used number outputs ≤ times_granted number history) → AllByRecursion (IsInside terms.range) outputs
+all_inside terms history [] legal granted = tt
+all_inside terms history (output ∷ outputs) legal granted =
+    let used = used_first output outputs in
+    let few = granted output.number in (
+      granted_inside terms history output legal (omega arith),
+      all_inside terms history outputs legal (λ number.
+          let more = used_more number output outputs in
+          let all = granted number in omega arith),
+    )
+
+pub are_apart : (terms : Terms) (history : List Entry) (outputs : List Output) → AreGranted terms history outputs
+    → AllByRecursion (IsInside terms.range) outputs × ((number : ℕ) → times_used number outputs ≤ 1)
+are_apart terms history outputs (legal, granted) = (
+  all_inside terms history outputs legal granted,
+  λ number.
+      let one = granted_once terms history number legal in
+      let all = granted number in omega arith,
+)
+
 -- ---- an output and its number
 
 all_at : {A : Type 0} (P : A → Type 0) (xs : List A) (i : ℕ) (x : A) → AllByRecursion P xs → slice_get xs i ≡ Some x → P x
@@ -150,22 +188,15 @@ standing : (key : List ℕ) (runs : ℕ → List Written) (place : Place) (outpu
 standing key runs place output are stands =
     let run = stands.run in
     let has = all_at (HasWritten key place.device) (runs place.device) place.run run are.each stands.at_run in
-    let used = counts (λ (o : Output). nat_eq output.number o.number) run.outputs place.output output stands.at_output
-    (eq-eqb output.number output.number refl) in
-    let granted = has.granted output.number in
-    let once = granted_once run.terms run.history output.number has.legal in
-    let (at, e, here, hit) = found (grants output.number) run.history (omega arith) in
-    let entry_is = here ∙ ap (λ (e : Entry). Some e) (granting_entry output.number e hit) in
-    let inside = (numbers_once run.terms run.history has.legal).inside at output.number e.seat entry_is in
-    let from = inside.0 in
-    let below = inside.1 in
+    let once = has.once output.number in
+    let (from, below) = all_at (IsInside run.terms.range) run.outputs place.output output has.inside stands.at_output in
     let end = has.lawful.end in
     let three : run.terms.range.device ≤ 16777215 = has.lawful.device in
     record {
       run = run;
       at_run = stands.at_run;
       at_output = stands.at_output;
-      once = omega arith;
+      once = once;
       from = from;
       below = below;
       three_bytes = subst (λ (d : ℕ). d ≤ 16777215) has.of_device three;

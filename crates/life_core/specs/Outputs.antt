@@ -1,9 +1,9 @@
--- What the runs of one key wrote: each run's range, its ledger's history, and its outputs, every one under a number of its own.
+-- What the runs of one key wrote: each run's range, and its outputs, every one under a number of its own.
 use Rattle.std.specs.Prelude.{◌≡◌, ℕ, ◌+◌, ◌*◌, ◌^◌, ◌<◌, ◌≤◌, nat_eq, List, length, count_by, Some, slice_get}
 use Rattle.std.specs.List.{AllByRecursion}
 use Rattle.io_core.specs.Streams.{IsFront}
 use Rattle.journal_core.specs.declared.entry.Entry.{Entry}
-use Rattle.journal_core.specs.Range.{IsLawfulRange, prefix_of}
+use Rattle.journal_core.specs.Range.{IsLawfulRange, Numbers, prefix_of}
 use Rattle.journal_core.specs.declared.terms.Terms.{Terms}
 use Rattle.journal_core.specs.History.{Legal, times_granted}
 use Rattle.container_core.specs.declared.TheConstants.{TAG}
@@ -12,8 +12,8 @@ use Rattle.container_core.specs.Container.{container, header_of}
 use Rattle.container_core.specs.Shape.{ShapeView, IsShape, size_of}
 use Rattle.life_core.specs.Life.{stream_nonces}
 
--- an output: the number under which it was sealed, its shape, a plaintext, and the bytes that it held when it was finished
--- or given up
+-- an output: the number under which it was sealed, its shape, a plaintext, and the bytes that it held when it was
+-- finished or given up, or when its run was killed
 pub record Output : Type 0 where
   pub number : ℕ
   pub shape : ShapeView
@@ -34,20 +34,28 @@ nonces_of key device output = stream_nonces (header_of key output.shape (prefix_
 abbrev pub times_used : ℕ → List Output → ℕ
 times_used number outputs = count_by (λ output. nat_eq number output.number) outputs
 
--- a run: its range and seats, what its ledger did, and the outputs that it wrote
+-- the number of an output lies in the range
+abbrev pub IsInside : Numbers → Output → Type 0
+IsInside range output = (range.lo ≤ output.number) × (output.number < range.lo + range.size)
+
+-- a run: its range and seats, and the outputs that it wrote
 pub record Written : Type 0 where
   pub terms : Terms
-  pub history : List Entry
   pub outputs : List Output
 
--- its history is legal over a range of the device, each output is one of the key's, and no number stands over more of
--- them than it was granted
+-- The range is a lawful one of the device, each output is one of the key's under a number of the range, and no number
+-- stands over two of them.
 pub record HasWritten (key : List ℕ) (device : ℕ) (run : Written) : Type 0 where
   pub of_device : run.terms.range.device ≡ device
   pub lawful : IsLawfulRange run.terms.range
-  pub legal : Legal run.terms run.history
   pub each : AllByRecursion (IsOutput key device) run.outputs
-  pub granted : (number : ℕ) → times_used number run.outputs ≤ times_granted number run.history
+  pub inside : AllByRecursion (IsInside run.terms.range) run.outputs
+  pub once : (number : ℕ) → times_used number run.outputs ≤ 1
+
+-- A legal history grants each number as often at least as it stands over an output.
+abbrev pub AreGranted : Terms → List Entry → List Output → Type 0
+AreGranted terms history outputs = Legal terms history
+    × ((number : ℕ) → times_used number outputs ≤ times_granted number history)
 
 -- runs of one device, one after another: each range lies behind those before it
 pub record AreRuns (key : List ℕ) (device : ℕ) (runs : List Written) : Type 0 where
@@ -67,8 +75,8 @@ pub record StandsAt (runs : ℕ → List Written) (place : Place) (output : Outp
   pub at_run : slice_get (runs place.device) place.run ≡ Some run
   pub at_output : slice_get run.outputs place.output ≡ Some output
 
--- A chunk of the output that it held some of, of a number of 32 bits, and the nonce under which it is sealed. Before it stand
--- the header and so many chunks, each with its tag.
+-- A chunk of the output that it held some of, of a number of 32 bits, and the nonce under which it is sealed. Before
+-- it stand the header and so many chunks, each with its tag.
 pub record HoldsChunk (key : List ℕ) (device : ℕ) (output : Output) (chunk : ℕ) (nonce : List ℕ) : Type 0 where
   pub reached : length (header_of key output.shape (prefix_of device output.number))
       + chunk * (size_of output.shape + TAG) < length output.held

@@ -3,7 +3,10 @@
 #![tactic(auto)]
 
 ghost use Rattle.std.specs.Prelude.{◌≡◌, ◌≢◌, ℕ, ◌+◌, ◌^◌, ◌<◌, ◌≤◌, ◌++◌, List, length, Some, slice_get};
+ghost use Rattle.std.specs.List.{AllByRecursion};
 ghost use Rattle.io_core.specs.Streams.{IsFront};
+ghost use Rattle.journal_core.specs.declared.entry.Entry.{Entry};
+ghost use Rattle.journal_core.specs.declared.terms.Terms.{Terms};
 ghost use Rattle.journal_core.specs.Range.{prefix_of};
 ghost use Rattle.container_core.specs.Chunks.{chunks};
 ghost use Rattle.container_core.specs.Container.{container, header_of};
@@ -11,7 +14,9 @@ ghost use Rattle.container_core.specs.Shape.{IsShape, size_of};
 ghost use Rattle.ranges_core.specs.Reservations.{TakenRange};
 ghost use Rattle.life_core.specs.Life.{Grant, HasGrant, IsLife, Lives, Run, Sealing};
 ghost use Rattle.life_core.specs.Life.{container_nonces, prefix_by, reserved, sealed_under};
-ghost use Rattle.life_core.specs.Outputs.{AreRuns, HoldsChunk, IsOutput, Output, Place, StandsAt, Written, nonces_of};
+ghost use Rattle.life_core.specs.Outputs.{AreGranted, AreRuns, HoldsChunk, IsInside, IsOutput, Output, Place};
+ghost use Rattle.life_core.specs.Outputs.{StandsAt, Written, nonces_of};
+ghost use Rattle.life_core.specs.Outputs.{times_used};
 
 /// In the life of a key and device no number is in two of the ranges that its runs reserved.
 pub fn ranges_are_apart()
@@ -51,10 +56,10 @@ pub fn containers_are_sealed_under_their_nonces()
         (container_nonces key grant sealing) (chunks (size_of sealing.shape) sealing.plain) }
 {}
 
-/// No two chunks of what the runs of one key wrote have one nonce. The runs of a device have ranges that lie one behind the
-/// other, and legal histories over them; each output held, when it was finished or given up, a beginning of the container
-/// of a plaintext under a number that was granted to its run, and to no other output of it. Then two chunks of which their
-/// outputs held some, with one nonce, are the same chunk of the same output of the same run.
+/// No two chunks of what the runs of one key wrote have one nonce. The runs of a device have ranges that lie one
+/// behind the other; each output held a beginning of the container of a plaintext under a number of its run's range,
+/// which stands over no other output of the run. Then two chunks of which their outputs held some, with one nonce,
+/// are the same chunk of the same output of the same run.
 pub fn no_two_chunks_have_one_nonce()
     ensures { (key : List ℕ) (runs : ℕ → List Written) (one other : Place) (this that : Output)
         (chunk another : ℕ) (nonce : List ℕ)
@@ -64,8 +69,15 @@ pub fn no_two_chunks_have_one_nonce()
         → (one ≡ other) × (chunk ≡ another) }
 {}
 
-/// No two outputs of the runs of one key have one prefix: each device's numbers are its own, each number is in one run's range, and
-/// stands there over one output.
+/// Numbers that a legal history grants lie in its range, and none is granted twice: so outputs that stand under such
+/// numbers, as often at most as these were granted, are apart.
+pub fn granted_outputs_are_apart()
+    ensures { (terms : Terms) (history : List Entry) (outputs : List Output) → AreGranted terms history outputs
+        → AllByRecursion (IsInside terms.range) outputs × ((number : ℕ) → times_used number outputs ≤ 1) }
+{}
+
+/// No two outputs of the runs of one key have one prefix: each device's numbers are its own, each number is in one
+/// run's range, and stands there over one output.
 pub fn no_two_outputs_have_one_prefix()
     ensures { (key : List ℕ) (runs : ℕ → List Written) (one other : Place) (this that : Output)
         → AreRuns key one.device (runs one.device) → AreRuns key other.device (runs other.device)
@@ -73,8 +85,8 @@ pub fn no_two_outputs_have_one_prefix()
         → prefix_of one.device this.number ≡ prefix_of other.device that.number → one ≡ other }
 {}
 
-/// What an output held is a beginning of the header and of its plaintext's chunks in order, each sealed by the AEAD under
-/// the nonce at its place.
+/// What an output held is a beginning of the header and of its plaintext's chunks in order, each sealed by the AEAD
+/// under the nonce at its place.
 pub fn outputs_are_sealed_under_their_nonces()
     ensures { (key : List ℕ) (device : ℕ) (output : Output) → IsOutput key device output
         → IsFront output.held (header_of key output.shape (prefix_of device output.number)

@@ -1,5 +1,6 @@
 //! The commands that seal: what a run begins with, and the ledger file over which it seals.
-ghost use Rattle.std.specs.Prelude.{◌≡◌, ◌⊎◌, ◌<◌, ◌≤◌, ℕ, Bool, List, Option, length, map, true, ◌≢◌, IfOk, OnErr, if◌then◌else◌};
+ghost use Rattle.std.specs.Prelude.{◌≡◌, ◌⊎◌, ◌<◌, ◌≤◌, ℕ, Bool, List, Option, length, map, true, ◌≢◌, IfOk, IfSome};
+ghost use Rattle.std.specs.Prelude.{[], OnErr, if◌then◌else◌};
 ghost use Rattle.sha2.specs.Sha256.{sha256};
 ghost use Rattle.journal_core.specs.declared.entry.Entry.{Entry};
 ghost use Rattle.journal_core.specs.Journal.{terms_of};
@@ -19,8 +20,8 @@ use command_line::{SealRequest, UsageFault, pipe_request, seal_request};
 use container_core::Key;
 use ledger_core::{FromRead, Sink, Source, ToWrite};
 use sealer_core::{
-    Folder, LedgerFile, MAX_BYTES, MAX_DEPTH, MAX_LANES, MAX_WINDOW, MAX_WORKERS, Outs,
-    PipeOptions, SealOptions, pipe_all, seal_all,
+    LedgerFile, MAX_BYTES, MAX_DEPTH, MAX_LANES, MAX_WINDOW, MAX_WORKERS, Outs, PipeOptions,
+    SealOptions, SealingFolder, pipe_all, seal_all,
 };
 use sqlite::{FileFrom, FileStore, Start, Wary};
 use std::io::{Read, Write, sink};
@@ -31,8 +32,8 @@ use system_files::{
     LedgerFault, LedgerPath, SystemFiles, Told, close_ledger, may_open, new_journal, open_ledger,
 };
 
-/// What a run that seals begins with, in this order: the key file is read, it is looked whether there is a ledger file, and the
-/// journal is created. A fault is printed, and its status answered.
+/// What a run that seals begins with, in this order: the key file is read, it is looked whether there is a ledger
+/// file, and the journal is created. A fault is printed, and its status answered.
 fn begin<R: Files + AllocGlobal + Eprint>(
     rt: &R,
     key: &str,
@@ -246,7 +247,7 @@ pub(crate) fn pipe<
 fn seal_from<
     R: AllocGlobal + Threads + Wait + Sync,
     S: Start,
-    F: Folder,
+    F: SealingFolder,
     L: Sink + Drop,
     E: Sink + Drop,
     J: Sink + Drop,
@@ -265,10 +266,11 @@ fn seal_from<
     requires window { (0 < options.now.window) × (options.now.window ≤ MAX_WINDOW) }
     requires lanes { (0 < options.now.lanes) × (options.now.lanes ≤ MAX_LANES) }
     requires max_bytes { options.now.max_bytes ≤ MAX_BYTES }
+    requires idle { IfSome (F.session folder.old) (λ session. session.begun ≡ []) }
     ensures status { IfOk result (λ r. r.0 ≤ 2) }
-    // The ledger file was opened as it was found, and at most one range appended to it. Then no output was touched; or the
-    // files were sealed over a range that was reserved there and that the file has without its log, with one legal history,
-    // which the journal tells.
+    // The ledger file was opened as it was found, and at most one range appended to it. Then no output was touched;
+    // or the files were sealed over a range that was reserved there and that the file has without its log, with one
+    // legal history, which the journal tells.
     ensures run { IfOk result (λ r. (keeper : _)
         × (HasCleanDisk (file_state keeper) → IsFound over_files (image_at S.Start) keeper)
         × ReservesFilesOnce LedgerFile.Kept LedgerFile.Folded (sha256 key.now) options.now.device
@@ -295,8 +297,8 @@ fn seal_from<
     Ok((status, file))
 }
 
-/// Opens this ledger file, and seals a stream under a range of one number that is reserved there. The answer is the status, with
-/// the ledger file. `S` stands for what the ledger file and its log hold.
+/// Opens this ledger file, and seals a stream under a range of one number that is reserved there. The answer is the
+/// status, with the ledger file. `S` stands for what the ledger file and its log hold.
 fn pipe_from<
     T: AllocGlobal + Threads + Wait + Sync,
     S: Start,
@@ -320,9 +322,9 @@ fn pipe_from<
     requires depth { (0 < options.now.depth) × (options.now.depth ≤ MAX_DEPTH) }
     requires most { 0 < options.now.max_chunks }
     ensures status { IfOk result (λ r. r.0 ≤ 2) }
-    // The ledger file was opened as it was found, and at most one range appended to it. Then nothing was read or written; or
-    // the stream was sealed over a range of one number that was reserved there and that the file has without its log, with one
-    // legal history, which the journal tells.
+    // The ledger file was opened as it was found, and at most one range appended to it. Then nothing was read or
+    // written; or the stream was sealed over a range of one number that was reserved there and that the file has
+    // without its log, with one legal history, which the journal tells.
     ensures run { IfOk result (λ r. (keeper : _)
         × (HasCleanDisk (file_state keeper) → IsFound over_files (image_at S.Start) keeper)
         × ReservesFilesOnce LedgerFile.Kept LedgerFile.Folded (sha256 key.now) options.now.device 1

@@ -9,7 +9,7 @@ use Rattle.journal_core.specs.Range.{IsLawfulRange}
 use Rattle.sqlite_wal.specs.Recovery.{Image}
 use Rattle.sealer_core.specs.Piping.{HasSealedStream}
 use Rattle.sealer_core.specs.Sealing.{Happened, HasSealed, held_in, written_in}
-use Rattle.sealer_core.specs.Theorem.{IsRun, Run, Wrote}
+use Rattle.sealer_core.specs.Theorem.{IsRun, Run, Wrote, WroteSoFar, killed_run}
 use Rattle.sealer_core.proofs.Apart.{LeavesRange}
 
 module _ (key : List ℕ) (device : ℕ) (start files : Image) (terms : Terms) (history : List Entry) where
@@ -71,7 +71,7 @@ module _ (key : List ℕ) (device : ℕ) (start files : Image) (terms : Terms) (
   runs_stream shape most input unread failures failures' taken taken' bytes refusals refusals' status lines lines' faults faults' leaves is_shape lawful sealed joined =
       let stream = subst (λ (t : List ℕ). HasSealedStream key shape most (Some input) unread failures failures' (Some taken) (Some t) refusals refusals' terms history status lines lines' faults faults') joined sealed in (
         run_of (held_in bytes),
-        is_run (held_in bytes) leaves lawful (inr (record {
+        is_run (held_in bytes) leaves lawful (inr (inl (record {
           shape = shape;
           is_shape = is_shape;
           input = input;
@@ -80,10 +80,22 @@ module _ (key : List ℕ) (device : ℕ) (start files : Image) (terms : Terms) (
           outcome = stream.outcome;
           sealed = (most, unread, failures, failures', refusals, refusals', status, lines, lines', faults, faults', stream, refl);
           held = refl;
-        })),
+        }))),
         refl,
         refl,
         bytes,
         joined,
         refl,
       )
+
+-- and one that was killed is one
+pub runs_so_far : (key : List ℕ) (device : ℕ) (start files : Image) (terms : Terms) (outputs : List (List ℕ))
+    → LeavesRange (sha256 key) device start files terms.range → IsLawfulRange terms.range → WroteSoFar key terms outputs
+    → IsRun key device (killed_run start files terms outputs)
+runs_so_far key device start files terms outputs (of_device, behind, lists, are, ends) lawful sofar = record {
+  of_device = of_device;
+  lawful = lawful;
+  behind = behind;
+  stands = (lists, are, ends);
+  wrote = inr (inr sofar);
+}

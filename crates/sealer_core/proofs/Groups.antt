@@ -32,6 +32,7 @@ use Rattle.command_core.specs.declared.line.FileOutcome.{FileOutcome}
 use Rattle.command_core.specs.declared.line.FileOutcome.TheVariants.{Sealed, Opened, Good, Shown, Failed}
 use Rattle.command_core.specs.Lines.{FileLine}
 use Rattle.command_core.specs.Work.{AreTold}
+use Rattle.output_core.specs.Bounds.{Bound}
 use Rattle.sealer_core.specs.Group.{holds, HasEnded, IsHeld, AreHeld, AreOwing, AreOwed, OwesAt, SettledAt, IsCounted, IsEnding, AreEnded, refused_lines, name_of, IsPrepared, read_of, left_by, void_by, void_in}
 use Rattle.sealer_core.specs.declared.prepare.Prepared.{Prepared}
 use Rattle.sealer_core.specs.declared.prepare.Prepared.TheVariants.{Refused, Unread, Read}
@@ -415,7 +416,7 @@ module _ (ledger : LedgerView) (seats : List SeatView) (d w : SeatView) (some : 
 
 -- ---- numbers that a batch granted
 
-issues_settles : (n t : ℕ) (os : List Outcome) → count_by (settles n) (issues t os) ≡ 0
+pub issues_settles : (n t : ℕ) (os : List Outcome) → count_by (settles n) (issues t os) ≡ 0
 issues_settles n t [] = refl
 issues_settles n t (job.Sealed seat bytes spent ∷ os) =
     let r = issues_settles n t os in let c = sum_by-cons (λ (e : Entry). cond (settles n e) 1 0) (entry t (Granted spent.number)) (issues t os) in omega arith
@@ -465,7 +466,7 @@ issues_grants n t (job.Unissued seat NoMemory ∷ os) =
     let r = issues_grants n t os in let h = held_cons n (job.Unissued seat NoMemory) os in omega arith
 
 -- the operations of all seats, where those of each grew by the issues of some outcomes
-grown : (q : Entry → Bool) (c : List Outcome → ℕ) → ((t : ℕ) (os : List Outcome) → count_by q (issues t os) ≡ c os) → (of : ℕ → List Outcome) (old new : List SeatView)
+pub grown : (q : Entry → Bool) (c : List Outcome → ℕ) → ((t : ℕ) (os : List Outcome) → count_by q (issues t os) ≡ c os) → (of : ℕ → List Outcome) (old new : List SeatView)
     → length new ≡ length old
     → ((i : ℕ) (v w : SeatView) → slice_get old i ≡ Some v → slice_get new i ≡ Some w → w.mine ≡ v.mine ++ issues v.number (of i))
     → count_by q (operations_of new) ≡ count_by q (operations_of old) + sum_below (length old) (λ i. c (of i))
@@ -714,8 +715,10 @@ module _ {W : Type 0} (items items' : List (Prepared W)) (file : Prepared W) (is
       more ∙ ap (λ l. l ++ read_of file) so ∙ ap (λ l. flat_map read_of items ++ l) (sym (append-nil (read_of file)))
       ∙ sym (flat_map-append read_of items (file ∷ [])) ∙ sym (ap (flat_map read_of) is)
 
-  pub prepared_all : All IsPrepared items → IsPrepared file → All IsPrepared items'
-  prepared_all so its = subst (All IsPrepared) (sym is) (All-push IsPrepared items file so its)
+  pub prepared_all : (bound : W → Option Bound) (taken : W → Option (List ℕ)) → All (IsPrepared bound taken) items
+      → IsPrepared bound taken file → All (IsPrepared bound taken) items'
+  prepared_all bound taken so its =
+      subst (All (IsPrepared bound taken)) (sym is) (All-push (IsPrepared bound taken) items file so its)
 
 pub ending_none : {W : Type 0} (happened : List FileLine → List ℕ → Type 0) (files : List (Prepared W)) (outcomes : List Outcome) (operations : List Entry) (status : ℕ) (taken : Option (List ℕ)) (failures : Option ℕ)
     → happened [] [] → AreEnding happened files files outcomes outcomes operations operations status status taken taken failures failures

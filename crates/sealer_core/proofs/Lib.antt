@@ -8,6 +8,8 @@ pub mod Life
 pub mod Matches
 pub mod Numbering
 pub mod Openings
-pub mod Sealings
-pub mod Streams
 pub mod Outputs
+pub mod Sealings
+pub mod Sessions
+pub mod SoFar
+pub mod Streams

@@ -21,7 +21,7 @@ use Rattle.journal_core.specs.declared.entry.Event.{Event}
 use Rattle.journal_core.specs.declared.entry.Event.TheVariants.{Granted, Exhausted, Settled}
 use Rattle.journal_core.specs.History.{entry, grants, times_granted}
 use Rattle.journal_core.proofs.Prefixes.{numbers_once}
-use Rattle.life_core.specs.Outputs.{AreRuns, HasWritten, IsOutput, Output, Place, StandsAt, Written, times_used}
+use Rattle.life_core.specs.Outputs.{AreRuns, HasWritten, IsInside, IsOutput, Output, Place, StandsAt, Written}
 use Rattle.life_core.proofs.Lives.{nonce_at, header_prefix}
 use Rattle.reserve_core.proofs.NextRun.{passed}
 use Rattle.sealer_core.specs.Theorem.{AreInTurn, AreRunsOf, BeginsContainer, Follows, HasChunk, HeldAt, IsRun, Run, Wrote}
@@ -32,12 +32,12 @@ use Rattle.sealer_core.specs.Theorem.{AreInTurn, AreRunsOf, BeginsContainer, Fol
 record Writing (key : List ℕ) (device : ℕ) (terms : Terms) (history : List Entry) (held : List (List ℕ)) : Type 0 where
   pub outputs : List Output
   pub held_are : held ≡ map (λ (o : Output). o.held) outputs
-  pub written : HasWritten key device (record { terms = terms; history = history; outputs = outputs })
+  pub written : HasWritten key device (record { terms = terms; outputs = outputs })
 
 -- what the laws say of what a run wrote
 abbrev pub AreHeld : List ℕ → Terms → List Entry → List (List ℕ) → Type 0
 AreHeld key terms history held = (outputs : List Output) × (held ≡ map (λ (o : Output). o.held) outputs)
-    × HasWritten key terms.range.device (record { terms = terms; history = history; outputs = outputs })
+    × HasWritten key terms.range.device (record { terms = terms; outputs = outputs })
 
 -- ---- lists
 
@@ -104,61 +104,6 @@ held_at [] i bytes at = absurd (cc)
 held_at (o ∷ outputs) zero bytes at = (o, refl, cc)
 held_at (o ∷ outputs) (suc i) bytes at = held_at outputs i bytes at
 
--- ---- the number of an output lies in the range
-
-abbrev pub IsInside : Numbers → ℕ → Type 0
-IsInside range number = (range.lo ≤ number) × (number < range.lo + range.size)
-
-count_first : {A : Type 0} (p : A → Bool) (x : A) (xs : List A) → count_by p (x ∷ xs) ≡ cond (p x) 1 0 + count_by p xs
-count_first p x xs = sum_by-cons (λ y. cond (p y) 1 0) x xs
-
--- one that stands there is counted
-used_there : (outputs : List Output) (i : ℕ) (output : Output) → slice_get outputs i ≡ Some output → 0 < times_used output.number outputs
-used_there [] i output at = absurd (cc)
-used_there (o ∷ outputs) zero output at =
-    let same : output ≡ o = cc in
-    let all = count_first (λ (y : Output). nat_eq output.number y.number) o outputs in
-    let one : cond {A = ℕ} (nat_eq output.number o.number) 1 0 ≡ 1 = ap (λ b. cond {A = ℕ} b 1 0) (eq-eqb output.number o.number (ap (λ (y : Output). y.number) same)) in
-    omega arith
-used_there (o ∷ outputs) (suc i) output at =
-    let all = count_first (λ (y : Output). nat_eq output.number y.number) o outputs in
-    let more = used_there outputs i output at in omega arith
-
--- where it was granted
-abbrev IsGranted : ℕ → List Entry → Type 0
-IsGranted number history = (i seat : ℕ) × (slice_get history i ≡ Some (entry seat (Granted number)))
-
-behind_first : (number : ℕ) (e : Entry) (history : List Entry) → IsGranted number history → IsGranted number (e ∷ history)
-behind_first number e history (i, seat, at) = (suc i, seat, at)
-
-granted_by : (number seat : ℕ) (event : Event) (history : List Entry) → (0 < times_granted number history → IsGranted number history)
-    → 0 < times_granted number (entry seat event ∷ history) → IsGranted number (entry seat event ∷ history)
-granted_by number seat (Granted n) history rest some =
-    let all = count_first (grants number) (entry seat (Granted n)) history in
-    dite (ℕ_discrete number n)
-    (λ same. (0, seat, ap (λ (m : ℕ). Some (entry seat (Granted m))) (sym same)))
-    (λ other.
-    let miss : cond {A = ℕ} (nat_eq number n) 1 0 ≡ 0 = ap (λ b. cond {A = ℕ} b 1 0) (ne_eqb number n other) in
-    behind_first number (entry seat (Granted n)) history (rest (omega arith)))
-granted_by number seat Exhausted history rest some =
-    let all = count_first (grants number) (entry seat Exhausted) history in
-    behind_first number (entry seat Exhausted) history (rest (omega arith))
-granted_by number seat (Settled n way) history rest some =
-    let all = count_first (grants number) (entry seat (Settled n way)) history in
-    behind_first number (entry seat (Settled n way)) history (rest (omega arith))
-
-granted_there : (number : ℕ) (history : List Entry) → 0 < times_granted number history → IsGranted number history
-granted_there number [] some = absurd (omega arith)
-granted_there number (e ∷ history) some = granted_by number e.seat e.event history (granted_there number history) some
-
-inside : (key : List ℕ) (device : ℕ) (run : Written) → HasWritten key device run → (i : ℕ) (output : Output)
-    → slice_get run.outputs i ≡ Some output → IsInside run.terms.range output.number
-inside key device run has i output at =
-    let used = used_there run.outputs i output at in
-    let granted = has.granted output.number in
-    let (index, seat, there) = granted_there output.number run.history (omega arith) in
-    (numbers_once run.terms run.history has.legal).inside index output.number seat there
-
 -- ---- the prefix stands in the bytes
 
 early : (bytes rest : List ℕ) → 17 ≤ length bytes → prefix_in (bytes ++ rest) ≡ prefix_in bytes
@@ -189,7 +134,7 @@ module _ (key : List ℕ)
       (record { outputs = outputs; held_are = held; written = has })
 
   abbrev written_by : (device : ℕ) (run : Run) → Ours device run → Written
-  written_by device run is = record { terms = run.terms; history = run.history; outputs = (of_run device run is).outputs }
+  written_by device run is = record { terms = run.terms; outputs = (of_run device run is).outputs }
 
   -- what one run left, the next one found, and its range lies behind
   rise : (device : ℕ) (one other : Run) → Ours device one → Ours device other → Follows one other
@@ -221,7 +166,7 @@ module _ (key : List ℕ)
     -- the output of which an output's bytes tell
     output_at : (place : Place) (bytes : List ℕ) (held : HeldAt runs place bytes)
         → (output : Output) × StandsAt lives place output × (output.held ≡ bytes) × IsOutput key place.device output
-        × (held.run.terms.range.device ≡ place.device) × IsInside held.run.terms.range output.number
+        × (held.run.terms.range.device ≡ place.device) × IsInside held.run.terms.range output
     unfolding lives written
     output_at place bytes held =
         let (is, at) = made_at (Ours place.device) (written_by place.device) (runs place.device) (are.each place.device) place.run held.run held.at_run in
@@ -232,7 +177,7 @@ module _ (key : List ℕ)
           same,
           all_at (IsOutput key place.device) writing.outputs place.output output writing.written.each there,
           is.of_device,
-          inside key place.device (written_by place.device held.run is) writing.written place.output output there,
+          all_at (IsInside held.run.terms.range) writing.outputs place.output output writing.written.inside there,
         )
 
     pub begins : (place : Place) (bytes : List ℕ) (held : HeldAt runs place bytes)

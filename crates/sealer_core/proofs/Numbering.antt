@@ -271,10 +271,10 @@ written_back n new rest is = ap (λ (m : ℕ). take m (new ++ rest)) is ∙ take
 
 -- ---- no number is in two lines
 
-abbrev GrantedOnce : Terms → List Entry → Type 0
+abbrev pub GrantedOnce : Terms → List Entry → Type 0
 GrantedOnce terms history = (n : ℕ) → (times_granted n history ≤ 1) × (0 < times_granted n history → (terms.range.lo ≤ n) × (n < terms.range.lo + granted history))
 
-zero_of : (n : ℕ) → (0 < n → ⊥) → n ≡ 0
+pub zero_of : (n : ℕ) → (0 < n → ⊥) → n ≡ 0
 zero_of zero none = refl
 zero_of (suc n) none = absurd (none (omega arith))
 
@@ -304,7 +304,7 @@ grow_once terms history t (Settled k way) may once n =
     let (few, low) = once n in
     (omega arith, λ some. let (from, below) = low (omega arith) in (omega arith, omega arith))
 
-granted_once : (terms : Terms) (history : List Entry) → Legal terms history → GrantedOnce terms history
+pub granted_once : (terms : Terms) (history : List Entry) → Legal terms history → GrantedOnce terms history
 granted_once terms = induct terms (GrantedOnce terms) (λ n. (omega arith, λ some. absurd (omega arith)))
     (λ history e may so. grow_once terms history e.seat e.event (reply_of terms history e may) so)
 

@@ -12,14 +12,15 @@ use Rattle.io_core.specs.Streams.{IsFront}
 use Rattle.journal_core.specs.Range.{IsLawfulRange, prefix_of}
 use Rattle.journal_core.specs.declared.entry.Entry.{Entry}
 use Rattle.journal_core.specs.declared.terms.Terms.{Terms}
-use Rattle.journal_core.specs.History.{Legal}
+use Rattle.journal_core.specs.History.{Legal, times_granted}
 use Rattle.command_core.specs.declared.line.FileFault.{FileFault}
 use Rattle.command_core.specs.declared.line.FileFault.TheVariants.{CannotOpen, OutputExists, CannotCreate, OutOfMemory, NoNumber, Unsealed}
 use Rattle.command_core.specs.declared.line.FileOutcome.{FileOutcome}
 use Rattle.command_core.specs.declared.line.FileOutcome.TheVariants.{Sealed, Opened, Good, Shown, Failed}
 use Rattle.command_core.specs.Lines.{FileLine}
 use Rattle.command_core.specs.Trace.{Event, Reading, Unread, Created, Refused, Finished, Discarded}
-use Rattle.life_core.specs.Outputs.{Output, IsOutput, HasWritten, times_used}
+use Rattle.life_core.specs.Outputs.{AreGranted, Output, IsOutput, HasWritten, times_used}
+use Rattle.life_core.proofs.Outputs.{are_apart}
 use Rattle.sealer_core.specs.Piping.{HasSealedStream, WorksStream, stream_name}
 use Rattle.sealer_core.specs.Sealing.{Accounts, Happened, HasSealed, HeldUnder, IsDiscarded, Part, Sealing, group_events, group_voids, held_in, line_of, tells_of, times_in, times_told, written_in}
 use Rattle.sealer_core.proofs.Happened.{IsPart}
@@ -186,17 +187,16 @@ module _ (key : List ℕ) (shape : ShapeView) (most device : ℕ) (lawful : IsSh
 -- what was written for lines and void numbers that agree with a history
 has_written : (key : List ℕ) (device : ℕ) (terms : Terms) (history : List Entry) (lines : List FileLine) (voids : List ℕ) (held : List (List ℕ)) → terms.range.device ≡ device → IsLawfulRange terms.range
     → Legal terms history → Accounts lines voids history → (w : Writing key device lines voids held)
-    → HasWritten key device (record { terms = terms; history = history; outputs = w.outputs })
-has_written key device terms history lines voids held of_device range legal accounts w = record {
-  of_device = of_device;
-  lawful = range;
-  legal = legal;
-  each = w.each;
-  granted = λ n.
-      let used = w.counted n in
-      let void = accounts.voided n in
-      let granted = accounts.granted n in omega arith;
-}
+    → HasWritten key device (record { terms = terms; outputs = w.outputs }) × AreGranted terms history w.outputs
+has_written key device terms history lines voids held of_device range legal accounts w =
+    let granted : (n : ℕ) → times_used n w.outputs ≤ times_granted n history = λ n.
+    let used = w.counted n in
+    let void = accounts.voided n in
+    let granted = accounts.granted n in omega arith in
+    let (inside, once) = are_apart terms history w.outputs (legal, granted) in (
+      record { of_device = of_device; lawful = range; each = w.each; inside = inside; once = once },
+      (legal, granted),
+    )
 
 module _ (key : List ℕ) (shape : ShapeView) (device : ℕ) (lawful : IsShape shape) where
   -- so of a run
@@ -204,7 +204,7 @@ module _ (key : List ℕ) (shape : ShapeView) (device : ℕ) (lawful : IsShape s
       (before after : List Event) → terms.range.device ≡ device → IsLawfulRange terms.range
       → HasSealed (Happened key shape most device (Some before) (Some after)) names terms history status old new failures later
       → (events : List Event) × (outputs : List Output) × (after ≡ before ++ events) × (written_in events ≡ held_of outputs)
-      × HasWritten key device (record { terms = terms; history = history; outputs = outputs })
+      × HasWritten key device (record { terms = terms; outputs = outputs }) × AreGranted terms history outputs
   of_run most names terms history status old new failures later before after of_device range sealed =
       let (events, happened, joined) = sealed.worked.done in
       let lines : flat_map (λ group. group) (map lines_of happened.parts) ≡ sealed.worked.lines =
@@ -213,13 +213,9 @@ module _ (key : List ℕ) (shape : ShapeView) (device : ℕ) (lawful : IsShape s
       subst (λ l. Writing key device l sealed.worked.voids (written_in events)) lines
       (subst (λ v. Writing key device (flat_map (λ group. group) (map lines_of happened.parts)) v (written_in events)) (sym happened.numbers)
       (subst (λ e. Writing key device (flat_map (λ group. group) (map lines_of happened.parts)) (flat_map group_voids happened.parts) (written_in e)) (sym happened.joined)
-      (of_groups key shape most device lawful happened.parts happened.each))) in (
-        events,
-        writing.outputs,
-        joined,
-        writing.written,
-        has_written key device terms history sealed.worked.lines sealed.worked.voids (written_in events) of_device range sealed.legal sealed.accounts writing,
-      )
+      (of_groups key shape most device lawful happened.parts happened.each))) in
+      let (has, granted) = has_written key device terms history sealed.worked.lines sealed.worked.voids (written_in events) of_device range sealed.legal sealed.accounts writing in
+      (events, writing.outputs, joined, writing.written, has, granted)
 
   -- what a stream's writer took
   module _ (most : ℕ) (input : List ℕ) (left' : Option (List ℕ)) (failures failures' : Option ℕ) (old new : List ℕ) (refusals refusals' : Option ℕ) where
@@ -244,13 +240,9 @@ module _ (key : List ℕ) (shape : ShapeView) (device : ℕ) (lawful : IsShape s
     pub of_stream : (terms : Terms) (history : List Entry) (status : ℕ) (lines lines' : Option (List ℕ)) (faults faults' : Option ℕ) → terms.range.device ≡ device → IsLawfulRange terms.range
         → HasSealedStream key shape most (Some input) left' failures failures' (Some old) (Some new) refusals refusals' terms history status lines lines' faults faults'
         → (held : List ℕ) × (outputs : List Output) × (new ≡ old ++ held) × (held_in held ≡ held_of outputs)
-        × HasWritten key device (record { terms = terms; history = history; outputs = outputs })
+        × HasWritten key device (record { terms = terms; outputs = outputs }) × AreGranted terms history outputs
     of_stream terms history status lines lines' faults faults' of_device range sealed =
         let (held, grew, writing) = of_works sealed.outcome sealed.piped.voids
-        (subst (λ d. WorksStream key shape most (Some input) left' failures failures' (Some old) (Some new) refusals refusals' d sealed.outcome sealed.piped.voids) of_device sealed.piped.works) in (
-          held,
-          writing.outputs,
-          grew,
-          writing.written,
-          has_written key device terms history (line_of stream_name sealed.outcome ∷ []) sealed.piped.voids (held_in held) of_device range sealed.legal sealed.piped.accounts writing,
-        )
+        (subst (λ d. WorksStream key shape most (Some input) left' failures failures' (Some old) (Some new) refusals refusals' d sealed.outcome sealed.piped.voids) of_device sealed.piped.works) in
+        let (has, granted) = has_written key device terms history (line_of stream_name sealed.outcome ∷ []) sealed.piped.voids (held_in held) of_device range sealed.legal sealed.piped.accounts writing in
+        (held, writing.outputs, grew, writing.written, has, granted)

@@ -1,14 +1,18 @@
 -- Inside: how a file begins, and how its output ends, by one lane and by several; and what becomes of the files of a
 -- group.
 use Rattle.std.specs.Prelude.{⊤, ◌≡◌, ◌≢◌, ℕ, ◌+◌, ◌<◌, ◌≤◌, Bool, false, nat_eq, if◌then◌else◌, List, [], ◌∷◌, ◌++◌}
-use Rattle.std.specs.Prelude.{drop, length, map, All, count_by, slice_get, Option, Some, Result, Ok, Err}
+use Rattle.std.specs.Prelude.{drop, length, map, All, count_by, slice_get, Option, Some, IfSome, Result, Ok, Err}
 use Rattle.journal_core.specs.declared.entry.Entry.{Entry}
 use Rattle.journal_core.specs.declared.entry.Event.{Event}
 use Rattle.journal_core.specs.declared.entry.Event.TheVariants.{Settled}
 use Rattle.journal_core.specs.declared.entry.Way.{Way}
 use Rattle.journal_core.specs.declared.entry.Way.TheVariants as ended
 use Rattle.journal_core.specs.History.{entry, times_granted, times_settled}
+use Rattle.journal_core.specs.Range.{Numbers, prefix_of}
 use Rattle.io_core.specs.Streams.{Appends, AppendsFront, Keeps}
+use Rattle.container_core.specs.Container.{container}
+use Rattle.container_core.specs.Shape.{ShapeView}
+use Rattle.sha2.specs.Sha256.{sha256}
 use Rattle.container_core.specs.declared.fault.SealFault.{SealFault}
 use Rattle.container_core.specs.declared.fault.SealFault.TheVariants as sealing_fault
 use Rattle.crew_core.specs.declared.outcome.Outcome.{Outcome}
@@ -26,8 +30,10 @@ use Rattle.command_core.specs.declared.line.FileFault.TheVariants.{Unsealed}
 use Rattle.command_core.specs.declared.folder.FolderFault.{FolderFault}
 use Rattle.command_core.specs.declared.folder.FolderFault.TheVariants as folder_fault
 use Rattle.command_core.specs.Lines.{FileLine}
+use Rattle.command_core.specs.Session.{IsNew, Session, started, times_begun}
+use Rattle.output_core.specs.Bounds.{Bound}
 use Rattle.sealer_core.specs.Sealing.{IsOfSealing, unissued_as, line_of, prepared, sealed_name, void_at}
-use Rattle.sealer_core.specs.Sealing.{IsCause, IsClosed, times_in, times_sealed, times_voided, times_told}
+use Rattle.sealer_core.specs.Sealing.{IsCause, IsClosed, operations_of, times_in, times_sealed, times_voided, times_told}
 use Rattle.command_core.specs.Trace.{Discards, tape}
 use Rattle.command_core.specs.Trace as trace
 use Rattle.command_core.specs.Work.{AreTold}
@@ -47,11 +53,11 @@ name_of (Refused name fault) = name.now
 name_of (Unread name writer fault) = name.now
 name_of (Read name writer bytes) = name.now
 
--- where no output was created, it has such a fault
-abbrev pub IsPrepared : {W : Type 0} → Prepared W → Type 0
-IsPrepared (Refused name fault) = IsUnmade fault
-IsPrepared (Unread name writer fault) = ⊤
-IsPrepared (Read name writer bytes) = ⊤
+-- Where no output was created, it has such a fault; where it was read, nothing can be written to its output yet.
+abbrev pub IsPrepared : {W : Type 0} → (W → Option Bound) → (W → Option (List ℕ)) → Prepared W → Type 0
+IsPrepared bound taken (Refused name fault) = IsUnmade fault
+IsPrepared bound taken (Unread name writer fault) = ⊤
+IsPrepared bound taken (Read name writer bytes) = IsNew (bound writer) (taken writer)
 
 -- how many bytes it has, where it was read
 abbrev pub read_of : {W : Type 0} → Prepared W → List ℕ
@@ -161,6 +167,37 @@ IsCounted old new event = (seat : ℕ)
 abbrev pub IsEnding : ℕ → List Entry → List Entry → FileOutcome → Type 0
 IsEnding number old new (Sealed n bytes) = (n ≡ number) × IsCounted old new (Settled number ended.Sealed)
 IsEnding number old new _ = IsCounted old new (Settled number ended.Void)
+
+-- ---- containers that began
+
+-- Of a key and a range, and each container that began under them has a number that is settled.
+pub record HasSettled (key_id : List ℕ) (range : Numbers) (operations : List Entry) (session : Session) : Type 0 where
+  pub of_key : session.key_id ≡ key_id
+  pub of_range : session.range ≡ range
+  pub settled : (number : ℕ) → 0 < times_begun number session.begun → 0 < times_settled number operations
+
+-- a folder whose session is known has such a one
+abbrev pub AreSettled : List ℕ → Numbers → List Entry → Option Session → Type 0
+AreSettled key_id range operations session = IfSome session (HasSettled key_id range operations)
+
+-- under this key, over the range of a ledger with these seats
+abbrev pub HaveSettled : List ℕ → LedgerView → List SeatView → Option Session → Type 0
+HaveSettled key ledger seats session = AreSettled (sha256 key) ledger.terms.range (operations_of seats) session
+
+-- no container began yet
+abbrev pub HasStarted : List ℕ → LedgerView → Option Session → Type 0
+HasStarted key ledger session = IfSome session (λ s. s ≡ started (sha256 key) ledger.terms.range)
+
+-- no number was granted twice
+pub record AreGrantedOnce (operations : List Entry) : Type 0 where
+  pub once : (number : ℕ) → times_granted number operations ≤ 1
+
+-- what was sealed for a job is the container of some plaintext, under the prefix of its number
+abbrev pub IsContainerUnder : List ℕ → ShapeView → Outcome → Type 0
+IsContainerUnder key shape (job.Sealed seat bytes spent) =
+    (plain : List ℕ) × (bytes.items ≡ container key shape (prefix_of spent.device spent.number) plain)
+IsContainerUnder key shape (job.Spoiled seat spent) = ⊤
+IsContainerUnder key shape (job.Unissued seat fault) = ⊤
 
 -- ---- how a file ends
 

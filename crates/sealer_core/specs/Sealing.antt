@@ -14,10 +14,11 @@ use Rattle.io_core.specs.Streams.{Appends, AppendsFront, IsFront}
 use Rattle.container_core.specs.declared.fault.SealFault.TheVariants as sealing_fault
 use Rattle.ledger_core.specs.declared.fault.IssueFault.{IssueFault}
 use Rattle.ledger_core.specs.declared.fault.IssueFault.TheVariants as issue_fault
-use Rattle.ledger_core.specs.Shared.{SeatView}
-use Rattle.reserve_core.specs.Reservations.{Lists, Holds, next_of, with_range}
+use Rattle.reserve_core.specs.Reservations.{Lists, Holds, with_range}
 use Rattle.reserve_core.specs.Folded.{AreFolded, AreLeft, LeftBy}
 use Rattle.reserve_core.specs.Lasting.{StillLast}
+-- a range that was reserved and folded, and the operations of some seats
+pub use Rattle.front_core.specs.Range.{FoldsARange, IsReserved, operations_of}
 use Rattle.sealer_core.specs.declared.sealing.SealOptions.{SealOptions}
 use Rattle.sqlite_disk.specs.declared.Disk as disk
 use Rattle.sqlite_disk.specs.declared.Files.{Files}
@@ -28,7 +29,6 @@ use Rattle.sqlite.specs.Files.{over_files}
 use Rattle.sqlite.specs.Held.{Held, state}
 use Rattle.sqlite.specs.State.{State, HasCleanDisk, Survives}
 use Rattle.sqlite_trees.specs.declared.store.Store.{Ghosts}
-use Rattle.sqlite_trees.specs.Tree.{Trees}
 use Rattle.command_core.specs.declared.line.FileFault.{FileFault}
 use Rattle.command_core.specs.declared.line.FileFault.TheVariants.{CannotOpen, OutputExists, CannotCreate, OutOfMemory}
 use Rattle.command_core.specs.declared.line.FileFault.TheVariants.{NoNumber, Unsealed}
@@ -186,10 +186,6 @@ times_voided number history = count_by (spoils number) history
 abbrev pub times_in : ℕ → List ℕ → ℕ
 times_in number numbers = count_by (λ other. nat_eq number other) numbers
 
--- the operations of some seats, each seat's in order
-abbrev pub operations_of : List SeatView → List Entry
-operations_of seats = flat_map (λ seat. seat.mine) seats
-
 -- The lines, the void numbers of their files and the operations of a ledger agree: each number was settled as sealed
 -- as often as a line says so, as void as often as it is the void number of a file, and granted as often as both
 -- together. So no number is open, and where none is granted twice, each that was granted was settled once: as sealed
@@ -213,14 +209,6 @@ pub record AreNumbered (range : Numbers) (lines : List FileLine) : Type 0 where
       → slice_get lines j ≡ Some (line_of another (Sealed other more)) → one ≢ other
 
 -- ---- a run
-
--- A range of so many numbers of the device was reserved: where the database holds lists, it stands at the end of that
--- of the key id and device, and every crash leaves it there.
-pub record IsReserved (key_id : List ℕ) (device count : ℕ) (old new : State) (range : Numbers) : Type 0 where
-  pub asked : (range.device ≡ device) × (range.size ≡ count)
-  pub appended : HasCleanDisk new → (lists : Lists) → Holds old.now lists
-      → (range.lo ≡ next_of (lists key_id device)) × Holds new.now (with_range lists key_id device count)
-  pub lasts : HasCleanDisk new → (trees : Trees) → new.may_leave trees → trees ≡ new.now.trees
 
 -- At most one range of so many numbers is appended to the lists.
 abbrev pub AppendsOnce : List ℕ → ℕ → ℕ → State → State → Type 0
@@ -249,15 +237,7 @@ abbrev pub ReservesFilesOnce : {D F : Type 0} {g : disk.Ghosts D} → (Held (Fil
     → ℕ → F → F → Type 0
 ReservesFilesOnce kept folded = ReservesOnce over_files kept folded AreLeft
 
--- It appended a range, whatever outlived a crash still does, and it was folded: the file has all this without its log.
-abbrev pub FoldsARange : {S L F : Type 0} → Ghosts S → (Held S → F) → (L → F) → (S → L → Type 0) → List ℕ → ℕ → ℕ
-    → F → F → Numbers → Type 0
-FoldsARange g kept folded is_folded key_id device count old new range =
-    (was : _) × (mid : _) × (left : _) × (old ≡ kept was) × (new ≡ folded left)
-    × IsReserved key_id device count (state g was) (state g mid) range × StillLast g was mid
-    × LeftBy g is_folded mid left
-
--- so over files, as long as the disk returned what was written
+-- A fold of a range over files, as long as the disk returned what was written
 abbrev pub FoldsFiles : {D F : Type 0} {g : disk.Ghosts D} → (Held (FileStore D g) → F) → (Files D → F) → List ℕ → ℕ → ℕ
     → F → F → Numbers → Type 0
 FoldsFiles {g} kept folded =

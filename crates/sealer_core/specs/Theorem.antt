@@ -1,17 +1,18 @@
--- No nonce is used twice, and what was opened was sealed: what the runs under one key did, the chunks that their outputs
--- held, and what a call opened of them.
+-- No nonce is used twice, and what was opened was sealed: what the runs under one key did, the chunks that their
+-- outputs held, and what a call opened of them.
 --
 -- A run is a call of `seal_all` or of `pipe_all` that reserved numbers of the key and a device. It ended, or it was
--- killed. A killed run did what a run does whose every later call fails, of its folder, its reader, its writers and its
--- disk; that run ends, and its clauses say what its outputs held. So the definitions here speak of a run that was
--- killed at any moment too. (This is read, and not proved. So is that such a run ends: a call that waits for threads,
--- or joins them, owes no return.) A run that reserved no such numbers, or that was killed before the fold, wrote
--- nothing under the key and device: it is one of those between two runs.
+-- killed at any moment. A run that ended is told by the clauses of its call (`WroteFiles`, `WroteStream`). One that was
+-- killed returned nothing: it is told by what was shown before each container began, and before each write
+-- (`WroteSoFar`). A run that reserved no such numbers, or that was killed before the fold, wrote nothing under the key
+-- and device: it is one of those between two runs.
 --
 -- A run names no disk: what is asked of it is said of the bytes of two files. So each may be over a disk of its own
 -- type, as the runs of the program are. All of it is what a call promises, over its own disk
--- (`theorem::a_call_is_a_run` has that in the clauses' own words), but for four premises:
--- - Folder, reader and writer tell what they did. (What a folder told, and what reader and writer had, is `Some`.)
+-- (`theorem::a_call_is_a_run` has that in the clauses' own words, `a_killed_call_is_a_run` in those of what holds at every
+-- moment), but for four premises:
+-- - Folder, reader and writer tell what they did. (What a folder told, its session, and what reader and writer had, is
+--   `Some`.)
 -- - Nobody else writes a ledger file. (`Follows`: a run finds what those before it left.)
 -- - Its disk returns what was written to it. (`AreClean`, there.)
 -- - No two ledger files share key and device. (All runs of a device stand in one list.)
@@ -35,6 +36,7 @@ use Rattle.sqlite_wal.specs.Recovery.{Image}
 use Rattle.ranges_core.specs.Reservations.{Lists, next_of}
 use Rattle.reserve_core.specs.NextRun.{AreIn, PassInTurn}
 use Rattle.command_core.specs.declared.line.FileOutcome.{FileOutcome}
+use Rattle.command_core.specs.Session.{Begun, IsSound, Session}
 use Rattle.command_core.specs.Trace.{Event, Reading, Unread, Created, Refused, Finished, Discarded}
 use Rattle.command_core.specs.Work.{AreWorked, IsOfOpening, Opening, output_of}
 use Rattle.sealer_core.specs.Piping.{HasSealedStream}
@@ -75,9 +77,38 @@ pub record WroteStream (key : List ℕ) (terms : Terms) (history : List Entry) (
       × (stream.outcome ≡ outcome)
   pub held : outputs ≡ held_in bytes
 
--- a run over such a range, whose ledger did this, wrote these outputs under the key
+-- these bytes begin a container under the key, of this number and shape
+abbrev pub Begins : List ℕ → ℕ → List ℕ → Begun → Type 0
+Begins key device bytes b = (plain : List ℕ) × IsFront bytes (container key b.shape (prefix_of device b.number) plain)
+
+-- and so do those of each output, one for each container that began
+abbrev pub EachBegins : List ℕ → ℕ → List (List ℕ) → List Begun → Type 0
+EachBegins key device [] [] = ⊤
+EachBegins key device (bytes ∷ outputs) (b ∷ begun) = Begins key device bytes b × EachBegins key device outputs begun
+EachBegins key device [] (b ∷ begun) = ⊥
+EachBegins key device (bytes ∷ outputs) [] = ⊥
+
+-- and so it is known of each at any moment, though not of which plaintext
+abbrev pub EachHolds : List ℕ → ℕ → List (List ℕ) → List Begun → Type 0
+EachHolds key device [] [] = ⊤
+EachHolds key device (bytes ∷ outputs) (b ∷ begun) =
+    ∥ Begins key device bytes b ∥₁ × EachHolds key device outputs begun
+EachHolds key device [] (b ∷ begun) = ⊥
+EachHolds key device (bytes ∷ outputs) [] = ⊥
+
+-- A run of either that was killed at whatever moment: the containers that had begun by then, and the bytes that the
+-- output of each held.
+pub record WroteSoFar (key : List ℕ) (terms : Terms) (outputs : List (List ℕ)) : Type 0 where
+  pub session : Session
+  pub under : (session.key_id ≡ sha256 key) × (session.range ≡ terms.range)
+  pub sound : IsSound session
+  pub begins : EachBegins key terms.range.device outputs session.begun
+
+-- A run over such a range, whose ledger did this, wrote these outputs under the key. (Of a run that was killed
+-- nothing is said of what its ledger did.)
 abbrev pub Wrote : List ℕ → Terms → List Entry → List (List ℕ) → Type 0
-Wrote key terms history outputs = WroteFiles key terms history outputs ⊎ WroteStream key terms history outputs
+Wrote key terms history outputs =
+    WroteFiles key terms history outputs ⊎ WroteStream key terms history outputs ⊎ WroteSoFar key terms outputs
 
 -- ---- a run
 
@@ -89,6 +120,11 @@ pub record Run : Type 0 where
   pub terms : Terms
   pub history : List Entry
   pub outputs : List (List ℕ)
+
+-- a run that was killed, of which no history is told
+abbrev pub killed_run : Image → Image → Terms → List (List ℕ) → Run
+killed_run start files terms outputs =
+    record { start = start; files = files; terms = terms; history = []; outputs = outputs }
 
 -- A run under the key as a device.
 pub record IsRun (key : List ℕ) (device : ℕ) (run : Run) : Type 0 where

@@ -5,9 +5,11 @@ ghost use Rattle.std.specs.Prelude.{◌≡◌, ◌⊎◌, ℕ, Option, ◌<◌, 
 ghost use Rattle.command_core.specs.Lines.{FileLine};
 ghost use Rattle.command_core.specs.Trace.{Does};
 ghost use Rattle.command_core.specs.Work.{AreTold};
+ghost use Rattle.journal_core.specs.History.{times_settled};
 ghost use Rattle.crew_core.specs.Batch.{AreOutcomes};
 ghost use Rattle.ledger_core.specs.Closing.{AreAllSeats};
-ghost use Rattle.sealer_core.specs.Group.{AreEnded, AreHeld, AreOwing, IsEndIn, IsEndOfAll, IsPrepared};
+ghost use Rattle.sealer_core.specs.Group.{AreEnded, AreGrantedOnce, AreHeld, AreOwing, HasStarted, HaveSettled};
+ghost use Rattle.sealer_core.specs.Group.{IsContainerUnder, IsEndIn, IsEndOfAll, IsPrepared};
 ghost use Rattle.sealer_core.specs.Group.{left_by, name_of, read_of, refused_lines, void_in};
 ghost use Rattle.sealer_core.specs.Sealing.{Accounts, AreLawful, AreSealed, Happened, IsOfSealing, line_of};
 ghost use Rattle.sealer_core.specs.Sealing.{operations_of};
@@ -15,18 +17,22 @@ ghost use Rattle.sealer_core.specs.Sealing.{operations_of};
 use crate::lane::{end_output, fault_of, give_up, seal_file};
 use crate::prepare::{Prepared, prepare_group};
 use crate::sealing::SealOptions;
-use command_core::{FileFault, FileOutcome, Folder, MAX_BYTES, tell};
+use command_core::{FileFault, FileOutcome, MAX_BYTES, tell};
 use container_core::{Key, SealFault, Shape};
 use crew_core::{Free, MAX_LANES, Outcome, seal_batch};
-use ledger_core::{Failed, Ledger, Seat, Sink, write_all};
+use front_core::SealingFolder;
+use ledger_core::{Failed, Ledger, Seat, Sink};
+use output_core::put_all;
 use std::alloc::Global;
 use std::collections::VecDeque;
 use std::sync::Wait;
 use std::thread::Threads;
 
 // Ends one file of a group, by its own fault, or by the next of the outcomes where it was read: of one that was sealed
-// the container is written. Where no outcome is left, memory for them was refused.
-fn end_file<F: Folder>(
+// the container may begin, and is written. Where no outcome is left, memory for them was refused.
+fn end_file<F: SealingFolder>(
+    key: &Key,
+    shape: &Shape,
     ledger: &Ledger,
     seats: &mut [Seat],
     folder: &mut F,
@@ -34,8 +40,13 @@ fn end_file<F: Folder>(
     outcomes: &mut VecDeque<Outcome>,
 ) -> FileOutcome
     requires owing { AreOwing ledger.now seats.old outcomes.old.items }
-    requires prepared { IsPrepared file }
+    requires prepared { IsPrepared F.Writer.bound F.Writer.taken file }
+    requires containers { All (IsContainerUnder key.now shape.now) outcomes.old.items }
+    requires once { AreGrantedOnce (operations_of seats.old) }
+    requires session { HaveSettled key.now ledger.now seats.old (F.session folder.old) }
     ensures owing { AreOwing ledger.now seats.new outcomes.new.items }
+    ensures once { AreGrantedOnce (operations_of seats.new) }
+    ensures session { HaveSettled key.now ledger.now seats.new (F.session folder.new) }
     ensures outcome { IsOfSealing result }
     ensures next { outcomes.new.items ≡ left_by file.entry outcomes.old.items }
     ensures end { Does (IsEndIn F.Writer.taken outcomes.old.items file.entry result) (F.told folder.old)
@@ -45,7 +56,7 @@ fn end_file<F: Folder>(
         → AreHeld (lines ++ line_of (name_of file.entry) result ∷ [])
         (voids ++ void_in file.entry outcomes.old.items result) outcomes.new.items (operations_of seats.new) }
 {
-    let (mut writer, bytes) = match file {
+    let (mut writer, long) = match file {
         Prepared::Refused(_, fault) => return FileOutcome::Failed(fault),
         Prepared::Unread(_, writer, fault) => {
             return give_up(folder, writer, FileFault::Unsealed(fault));
@@ -53,15 +64,13 @@ fn end_file<F: Folder>(
         Prepared::Read(_, writer, bytes) => (writer, bytes),
     };
     match outcomes.pop_front() {
-        Some(
-            Outcome::Sealed {
-                seat,
-                bytes: container,
-                spent,
-            },
-        ) => {
-            let sealed = match write_all(&mut writer, container.as_slice()) {
-                Ok(()) => Ok(bytes),
+        Some(Outcome::Sealed { seat, bytes, spent }) => {
+            let (holder, number) = (&seats[seat as usize], spent.number());
+            // It tells that the seat has a legal history.
+            let _legal = holder.number();
+            folder.allow_container(&mut writer, ledger, holder, number, key, shape);
+            let sealed = match put_all(&mut writer, bytes.as_slice()) {
+                Ok(()) => Ok(long),
                 Err(Failed) => Err(SealFault::Write),
             };
             end_output(ledger, seats, seat, spent, folder, writer, sealed)
@@ -76,8 +85,10 @@ fn end_file<F: Folder>(
 }
 
 // Ends the files of a group in turn, with a line for each. The answer is the status so far.
-fn end_group<F: Folder, L: Sink>(
+fn end_group<F: SealingFolder, L: Sink>(
     alloc: Global,
+    key: &Key,
+    shape: &Shape,
     ledger: &Ledger,
     seats: &mut [Seat],
     folder: &mut F,
@@ -87,9 +98,13 @@ fn end_group<F: Folder, L: Sink>(
     mut outcomes: VecDeque<Outcome>,
 ) -> u8
     requires owing { AreOwing ledger.now seats.old outcomes.items }
-    requires prepared { All IsPrepared files.items }
+    requires prepared { All (IsPrepared F.Writer.bound F.Writer.taken) files.items }
     requires few { length outcomes.items ≤ length (flat_map read_of files.items) }
+    requires containers { All (IsContainerUnder key.now shape.now) outcomes.items }
+    requires once { AreGrantedOnce (operations_of seats.old) }
+    requires session { HaveSettled key.now ledger.now seats.old (F.session folder.old) }
     ensures owing { AreOwing ledger.now seats.new [] }
+    ensures session { HaveSettled key.now ledger.now seats.new (F.session folder.new) }
     ensures ended { AreEnded (λ lines voids. Does (IsEndOfAll F.Writer.taken files.entry.items outcomes.items lines
         voids) (F.told folder.old) (F.told folder.new)) (map name_of files.entry.items) outcomes.items []
         (operations_of seats.old) (operations_of seats.new) start result
@@ -98,7 +113,7 @@ fn end_group<F: Folder, L: Sink>(
     let mut status = start;
     while let Some(file) = files.pop_front() {
         let name = file.name();
-        let outcome = end_file(ledger, seats, folder, file, &mut outcomes);
+        let outcome = end_file(key, shape, ledger, seats, folder, file, &mut outcomes);
         status = tell(alloc, lines, status, name, outcome);
     }
     status
@@ -135,6 +150,9 @@ fn seal_jobs<T: Threads + Sync>(
     ensures owing { AreOwing ledger.now seats.new result.items }
     ensures outcomes { (result.items ≡ [])
         ⊎ AreOutcomes key.now shape.now (map (λ job. job.items) jobs.now) result.items }
+    ensures containers { All (IsContainerUnder key.now shape.now) result.items }
+    ensures settled { (number : ℕ)
+        → times_settled number (operations_of seats.new) ≡ times_settled number (operations_of seats.old) }
     ensures accounts { (lines : List FileLine) (voids : List ℕ) → Accounts lines voids (operations_of seats.old)
         → AreHeld lines voids result.items (operations_of seats.new) }
 {
@@ -146,6 +164,16 @@ fn seal_jobs<T: Threads + Sync>(
         Ok(outcomes) => VecDeque::from(outcomes),
         Err(_) => VecDeque::new(alloc),
     }
+}
+
+// Lets the seats meet, and nothing else. Then it shows that they were granted no number twice.
+fn meet_seats(ledger: &Ledger, seats: &mut [Seat])
+    requires all { AreAllSeats ledger.now seats.old }
+    ensures all { AreAllSeats ledger.now seats.new }
+    ensures mine { map (λ seat. seat.mine) seats.new ≡ map (λ seat. seat.mine) seats.old }
+    ensures once { AreGrantedOnce (operations_of seats.new) }
+{
+    ledger.meet_all(seats);
 }
 
 // Tells of each file that memory was refused before anything was done with it.
@@ -164,7 +192,7 @@ fn refuse_group<L: Sink>(alloc: Global, names: &[&str], lines: &mut L, start: u8
 }
 
 // Seals the files of a group, of which there are at most as many as seats. The answer is the status so far.
-fn seal_group<T: Threads + Wait + Sync, F: Folder, L: Sink>(
+fn seal_group<T: Threads + Wait + Sync, F: SealingFolder, L: Sink>(
     rt: &T,
     alloc: Global,
     key: &Key,
@@ -180,7 +208,9 @@ fn seal_group<T: Threads + Wait + Sync, F: Folder, L: Sink>(
     requires lanes { length seats.old ≤ MAX_LANES }
     requires options { AreLawful options.now }
     requires few { (0 < length names.now) × (length names.now ≤ length seats.old) }
+    requires session { HaveSettled key.now ledger.now seats.old (F.session folder.old) }
     ensures owing { AreOwing ledger.now seats.new [] }
+    ensures session { HaveSettled key.now ledger.now seats.new (F.session folder.new) }
     ensures group { AreEnded (λ lines. Happened key.now options.now.shape.now options.now.max_bytes
         ledger.now.terms.range.device (F.told folder.old) (F.told folder.new) (lines ∷ []))
         (map (λ name. name.now) names.now) [] [] (operations_of seats.old) (operations_of seats.new) status result
@@ -194,20 +224,16 @@ fn seal_group<T: Threads + Wait + Sync, F: Folder, L: Sink>(
     let Ok((files, jobs)) = prepare_group(alloc, folder, names, options.max_bytes) else {
         return refuse_group(alloc, names, lines, status);
     };
-    let outcomes = seal_jobs(
-        rt,
-        alloc,
-        key,
-        ledger,
-        seats,
-        jobs.as_slice(),
-        options.shape,
-    );
-    end_group(alloc, ledger, seats, folder, lines, status, files, outcomes)
+    let (texts, shape) = (jobs.as_slice(), options.shape);
+    let outcomes = seal_jobs(rt, alloc, key, ledger, seats, texts, shape);
+    meet_seats(ledger, seats);
+    end_group(
+        alloc, key, shape, ledger, seats, folder, lines, status, files, outcomes,
+    )
 }
 
 /// Seals the files in groups of as many as there are seats, with a line for each. The answer is the status so far.
-pub(crate) fn seal_groups<T: Threads + Wait + Sync, F: Folder, L: Sink>(
+pub(crate) fn seal_groups<T: Threads + Wait + Sync, F: SealingFolder, L: Sink>(
     rt: &T,
     alloc: Global,
     key: &Key,
@@ -221,6 +247,7 @@ pub(crate) fn seal_groups<T: Threads + Wait + Sync, F: Folder, L: Sink>(
     requires lanes { (0 < length seats.old) × (length seats.old ≤ MAX_LANES) }
     requires options { AreLawful options.now }
     requires fresh { operations_of seats.old ≡ [] }
+    requires session { HasStarted key.now ledger.now (F.session folder.old) }
     ensures all { AreAllSeats ledger.now seats.new }
     ensures sealed { AreSealed (Happened key.now options.now.shape.now options.now.max_bytes
         ledger.now.terms.range.device (F.told folder.old) (F.told folder.new)) (length seats.old)

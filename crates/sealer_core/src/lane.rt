@@ -5,13 +5,14 @@ ghost use Rattle.journal_core.specs.declared.entry.Event.TheVariants.{Granted, S
 ghost use Rattle.journal_core.specs.declared.entry.Way.{Way};
 ghost use Rattle.journal_core.specs.declared.entry.Way.TheVariants.{Sealed};
 ghost use Rattle.ledger_core.specs.Closing.{AreAllSeats};
-ghost use Rattle.ledger_core.specs.Shared.{Extends, Holds, IsSameSeat, Unissued, spent_as};
+ghost use Rattle.ledger_core.specs.Shared.{Extends, Holds, IsSameSeat, Knows, Unissued, spent_as};
 ghost use Rattle.ledger_core.specs.declared.fault.IssueFault.{IssueFault};
 ghost use Rattle.command_core.specs.Lines.{FileLine};
+ghost use Rattle.command_core.specs.Session.{IsNew};
 ghost use Rattle.command_core.specs.declared.line.FileOutcome.TheVariants.{Failed};
 ghost use Rattle.command_core.specs.Trace.{Discards, Does};
 ghost use Rattle.sealer_core.specs.Group.{AreOwing, EndsBy, IsCounted, IsEnding, IsMade, IsRefusal, IsUnmade, OwesAt};
-ghost use Rattle.sealer_core.specs.Group.{SettledAt};
+ghost use Rattle.sealer_core.specs.Group.{HaveSettled, SettledAt};
 ghost use Rattle.sealer_core.specs.Sealing.{Accounts, Happened, IsClosed, IsOfSealing, line_of};
 ghost use Rattle.sealer_core.specs.Sealing.{AreLawful, operations_of, unissued_as};
 
@@ -20,6 +21,7 @@ use command_core::{FileFault, FileOutcome, Folder, FolderFault};
 use container_core::{Key, SealFault};
 use crew_core::Free;
 use engine_core::run_seal_by;
+use front_core::SealingFolder;
 use ledger_core::{Grant, IssueFault, Ledger, Seat, Spent};
 use std::alloc::Global;
 use std::sync::Wait;
@@ -45,6 +47,7 @@ pub(crate) fn issue_to_file(ledger: &Ledger, seat: &mut Seat) -> Result<Grant, F
     ensures refused { IfErr result (λ fault. (why : IssueFault) × (fault ≡ unissued_as why)
         × Unissued why seat.old seat.new) }
     ensures same { IsSameSeat seat.old seat.new }
+    ensures knows { Knows seat.new }
 {
     match ledger.issue(seat) {
         Ok(grant) => Ok(grant),
@@ -84,8 +87,10 @@ pub(crate) fn begin_file<F: Folder>(
 ) -> Result<(F::Reader, F::Writer), FileFault>
     ensures made { IfOk result (λ begun. Does (IsMade name.now (F.Reader.left begun.0) (F.Writer.taken begun.1))
         (F.told folder.old) (F.told folder.new)) }
+    ensures new { IfOk result (λ begun. IsNew (F.Writer.bound begun.1) (F.Writer.taken begun.1)) }
     ensures fault { IfErr result IsUnmade }
     ensures refused { IfErr result (λ fault. Does (IsRefusal name.now fault) (F.told folder.old) (F.told folder.new)) }
+    ensures session { F.session folder.new ≡ F.session folder.old }
 {
     let Ok(output) = format!(in alloc; "{name}.stm") else {
         return Err(FileFault::OutOfMemory);
@@ -104,6 +109,7 @@ pub(crate) fn begin_file<F: Folder>(
 pub(crate) fn give_up<F: Folder>(folder: &mut F, writer: F::Writer, fault: FileFault) -> FileOutcome
     ensures outcome { result ≡ Failed fault }
     ensures discarded { Does (Discards (F.Writer.taken writer)) (F.told folder.old) (F.told folder.new) }
+    ensures session { F.session folder.new ≡ F.session folder.old }
 {
     let _ = folder.discard(writer);
     FileOutcome::Failed(fault)
@@ -128,6 +134,7 @@ pub(crate) fn end_output<F: Folder>(
     ensures closed { Does (IsClosed (F.Writer.taken writer) result) (F.told folder.old) (F.told folder.new) }
     ensures settled { IsEnding spent.number (operations_of seats.old) (operations_of seats.new) result }
     ensures made { SettledAt place spent.number seats.old seats.new }
+    ensures session { F.session folder.new ≡ F.session folder.old }
 {
     let number = spent.number();
     let (writer, fault) = match sealed {
@@ -144,8 +151,9 @@ pub(crate) fn end_output<F: Folder>(
     give_up(folder, writer, FileFault::Unsealed(fault))
 }
 
-/// Seals one file by the first seat. Its input is opened, its output created, and its number issued, in this order.
-pub(crate) fn seal_file<T: Threads + Wait + Sync, F: Folder>(
+/// Seals one file by the one seat. Its input is opened, its output created, and its number issued, in this order; then
+/// its container may begin.
+pub(crate) fn seal_file<T: Threads + Wait + Sync, F: SealingFolder>(
     rt: &T,
     alloc: Global,
     key: &Key,
@@ -156,9 +164,11 @@ pub(crate) fn seal_file<T: Threads + Wait + Sync, F: Folder>(
     name: &str,
 ) -> FileOutcome
     requires owing { AreOwing ledger.now seats.old [] }
-    requires some { 0 < length seats.old }
+    requires one { length seats.old ≡ 1 }
     requires options { AreLawful options.now }
+    requires session { HaveSettled key.now ledger.now seats.old (F.session folder.old) }
     ensures owing { AreOwing ledger.now seats.new [] }
+    ensures session { HaveSettled key.now ledger.now seats.new (F.session folder.new) }
     ensures outcome { IsOfSealing result }
     ensures done { (void : List ℕ) × Happened key.now options.now.shape.now options.now.max_bytes
         ledger.now.terms.range.device (F.told folder.old) (F.told folder.new) ((line_of name.now result ∷ []) ∷ []) void
@@ -174,17 +184,21 @@ pub(crate) fn seal_file<T: Threads + Wait + Sync, F: Folder>(
         Ok(grant) => grant,
         Err(fault) => return give_up(folder, writer, fault),
     };
+    let number = grant.number();
+    let shape = options.shape;
+    folder.allow_container(&mut writer, ledger, seat, number, key, shape);
+    let (most, workers, window) = (options.max_bytes, options.workers, options.window);
     let (sealed, spent) = run_seal_by(
         rt,
         alloc,
         key,
-        options.shape,
+        shape,
         grant,
         &mut reader,
         &mut writer,
-        options.max_bytes,
-        options.workers,
-        options.window,
+        most,
+        workers,
+        window,
         &Free,
     );
     end_output(ledger, seats, 0, spent, folder, writer, sealed)

@@ -2,7 +2,7 @@
 //!
 //! `seal_all` and `pipe_all` are here, with the theorems over their runs (`theorem`). The engines are those of
 //! `engine_core`, `open_all`, `verify_all` and the folders and lines of all commands those of `command_core`, and the
-//! laws on the life of a ledger file those of `life_core`.
+//! laws on the life of a ledger file those of `life_core`. What must hold before a container begins is in `front_core`.
 #![tactic(auto)]
 
 mod ending;
@@ -20,12 +20,14 @@ pub use crate::sealing::{SealOptions, seal_all};
 pub use crate::theorem::{a_call_is_a_run, no_nonce_is_used_twice, what_was_opened_was_sealed};
 pub use command_core::{
     Facts, FileFault, FileOutcome, Folder, FolderFault, KeyFault, Line, MAX_BYTES,
-    MAX_OPENED_BYTES, OpenOptions, Outs, open_all, read_key, verify_all,
+    MAX_OPENED_BYTES, OpenOptions, OpeningFolder, Outs, open_all, read_key, verify_all,
 };
 pub use crew_core::{MAX_DEPTH, MAX_LANES, MAX_WINDOW, MAX_WORKERS};
 pub use engine_core::{
     open_one, run_audit, run_open, run_open_by, run_pipe, run_plain, run_plain_by, run_seal,
     run_seal_by, run_verify, run_verify_by, seal_one, verify_one,
 };
+pub use front_core::{SealingFolder, SealingStream};
 pub use life_core as laws;
+pub use output_core::Output;
 pub use reserve_core::LedgerFile;

@@ -9,6 +9,8 @@ ghost use Rattle.journal_core.specs.Range.{IsLawfulRange, Numbers};
 ghost use Rattle.journal_core.specs.Text.{journal_text};
 ghost use Rattle.ledger_core.specs.Closing.{AreAllSeats};
 ghost use Rattle.ledger_core.specs.Shared.{fresh_seats, IsSameSeat};
+ghost use Rattle.command_core.specs.Session.{IsShut};
+ghost use Rattle.front_core.specs.Range.{StandsIn};
 ghost use Rattle.sealer_core.specs.Piping.{HasSealedStream, IsPiped};
 ghost use Rattle.sealer_core.specs.Sealing.{FoldsARange, IsWritten, ReservesOnce, operations_of};
 
@@ -20,6 +22,7 @@ use command_core::{FileFault, FileOutcome, Outs, tell};
 use container_core::{Key, Shape};
 use crew_core::{Free, MAX_DEPTH, MAX_WORKERS};
 use engine_core::run_pipe;
+use front_core::SealingStream;
 use ledger_core::{Device, Ledger, Seat, Sink, Source};
 use reserve_core::{Fold, LedgerFile};
 use std::alloc::Global;
@@ -47,22 +50,27 @@ pub struct PipeOptions<'a> {
     pub shape: &'a Shape,
 }
 
-// Seals what a reader gives under the next number of the ledger, and settles that number.
-fn pipe_next<T: Threads + Wait + Sync, R: Source, W: Sink>(
+// Seals what a reader gives under the next number of the ledger, of whose range the ledger file has all numbers for
+// good, and settles that number.
+fn pipe_next<T: Threads + Wait + Sync, S: Fold, R: Source, W: SealingStream>(
     rt: &T,
     alloc: Global,
     key: &Key,
+    file: &LedgerFile<S>,
     ledger: &Ledger,
     seat: &mut Seat,
     reader: &mut R,
     writer: &mut W,
     options: &PipeOptions,
 ) -> FileOutcome
-    requires ours { seat.old.ledger ≡ ledger.now.ledger }
+    requires stands { StandsIn S.Store LedgerFile.Kept LedgerFile.Folded S.is_folded key.now file.now
+        ledger.now.terms.range }
+    requires ours { (seat.old.ledger ≡ ledger.now.ledger) × (seat.old.terms ≡ ledger.now.terms) }
     requires fresh { seat.old.mine ≡ [] }
     requires workers { (0 < options.now.workers) × (options.now.workers ≤ MAX_WORKERS) }
     requires depth { (0 < options.now.depth) × (options.now.depth ≤ MAX_DEPTH) }
     requires most { 0 < options.now.max_chunks }
+    requires shut { IsShut (W.bound writer.old) (W.taken writer.old) }
     ensures same { IsSameSeat seat.old seat.new }
     ensures piped { IsPiped key.now options.now.shape.now options.now.max_chunks
         (R.left reader.old) (R.left reader.new) (R.failures reader.old) (R.failures reader.new)
@@ -74,6 +82,7 @@ fn pipe_next<T: Threads + Wait + Sync, R: Source, W: Sink>(
         Err(fault) => return FileOutcome::Failed(fault),
     };
     let number = grant.number();
+    writer.allow_stream(file, ledger, seat, number, key, options.shape);
     let (sealed, spent) = run_pipe(
         rt,
         alloc,
@@ -95,22 +104,26 @@ fn pipe_next<T: Threads + Wait + Sync, R: Source, W: Sink>(
 }
 
 // Seals what a reader gives by the one seat of a new ledger.
-fn pipe_alone<T: Threads + Wait + Sync, R: Source, W: Sink>(
+fn pipe_alone<T: Threads + Wait + Sync, S: Fold, R: Source, W: SealingStream>(
     rt: &T,
     alloc: Global,
     key: &Key,
+    file: &LedgerFile<S>,
     ledger: &Ledger,
     seats: &mut [Seat],
     reader: &mut R,
     writer: &mut W,
     options: &PipeOptions,
 ) -> FileOutcome
+    requires stands { StandsIn S.Store LedgerFile.Kept LedgerFile.Folded S.is_folded key.now file.now
+        ledger.now.terms.range }
     requires all { AreAllSeats ledger.now seats.old }
     requires one { ledger.now.terms.seats ≡ 1 }
     requires fresh { seats.old ≡ fresh_seats ledger.now.ledger ledger.now.terms 1 }
     requires workers { (0 < options.now.workers) × (options.now.workers ≤ MAX_WORKERS) }
     requires depth { (0 < options.now.depth) × (options.now.depth ≤ MAX_DEPTH) }
     requires most { 0 < options.now.max_chunks }
+    requires shut { IsShut (W.bound writer.old) (W.taken writer.old) }
     ensures all { AreAllSeats ledger.now seats.new }
     ensures piped { IsPiped key.now options.now.shape.now options.now.max_chunks
         (R.left reader.old) (R.left reader.new) (R.failures reader.old) (R.failures reader.new)
@@ -118,15 +131,16 @@ fn pipe_alone<T: Threads + Wait + Sync, R: Source, W: Sink>(
         ledger.now.terms.range.device (operations_of seats.new) result }
 {
     let seat = &mut seats[0];
-    pipe_next(rt, alloc, key, ledger, seat, reader, writer, options)
+    pipe_next(rt, alloc, key, file, ledger, seat, reader, writer, options)
 }
 
 // Seals what a reader gives over a new ledger, tells its line, and ends the ledger. The answer is the status of the
 // line, and how the ledger ended.
-fn pipe_over<T: Threads + Wait + Sync, R: Source, W: Sink, E: Sink, J: Sink>(
+fn pipe_over<T: Threads + Wait + Sync, S: Fold, R: Source, W: SealingStream, E: Sink, J: Sink>(
     rt: &T,
     alloc: Global,
     key: &Key,
+    file: &LedgerFile<S>,
     ledger: Ledger,
     mut seats: Vec<Seat>,
     reader: &mut R,
@@ -135,12 +149,15 @@ fn pipe_over<T: Threads + Wait + Sync, R: Source, W: Sink, E: Sink, J: Sink>(
     lines: &mut E,
     journal: &mut Option<J>,
 ) -> (u8, Result<(), RunFault>)
+    requires stands { StandsIn S.Store LedgerFile.Kept LedgerFile.Folded S.is_folded key.now file.now
+        ledger.terms.range }
     requires all { AreAllSeats ledger seats.items }
     requires one { ledger.terms.seats ≡ 1 }
     requires fresh { seats.items ≡ fresh_seats ledger.ledger ledger.terms 1 }
     requires workers { (0 < options.now.workers) × (options.now.workers ≤ MAX_WORKERS) }
     requires depth { (0 < options.now.depth) × (options.now.depth ≤ MAX_DEPTH) }
     requires most { 0 < options.now.max_chunks }
+    requires shut { IsShut (W.bound writer.old) (W.taken writer.old) }
     ensures { (history : List Entry)
         × HasSealedStream key.now options.now.shape.now options.now.max_chunks
         (R.left reader.old) (R.left reader.new) (R.failures reader.old) (R.failures reader.new)
@@ -153,6 +170,7 @@ fn pipe_over<T: Threads + Wait + Sync, R: Source, W: Sink, E: Sink, J: Sink>(
         rt,
         alloc,
         key,
+        file,
         &ledger,
         seats.as_mut_slice(),
         reader,
@@ -168,7 +186,7 @@ fn pipe_over<T: Threads + Wait + Sync, R: Source, W: Sink, E: Sink, J: Sink>(
 /// standard output is the container's. The answer is the exit status: 0 where the stream was sealed, 1 where that
 /// failed, 2 where no range was reserved, the ledger file not folded or no ledger opened (then nothing was read or
 /// written), where the line couldn't be written, or where the journal couldn't be written whole. Each of these but
-/// the line has a text on standard error.
+/// the line has a text on standard error. A stream that knows what it may hold may hold no more yet than it took.
 ///
 /// At a fault what was written begins the stream's container: whoever reads it must have the status, or open it. One
 /// range of one number is reserved, for good, and in the ledger file itself before the stream is read; nobody else
@@ -178,7 +196,7 @@ pub fn pipe_all<
     T: Threads + Wait + Sync,
     S: Fold,
     R: Source,
-    W: Sink,
+    W: SealingStream,
     L: Sink + Drop,
     E: Sink + Drop,
     J: Sink + Drop,
@@ -195,6 +213,7 @@ pub fn pipe_all<
     requires workers { (0 < options.now.workers) × (options.now.workers ≤ MAX_WORKERS) }
     requires depth { (0 < options.now.depth) × (options.now.depth ≤ MAX_DEPTH) }
     requires most { 0 < options.now.max_chunks }
+    requires shut { IsShut (W.bound writer.old) (W.taken writer.old) }
     ensures status { result ≤ 2 }
     // Nothing was read or written; or the stream was sealed over a range of one number that was reserved, in a ledger
     // file that has it without its log, with one legal history, which the journal tells. Behind the line there is at
@@ -232,6 +251,7 @@ pub fn pipe_all<
         rt,
         alloc,
         key,
+        file,
         ledger,
         seats,
         reader,

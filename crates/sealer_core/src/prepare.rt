@@ -48,9 +48,10 @@ fn prepare_file<'a, F: Folder>(
     ensures read { map (λ job. length job.items) jobs.new.items
         ≡ map (λ job. length job.items) jobs.old.items ++ read_of result }
     ensures name { name_of result ≡ name.now }
-    ensures prepared { IsPrepared result }
+    ensures prepared { IsPrepared F.Writer.bound F.Writer.taken result }
     ensures told { Does (IsBegunWith F.Writer.taken max_bytes (map (λ job. job.items) jobs.old.items)
         (map (λ job. job.items) jobs.new.items) result) (F.told folder.old) (F.told folder.new) }
+    ensures session { F.session folder.new ≡ F.session folder.old }
 {
     let (mut reader, writer) = match begin_file(alloc, folder, name) {
         Ok(begun) => begun,
@@ -76,12 +77,13 @@ pub(crate) fn prepare_group<'a, F: Folder>(
 ) -> Result<(VecDeque<Prepared<'a, F::Writer>>, Vec<Vec<u8>>), AllocError>
     requires max_bytes { max_bytes ≤ MAX_BYTES }
     ensures names { IfOk result (λ group. map name_of group.0.items ≡ map (λ name. name.now) names.now) }
-    ensures prepared { IfOk result (λ group. All IsPrepared group.0.items) }
+    ensures prepared { IfOk result (λ group. All (IsPrepared F.Writer.bound F.Writer.taken) group.0.items) }
     ensures told { IfOk result (λ group. Does (AreBegun F.Writer.taken max_bytes group.0.items
         (map (λ job. job.items) group.1.items)) (F.told folder.old) (F.told folder.new)) }
     ensures short { IfOk result (λ group. All (λ job. length job.items ≤ MAX_BYTES) group.1.items) }
     ensures read { IfOk result (λ group. map (λ job. length job.items) group.1.items ≡ flat_map read_of group.0.items) }
     ensures refused { OnErr result (folder.new ≡ folder.old) }
+    ensures session { F.session folder.new ≡ F.session folder.old }
 {
     let mut files = VecDeque::with_capacity(alloc, names.len())?;
     let mut jobs = Vec::with_capacity(alloc, names.len())?;

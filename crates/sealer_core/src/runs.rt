@@ -5,7 +5,7 @@ ghost use Rattle.container_core.specs.Shape.{IsShape, ShapeView};
 ghost use Rattle.journal_core.specs.declared.entry.Entry.{Entry};
 ghost use Rattle.journal_core.specs.declared.terms.Terms.{Terms};
 ghost use Rattle.journal_core.specs.Range.{IsLawfulRange, Numbers};
-ghost use Rattle.life_core.specs.Outputs.{HasWritten, Output};
+ghost use Rattle.life_core.specs.Outputs.{AreGranted, HasWritten, Output};
 ghost use Rattle.sqlite.specs.Files.{over_files};
 ghost use Rattle.sqlite_wal.specs.Files.{outcomes};
 ghost use Rattle.sqlite_wal.specs.Reads.{AreClean};
@@ -48,7 +48,8 @@ pub fn a_run_has_written()
         old new failures later
         → (events : List Event) × (outputs : List Output) × (after ≡ before ++ events)
         × (written_in events ≡ map (λ output. output.held) outputs)
-        × HasWritten key terms.range.device (record { terms = terms; history = history; outputs = outputs }) }
+        × HasWritten key terms.range.device (record { terms = terms; outputs = outputs })
+        × AreGranted terms history outputs }
 {}
 
 /// The same of a run of `pipe_all`: what its writer took, where that is any byte, is a beginning of one container under
@@ -63,5 +64,6 @@ pub fn a_stream_has_written()
         refusals_then terms history status lines lines_then faults faults_then
         → (held : List ℕ) × (outputs : List Output) × (new ≡ old ++ held)
         × (held_in held ≡ map (λ output. output.held) outputs)
-        × HasWritten key terms.range.device (record { terms = terms; history = history; outputs = outputs }) }
+        × HasWritten key terms.range.device (record { terms = terms; outputs = outputs })
+        × AreGranted terms history outputs }
 {}

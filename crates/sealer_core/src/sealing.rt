@@ -3,7 +3,7 @@
 //! A range is reserved for good before any file is touched, and stands in the ledger file itself, so a number that a
 //! run didn't use is given up. Files are sealed in turn by one lane, or in groups by several.
 ghost use Rattle.std.specs.Prelude.{◌≡◌, ◌≢◌, ◌⊎◌, ℕ, Bool, ◌<◌, ◌≤◌, List, length, map, IsTrue, IfOk, OnErr, is_ok};
-ghost use Rattle.std.specs.Prelude.{if◌then◌else◌};
+ghost use Rattle.std.specs.Prelude.{if◌then◌else◌, IfSome, []};
 ghost use Rattle.sha2.specs.Sha256.{sha256};
 ghost use Rattle.sqlite.specs.Held.{Held, state};
 ghost use Rattle.journal_core.specs.declared.entry.Entry.{Entry};
@@ -12,6 +12,7 @@ ghost use Rattle.journal_core.specs.Range.{IsLawfulRange, Numbers};
 ghost use Rattle.journal_core.specs.Text.{journal_text};
 ghost use Rattle.ledger_core.specs.Closing.{AreAllSeats};
 ghost use Rattle.ledger_core.specs.Shared.{fresh_seats};
+ghost use Rattle.front_core.specs.Range.{StandsIn};
 ghost use Rattle.reserve_core.specs.Lasting.{StillLast};
 ghost use Rattle.sealer_core.specs.Sealing.{AppendsOnce, AreLawful, CrashesAround, FoldsARange, Happened, HasSealed};
 ghost use Rattle.sealer_core.specs.Sealing.{IsReserved, IsWritten, ReservesOnce};
@@ -19,9 +20,10 @@ ghost use Rattle.sealer_core.specs.Sealing.{IsReserved, IsWritten, ReservesOnce}
 use crate::ending::end_ledger;
 use crate::group::seal_groups;
 use crate::trouble::{RunFault, complain};
-use command_core::{Folder, MAX_BYTES, Outs};
+use command_core::{MAX_BYTES, Outs};
 use container_core::{Key, Shape};
 use crew_core::{MAX_LANES, MAX_WINDOW, MAX_WORKERS};
+use front_core::SealingFolder;
 use ledger_core::{Device, Ledger, Range, Seat, Sink};
 use reserve_core::{Fold, Keeper, LedgerFile, ReserveFault};
 use sqlite::Alter;
@@ -127,11 +129,13 @@ pub(crate) fn open_ledger<S: Fold>(
     }
 }
 
-// Seals the files over a new ledger, and ends that. The answer is the status of the lines, and how the ledger ended.
-fn work_ledger<T: Threads + Wait + Sync, F: Folder, W: Sink, J: Sink>(
+// Seals the files over a new ledger, of whose range the ledger file has all numbers for good, and ends that. The answer
+// is the status of the lines, and how the ledger ended.
+fn work_ledger<T: Threads + Wait + Sync, S: Fold, F: SealingFolder, W: Sink, J: Sink>(
     rt: &T,
     alloc: Global,
     key: &Key,
+    file: &LedgerFile<S>,
     ledger: Ledger,
     mut seats: Vec<Seat>,
     folder: &mut F,
@@ -139,11 +143,14 @@ fn work_ledger<T: Threads + Wait + Sync, F: Folder, W: Sink, J: Sink>(
     lines: &mut W,
     journal: &mut Option<J>,
 ) -> (u8, Result<(), RunFault>)
+    requires stands { StandsIn S.Store LedgerFile.Kept LedgerFile.Folded S.is_folded key.now file.now
+        ledger.terms.range }
     requires all { AreAllSeats ledger seats.items }
     requires lanes { (0 < options.now.lanes) × (options.now.lanes ≤ MAX_LANES)
         × (ledger.terms.seats ≡ options.now.lanes) }
     requires fresh { seats.items ≡ fresh_seats ledger.ledger ledger.terms options.now.lanes }
     requires options { AreLawful options.now }
+    requires idle { IfSome (F.session folder.old) (λ session. session.begun ≡ []) }
     ensures { (history : List Entry)
         × HasSealed (Happened key.now options.now.shape.now options.now.max_bytes ledger.terms.range.device
         (F.told folder.old) (F.told folder.new)) (map (λ name. name.now) options.now.files.now)
@@ -151,6 +158,7 @@ fn work_ledger<T: Threads + Wait + Sync, F: Folder, W: Sink, J: Sink>(
         (W.taken lines.old) (W.taken lines.new) (W.failures lines.old) (W.failures lines.new)
         × IsWritten J.taken (journal_text ledger.terms history) (is_ok result.1) journal.old journal.new }
 {
+    folder.start(file, key, &ledger);
     let all = seats.as_mut_slice();
     let told = seal_groups(rt, alloc, key, &ledger, all, folder, options, lines);
     (told, end_ledger(alloc, ledger, seats, journal))
@@ -167,11 +175,12 @@ fn work_ledger<T: Threads + Wait + Sync, F: Folder, W: Sink, J: Sink>(
 /// One range is reserved at most, with as many numbers as there are files, and for good: what it leaves unused is
 /// given up. Before the first file is opened the ledger file is folded, so that it has the range without its log;
 /// after that it is no keeper's, and a further run opens it anew. Nobody else may write the ledger file, and no
-/// ledger file that was copied or restored may be used again with the same key and device.
+/// ledger file that was copied or restored may be used again with the same key and device. A folder that knows which
+/// containers began in it serves one run.
 pub fn seal_all<
     T: Threads + Wait + Sync,
     S: Fold,
-    F: Folder,
+    F: SealingFolder,
     L: Sink + Drop,
     E: Sink + Drop,
     J: Sink + Drop,
@@ -189,6 +198,7 @@ pub fn seal_all<
     requires window { (0 < options.now.window) × (options.now.window ≤ MAX_WINDOW) }
     requires lanes { (0 < options.now.lanes) × (options.now.lanes ≤ MAX_LANES) }
     requires max_bytes { options.now.max_bytes ≤ MAX_BYTES }
+    requires idle { IfSome (F.session folder.old) (λ session. session.begun ≡ []) }
     ensures status { result ≤ 2 }
     // No file was touched; or the files were sealed over a range that was reserved, in a ledger file that has it
     // without its log, with one legal history, which the journal tells.
@@ -213,31 +223,17 @@ pub fn seal_all<
     // A ledger file that has no keeper stays as it is.
     ensures other { ((k : Held S) → file.old ≢ LedgerFile.Kept k) → file.new ≡ file.old }
 {
-    let opened = open_ledger(
-        alloc,
-        key,
-        file,
-        options.device,
-        options.files.len(),
-        options.lanes,
-    );
-    let (ledger, seats) = match opened {
+    let (device, files, lanes) = (options.device, options.files.len(), options.lanes);
+    let (ledger, seats) = match open_ledger(alloc, key, file, device, files, lanes) {
         Ok(opened) => opened,
         Err(fault) => {
             complain(alloc, &mut out.faults, fault);
             return TROUBLE;
         }
     };
+    let (lines, journal) = (&mut out.lines, &mut out.journal);
     let (told, ended) = work_ledger(
-        rt,
-        alloc,
-        key,
-        ledger,
-        seats,
-        folder,
-        options,
-        &mut out.lines,
-        &mut out.journal,
+        rt, alloc, key, file, ledger, seats, folder, options, lines, journal,
     );
     match ended {
         Ok(()) => told,

@@ -8,13 +8,18 @@ ghost use Rattle.container_core.specs.Container.{container, header_of};
 ghost use Rattle.container_core.specs.Opening.{opening};
 ghost use Rattle.container_core.specs.Shape.{IsShape, ShapeView, size_of};
 ghost use Rattle.command_core.specs.declared.line.FileOutcome.TheVariants.{Opened, Sealed};
+ghost use Rattle.command_core.specs.Session.{IsSound, Session, begun_as};
 ghost use Rattle.command_core.specs.Trace.{Event, Finished};
 ghost use Rattle.command_core.specs.Work.{Opening, output_of};
+ghost use Rattle.front_core.specs.Range.{IsHeld};
+ghost use Rattle.io_core.specs.Streams.{IsFront};
 ghost use Rattle.journal_core.specs.declared.entry.Entry.{Entry};
 ghost use Rattle.journal_core.specs.declared.terms.Terms.{Terms};
 ghost use Rattle.journal_core.specs.Journal.{terms_of};
 ghost use Rattle.journal_core.specs.Range.{IsLawfulRange, Numbers, prefix_of};
-ghost use Rattle.life_core.specs.Outputs.{HasWritten, Output, Place};
+ghost use Rattle.ledger_core.specs.Shared.{LedgerView, SeatView};
+ghost use Rattle.life_core.specs.Outputs.{HasWritten, Output as Written, Place};
+ghost use Rattle.output_core.specs.Bounds.{Container};
 ghost use Rattle.sqlite.specs.Files.{over_files};
 ghost use Rattle.sqlite_wal.specs.Reads.{AreClean};
 ghost use Rattle.sqlite_wal.specs.Recovery.{Image};
@@ -23,13 +28,15 @@ ghost use Rattle.reserve_core.specs.NextRun.{AreIn, IsFound};
 ghost use Rattle.sealer_core.specs.Piping.{HasSealedStream, WorksStream};
 ghost use Rattle.sealer_core.specs.Sealing.{FoldsFiles, Happened, HasSealed, Sealing, held_in};
 ghost use Rattle.sealer_core.specs.Sealing.{sealed_name, written_in};
-ghost use Rattle.sealer_core.specs.Theorem.{AreRunsOf, BeginsContainer, HasChunk, HeldAt, IsAmong, IsLeftOf};
-ghost use Rattle.sealer_core.specs.Theorem.{IsRun, OpenedFiles, Run, WasOpened, WasSealed, Wrote, WroteFiles};
+ghost use Rattle.sealer_core.specs.Theorem.{AreRunsOf, Begins, BeginsContainer, EachHolds, HasChunk, HeldAt, IsAmong};
+ghost use Rattle.sealer_core.specs.Theorem.{IsLeftOf, IsRun, OpenedFiles, killed_run, Run, WasOpened, WasSealed};
+ghost use Rattle.sealer_core.specs.Theorem.{Wrote, WroteFiles};
 ghost use Rattle.sealer_core.specs.Theorem.{WroteStream, finished_in, read_in};
 
 use crate::runs::{a_run_has_written, a_stream_has_written};
 use container_core::laws::{containers_differ, opens_exactly_its_container};
 use life_core::no_two_outputs_have_one_prefix;
+use output_core::Output;
 use reserve_core::LedgerFile;
 use sqlite::Files;
 use sqlite_disk::Disk;
@@ -38,8 +45,8 @@ use sqlite_disk::Disk;
 fn a_run_wrote_its_outputs()
     ensures { (key : List ℕ) (terms : Terms) (history : List Entry) (held : List (List ℕ))
         → IsLawfulRange terms.range → Wrote key terms history held
-        → (outputs : List Output) × (held ≡ map (λ output. output.held) outputs)
-        × HasWritten key terms.range.device (record { terms = terms; history = history; outputs = outputs }) }
+        → (outputs : List Written) × (held ≡ map (λ output. output.held) outputs)
+        × HasWritten key terms.range.device (record { terms = terms; outputs = outputs }) }
 {
     a_run_has_written();
     a_stream_has_written();
@@ -113,10 +120,51 @@ pub fn a_call_is_a_run<D: Disk + Drop>()
     a_stream_has_written();
 }
 
-/// What was opened was sealed. Take any run of `seal_all` or `pipe_all` under a key (`IsRun` has one for each run of
-/// the theorem above), and any call of `open_all` under that key. Whatever the call opened of the bytes of an output
-/// that the run finished is what the run had read of the file of that output, byte for byte; and of the bytes of a
-/// stream that the run sealed it is the run's input. Nothing is asked of a ledger file or of a disk.
+/// What an output holds at any moment, also where the run is killed: bound to the container of some plaintext behind
+/// what it took before (`SealingFolder::allow_container`, `SealingStream::allow_stream`), it took since then a
+/// beginning of one.
+pub fn what_an_output_holds<W: Output>()
+    ensures { (output : W) (before bytes key prefix : List ℕ) (shape : ShapeView)
+        → W.bound output ≡ Some (Container before key shape prefix) → W.taken output ≡ Some (before ++ bytes)
+        → ∥ ((plain : List ℕ) × IsFront bytes (container key shape prefix plain)) ∥₁ }
+{}
+
+/// A call that was killed is a run of the theorem: this one, of which no history is told. What is asked of it is what
+/// `a_call_is_a_run` asks of the ledger file, up to the fold of a range: that it had folded one is shown when it says
+/// under which key and range containers begin (`SealingFolder::start`, `SealingStream::allow_stream`: clause `stands`).
+/// And it is asked what holds at every moment. Of a call of `seal_all`: the containers that began have numbers of the
+/// range, no two the same (the law `sound` of `Folder`), and each of them has one output, which begins it
+/// (`what_an_output_holds`). Of a call of `pipe_all`: its stream begins a container, under a number that a seat of the
+/// ledger holds.
+pub fn a_killed_call_is_a_run<D: Disk + Drop>()
+    ensures killed { (key : List ℕ) (device count seats : ℕ) (start files : Image) (keeper : _) (old new : _)
+        (left : Files D) (session : Session) (outputs : List (List ℕ))
+        → old ≡ LedgerFile.Kept keeper → new ≡ LedgerFile.Folded left
+        → IsFound (over_files {g = D.Disk}) start keeper → AreClean D.Disk left.log left.db
+        → IsLeftOf D.Disk left files
+        → FoldsFiles LedgerFile.Kept LedgerFile.Folded (sha256 key) device count old new session.range
+        → IsLawfulRange session.range
+        → session.key_id ≡ sha256 key → ∥ IsSound session ∥₁
+        → EachHolds key session.range.device outputs session.begun
+        → ∥ IsRun key device (killed_run start files (terms_of session.range seats) outputs) ∥₁ }
+    ensures stream { (key : List ℕ) (device count : ℕ) (start files : Image) (keeper : _) (old new : _)
+        (left : Files D) (ledger : LedgerView) (seat : SeatView) (number : ℕ) (shape : ShapeView) (bytes : List ℕ)
+        → old ≡ LedgerFile.Kept keeper → new ≡ LedgerFile.Folded left
+        → IsFound (over_files {g = D.Disk}) start keeper → AreClean D.Disk left.log left.db
+        → IsLeftOf D.Disk left files
+        → FoldsFiles LedgerFile.Kept LedgerFile.Folded (sha256 key) device count old new ledger.terms.range
+        → IsLawfulRange ledger.terms.range → IsHeld ledger seat number → IsShape shape
+        → ∥ Begins key ledger.terms.range.device bytes (begun_as number shape) ∥₁
+        → ∥ IsRun key device (killed_run start files (terms_of ledger.terms.range 1) (bytes ∷ [])) ∥₁ }
+{
+    a_fold_leaves_its_range::<D>();
+}
+
+/// What was opened was sealed. Take any run of `seal_all` or `pipe_all` under a key that ended (`IsRun` has one for
+/// each such run of the theorem above), and any call of `open_all` under that key. Whatever the call opened of the
+/// bytes of an output that the run finished is what the run had read of the file of that output, byte for byte; and
+/// of the bytes of a stream that the run sealed it is the run's input. Nothing is asked of a ledger file or of a
+/// disk.
 ///
 /// Of each alone: what the call finished is what the bytes open to of a file that it had read right before, and what
 /// the run finished is the container of what it had read of a file before.

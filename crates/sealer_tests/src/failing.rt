@@ -1,9 +1,10 @@
 //! A folder in memory whose calls, and those of its readers and writers, are counted together: the one of a number
 //! fails.
-use folder_memory::MemoryFolder;
-use folder_memory::memory::{MemoryReader, MemoryWriter};
-use ledger_core::{Failed, Sink, Source};
-use sealer_core::{Folder, FolderFault};
+use container_core::{Key, Shape};
+use folder_memory::{MemoryFolder, MemoryReader, MemoryWriter};
+use ledger_core::{Failed, Ledger, Seat, Sink, Source};
+use reserve_core::Fold;
+use sealer_core::{Folder, FolderFault, LedgerFile, OpeningFolder, SealingFolder};
 use std::sync::atomic::{AtomicU64, Ordering};
 
 /// How many calls were made, and which one fails.
@@ -108,6 +109,33 @@ impl<'a> Folder for Failing<'a> {
         let FailingWriter { writer, calls: _ } = output;
         self.folder.discard(writer)
     }
+
+    ghost sound = { λ _. ∣ tt ∣₁ };
+}
+
+// The folder below isn't told: it asks what was read and what began in it, which this one doesn't tell.
+impl<'a> OpeningFolder for Failing<'a> {
+    fn allow_plain(
+        &mut self,
+        _output: &mut FailingWriter<'a>,
+        _key: &Key,
+        _name: &str,
+        _plain: &[u8],
+    ) {}
+}
+
+impl<'a> SealingFolder for Failing<'a> {
+    fn start<S: Fold>(&mut self, _file: &LedgerFile<S>, _key: &Key, _ledger: &Ledger) {}
+
+    fn allow_container(
+        &mut self,
+        _output: &mut FailingWriter<'a>,
+        _ledger: &Ledger,
+        _seat: &Seat,
+        _number: u32,
+        _key: &Key,
+        _shape: &Shape,
+    ) {}
 }
 
 impl Source for FailingReader<'_> {

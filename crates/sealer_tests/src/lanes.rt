@@ -21,6 +21,7 @@ fn status_by<R: AllocGlobal + Threads + Wait + Sync>(
     lanes: u32,
 ) -> Option<u8> {
     let mut file = ledger_after(rt.alloc(), "")?;
+    folder.end_session();
     seal_over(rt, &mut file, folder, files, out, max_bytes, 1, lanes)
 }
 

@@ -1,11 +1,13 @@
-//! What the tests of the commands share: containers that Python's `cryptography` made, folders, ledger files and outputs
-//! in memory, and a run of `seal_all` over them.
+//! What the tests of the commands share: containers that Python's `cryptography` made, folders, ledger files and
+//! outputs in memory, and a run of `seal_all` over them.
+ghost use Rattle.std.specs.Prelude.{◌≡◌, IfSome, []};
+
 use container_core::{Key, Shape, open};
 use folder_memory::MemoryFolder;
 use io_memory::{FromMemory, Schedule, ToMemory};
 use ledger_core::Device;
 use reserve_core::{Fold, Keeper, LedgerFile};
-use sealer_core::{Folder, Outs, SealOptions, run_audit, seal_all};
+use sealer_core::{Outs, SealOptions, SealingFolder, run_audit, seal_all};
 use sqlite::{Connection, MemStore};
 use std::alloc::Global;
 use std::sync::Wait;
@@ -154,9 +156,9 @@ fn opens_to(alloc: Global, sealed: &[u8], number: u8, plain: &[u8]) -> bool {
     }
 }
 
-// The status of `seal_all` under the key of the constant above and device 1, where it may be asked for that, with containers
-// of version 1.
-pub(crate) fn seal_over<R: AllocGlobal + Threads + Wait + Sync, S: Fold, F: Folder>(
+// The status of `seal_all` under the key of the constant above and device 1, where it may be asked for that, with
+// containers of version 1.
+pub(crate) fn seal_over<R: AllocGlobal + Threads + Wait + Sync, S: Fold, F: SealingFolder>(
     rt: &R,
     file: &mut LedgerFile<S>,
     folder: &mut F,
@@ -165,7 +167,9 @@ pub(crate) fn seal_over<R: AllocGlobal + Threads + Wait + Sync, S: Fold, F: Fold
     max_bytes: u64,
     workers: u32,
     lanes: u32,
-) -> Option<u8> {
+) -> Option<u8>
+    requires idle { IfSome (F.session folder.old) (λ session. session.begun ≡ []) }
+{
     let shape = Shape::one();
     seal_shaped(
         rt, file, folder, files, out, max_bytes, workers, lanes, &shape,
@@ -173,7 +177,7 @@ pub(crate) fn seal_over<R: AllocGlobal + Threads + Wait + Sync, S: Fold, F: Fold
 }
 
 // `seal_over`, with containers of this shape.
-pub(crate) fn seal_shaped<R: AllocGlobal + Threads + Wait + Sync, S: Fold, F: Folder>(
+pub(crate) fn seal_shaped<R: AllocGlobal + Threads + Wait + Sync, S: Fold, F: SealingFolder>(
     rt: &R,
     file: &mut LedgerFile<S>,
     folder: &mut F,
@@ -183,7 +187,9 @@ pub(crate) fn seal_shaped<R: AllocGlobal + Threads + Wait + Sync, S: Fold, F: Fo
     workers: u32,
     lanes: u32,
     shape: &Shape,
-) -> Option<u8> {
+) -> Option<u8>
+    requires idle { IfSome (F.session folder.old) (λ session. session.begun ≡ []) }
+{
     let device = Device::new(1)?;
     if files.is_empty() || max_bytes > 1 << 40 {
         return None;

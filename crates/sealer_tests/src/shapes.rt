@@ -28,6 +28,7 @@ fn seals_both<R: AllocGlobal + Threads + Wait + Sync>(rt: &R, lanes: u32) -> Opt
     let mut folder = folder_of(alloc, &[("s", b"a secret"), ("t", b"a secret")])?;
     let mut out = steady_outs(alloc)?;
     let files = ["s", "t"];
+    folder.end_session();
     let status = seal_shaped(
         rt,
         &mut file,

@@ -4,8 +4,11 @@ ghost use Rattle.std.specs.Prelude.{◌≢◌, Err};
 use crate::ledger::{is_beside, is_of_ledger};
 use crate::places::put_below;
 use crate::progress::{Counted, Progress};
-use command_core::{Folder, FolderFault};
-use ledger_core::{FromRead, ToWrite};
+use command_core::{Folder, FolderFault, OpeningFolder};
+use container_core::{Key, Shape};
+use front_core::SealingFolder;
+use ledger_core::{FromRead, Ledger, Seat, ToWrite};
+use reserve_core::{Fold, LedgerFile};
 use std::fs::{File, OpenFile};
 use std::io::{BufReader, ErrorKind, Read, Write};
 use std::rt::{Clock, Files};
@@ -214,4 +217,25 @@ impl<'p, 'r, R: Files + AllocGlobal + Clock + Eprint> Folder for SystemFiles<'p,
         drop(folder);
         remove_at(self.rt, path.as_str())
     }
+
+    ghost sound = { λ _. ∣ tt ∣₁ };
+}
+
+// What an output may hold is asked by the prover, of who writes it. Here nothing is to be done for it.
+impl<'p, 'r, R: Files + AllocGlobal + Clock + Eprint> OpeningFolder for SystemFiles<'p, 'r, R> {
+    fn allow_plain(&mut self, _output: &mut Self::Writer, _key: &Key, _name: &str, _plain: &[u8]) {}
+}
+
+impl<'p, 'r, R: Files + AllocGlobal + Clock + Eprint> SealingFolder for SystemFiles<'p, 'r, R> {
+    fn start<S: Fold>(&mut self, _file: &LedgerFile<S>, _key: &Key, _ledger: &Ledger) {}
+
+    fn allow_container(
+        &mut self,
+        _output: &mut Self::Writer,
+        _ledger: &Ledger,
+        _seat: &Seat,
+        _number: u32,
+        _key: &Key,
+        _shape: &Shape,
+    ) {}
 }

@@ -1,18 +1,22 @@
 use Rattle.std.proofs.Common.{◌≡◌, [], rules}
-use Rattle.sealer_core.specs.Group.{IsPrepared}
+use Rattle.sealer_core.specs.Group.{IsContainerUnder, IsPrepared}
 use Rattle.sealer_core.proofs.Groups.{ending_none, ending_more, few_left, none_left, owing_as, ending_all, rest_all}
 use Rattle.sealer_core.proofs.Matches.{all_ended, none_ended_yet, one_more_ended}
+use Rattle.sealer_core.proofs.Sessions.{containers_left}
 use Rattle.sealer_core.proofs.group.end_group.Goals as goal
 
 pub loop-file-init : goal.loop-file-init
-loop-file-init g c = record { owing = c.requires.owing; prepared = c.requires.prepared; few = c.requires.few; ending = ending_none _ _ _ _ _ _ _ (none_ended_yet _ _ _ _) }
+loop-file-init g c = record { owing = c.requires.owing; prepared = c.requires.prepared; few = c.requires.few; containers = c.requires.containers; once = c.requires.once; session = c.requires.session; ending = ending_none _ _ _ _ _ _ _ (none_ended_yet _ _ _ _) }
 
 pub loop-file-preserved : goal.loop-file-preserved
 loop-file-preserved g c =
     let i = c.loop-file.invariant in
     let e = c.end_file-outcome.ensures in record {
       owing = e.owing;
-      prepared = rest_all IsPrepared _ _ c.in-Some.file c.in-Some.ensures.items i.prepared;
+      prepared = rest_all (IsPrepared g.F.Writer.Output.bound g.F.Writer.Output.taken) _ _ c.in-Some.file c.in-Some.ensures.items i.prepared;
+      containers = containers_left (IsContainerUnder c.args.key.now c.args.shape.now) c.in-Some.file _ _ e.next i.containers;
+      once = e.once;
+      session = e.session;
       few = few_left _ _ c.in-Some.file _ _ c.in-Some.ensures.items e.next i.few;
       ending = ending_more _ _ _ _ _ c.in-Some.file _ _ _ _ _ _ _ _ _ _ _ _ _ _ _ _ _ _ c.in-Some.ensures.items c.name-name.ensures i.ending e.outcome c.tell-status.ensures e.accounts
           (one_more_ended _ _ _ _ c.in-Some.file _ _ _ _ _ _ _ _ _ c.in-Some.ensures.items e.next i.ending.ended.done e.end);

@@ -6,6 +6,8 @@ use Rattle.sealer_core.proofs.Happened.{more_happened, nothing_happened}
 use Rattle.sealer_core.proofs.Groups.{groups_more, group_names, owing_none}
 use Rattle.sealer_core.proofs.Numbering.{accounts_none}
 use Rattle.sealer_core.proofs.Sealings.{nothing_sealed}
+use Rattle.sha2.specs.Sha256.{sha256}
+use Rattle.sealer_core.proofs.Sessions.{settled_start}
 use Rattle.sealer_core.proofs.group.seal_groups.Goals as goal
 
 pub loop-done-init : goal.loop-done-init
@@ -13,6 +15,7 @@ loop-done-init g c =
     let none = nothing_sealed (Happened c.args.key.now c.args.options.now.shape.now c.args.options.now.max_bytes c.args.ledger.now.terms.range.device (g.F.Folder.told c.args.folder.now) (g.F.Folder.told c.args.folder.now)) (length c.args.seats.now) _ (g.L.Sink.taken c.args.lines.now) (g.L.Sink.failures c.args.lines.now)
     (subst (λ (l : List Entry). Accounts [] [] l) (sym c.requires.fresh) accounts_none) (nothing_happened _ _) in record {
       owing = owing_none _ _ c.requires.fresh c.requires.all;
+      session = settled_start (sha256 c.args.key.now) c.args.ledger.now.terms.range _ _ c.requires.session;
       count = refl;
       within = omega arith;
       sealed = (none.0, λ below. none.1);
@@ -34,6 +37,7 @@ loop-done-preserved g c =
     (group_names files group c.loop-done.done _ (c.split_at-in-loop-done.ensures.front ∙ ap (take c.min.result) c.split_at.ensures.back) short)
     (more_happened _ _ _ _ _ _ _ _ i.sealed.0.worked.done s.group.done) in record {
       owing = s.owing;
+      session = s.session;
       count = c.seal_group-status.auto.seats ∙ i.count;
       within = omega arith;
       sealed = (more.0, λ below. more.1 (omega (arith, below)));

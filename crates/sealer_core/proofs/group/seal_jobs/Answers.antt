@@ -1,9 +1,11 @@
-use Rattle.std.proofs.Common.{List, arith, sym, subst, length}
+use Rattle.std.proofs.Common.{All, List, ap, arith, sym, subst, length}
 use Rattle.crew_core.proofs.Callers.{all_after_batch}
+use Rattle.journal_core.specs.History.{times_settled}
 use Rattle.ledger_core.specs.Shared.{SeatView}
-use Rattle.sealer_core.specs.Group.{AreHeld, AreOwing}
+use Rattle.sealer_core.specs.Group.{AreHeld, AreOwing, IsContainerUnder}
 use Rattle.sealer_core.specs.Sealing.{operations_of}
 use Rattle.sealer_core.proofs.Groups.{held_as, nothing_held, after_batch, outcomes_held, owed_batch, owing_as, among_seats}
+use Rattle.sealer_core.proofs.Sessions.{batch_settles, containers_of, none_under}
 use Rattle.sealer_core.proofs.group.seal_jobs.Goals as goal
 
 pub returns-then-lanes-eq0-clause-owing : goal.returns-then-lanes-eq0-clause-owing
@@ -33,3 +35,19 @@ returns-in-Err-clause-owing g c = subst (λ (v : List SeatView). AreOwing c.args
 pub returns-in-Err-clause-accounts : goal.returns-in-Err-clause-accounts
 returns-in-Err-clause-accounts g c = λ lines voids a. subst (λ (v : List SeatView). AreHeld lines voids c.new-in-Err.result.items (operations_of v)) (sym c.in-Err.ensures.refused)
     (held_as lines voids _ c.new-in-Err.result.items _ (sym c.new-in-Err.ensures.items) (nothing_held lines voids (operations_of c.args.seats.now) a))
+
+pub returns-then-lanes-eq0-clause-containers : goal.returns-then-lanes-eq0-clause-containers
+returns-then-lanes-eq0-clause-containers g c = none_under _ _ _ c.new.ensures.items
+
+pub returns-in-Ok-clause-containers : goal.returns-in-Ok-clause-containers
+returns-in-Ok-clause-containers g c =
+    subst (All (IsContainerUnder c.args.key.now c.args.shape.now)) (sym c.from.ensures.0) (containers_of c.args.key.now c.args.shape.now _ _ c.in-Ok.ensures.outcomes)
+
+pub returns-in-Ok-clause-settled : goal.returns-in-Ok-clause-settled
+returns-in-Ok-clause-settled g c = λ n. batch_settles _ _ _ n c.seal_batch.auto.seats c.in-Ok.ensures.issued
+
+pub returns-in-Err-clause-containers : goal.returns-in-Err-clause-containers
+returns-in-Err-clause-containers g c = none_under _ _ _ c.new-in-Err.ensures.items
+
+pub returns-in-Err-clause-settled : goal.returns-in-Err-clause-settled
+returns-in-Err-clause-settled g c = λ n. ap (λ v. times_settled n (operations_of v)) c.in-Err.ensures.refused

@@ -4,6 +4,7 @@ use Rattle.journal_core.specs.Journal.{terms_of}
 use Rattle.journal_core.specs.Text.{journal_text}
 use Rattle.sealer_core.specs.Piping.{HasSealedStream}
 use Rattle.sealer_core.specs.Sealing.{IsWritten}
+use Rattle.sealer_core.proofs.Sessions.{stands_in}
 use Rattle.sealer_core.proofs.piping.pipe_all.Goals as goal
 
 pub returns-in-Ok-ended-clause-run : goal.returns-in-Ok-ended-clause-run
@@ -16,7 +17,7 @@ returns-in-Ok-ended-clause-run g c =
     let Written : Terms → Bool → Type 0 = λ t ok. IsWritten g.J.Sink.taken (journal_text t history) ok c.args.out.now.journal c.pipe_over-told.new.journal in
     let Sealed : Terms → Type 0 = λ t. HasSealedStream c.args.key.now c.args.options.now.shape.now c.args.options.now.max_chunks
     (g.R.Source.left c.args.reader.now) (g.R.Source.left c.pipe_over-told.new.reader) (g.R.Source.failures c.args.reader.now) (g.R.Source.failures c.pipe_over-told.new.reader)
-    (g.W.Sink.taken c.args.writer.now) (g.W.Sink.taken c.pipe_over-told.new.writer) (g.W.Sink.failures c.args.writer.now) (g.W.Sink.failures c.pipe_over-told.new.writer)
+    (g.W.Output.taken c.args.writer.now) (g.W.Output.taken c.pipe_over-told.new.writer) (g.W.Output.failures c.args.writer.now) (g.W.Output.failures c.pipe_over-told.new.writer)
     t history told
     (g.E.Sink.taken c.args.out.now.faults) (g.E.Sink.taken c.pipe_over-told.new.lines)
     (g.E.Sink.failures c.args.out.now.faults) (g.E.Sink.failures c.pipe_over-told.new.lines) in
@@ -46,7 +47,7 @@ returns-in-Err-ended-clause-run g c =
     let Written : Terms → Bool → Type 0 = λ t ok. IsWritten g.J.Sink.taken (journal_text t history) ok c.args.out.now.journal c.pipe_over-told.new.journal in
     let Sealed : Terms → Type 0 = λ t. HasSealedStream c.args.key.now c.args.options.now.shape.now c.args.options.now.max_chunks
     (g.R.Source.left c.args.reader.now) (g.R.Source.left c.pipe_over-told.new.reader) (g.R.Source.failures c.args.reader.now) (g.R.Source.failures c.pipe_over-told.new.reader)
-    (g.W.Sink.taken c.args.writer.now) (g.W.Sink.taken c.pipe_over-told.new.writer) (g.W.Sink.failures c.args.writer.now) (g.W.Sink.failures c.pipe_over-told.new.writer)
+    (g.W.Output.taken c.args.writer.now) (g.W.Output.taken c.pipe_over-told.new.writer) (g.W.Output.failures c.args.writer.now) (g.W.Output.failures c.pipe_over-told.new.writer)
     t history told
     (g.E.Sink.taken c.args.out.now.faults) (g.E.Sink.taken c.pipe_over-told.new.lines)
     (g.E.Sink.failures c.args.out.now.faults) (g.E.Sink.failures c.pipe_over-told.new.lines) in
@@ -65,3 +66,7 @@ returns-in-Err-ended-clause-run g c =
       refl,
       λ t. cc,
     )
+
+pub pipe_over-told-requires-clause-stands : goal.pipe_over-told-requires-clause-stands
+pipe_over-told-requires-clause-stands g c κs within =
+    stands_in _ _ _ _ c.args.key.now c.args.options.now.device 1 c.args.file.now _ _ c.in-Ok.ensures.lawful c.in-Ok.ensures.reserved

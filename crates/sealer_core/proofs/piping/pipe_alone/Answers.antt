@@ -12,11 +12,11 @@ returns-clause-piped g c =
     let seat = c.pipe_next.new.seat in
     subst (λ (operations : List Entry). IsPiped c.args.key.now c.args.options.now.shape.now c.args.options.now.max_chunks
     (g.R.Source.left c.args.reader.now) (g.R.Source.left c.pipe_next.new.reader) (g.R.Source.failures c.args.reader.now) (g.R.Source.failures c.pipe_next.new.reader)
-    (g.W.Sink.taken c.args.writer.now) (g.W.Sink.taken c.pipe_next.new.writer) (g.W.Sink.failures c.args.writer.now) (g.W.Sink.failures c.pipe_next.new.writer)
+    (g.W.Output.taken c.args.writer.now) (g.W.Output.taken c.pipe_next.new.writer) (g.W.Output.failures c.args.writer.now) (g.W.Output.failures c.pipe_next.new.writer)
     ledger.terms.range.device operations c.pipe_next.result)
     (sym (operations_of_one ledger seats seat c.requires.fresh))
     (subst (λ (v : SeatView). IsPiped c.args.key.now c.args.options.now.shape.now c.args.options.now.max_chunks
     (g.R.Source.left c.args.reader.now) (g.R.Source.left c.pipe_next.new.reader) (g.R.Source.failures c.args.reader.now) (g.R.Source.failures c.pipe_next.new.reader)
-    (g.W.Sink.taken c.args.writer.now) (g.W.Sink.taken c.pipe_next.new.writer) (g.W.Sink.failures c.args.writer.now) (g.W.Sink.failures c.pipe_next.new.writer)
+    (g.W.Output.taken c.args.writer.now) (g.W.Output.taken c.pipe_next.new.writer) (g.W.Output.failures c.args.writer.now) (g.W.Output.failures c.pipe_next.new.writer)
     v.terms.range.device seat.mine c.pipe_next.result)
     (one_seat ledger seats c.index-seats-0.result c.requires.fresh) c.pipe_next.ensures.piped)

@@ -1,4 +1,4 @@
-use Rattle.std.proofs.Common.{arith, rules}
+use Rattle.std.proofs.Common.{arith, refl, rules, ◌∙◌}
 use Rattle.sealer_core.proofs.Groups.{prepared_names, prepared_read, prepared_all}
 use Rattle.command_core.proofs.Telling.{names-step}
 use Rattle.sealer_core.proofs.Matches.{begun_more, none_begun}
@@ -11,6 +11,7 @@ loop-name-init g c = record {
   names = search rules;
   prepared = search rules;
   told = none_begun _ _ _ _ _ (search rules) (search rules);
+  session = refl;
   short = search rules;
   read = search rules;
 }
@@ -28,8 +29,9 @@ loop-name-preserved g c =
       count = omega arith;
       room = omega arith;
       names = prepared_names _ _ _ b.items _ _ _ i.names p.name (names-step _ _ _ c.loop-name-test.true);
-      prepared = prepared_all _ _ _ b.items i.prepared p.prepared;
+      prepared = prepared_all _ _ _ b.items _ _ i.prepared p.prepared;
       told = begun_more _ _ _ _ _ _ _ _ _ _ b.items i.told p.told;
+      session = p.session ∙ i.session;
       short = p.short;
       read = prepared_read _ _ _ b.items _ _ i.read p.read;
     }

@@ -1,8 +1,9 @@
-use Rattle.std.proofs.Common.{◌≡◌, Bool, true, false, map, is_ok, inr, refl, ap, subst}
+use Rattle.std.proofs.Common.{◌≡◌, Bool, true, false, length, map, is_ok, inr, refl, ap, subst}
 use Rattle.journal_core.specs.declared.terms.Terms.{Terms}
 use Rattle.journal_core.specs.Journal.{terms_of}
 use Rattle.journal_core.specs.Text.{journal_text}
 use Rattle.sealer_core.specs.Sealing.{Happened, HasSealed, IsWritten}
+use Rattle.sealer_core.proofs.Sessions.{stands_in}
 use Rattle.sealer_core.proofs.sealing.seal_all.Goals as goal
 
 pub returns-in-Ok-ended-clause-run : goal.returns-in-Ok-ended-clause-run
@@ -32,3 +33,7 @@ returns-in-Err-ended-clause-run g c =
     (g.L.Sink.failures c.args.out.now.lines) (g.L.Sink.failures c.work_ledger-told.new.lines) in
     let ok : is_ok c.work_ledger-told.result.1 ≡ false = ap is_ok c.in-Err-ended.is in
     inr (range, history, told, false, c.in-Ok.ensures.reserved, c.in-Ok.ensures.lawful, subst Sealed terms sealed, subst (λ t. Written t false) terms (subst (Written ledger.terms) ok written), refl)
+
+pub work_ledger-told-requires-clause-stands : goal.work_ledger-told-requires-clause-stands
+work_ledger-told-requires-clause-stands g c κs within =
+    stands_in _ _ _ _ c.args.key.now c.args.options.now.device (length c.args.options.now.files.now) c.args.file.now _ _ c.in-Ok.ensures.lawful c.in-Ok.ensures.reserved

@@ -15,7 +15,7 @@ returns-clause-streams g c key shape device count status most start files keeper
     failures later refusals more faults faults_then was is found honest may folds lawful is_shape sealed =
     let leaves = c.a_fold_leaves_its_range.ensures (sha256 key) device count start files keeper old new left range was is
     found honest may folds in
-    let (bytes, outputs, joined, written, has) = c.a_stream_has_written.ensures key shape most input unread failures later taken taken_then refusals more
+    let (bytes, outputs, joined, written, has, granted) = c.a_stream_has_written.ensures key shape most input unread failures later taken taken_then refusals more
     (terms_of range 1) history status lines lines_then faults faults_then is_shape lawful sealed in
     runs_stream key device start files (terms_of range 1) history shape most input unread failures later taken taken_then bytes
     refusals more status lines lines_then faults faults_then leaves is_shape lawful sealed joined

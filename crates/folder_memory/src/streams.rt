@@ -1,0 +1,129 @@
+//! Readers and writers of the files of a folder in memory: they move their bytes at a pace, and tell them.
+ghost use Rattle.std.specs.Prelude.{◌≡◌, [], IfOk, string_bytes};
+
+use io_memory::{FromMemory, Schedule, ToMemory};
+use ledger_core::{Failed, Sink, Source};
+use std::alloc::{AllocError, Global};
+use std::cell::RefCell;
+use std::marker::Model;
+use std::rc::Rc;
+
+/// How a reader or a writer moves its bytes: at most so many a call, failing by a schedule.
+#[derive(Clone, Copy, PartialEq, Eq, Debug)]
+pub struct Pace {
+    /// Bytes a call, at most. 0 is taken as 1.
+    pub most: usize,
+    /// Which calls fail.
+    pub schedule: Schedule,
+}
+
+/// All bytes at once, and no call fails.
+pub const STEADY: Pace = Pace {
+    most: usize::MAX,
+    schedule: Schedule::Never,
+};
+
+/// A reader of the bytes that a file had when it was opened.
+#[derive(Drop)]
+pub struct MemoryReader {
+    bytes: Vec<u8>,
+    at: usize,
+    calls: u64,
+    pace: Pace,
+}
+
+// Contracts see the bytes that are left.
+impl Model for MemoryReader {
+    ghost use Rattle.std.specs.Prelude.{ℕ, ◌≤◌, List, drop, length};
+
+    ghost Value = { List ℕ };
+
+    ghost view = { λ r. drop r.at r.bytes.items };
+
+    ghost invariant = { λ r. r.at ≤ length r.bytes.items };
+}
+
+impl MemoryReader {
+    // A reader of all these bytes.
+    pub(crate) fn new(bytes: Vec<u8>, pace: Pace) -> MemoryReader
+        ensures { result ≡ bytes.items }
+    {
+        MemoryReader {
+            bytes,
+            at: 0,
+            calls: 0,
+            pace,
+        }
+    }
+}
+
+impl Source for MemoryReader {
+    ghost use Rattle.std.specs.Prelude.{Some};
+
+    ghost left = { λ r. Some r };
+
+    fn read(&mut self, buffer: &mut [u8]) -> Result<usize, Failed> {
+        let at = self.at;
+        let schedule = schedule_after(self.pace.schedule, self.calls, at as u64);
+        self.calls = self.calls.saturating_add(1);
+        let mut rest = FromMemory::new(&self.bytes.as_slice()[at..], self.pace.most, schedule);
+        let n = rest.read(buffer)?;
+        self.at += n;
+        Ok(n)
+    }
+}
+
+// What is left of a schedule after so many calls that moved so many bytes.
+fn schedule_after(schedule: Schedule, calls: u64, bytes: u64) -> Schedule {
+    match schedule {
+        Schedule::Never => Schedule::Never,
+        Schedule::Call(number) => {
+            if number < calls {
+                Schedule::Never
+            } else {
+                Schedule::Call(number - calls)
+            }
+        }
+        Schedule::Bytes(most) => Schedule::Bytes(most.saturating_sub(bytes)),
+    }
+}
+
+// What the writer of an output took so far, which it shows to the folder.
+pub(crate) type Shown = Rc<RefCell<Vec<u8>>>;
+
+/// A writer of a file in memory.
+#[derive(Drop)]
+pub struct MemoryWriter {
+    pub(crate) name: String,
+    pub(crate) bytes: ToMemory,
+    pub(crate) shown: Shown,
+}
+
+// A writer of an output of this name, which took nothing.
+pub(crate) fn new_writer(alloc: Global, name: &str, pace: Pace) -> Result<MemoryWriter, AllocError>
+    ensures { IfOk result (λ writer. (string_bytes writer.name ≡ name.now) × (writer.bytes.taken ≡ [])) }
+{
+    let name = String::from_str(alloc, name)?;
+    let bytes = ToMemory::new(alloc, 0, pace.most, pace.schedule)?;
+    let shown = Rc::new(alloc, RefCell::new(Vec::new(alloc)))?;
+    Ok(MemoryWriter { name, bytes, shown })
+}
+
+impl Sink for MemoryWriter {
+    ghost use Rattle.folder_memory.specs.Memory.{taken_by};
+
+    ghost taken = { taken_by };
+
+    fn write(&mut self, bytes: &[u8]) -> Result<usize, Failed> {
+        let n = self.bytes.write(bytes)?;
+        show(&self.shown, &bytes[..n]);
+        Ok(n)
+    }
+}
+
+// Shows these bytes, unless memory for them is refused.
+fn show(shown: &Shown, bytes: &[u8]) {
+    if let Ok(mut shown) = shown.try_borrow_mut() {
+        let _ = shown.extend_from_slice(bytes);
+    }
+}

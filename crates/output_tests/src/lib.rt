@@ -1,0 +1,14 @@
+//! Outputs in memory that know what they may hold, and tests over them.
+//!
+//! Begin with `bounded`.
+#![tactic(auto)]
+
+pub mod bounded;
+#[cfg(test)]
+mod cuts;
+pub mod parts;
+#[cfg(test)]
+mod sealed;
+
+pub use crate::bounded::Bounded;
+pub use crate::parts::holds_both;

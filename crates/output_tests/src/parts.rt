@@ -1,0 +1,26 @@
+//! A container that is put into an output in parts.
+use crate::bounded::Bounded;
+use container_core::{Key, Shape, seal};
+use output_core::put_all;
+use std::alloc::Global;
+
+/// Whether the output holds the whole container once it was put in two parts, of which the first has so many bytes.
+/// None where memory is refused, or the plaintext is too long.
+pub fn holds_both(
+    alloc: Global,
+    key: &Key,
+    shape: &Shape,
+    prefix: [u8; 7],
+    plain: &[u8],
+    at: usize,
+) -> Option<bool> {
+    let Ok(whole) = seal(alloc, key, shape, prefix, plain) else {
+        return None;
+    };
+    let (front, rest) = whole.as_slice().split_at(at.min(whole.len()));
+    let mut output = Bounded::new(alloc, key, shape, prefix);
+    if put_all(&mut output, front).is_err() || put_all(&mut output, rest).is_err() {
+        return None;
+    }
+    Some(output.bytes.as_slice() == whole.as_slice())
+}

@@ -1,0 +1,76 @@
+//! A plaintext is sealed into an output that knows what it may hold.
+ghost use Rattle.std.specs.Prelude.{◌≤◌, ◌<◌};
+
+use crate::Bounded;
+use container_core::{Key, Shape, seal};
+use crew_core::{Free, MAX_WORKERS};
+use crew_tests::{COUNTING, grant_of, pattern};
+use engine_core::run_seal_by;
+use io_memory::{FromMemory, Schedule};
+use std::alloc::Global;
+use std::sync::Wait;
+use std::thread::Threads;
+
+// The limit of a plaintext's bytes.
+const MOST: u64 = 1 << 20;
+
+// Chunks of a window.
+const WINDOW: u32 = 2;
+
+// Whether the output holds the container of a plaintext that so many workers sealed into it, under file 5.
+fn holds_sealed<T: Threads + Wait + Sync>(
+    rt: &T,
+    alloc: Global,
+    shape: &Shape,
+    plain: &[u8],
+    workers: u32,
+) -> Option<bool>
+    requires workers { (0 < workers) × (workers ≤ MAX_WORKERS) }
+{
+    let key = Key::new(COUNTING);
+    let grant = grant_of(alloc, 5)?;
+    let prefix = grant.prefix();
+    let whole = seal(alloc, &key, shape, prefix, plain).ok()?;
+    let mut reader = FromMemory::new(plain, 1_000, Schedule::Never);
+    let mut output = Bounded::new(alloc, &key, shape, prefix);
+    let (result, _spent) = run_seal_by(
+        rt,
+        alloc,
+        &key,
+        shape,
+        grant,
+        &mut reader,
+        &mut output,
+        MOST,
+        workers,
+        WINDOW,
+        &Free,
+    );
+    Some(result == Ok(plain.len() as u64) && output.bytes.as_slice() == whole.as_slice())
+}
+
+// Of no chunk's length, of one or two windows of small chunks, and beside these.
+static COUNTS: [usize; 7] = [0, 1, 4_096, 4_097, 8_192, 8_193, 30_000];
+
+// Whether it does of each number of bytes, in version 1 and in small chunks, by one worker and by two.
+fn all_hold<T: Threads + Wait + Sync>(rt: &T, alloc: Global) -> Option<bool> {
+    let one = Shape::one();
+    let two = Shape::two(12, b"home").ok()?;
+    for count in &COUNTS {
+        let plain = pattern(alloc, *count).ok()?;
+        let plain = plain.as_slice();
+        for workers in [1, 2] {
+            if !holds_sealed(rt, alloc, &one, plain, workers)?
+                || !holds_sealed(rt, alloc, &two, plain, workers)?
+            {
+                return Some(false);
+            }
+        }
+    }
+    Some(true)
+}
+
+#[test]
+fn a_sealing_is_taken(rt: HostRuntime) {
+    assert!(rt; all_hold(&rt, rt.alloc()) == Some(true));
+}

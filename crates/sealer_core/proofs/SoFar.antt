@@ -1,0 +1,148 @@
+-- What a run had written when it was killed.
+use Rattle.std.proofs.Common.{◌≡◌, ℕ, zero, suc, ◌+◌, ◌<◌, ◌≤◌, refl, sym, ap, subst, ◌∙◌, Bool, true, false, cond, nat_eq, List, [], ◌∷◌, ◌++◌, append_assoc, map, Option, None, Some, arith}
+use Rattle.std.proofs.Math.Logic.{∥∥₁_elim, ∥∥₁_map}
+use Rattle.std.proofs.lemmas.List.{append_cancel_left}
+use Rattle.std.specs.List.{AllByRecursion}
+use Rattle.std.proofs.lemmas.List.Sums.{sum_by-cons}
+use Rattle.sha2.specs.Sha256.{sha256}
+use Rattle.command_core.specs.Session.{Begun, IsOfRange, IsSound, Session, begun_as, times_begun}
+use Rattle.container_core.specs.Container.{container}
+use Rattle.container_core.specs.Shape.{IsShape, ShapeView}
+use Rattle.front_core.specs.Range.{IsHeld}
+use Rattle.io_core.specs.Streams.{IsFront}
+use Rattle.journal_core.specs.declared.terms.Terms.{Terms}
+use Rattle.journal_core.specs.History.{calls_of, grants, times_granted}
+use Rattle.journal_core.specs.Range.{IsLawfulRange, Numbers, prefix_of}
+use Rattle.ledger_core.specs.Shared.{LedgerView, SeatView}
+use Rattle.output_core.specs.Bounds.{Allows, Bound, Container, IsWithin}
+use Rattle.life_core.specs.Outputs.{HasWritten, IsInside, IsOutput, Output, times_used}
+use Rattle.life_core.proofs.Outputs.{granted_inside}
+use Rattle.sealer_core.specs.Theorem.{EachBegins, EachHolds, WroteSoFar}
+use Rattle.journal_core.proofs.Owners.{count_calls_le}
+
+-- outputs that held these bytes, one for each container that began
+record Holding (key : List ℕ) (device : ℕ) (range : Numbers) (held : List (List ℕ)) (begun : List Begun) : Type 0 where
+  outputs : List Output
+  held_are : held ≡ map (λ (o : Output). o.held) outputs
+  each : AllByRecursion (IsOutput key device) outputs
+  inside : AllByRecursion (IsInside range) outputs
+  counted : (number : ℕ) → times_used number outputs ≡ times_begun number begun
+
+holding : (key : List ℕ) (device : ℕ) (range : Numbers) (held : List (List ℕ)) (begun : List Begun)
+    → AllByRecursion (IsOfRange range) begun → EachBegins key device held begun → Holding key device range held begun
+holding key device range [] [] are begins =
+    record { outputs = []; held_are = refl; each = tt; inside = tt; counted = λ number. refl }
+holding key device range [] (b ∷ begun) are begins = absurd begins
+holding key device range (bytes ∷ held) [] are begins = absurd begins
+holding key device range (bytes ∷ held) (b ∷ begun) (is, are) ((plain, front), begins) =
+    let more = holding key device range held begun are begins in
+    let output : Output = record { number = b.number; shape = b.shape; plain = plain; held = bytes } in record {
+      outputs = output ∷ more.outputs;
+      held_are = ap (λ (l : List (List ℕ)). bytes ∷ l) more.held_are;
+      each = (record { shape = is.shape; begins = front }, more.each);
+      inside = (is.inside, more.inside);
+      counted = λ number.
+          let used = sum_by-cons (λ (o : Output). cond (nat_eq number o.number) 1 0) output more.outputs in
+          let first = sum_by-cons (λ (x : Begun). cond (nat_eq number x.number) 1 0) b begun in
+          let rest = more.counted number in omega arith;
+    }
+
+pub had_written : (key : List ℕ) (terms : Terms) (held : List (List ℕ)) → IsLawfulRange terms.range → WroteSoFar key terms held
+    → (outputs : List Output) × (held ≡ map (λ (o : Output). o.held) outputs)
+    × HasWritten key terms.range.device (record { terms = terms; outputs = outputs })
+had_written key terms held lawful sofar =
+    let (under, range) = sofar.under in
+    let are = subst (λ (r : Numbers). AllByRecursion (IsOfRange r) sofar.session.begun) range sofar.sound.each in
+    let all = holding key terms.range.device terms.range held sofar.session.begun are sofar.begins in (
+      all.outputs,
+      all.held_are,
+      record {
+        of_device = refl;
+        lawful = lawful;
+        each = all.each;
+        inside = all.inside;
+        once = λ number.
+            let same = all.counted number in
+            let one = sofar.sound.once number in omega arith;
+      },
+    )
+
+-- ---- what was known of a run when it was killed
+
+-- what is known of two things, without which they are
+pub both : {A B C : Type 0} → ∥ A ∥₁ → ∥ B ∥₁ → (A → B → C) → ∥ C ∥₁
+both a b make = ∥∥₁_elim a squash₁ (λ x. ∥∥₁_map b (λ y. make x y))
+
+pub each_begins : (key : List ℕ) (device : ℕ) (outputs : List (List ℕ)) (begun : List Begun) → EachHolds key device outputs begun
+    → ∥ EachBegins key device outputs begun ∥₁
+each_begins key device [] [] holds = ∣ tt ∣₁
+each_begins key device [] (b ∷ begun) holds = absurd holds
+each_begins key device (bytes ∷ outputs) [] holds = absurd holds
+each_begins key device (bytes ∷ outputs) (b ∷ begun) (one, holds) =
+    both one (each_begins key device outputs begun holds) (λ x y. (x, y))
+
+pub so_far : (key : List ℕ) (terms : Terms) (session : Session) (outputs : List (List ℕ)) → session.key_id ≡ sha256 key
+    → session.range ≡ terms.range → IsSound session → EachBegins key session.range.device outputs session.begun
+    → WroteSoFar key terms outputs
+so_far key terms session outputs same range sound begins = record {
+  session = session;
+  under = (same, range);
+  sound = sound;
+  begins = subst (λ (r : Numbers). EachBegins key r.device outputs session.begun) range begins;
+}
+
+few_in : (b : Bool) (k : ℕ) → k ≡ cond b 1 0 + 0 → k ≤ 1
+few_in true k is = omega arith
+few_in false k is = omega arith
+
+-- one container began
+one_begun : (number n : ℕ) (shape : ShapeView) → times_begun n (begun_as number shape ∷ []) ≤ 1
+one_begun number n shape =
+    let first = sum_by-cons (λ (x : Begun). cond (nat_eq n x.number) 1 0) (begun_as number shape) [] in
+    few_in (nat_eq n number) (times_begun n (begun_as number shape ∷ [])) first
+
+pub stream_so_far : (key : List ℕ) (ledger : LedgerView) (seat : SeatView) (number : ℕ) (shape : ShapeView)
+    (bytes plain : List ℕ) (terms : Terms) → ledger.terms.range ≡ terms.range → IsHeld ledger seat number → IsShape shape
+    → IsFront bytes (container key shape (prefix_of ledger.terms.range.device number) plain)
+    → WroteSoFar key terms (bytes ∷ [])
+stream_so_far key ledger seat number shape bytes plain terms range held is_shape front =
+    let some = held.granted in
+    let seen : 0 < times_granted number seat.seen =
+    (let few = count_calls_le (grants number) seat.number seat.seen in
+    let own = ap (times_granted number) held.knows.own in omega arith) in
+    let inside = granted_inside seat.terms seat.seen (record { number = number; shape = shape; plain = plain; held = bytes })
+    held.knows.legal seen in
+    let same : seat.terms.range ≡ terms.range = ap (λ (t : Terms). t.range) held.ours.1 ∙ range in
+    let session : Session = record { key_id = sha256 key; range = terms.range; begun = begun_as number shape ∷ [] } in record {
+      session = session;
+      under = (refl, refl);
+      sound = record {
+        each = (record { inside = subst (λ (r : Numbers). (r.lo ≤ number) × (number < r.lo + r.size)) same inside; shape = is_shape }, tt);
+        once = λ n. one_begun number n shape;
+      };
+      begins = ((plain, subst (λ (r : Numbers). IsFront bytes (container key shape (prefix_of r.device number) plain)) range front), tt);
+    }
+
+-- what a bounded output holds behind what it took before it was bound
+some_is : (a b : List ℕ) → Some a ≡ Some b → a ≡ b
+some_is a b same = cc
+
+front_behind : (before bytes whole : List ℕ) → IsFront (before ++ bytes) (before ++ whole) → IsFront bytes whole
+front_behind before bytes whole (rest, is) =
+    (rest, append_cancel_left before whole (bytes ++ rest) (is ∙ append_assoc before bytes rest))
+
+abbrev Holds : List ℕ → List ℕ → List ℕ → ShapeView → Type 0
+Holds bytes key prefix shape = (plain : List ℕ) × IsFront bytes (container key shape prefix plain)
+
+pub holds : {bound : Option Bound} {taken : Option (List ℕ)} (before bytes key prefix : List ℕ) (shape : ShapeView)
+    → bound ≡ Some (Container before key shape prefix) → taken ≡ Some (before ++ bytes) → IsWithin bound taken
+    → Holds bytes key prefix shape
+holds {bound} {taken} before bytes key prefix shape is had within =
+    let (held, known, allowed) = subst (λ (b : Option Bound). IsWithin b taken) is within in
+    let plain = allowed.0 in
+    let front = allowed.1 in
+    let same : held ≡ before ++ bytes = some_is held (before ++ bytes) (sym known ∙ had) in (
+      plain,
+      front_behind before bytes (container key shape prefix plain)
+          (subst (λ (l : List ℕ). IsFront l (before ++ container key shape prefix plain)) same front),
+    )
