@@ -181,7 +181,7 @@ pub fn run_plain<T: Threads + Sync, R: Source, G: Gate + Sync>(
     run_plain_by(rt, alloc, key, reader, max_bytes, workers, window, gate)
 }
 
-/// `run_plain`, which answers with the plaintext the container's header. Its rounds have `usual_window` chunks.
+/// `run_plain`, which answers with the plaintext the container's header. Its rounds have `usual_opening` chunks.
 pub fn run_read<T: Threads + Sync, R: Source, G: Gate + Sync>(
     rt: &T,
     alloc: Global,

@@ -29,7 +29,7 @@ use std::alloc::{AllocError, Global};
 use std::mem;
 use std::thread::Threads;
 use window_core::Window;
-use worker_core::{Gate, MAX_WINDOW, MAX_WORKERS, usual_window};
+use worker_core::{Gate, MAX_WINDOW, MAX_WORKERS, usual_opening};
 
 // How many bytes so many sealed chunks have, none of which is the last, under a header.
 fn sealed_bytes(chunks: u32, header: &Header) -> usize
@@ -353,7 +353,7 @@ fn open_body<T: Threads + Sync, R: Source, G: Gate + Sync>(
     }
 }
 
-/// Opens all that the reader has left in rounds of `window` chunks (of `usual_window`, where no number is given), by
+/// Opens all that the reader has left in rounds of `window` chunks (of `usual_opening`, where no number is given), by
 /// 1 to 16 workers, appends its plaintext where the task is `Opening`, and answers its header and
 /// how many bytes the plaintext has; or the first fault of the container. A failure leaves some of the plaintext. Of an
 /// input that is too long one byte past the longest container is read.
@@ -385,7 +385,7 @@ pub(crate) fn open_rounds<T: Threads + Sync, R: Source, G: Gate + Sync>(
 {
     match open_front(key, reader, max_bytes) {
         Ok(header) => {
-            let window = window.unwrap_or(usual_window(header.chunk(), workers));
+            let window = window.unwrap_or(usual_opening(header.chunk(), workers));
             match open_body(
                 rt, alloc, task, key, &header, reader, max_bytes, workers, window, out, gate,
             ) {

@@ -11,7 +11,7 @@ use Rattle.folder_memory.specs.Memory.{AreAsTold, FileView, IsEvent, bytes_of, e
 use Rattle.folder_memory.specs.Memory.{told_of, whole_of}
 use Rattle.folder_memory.proofs.Files.{others}
 use Rattle.folder_memory.specs.declared.memory.File.{File}
-use Rattle.folder_memory.specs.declared.memory.Told.{Told}
+use Rattle.folder_memory.specs.declared.told.Told.{Told}
 
 equal : (a b : List ℕ) → bytes_eq a b ≡ true → a ≡ b
 equal a b is = (bytes_eq-Decides a b).0 is

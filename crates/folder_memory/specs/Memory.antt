@@ -11,8 +11,8 @@ use Rattle.folder_memory.specs.declared.streams.MemoryWriter.{MemoryWriter}
 use Rattle.folder_memory.specs.declared.session.SessionNote.{SessionNote}
 use Rattle.folder_memory.specs.declared.streams.Pace.{Pace}
 use Rattle.folder_memory.specs.Noted.{session_of}
-use Rattle.folder_memory.specs.declared.memory.Told.{Told}
-use Rattle.folder_memory.specs.declared.memory.Told.TheVariants.{Reading, Unread, Created, Refused, Finished, Discarded}
+use Rattle.folder_memory.specs.declared.told.Told.{Told}
+use Rattle.folder_memory.specs.declared.told.Told.TheVariants.{Reading, Unread, Created, Refused, Finished, Discarded}
 
 -- a file's name, and its bytes once it is whole: put into the folder, or finished
 pub record FileView : Type 0 where

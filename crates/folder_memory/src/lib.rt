@@ -5,6 +5,8 @@
 pub mod memory;
 pub mod session;
 pub mod streams;
+pub mod told;
 
-pub use crate::memory::{MemoryFolder, Told};
+pub use crate::memory::MemoryFolder;
 pub use crate::streams::{MemoryReader, MemoryWriter, Pace, STEADY};
+pub use crate::told::Told;

@@ -5,19 +5,19 @@
 ghost use Rattle.std.specs.Prelude.{◌≡◌, ◌≢◌, ◌⊎◌, ◌↔◌, Err, ◌<◌, [], ◌∷◌, ◌++◌, None, Some, true, false, length};
 ghost use Rattle.std.specs.Prelude.{IfErr, IfNone, IfOk, IfSome, OnErr, OnOk, map, option_map, position, bytes_eq};
 ghost use Rattle.std.specs.Prelude.{string_bytes};
-ghost use Rattle.command_core.specs.Trace.{Created, Discarded, Does, FailsToOpen, Finished, Opens, Reading, Refused};
-ghost use Rattle.command_core.specs.Trace.{Creates, Discards, Finishes, Nothing, Refuses, Unread};
+ghost use Rattle.command_core.specs.Trace.{Creates, Discards, Does, FailsToOpen, Finishes, Nothing, Opens, Refuses};
 ghost use Rattle.command_core.specs.Session.{IsFree, Session, started, with_begun};
 ghost use Rattle.container_core.specs.Shape.{IsShape};
 ghost use Rattle.front_core.specs.Range.{IsHeld};
 ghost use Rattle.sha2.specs.Sha256.{sha256};
-ghost use Rattle.folder_memory.specs.Memory.{IsEvent, KeepsOrForgets, bytes_of, event_of, file_view, memory_view};
+ghost use Rattle.folder_memory.specs.Memory.{KeepsOrForgets, bytes_of, event_of, file_view, memory_view};
 ghost use Rattle.folder_memory.specs.Memory.{is_sound, session_told};
 ghost use Rattle.folder_memory.specs.Memory.{after_call, fails_now, is_there, name_of, taken_by, told_of, whole_of};
 ghost use Rattle.folder_memory.specs.Memory.{with_bytes, without};
 
 use crate::session::{SessionNote, is_shape};
 use crate::streams::{MemoryReader, MemoryWriter, Pace, STEADY, Shown, new_writer};
+use crate::told::{Told, created, discarded, finished, reading, refused, tell, unread};
 use command_core::{Folder, FolderFault, OpeningFolder};
 use container_core::{Key, Shape};
 use front_core::SealingFolder;
@@ -25,23 +25,6 @@ use ledger_core::{Ledger, Seat};
 use reserve_core::{Fold, LedgerFile};
 use std::alloc::{AllocError, Global};
 use std::marker::Model;
-
-/// What happened in a folder.
-#[derive(Drop)]
-pub enum Told {
-    /// A file of this name was opened to be read, and these were its bytes.
-    Reading(String, Vec<u8>),
-    /// A file could not be opened.
-    Unread(String),
-    /// An output was created.
-    Created(String),
-    /// An output could not be created, by this fault.
-    Refused(String, FolderFault),
-    /// An output was finished, and these were all its bytes.
-    Finished(String, Vec<u8>),
-    /// An output was given up with these bytes, and its removal was tried.
-    Discarded(String, Vec<u8>),
-}
 
 #[derive(Drop)]
 enum Content {
@@ -294,24 +277,6 @@ impl MemoryFolder {
     }
 }
 
-// Keeps what happened, or forgets all where memory for it was refused.
-fn tell(told: &mut Option<Vec<Told>>, event: Option<Told>)
-    ensures { Does (IsEvent event) (option_map (λ told. map event_of told.items) told.old)
-        (option_map (λ told. map event_of told.items) told.new) }
-{
-    let Some(event) = event else {
-        *told = None;
-        return;
-    };
-    let is_kept = match told {
-        Some(told) => told.push(event).is_ok(),
-        None => false,
-    };
-    if !is_kept {
-        *told = None;
-    }
-}
-
 fn place_of(files: &[File], name: &str) -> Option<usize>
     ensures bound { IfSome result (λ i. i < length files.now) }
     ensures place { result ≡ position (λ file. bytes_eq (string_bytes file.name) name.now) files.now }
@@ -329,51 +294,6 @@ fn copy_of(alloc: Global, content: &Content) -> Result<Vec<u8>, AllocError>
             Err(_) => Err(AllocError),
         },
     }
-}
-
-fn reading(alloc: Global, name: &str, bytes: &[u8]) -> Option<Told>
-    ensures { IfSome result (λ told. event_of told ≡ Reading name.now bytes.now) }
-{
-    let name = String::from_str(alloc, name).ok()?;
-    let bytes = Vec::from_slice(alloc, bytes).ok()?;
-    Some(Told::Reading(name, bytes))
-}
-
-fn unread(alloc: Global, name: &str) -> Option<Told>
-    ensures { IfSome result (λ told. event_of told ≡ Unread name.now) }
-{
-    let name = String::from_str(alloc, name).ok()?;
-    Some(Told::Unread(name))
-}
-
-fn created(alloc: Global, name: &str) -> Option<Told>
-    ensures { IfSome result (λ told. event_of told ≡ Created name.now) }
-{
-    let name = String::from_str(alloc, name).ok()?;
-    Some(Told::Created(name))
-}
-
-fn refused(alloc: Global, name: &str, fault: FolderFault) -> Option<Told>
-    ensures { IfSome result (λ told. event_of told ≡ Refused name.now fault) }
-{
-    let name = String::from_str(alloc, name).ok()?;
-    Some(Told::Refused(name, fault))
-}
-
-fn finished(alloc: Global, name: &str, bytes: &[u8]) -> Option<Told>
-    ensures { IfSome result (λ told. event_of told ≡ Finished name.now bytes.now) }
-{
-    let name = String::from_str(alloc, name).ok()?;
-    let bytes = Vec::from_slice(alloc, bytes).ok()?;
-    Some(Told::Finished(name, bytes))
-}
-
-fn discarded(alloc: Global, name: &str, bytes: &[u8]) -> Option<Told>
-    ensures { IfSome result (λ told. event_of told ≡ Discarded name.now bytes.now) }
-{
-    let name = String::from_str(alloc, name).ok()?;
-    let bytes = Vec::from_slice(alloc, bytes).ok()?;
-    Some(Told::Discarded(name, bytes))
 }
 
 impl Folder for MemoryFolder {

@@ -1,18 +1,17 @@
 //! The caller's thread: it reads and writes, and seals a block itself where it may not read on.
-ghost use Rattle.std.specs.Prelude.{◌≡◌, ℕ, ◌+◌, ◌-◌, ◌*◌, ◌^◌, ◌<◌, ◌≤◌, ◌⊎◌, ◌++◌, [], ◌∷◌, All, Option, List};
-ghost use Rattle.std.specs.Prelude.{OnOk, OnErr, IfOk, IfSome};
+ghost use Rattle.std.specs.Prelude.{◌≡◌, ℕ, ◌+◌, ◌-◌, ◌*◌, ◌<◌, ◌≤◌, [], All, Option, List};
+ghost use Rattle.std.specs.Prelude.{OnOk, OnErr, IfOk};
 ghost use Rattle.std.specs.Prelude.{length, true, false, is_err, not};
-ghost use Rattle.std.specs.VecDeque.{deque_capacity, deque_len};
-ghost use Rattle.container_core.specs.Container.{size_in};
+ghost use Rattle.std.specs.VecDeque.{deque_capacity};
 ghost use Rattle.crossbeam_queue.specs.Passes.{view, IsPassOf};
 ghost use Rattle.io_core.specs.Reads.{ConsumesUpTo};
-ghost use Rattle.io_core.specs.Streams.{Appends, AppendsFront, counted};
+ghost use Rattle.io_core.specs.Streams.{counted};
 ghost use Rattle.output_core.specs.Bounds.{Admits};
-ghost use Rattle.pipe_core.specs.Hands.{all_numbers, hand};
-ghost use Rattle.pipe_core.specs.Order.{behind, below, empty, front_at, AreKept, AreWritten, HasBegun, IsOrdered};
+ghost use Rattle.pipe_core.specs.Hands.{hand};
+ghost use Rattle.pipe_core.specs.Order.{behind, below, AreKept, AreWritten, HasBegun, IsOrdered};
 ghost use Rattle.pipe_core.specs.Order.{IsSeen, MayGoOn};
-ghost use Rattle.pipe_core.specs.Pieces.{block, room, task_numbers, IsBlock};
-ghost use Rattle.pipe_core.specs.Round.{front_of, AreJobs, AreRounds, IsHanded, IsInHand, IsLast, IsPlan, IsRead};
+ghost use Rattle.pipe_core.specs.Pieces.{block, room, IsBlock};
+ghost use Rattle.pipe_core.specs.Round.{front_of, AreRounds, IsHanded, IsInHand, IsLast, IsPlan, IsRead};
 ghost use Rattle.pipe_core.specs.Round.{IsUnderWay, MayEnd};
 ghost use Rattle.pipe_core.specs.Rounds.{HasSealedRounds};
 ghost use Rattle.pipe_core.specs.declared.line.Hand.{Hand};
@@ -20,128 +19,21 @@ ghost use Rattle.pipe_core.specs.declared.round.Plan.{Plan};
 
 use crate::block::{block_bytes, room_bytes};
 use crate::early::Early;
-use crate::line::{Hand, JobLine, Naming, PieceLine, put_task, take_piece, take_task};
+use crate::handing::hand_over;
+use crate::line::{Hand, JobLine, Naming, PieceLine, take_piece, take_task};
 use crate::piece::{Piece, Task, make_piece};
 use crate::round::{Plan, Round};
+use crate::spare::{buffers, take_spare};
 use crate::worker::rest;
+use crate::writing::{write_next, write_part};
 use container_core::{Header, Key, SealFault};
 use crossbeam_queue::Pass;
 use io_core::{Failed, Source};
-use output_core::{Output, put_all};
-use std::alloc::{AllocError, Global};
-use std::collections::VecDeque;
+use output_core::Output;
+use std::alloc::Global;
 use std::sync::Wait;
 use std::thread::Parker;
 use worker_core::Gate;
-
-// So many buffers, each for a block and its tags.
-fn buffers(alloc: Global, count: usize, size: usize) -> Result<Vec<Vec<u8>>, AllocError>
-    ensures { IfOk result (λ spare. All (λ b. length b.items ≡ size) spare.items) }
-{
-    let mut spare = Vec::with_capacity(alloc, count)?;
-    'making: for _ in 0..count {
-        spare.push_reserved(vec![in alloc; 0; size]?);
-    }
-    Ok(spare)
-}
-
-// A buffer for another block, where reading needn't wait, and so many blocks are fewer than may be read.
-fn take_spare(
-    spare: &mut Vec<Vec<u8>>,
-    size: usize,
-    waits: bool,
-    count: usize,
-    depth: usize,
-) -> Option<Vec<u8>>
-    requires spare { All (λ b. length b.items ≡ size) spare.old.items }
-    ensures spare { All (λ b. length b.items ≡ size) spare.new.items }
-    ensures buffer { IfSome result (λ b. (length b.items ≡ size) × (count < depth)) }
-{
-    if waits || count >= depth {
-        return None;
-    }
-    match spare.pop() {
-        Some(buffer) => Some(buffer),
-        None => None,
-    }
-}
-
-// Keeps a buffer for another block, where there is a place for it.
-fn keep(spare: &mut Vec<Vec<u8>>, buffer: Vec<u8>, size: usize)
-    requires spare { All (λ b. length b.items ≡ size) spare.old.items }
-    requires buffer { length buffer.items ≡ size }
-    ensures spare { All (λ b. length b.items ≡ size) spare.new.items }
-{
-    if spare.len() < spare.capacity() {
-        spare.push_reserved(buffer);
-    }
-}
-
-/// Writes a block's sealed bytes, and before block 0 what stands before it.
-pub(crate) fn write_part<W: Output>(
-    writer: &mut W,
-    front: &[u8],
-    number: u32,
-    bytes: &[u8],
-) -> Result<(), Failed>
-    requires may { Admits (W.bound writer.old) (W.taken writer.old) (front_at front.now number ++ bytes.now) }
-    ensures ok { OnOk result (Appends (W.taken writer.old) (W.taken writer.new)
-        (front_at front.now number ++ bytes.now)) }
-    ensures err { OnErr result (AppendsFront (W.taken writer.old) (W.taken writer.new)
-        (front_at front.now number ++ bytes.now)) }
-    ensures same { W.bound writer.new ≡ W.bound writer.old }
-    ensures count { W.failures writer.new ≡ counted (is_err result) (W.failures writer.old) }
-{
-    if number > 0 {
-        return put_all(writer, bytes);
-    }
-    match put_all(writer, front) {
-        Err(Failed) => Err(Failed),
-        Ok(()) => put_all(writer, bytes),
-    }
-}
-
-// Writes the piece whose turn it is: whether it was there.
-fn write_next<N: Naming, W: Output>(
-    early: &mut Early,
-    writer: &mut W,
-    front: &[u8],
-    spare: &mut Vec<Vec<u8>>,
-    size: usize,
-) -> Result<bool, Failed>
-    requires few { early.old.written + length early.old.places.items ≤ 4294967295 }
-    requires each { 0 < N.each }
-    requires size { size ≡ room N.each N.header }
-    requires kept { AreKept N.each N.key N.header N.told early.old.written early.old.places.items }
-    requires spare { All (λ b. length b.items ≡ size) spare.old.items }
-    requires may { MayGoOn N.each front.now N.key N.header N.told
-        (W.bound writer.old) (W.taken writer.old) early.old.written }
-    ensures spare { All (λ b. length b.items ≡ size) spare.new.items }
-    ensures room { deque_capacity early.new.places ≡ deque_capacity early.old.places }
-    ensures places { length early.new.places.items ≤ length early.old.places.items }
-    ensures order { (blocks : ℕ) (jobs pieces : Hand)
-        → IsOrdered N.each N.key N.header N.told blocks early.old jobs pieces
-        → OnOk result (IsOrdered N.each N.key N.header N.told blocks early.new jobs pieces) }
-    ensures written { (taken : Option (List ℕ))
-        → AreWritten N.each front.now N.key N.header N.told taken (W.taken writer.old) early.old.written
-        → OnOk result (AreWritten N.each front.now N.key N.header N.told taken (W.taken writer.new) early.new.written) }
-    ensures begun { (taken : Option (List ℕ))
-        → AreWritten N.each front.now N.key N.header N.told taken (W.taken writer.old) early.old.written
-        → OnErr result (HasBegun front.now N.key N.header N.told taken (W.taken writer.new)) }
-    ensures same { W.bound writer.new ≡ W.bound writer.old }
-    ensures count { W.failures writer.new ≡ counted (is_err result) (W.failures writer.old) }
-{
-    match early.next() {
-        None => Ok(false),
-        Some(piece) => {
-            if let Err(Failed) = write_part(writer, front, piece.number, piece.buffer.as_slice()) {
-                return Err(Failed);
-            }
-            keep(spare, piece.buffer, size);
-            Ok(true)
-        }
-    }
-}
 
 // Takes a piece back: whether there was one.
 fn take_back<N: Naming>(
@@ -236,113 +128,6 @@ fn work_here<N: Naming, G: Gate>(
         }
         Some(Task::Stop) | None => false,
     }
-}
-
-/// Wakes those that sleep.
-pub(crate) fn ring(bells: &[Parker]) {
-    for bell in bells {
-        bell.unpark();
-    }
-}
-
-/// The first of some jobs.
-pub(crate) fn first_of(held: &mut VecDeque<Task>) -> Task
-    requires { 0 < deque_len held.old }
-    ensures items { held.old.items ≡ result ∷ held.new.items }
-    ensures room { deque_capacity held.new ≡ deque_capacity held.old }
-{
-    match held.pop_front() {
-        Some(task) => task,
-        None => unreachable!(),
-    }
-}
-
-// Puts the jobs of the round in hand.
-fn put_jobs<N: Naming, T: Wait>(
-    rt: &T,
-    jobs: &JobLine<N>,
-    held: &mut VecDeque<Task>,
-    early: &mut Early,
-    into: &mut Pass<Task, Hand>,
-)
-    requires jobs { (put : ℕ) × AreJobs N.each N.header N.told put held.old.items }
-    requires room { length early.old.places.items + length held.old.items ≤ deque_capacity early.old.places }
-    requires into { IsPassOf jobs.now into.old × (0 < (view into.old).parts) }
-    ensures into { IsPassOf jobs.now into.new × (view into.new ≡ hand (view into.old).parts
-        ((view into.old).put ++ all_numbers task_numbers held.old.items) (view into.old).taken) }
-    ensures places { early.new.places.items ≡ early.old.places.items ++ empty (length held.old.items) }
-    ensures same { (early.new.written ≡ early.old.written)
-        × (deque_capacity early.new.places ≡ deque_capacity early.old.places) }
-    ensures held { (held.new.items ≡ []) × (deque_capacity held.new ≡ deque_capacity held.old) }
-{
-    'putting: while !held.is_empty() {
-        put_task(rt, jobs, into, first_of(held));
-        early.open_place();
-    }
-}
-
-// Puts the round in hand, where it is full or the last. What was put before may then be written.
-fn put_round<N: Naming, T: Wait>(
-    rt: &T,
-    jobs: &JobLine<N>,
-    plan: Plan,
-    bells: &[Parker],
-    round: &mut Round,
-    early: &mut Early,
-    into: &mut Pass<Task, Hand>,
-)
-    requires group { 0 < plan.group }
-    requires jobs { (put : ℕ) × AreJobs N.each N.header N.told put round.old.held.items }
-    requires room { length early.old.places.items + length round.old.held.items ≤ deque_capacity early.old.places }
-    requires into { IsPassOf jobs.now into.old × (0 < (view into.old).parts) }
-    ensures into { IsPassOf jobs.now into.new × ((view into.new).parts ≡ (view into.old).parts) }
-    ensures same { (early.new.written ≡ early.old.written) × (round.new.intake ≡ round.old.intake)
-        × (deque_capacity early.new.places ≡ deque_capacity early.old.places)
-        × (deque_capacity round.new.held ≡ deque_capacity round.old.held) }
-    ensures room { length early.new.places.items + length round.new.held.items
-        ≡ length early.old.places.items + length round.old.held.items }
-    ensures handed { length round.old.held.items ≤ plan.group → IsHanded plan.group round.new }
-    ensures way { (left : Option (List ℕ)) (pieces : Hand) → length round.old.held.items ≤ plan.group
-        → (round.old.intake.over ≡ true → length round.old.held.items < plan.group)
-        → IsUnderWay N.each N.key N.header N.told left plan early.old (view into.old) pieces round.old
-        → IsUnderWay N.each N.key N.header N.told left plan early.new (view into.new) pieces round.new }
-{
-    if !round.is_full(plan.group) {
-        return;
-    }
-    early.ripen(true);
-    put_jobs(rt, jobs, &mut round.held, early, into);
-    ring(bells);
-}
-
-// The same, and at the end, or where it is eager, all may be written.
-fn hand_over<N: Naming, T: Wait>(
-    rt: &T,
-    jobs: &JobLine<N>,
-    plan: Plan,
-    bells: &[Parker],
-    round: &mut Round,
-    early: &mut Early,
-    into: &mut Pass<Task, Hand>,
-)
-    requires group { 0 < plan.group }
-    requires jobs { (put : ℕ) × AreJobs N.each N.header N.told put round.old.held.items }
-    requires room { length early.old.places.items + length round.old.held.items ≤ deque_capacity early.old.places }
-    requires into { IsPassOf jobs.now into.old × (0 < (view into.old).parts) }
-    ensures into { IsPassOf jobs.now into.new × ((view into.new).parts ≡ (view into.old).parts) }
-    ensures same { (early.new.written ≡ early.old.written) × (round.new.intake ≡ round.old.intake)
-        × (deque_capacity early.new.places ≡ deque_capacity early.old.places)
-        × (deque_capacity round.new.held ≡ deque_capacity round.old.held) }
-    ensures room { length early.new.places.items + length round.new.held.items
-        ≡ length early.old.places.items + length round.old.held.items }
-    ensures handed { length round.old.held.items ≤ plan.group → IsHanded plan.group round.new }
-    ensures way { (left : Option (List ℕ)) (pieces : Hand) → length round.old.held.items ≤ plan.group
-        → (round.old.intake.over ≡ true → length round.old.held.items < plan.group)
-        → IsUnderWay N.each N.key N.header N.told left plan early.old (view into.old) pieces round.old
-        → IsUnderWay N.each N.key N.header N.told left plan early.new (view into.new) pieces round.new }
-{
-    put_round(rt, jobs, plan, bells, round, early, into);
-    early.ripen(plan.eager || !round.is_open());
 }
 
 // Seals the last block, unless this worker is alone: whether there was something to seal.

@@ -9,13 +9,16 @@ mod block;
 mod early;
 mod endless;
 mod feed;
+mod handing;
 mod intake;
 mod line;
 mod piece;
 mod round;
 mod rounds;
+mod spare;
 mod stream;
 mod worker;
+mod writing;
 
 pub use crate::endless::pipe;
 pub use crate::piece::MAX_DEPTH;

@@ -12,11 +12,13 @@ ghost use Rattle.pipe_core.specs.Pieces.{block, IsBlock, IsTask, task_numbers};
 ghost use Rattle.pipe_core.specs.Round.{IsInHand};
 ghost use Rattle.pipe_core.specs.Rounds.{HasSealedRounds};
 
-use crate::feed::{end, first_of, write_part};
+use crate::feed::end;
+use crate::handing::first_of;
 use crate::line::Naming;
 use crate::piece::{Task, make_piece};
 use crate::round::{Plan, Round};
 use crate::stream::through;
+use crate::writing::write_part;
 use container_core::{Header, Key, MAX_PLAIN, SealFault};
 use io_core::{Failed, Source};
 use output_core::Output;

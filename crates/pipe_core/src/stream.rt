@@ -9,7 +9,8 @@ ghost use Rattle.pipe_core.specs.Pieces.{IsBlock};
 ghost use Rattle.pipe_core.specs.Round.{front_of, IsPlan, IsRead};
 ghost use Rattle.pipe_core.specs.Rounds.{HasSealedRounds};
 
-use crate::feed::{feed, ring};
+use crate::feed::feed;
+use crate::handing::ring;
 use crate::line::{Cut, Hand, JobLine, Naming, PieceLine, Total, put_task, take_task};
 use crate::piece::{Piece, Task};
 use crate::round::{Plan, Round};

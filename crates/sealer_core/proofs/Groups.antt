@@ -33,7 +33,7 @@ use Rattle.command_core.specs.declared.line.FileOutcome.TheVariants.{Sealed, Ope
 use Rattle.command_core.specs.Lines.{FileLine}
 use Rattle.command_core.specs.Work.{AreTold}
 use Rattle.output_core.specs.Bounds.{Bound}
-use Rattle.sealer_core.specs.Group.{holds, HasEnded, IsHeld, AreHeld, AreOwing, AreOwed, OwesAt, SettledAt, IsCounted, IsEnding, AreEnded, refused_lines, name_of, IsPrepared, read_of, left_by, void_by, void_in}
+use Rattle.sealer_core.specs.Group.{holds, HasEnded, IsOfSeats, AreHeld, AreOwing, AreOwed, OwesAt, SettledAt, IsCounted, IsEnding, AreEnded, refused_lines, name_of, IsPrepared, read_of, left_by, void_by, void_in}
 use Rattle.sealer_core.specs.declared.prepare.Prepared.{Prepared}
 use Rattle.sealer_core.specs.declared.prepare.Prepared.TheVariants.{Refused, Unread, Read}
 use Rattle.command_core.specs.declared.line.FileFault.TheVariants.{OutOfMemory}
@@ -256,7 +256,7 @@ module _ (ledger : LedgerView) (old : List SeatView) (outcomes rest : List Outco
     (is : outcomes ≡ o ∷ rest) (at : seat_of o ≡ place) (its : (n : ℕ) → holds n o ≡ nat_eq n spent.number) where
   pub owes_first : ((device : ℕ) → HasEnded device o → spent.device ≡ device) → AreOwing ledger old outcomes → OwesAt ledger old place spent.device spent.number
   owes_first of owing =
-      let held : IsHeld (length old) ledger.terms.range.device o = (All-head (IsHeld (length old) ledger.terms.range.device) o rest (subst (All (IsHeld (length old) ledger.terms.range.device)) is owing.held)) in
+      let held : IsOfSeats (length old) ledger.terms.range.device o = (All-head (IsOfSeats (length old) ledger.terms.range.device) o rest (subst (All (IsOfSeats (length old) ledger.terms.range.device)) is owing.held)) in
       let owed : AreOwed old (o ∷ rest) = subst (AreOwed old) is owing.owed in (
         subst (λ p. p < length old) at held.0,
         of ledger.terms.range.device held.1,
@@ -267,8 +267,8 @@ module _ (ledger : LedgerView) (old : List SeatView) (outcomes rest : List Outco
   pub owing_rest : (new : List SeatView) → length new ≡ length old → AreAllSeats ledger new → SettledAt place spent.number old new → AreOwing ledger old outcomes → AreOwing ledger new rest
   owing_rest new long all settled owing = record {
     all = all;
-    held = subst (λ n. All (IsHeld n ledger.terms.range.device) rest) (sym long)
-        (All-tail (IsHeld (length old) ledger.terms.range.device) o rest (subst (All (IsHeld (length old) ledger.terms.range.device)) is owing.held));
+    held = subst (λ n. All (IsOfSeats n ledger.terms.range.device) rest) (sym long)
+        (All-tail (IsOfSeats (length old) ledger.terms.range.device) o rest (subst (All (IsOfSeats (length old) ledger.terms.range.device)) is owing.held));
     owed = owed_fewer old new o rest spent.number long (subst (λ p. SettledAt p spent.number old new) (sym at) settled) its (subst (AreOwed old) is owing.owed);
   }
 
@@ -284,7 +284,7 @@ module _ (outcomes rest : List Outcome) (seat : ℕ) (why : IssueFault) (is : ou
   pub owing_unissued : (ledger : LedgerView) (seats : List SeatView) → AreOwing ledger seats outcomes → AreOwing ledger seats rest
   owing_unissued ledger seats owing = record {
     all = owing.all;
-    held = All-tail (IsHeld (length seats) ledger.terms.range.device) (job.Unissued seat why) rest (subst (All (IsHeld (length seats) ledger.terms.range.device)) is owing.held);
+    held = All-tail (IsOfSeats (length seats) ledger.terms.range.device) (job.Unissued seat why) rest (subst (All (IsOfSeats (length seats) ledger.terms.range.device)) is owing.held);
     owed = owed_unissued seats (job.Unissued seat why) rest seat why refl (subst (AreOwed seats) is owing.owed);
   }
 
@@ -296,7 +296,7 @@ owing_as ledger seats os os' is owing = subst (AreOwing ledger seats) is owing
 
 -- new seats owe none
 pub owing_none : (ledger : LedgerView) (seats : List SeatView) → operations_of seats ≡ [] → AreAllSeats ledger seats → AreOwing ledger seats []
-owing_none ledger seats none all = record { all = all; held = All-nil (IsHeld (length seats) ledger.terms.range.device); owed = owed_none seats none }
+owing_none ledger seats none all = record { all = all; held = All-nil (IsOfSeats (length seats) ledger.terms.range.device); owed = owed_none seats none }
 
 -- ---- what the first seat does
 
@@ -335,9 +335,9 @@ module _ (ledger : LedgerView) (seats : List SeatView) (d w : SeatView) (grant :
       → AreOwing ledger (set seats 0 w) (job.Spoiled 0 (spent_as grant ended.Void) ∷ [])
   granted_owing same of owing = record {
     all = first_all ledger seats d w some same owing.all;
-    held = All-cons (IsHeld (length (set seats 0 w)) ledger.terms.range.device) (job.Spoiled 0 (spent_as grant ended.Void)) []
+    held = All-cons (IsOfSeats (length (set seats 0 w)) ledger.terms.range.device) (job.Spoiled 0 (spent_as grant ended.Void)) []
         ((let long = length-set seats 0 w in omega arith), (of ∙ ap (λ (t : Terms). t.range.device) (owing.all.each 0 (get_or seats 0 d) (slice_get-get_or seats 0 d some)).1, refl))
-        (All-nil (IsHeld (length (set seats 0 w)) ledger.terms.range.device));
+        (All-nil (IsOfSeats (length (set seats 0 w)) ledger.terms.range.device));
     owed = record { each = λ i n v at. dite (ℕ_discrete i 0) (here i n v at) (other i n v at) };
   }
     where
@@ -369,7 +369,7 @@ module _ (ledger : LedgerView) (seats : List SeatView) (d w : SeatView) (some : 
   pub refused_owing : IsSameSeat (get_or seats 0 d) w → AreOwing ledger seats [] → AreOwing ledger (set seats 0 w) []
   refused_owing same owing = record {
     all = first_all ledger seats d w some same owing.all;
-    held = All-nil (IsHeld (length (set seats 0 w)) ledger.terms.range.device);
+    held = All-nil (IsOfSeats (length (set seats 0 w)) ledger.terms.range.device);
     owed = record { each = λ i n v at. dite (ℕ_discrete i 0) (here i n v at) (λ apart. owing.owed.each i n v (sym (get-set_else seats 0 i w apart) ∙ at)) };
   }
     where
@@ -572,7 +572,7 @@ has_ended key shape j (job.Spoiled place spent) device seat same at is = (at.0 �
 has_ended key shape j (job.Unissued place fault) device seat same at is = tt
 
 pub outcomes_held : (key : List ℕ) (shape : ShapeView) (jobs : List (List ℕ)) (lanes seats : ℕ) (ledger : LedgerView) (new : List SeatView) (os : List Outcome) → lanes ≤ seats → AreOutcomes key shape jobs os
-    → AreAmong lanes new os → AreAllSeats ledger new → All (IsHeld seats ledger.terms.range.device) os
+    → AreAmong lanes new os → AreAllSeats ledger new → All (IsOfSeats seats ledger.terms.range.device) os
 outcomes_held key shape jobs lanes seats ledger new os few outcomes among all = λ k d below.
     let at = slice_get-get_or os k d below in
     let (less, (seat, there, is_at)) = among k (get_or os k d) at in
@@ -846,8 +846,8 @@ groups_more happened happened' also lanes names more names' operations operation
 pub rest_all : {X : Type 0} (P : X → Type 0) (xs ys : List X) (x : X) → xs ≡ x ∷ ys → All P xs → All P ys
 rest_all P xs ys x is all = λ k d below. subst (All P) is all (suc k) d (omega arith)
 
-pub held_at : (n m device : ℕ) (os : List Outcome) → n ≡ m → All (IsHeld n device) os → All (IsHeld m device) os
-held_at n m device os is held = subst (λ (k : ℕ). All (IsHeld k device) os) is held
+pub held_at : (n m device : ℕ) (os : List Outcome) → n ≡ m → All (IsOfSeats n device) os → All (IsOfSeats m device) os
+held_at n m device os is held = subst (λ (k : ℕ). All (IsOfSeats k device) os) is held
 
 -- the names of so many files, and of the group behind them
 pub group_names : (files group : List (Bor (List ℕ))) (done more : ℕ) → group ≡ take more (drop done files) → length group ≡ more

@@ -22,7 +22,7 @@ use Rattle.command_core.specs.Lines.{FileLine}
 use Rattle.command_core.specs.Trace.{Event, Reading, Created, Refused, Finished, Does, Opens, Creates, Refuses, Discards, tape}
 use Rattle.command_core.proofs.Traces.{nothing, weaken, chain, known, finished_as, discarded_as}
 use Rattle.sealer_core.specs.Group.{EndsBy, IsMade, IsPut, IsRefusal, IsRefused}
-use Rattle.sealer_core.specs.Sealing.{AreOfGroups, IsCause, IsClosed, Happened, IsDiscarded, Part, Sealing, group_events, group_voids, line_of, prepared, sealed_name, unissued_as, void_at}
+use Rattle.sealer_core.specs.Sealing.{AreOfGroups, FitsFault, IsClosed, Happened, IsDiscarded, Part, Sealing, group_events, group_voids, line_of, prepared, sealed_name, unissued_as, void_at}
 
 -- ---- what a writer took
 
@@ -38,7 +38,7 @@ PutsUnder key shape device input taken taken' (number ∷ another ∷ numbers) =
 
 -- the fault tells the cause, whatever the writer took behind these bytes
 abbrev pub IsCauseAt : ℕ → FileFault → List ℕ → List ℕ → Option (List ℕ) → Option (List ℕ) → Type 0
-IsCauseAt most fault void input taken taken' = (old held : List ℕ) → taken ≡ Some old → taken' ≡ Some (old ++ held) → IsCause most fault void input held
+IsCauseAt most fault void input taken taken' = (old held : List ℕ) → taken ≡ Some old → taken' ≡ Some (old ++ held) → FitsFault most fault void input held
 
 -- known bytes that grew
 grown_as : (taken taken' : Option (List ℕ)) (old held : List ℕ) → taken ≡ Some old → Appends taken taken' held → taken' ≡ Some (old ++ held)
@@ -56,11 +56,11 @@ kept_nothing (Some before) (Some after) old held is now kept =
 -- ---- why an output is given up
 
 -- it took nothing
-pub cause_kept : (most : ℕ) (fault : FileFault) (void input : List ℕ) (taken taken' : Option (List ℕ)) → IsCause most fault void input [] → Keeps taken taken' → IsCauseAt most fault void input taken taken'
-cause_kept most fault void input taken taken' why kept old held was now = subst (IsCause most fault void input) (sym (kept_nothing taken taken' old held was now kept)) why
+pub cause_kept : (most : ℕ) (fault : FileFault) (void input : List ℕ) (taken taken' : Option (List ℕ)) → FitsFault most fault void input [] → Keeps taken taken' → IsCauseAt most fault void input taken taken'
+cause_kept most fault void input taken taken' why kept old held was now = subst (FitsFault most fault void input) (sym (kept_nothing taken taken' old held was now kept)) why
 
 -- no number was issued
-pub cause_unissued : (most : ℕ) (input : List ℕ) (why : IssueFault) → IsCause most (unissued_as why) [] input []
+pub cause_unissued : (most : ℕ) (input : List ℕ) (why : IssueFault) → FitsFault most (unissued_as why) [] input []
 cause_unissued most input issue_fault.Exhausted = refl
 cause_unissued most input issue_fault.SeatClosed = refl
 cause_unissued most input issue_fault.OutOfMemory = refl
@@ -78,7 +78,7 @@ cause_begun most number left taken taken' input result sealing_fault.Write as_is
 -- one that was read whole could not
 pub cause_unread : (most : ℕ) (left : Option (List ℕ)) (result : Result (Vec ℕ Global) SealFault) (fault : SealFault) → result ≡ Err fault
     → (result ≡ Err sealing_fault.TooLong → IfSome left (λ input. most < length input)) → result ≢ Err sealing_fault.Write → result ≢ Err sealing_fault.TooManyChunks
-    → (input : List ℕ) → left ≡ Some input → IsCause most (Unsealed fault) [] input []
+    → (input : List ℕ) → left ≡ Some input → FitsFault most (Unsealed fault) [] input []
 cause_unread most left result sealing_fault.TooLong is more no_write few input left_is = known (λ i. most < length i) left input left_is (more is)
 cause_unread most left result sealing_fault.TooManyChunks is more no_write few input left_is = absurd (few is)
 cause_unread most left result sealing_fault.OutOfMemory is more no_write few input left_is = refl
@@ -229,7 +229,7 @@ module _ (key : List ℕ) (shape : ShapeView) (most device : ℕ) (name : List �
       → Does (IsMade name left taken) one two → Does (Discards taken) two three → Happened key shape most device one three ((line_of name (Failed fault) ∷ []) ∷ []) []
   was_unissued why fault left taken one two three is = was_closed (Failed fault) [] left taken taken one two three (λ input before after known empty begun closed.
       failed_as key shape most device name input taken taken before after empty begun fault [] (Failed fault) refl (Keeps-refl taken)
-      (cause_kept most fault [] input taken taken (subst (λ f. IsCause most f [] input []) (sym is) (cause_unissued most input why)) (Keeps-refl taken)) closed)
+      (cause_kept most fault [] input taken taken (subst (λ f. FitsFault most f [] input []) (sym is) (cause_unissued most input why)) (Keeps-refl taken)) closed)
 
   -- the engine ended so under a number
   pub was_ended : (device' number : ℕ) (result : Result ℕ SealFault) (outcome : FileOutcome) (left taken taken' : Option (List ℕ)) (one two three : Option (List Event)) → device' ≡ device

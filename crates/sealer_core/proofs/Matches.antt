@@ -25,8 +25,8 @@ use Rattle.command_core.specs.Trace.{Event, Does, Discards, tape}
 use Rattle.command_core.proofs.Traces.{nothing, weaken, chain}
 use Rattle.sealer_core.specs.declared.prepare.Prepared.{Prepared}
 use Rattle.sealer_core.specs.declared.prepare.Prepared.TheVariants.{Refused, Unread, Read}
-use Rattle.sealer_core.specs.Group.{AreBegun, HasEnded, IsBegun, IsBegunWith, IsEndBy, IsEndIn, IsEndOfAll, IsHeld, IsMade, IsPut, IsRefusal, left_by, name_of, refused_lines, void_by, void_in}
-use Rattle.sealer_core.specs.Sealing.{AreOfGroups, Happened, IsCause, IsClosed, Part, Sealing, group_voids, line_of, prepared, sealed_name, unissued_as}
+use Rattle.sealer_core.specs.Group.{AreBegun, HasEnded, IsBegun, IsBegunWith, IsEndBy, IsEndIn, IsEndOfAll, IsOfSeats, IsMade, IsPut, IsRefusal, left_by, name_of, refused_lines, void_by, void_in}
+use Rattle.sealer_core.specs.Sealing.{AreOfGroups, Happened, FitsFault, IsClosed, Part, Sealing, group_voids, line_of, prepared, sealed_name, unissued_as}
 use Rattle.sealer_core.proofs.Happened.{IsPart, PutsUnder, cause_kept, cause_unissued, failed_as, group_done, kept_appends, put_as, refused_as}
 
 -- ---- before the sealing
@@ -69,7 +69,7 @@ module _ {W : Type 0} (taken : W → Option (List ℕ)) (most : ℕ) where
 
   -- its input wasn't read whole
   pub was_unread : (name : Bor (List ℕ)) (writer : W) (fault : SealFault) (jobs jobs' : List (Vec ℕ Global)) (left : Option (List ℕ)) (one two : Option (List Event)) → jobs' ≡ jobs
-      → Does (IsMade name.now left (taken writer)) one two → ((input : List ℕ) → left ≡ Some input → IsCause most (Unsealed fault) [] input [])
+      → Does (IsMade name.now left (taken writer)) one two → ((input : List ℕ) → left ≡ Some input → FitsFault most (Unsealed fault) [] input [])
       → Does (IsBegunWith taken most (items_of jobs) (items_of jobs') (Unread name writer fault)) one two
   was_unread name writer fault jobs jobs' left one two same made cause =
       weaken (λ events m. ([], ap items_of same ∙ sym (append-nil (items_of jobs)), (refl, m.2, (m.0, cause m.0 m.1, m.3)))) one two made
@@ -210,22 +210,22 @@ module _ (key : List ℕ) (shape : ShapeView) (most device : ℕ) where
   Fit [] (outcome ∷ outcomes) = ⊤
   Fit (input ∷ jobs) (outcome ∷ outcomes) = IsOutcome key shape input outcome × HasEnded device outcome × Fit jobs outcomes
 
-  all_fit : (seats : ℕ) (jobs : List (List ℕ)) (outcomes : List Outcome) → AreOutcomes key shape jobs outcomes → All (IsHeld seats device) outcomes → Fit jobs outcomes
+  all_fit : (seats : ℕ) (jobs : List (List ℕ)) (outcomes : List Outcome) → AreOutcomes key shape jobs outcomes → All (IsOfSeats seats device) outcomes → Fit jobs outcomes
   all_fit seats jobs [] are held = tt
   all_fit seats [] (outcome ∷ outcomes) are held = tt
   all_fit seats (input ∷ jobs) (outcome ∷ outcomes) are held = (
     are.each 0 input outcome refl refl,
-    (All-head (IsHeld seats device) outcome outcomes held).1,
-    all_fit seats jobs outcomes (record { count = (let c = are.count in omega arith); each = λ n j o at also. are.each (suc n) j o at also }) (All-tail (IsHeld seats device) outcome outcomes held),
+    (All-head (IsOfSeats seats device) outcome outcomes held).1,
+    all_fit seats jobs outcomes (record { count = (let c = are.count in omega arith); each = λ n j o at also. are.each (suc n) j o at also }) (All-tail (IsOfSeats seats device) outcome outcomes held),
   )
 
-  outcomes_fit : (seats : ℕ) (jobs : List (List ℕ)) (outcomes : List Outcome) → (outcomes ≡ []) ⊎ AreOutcomes key shape jobs outcomes → All (IsHeld seats device) outcomes → Fit jobs outcomes
+  outcomes_fit : (seats : ℕ) (jobs : List (List ℕ)) (outcomes : List Outcome) → (outcomes ≡ []) ⊎ AreOutcomes key shape jobs outcomes → All (IsOfSeats seats device) outcomes → Fit jobs outcomes
   outcomes_fit seats jobs outcomes how held = ⊎_elim (λ (none : outcomes ≡ []). subst (Fit jobs) (sym none) tt) (λ (are : AreOutcomes key shape jobs outcomes). all_fit seats jobs outcomes are held) how
 
   module _ (name input : List ℕ) (bytes : ℕ) (old new : Option (List ℕ)) (before after : List Event)
       (count : bytes ≡ length input) (within : length input ≤ most) (empty : old ≡ Some (tape (sealed_name name) [])) (begun : before ≡ prepared name input) where
     -- nothing was written
-    unwritten : (fault : FileFault) (void : List ℕ) (end : FileOutcome) → IsCause most fault void input [] → PutsUnder key shape device input old new void → end ≡ Failed fault → Keeps old new
+    unwritten : (fault : FileFault) (void : List ℕ) (end : FileOutcome) → FitsFault most fault void input [] → PutsUnder key shape device input old new void → end ≡ Failed fault → Keeps old new
         → IsClosed new end after → Sealing key shape most device name end void before after
     unwritten fault void end cause put is kept closed =
         failed_as key shape most device name input old new before after empty begun fault void end is put (cause_kept most fault void input old new cause kept) closed
@@ -292,7 +292,7 @@ module _ (key : List ℕ) (shape : ShapeView) (most device : ℕ) where
 
     -- what happened for a group goes with its lines
     pub group_happened : (files : List (Prepared W)) (slice jobs : List (List ℕ)) (seats : ℕ) (outcomes : List Outcome) (lines : List FileLine) (voids : List ℕ) (told told' told'' : Option (List Event)) → slice ≡ jobs
-        → (outcomes ≡ []) ⊎ AreOutcomes key shape slice outcomes → All (IsHeld seats device) outcomes → Does (AreBegun taken most files jobs) told told'
+        → (outcomes ≡ []) ⊎ AreOutcomes key shape slice outcomes → All (IsOfSeats seats device) outcomes → Does (AreBegun taken most files jobs) told told'
         → Does (IsEndOfAll taken files outcomes lines voids) told' told'' → Happened key shape most device told told'' (lines ∷ []) voids
     group_happened files slice jobs seats outcomes lines voids told told' told'' same how held begun ended = chain (AreOfGroups (Sealing key shape most device) (lines ∷ []) voids)
         (λ x y b e.

@@ -34,7 +34,7 @@ use Rattle.command_core.specs.declared.line.FileOutcome.{FileOutcome}
 use Rattle.command_core.specs.declared.line.FileOutcome.TheVariants.{Sealed, Opened, Good, Shown, Failed}
 use Rattle.sealer_core.specs.declared.prepare.Prepared.{Prepared}
 use Rattle.sealer_core.specs.declared.prepare.Prepared.TheVariants.{Refused, Unread, Read}
-use Rattle.sealer_core.specs.Group.{AreGrantedOnce, AreHeld, AreOwing, AreSettled, HasSettled, IsContainerUnder, IsEnding, IsHeld, IsMade, OwesAt, left_by}
+use Rattle.sealer_core.specs.Group.{AreGrantedOnce, AreHeld, AreOwing, AreSettled, HasSettled, IsContainerUnder, IsEnding, IsMade, IsOfSeats, OwesAt, left_by}
 use Rattle.sealer_core.specs.Sealing.{operations_of}
 use Rattle.sealer_core.proofs.Groups.{counted_at, grown, issues_settles}
 use Rattle.sealer_core.proofs.Numbering.{granted_once, held_by, same_count, sum_below_zeros, whole_of_met, zero_of}
@@ -171,7 +171,7 @@ pub owing_met : (ledger : LedgerView) (old new : List SeatView) (outcomes : List
     → AreAllSeats ledger new → AreOwing ledger old outcomes → AreOwing ledger new outcomes
 owing_met ledger old new outcomes same long all owing = record {
   all = all;
-  held = subst (λ n. All (IsHeld n ledger.terms.range.device) outcomes) (sym long) owing.held;
+  held = subst (λ n. All (IsOfSeats n ledger.terms.range.device) outcomes) (sym long) owing.held;
   owed = record {
     each = λ i number w at.
         let (v, there, mine) = mine_at old new i w same at in

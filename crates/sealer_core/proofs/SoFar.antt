@@ -127,8 +127,8 @@ stream_so_far key ledger seat number shape bytes plain terms range held is_shape
 some_is : (a b : List ℕ) → Some a ≡ Some b → a ≡ b
 some_is a b same = cc
 
-front_behind : (before bytes whole : List ℕ) → IsFront (before ++ bytes) (before ++ whole) → IsFront bytes whole
-front_behind before bytes whole (rest, is) =
+front_of_rest : (before bytes whole : List ℕ) → IsFront (before ++ bytes) (before ++ whole) → IsFront bytes whole
+front_of_rest before bytes whole (rest, is) =
     (rest, append_cancel_left before whole (bytes ++ rest) (is ∙ append_assoc before bytes rest))
 
 abbrev Holds : List ℕ → List ℕ → List ℕ → ShapeView → Type 0
@@ -143,6 +143,6 @@ holds {bound} {taken} before bytes key prefix shape is had within =
     let front = allowed.1 in
     let same : held ≡ before ++ bytes = some_is held (before ++ bytes) (sym known ∙ had) in (
       plain,
-      front_behind before bytes (container key shape prefix plain)
+      front_of_rest before bytes (container key shape prefix plain)
           (subst (λ (l : List ℕ). IsFront l (before ++ container key shape prefix plain)) same front),
     )

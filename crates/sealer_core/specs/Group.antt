@@ -33,7 +33,7 @@ use Rattle.command_core.specs.Lines.{FileLine}
 use Rattle.command_core.specs.Session.{IsNew, Session, started, times_begun}
 use Rattle.output_core.specs.Bounds.{Bound}
 use Rattle.sealer_core.specs.Sealing.{IsOfSealing, unissued_as, line_of, prepared, sealed_name, void_at}
-use Rattle.sealer_core.specs.Sealing.{IsCause, IsClosed, operations_of, times_in, times_sealed, times_voided, times_told}
+use Rattle.sealer_core.specs.Sealing.{FitsFault, IsClosed, operations_of, times_in, times_sealed, times_voided, times_told}
 use Rattle.command_core.specs.Trace.{Discards, tape}
 use Rattle.command_core.specs.Trace as trace
 use Rattle.command_core.specs.Work.{AreTold}
@@ -92,7 +92,7 @@ module _ {W : Type 0} (taken : W → Option (List ℕ)) (most : ℕ) where
   IsBegun (Refused name fault) inputs events = (inputs ≡ []) × IsRefusal name.now fault events
   IsBegun (Unread name writer fault) inputs events =
       (inputs ≡ []) × (taken writer ≡ Some (tape (sealed_name name.now) []))
-      × ((input : List ℕ) × IsCause most (Unsealed fault) [] input [] × (events ≡ prepared name.now input))
+      × ((input : List ℕ) × FitsFault most (Unsealed fault) [] input [] × (events ≡ prepared name.now input))
   IsBegun (Read name writer bytes) inputs events = (input : List ℕ) × (inputs ≡ input ∷ [])
       × (bytes ≡ length input) × (length input ≤ most) × (taken writer ≡ Some (tape (sealed_name name.now) []))
       × (events ≡ prepared name.now input)
@@ -123,8 +123,8 @@ HasEnded device (job.Spoiled seat spent) = (spent.device ≡ device) × (spent.w
 HasEnded device (job.Unissued seat fault) = ⊤
 
 -- it names one of so many seats, and its number is of this device, and ended as it says
-abbrev pub IsHeld : ℕ → ℕ → Outcome → Type 0
-IsHeld seats device o = (seat_of o < seats) × HasEnded device o
+abbrev pub IsOfSeats : ℕ → ℕ → Outcome → Type 0
+IsOfSeats seats device o = (seat_of o < seats) × HasEnded device o
 
 -- Lines, void numbers and operations of a ledger agree, where the numbers of these outcomes are granted and not settled
 -- yet.
@@ -143,7 +143,7 @@ pub record AreOwed (seats : List SeatView) (outcomes : List Outcome) : Type 0 wh
 -- All seats are there, and they owe the numbers that these outcomes have spent.
 pub record AreOwing (ledger : LedgerView) (seats : List SeatView) (outcomes : List Outcome) : Type 0 where
   pub all : AreAllSeats ledger seats
-  pub held : All (IsHeld (length seats) ledger.terms.range.device) outcomes
+  pub held : All (IsOfSeats (length seats) ledger.terms.range.device) outcomes
   pub owed : AreOwed seats outcomes
 
 -- the number is one of the ledger's device, and the seat at this place was granted it and hasn't settled it

@@ -101,19 +101,19 @@ HeldUnder key shape device input (number ∷ another ∷ numbers) held = ⊥
 -- What the fault of a file whose output was given up tells of the void number, of the input and of what the output
 -- held. Only under a number can a write fail, and memory is refused before anything is written. A file is bounded by
 -- bytes, so it never has too many chunks. Of a reader that failed nothing is said.
-abbrev pub IsCause : ℕ → FileFault → List ℕ → List ℕ → List ℕ → Type 0
-IsCause most NoNumber void input held = void ≡ []
-IsCause most (Unsealed sealing_fault.TooLong) void input held = most < length input
-IsCause most (Unsealed sealing_fault.TooManyChunks) void input held = ⊥
-IsCause most (Unsealed sealing_fault.OutOfMemory) void input held = held ≡ []
-IsCause most (Unsealed sealing_fault.Read) void input held = ⊤
-IsCause most (Unsealed sealing_fault.Write) void input held = void ≢ []
-IsCause most _ void input held = ⊥
+abbrev pub FitsFault : ℕ → FileFault → List ℕ → List ℕ → List ℕ → Type 0
+FitsFault most NoNumber void input held = void ≡ []
+FitsFault most (Unsealed sealing_fault.TooLong) void input held = most < length input
+FitsFault most (Unsealed sealing_fault.TooManyChunks) void input held = ⊥
+FitsFault most (Unsealed sealing_fault.OutOfMemory) void input held = held ≡ []
+FitsFault most (Unsealed sealing_fault.Read) void input held = ⊤
+FitsFault most (Unsealed sealing_fault.Write) void input held = void ≢ []
+FitsFault most _ void input held = ⊥
 
 -- its output was given up, for the cause that its fault tells
 abbrev pub IsDiscarded : List ℕ → ShapeView → ℕ → ℕ → List ℕ → FileFault → List ℕ → List Event → List Event → Type 0
 IsDiscarded key shape most device name fault void before after = (input : List ℕ) × (held : List ℕ)
-    × HeldUnder key shape device input void held × IsCause most fault void input held
+    × HeldUnder key shape device input void held × FitsFault most fault void input held
     × (before ≡ prepared name input) × (after ≡ trace.Discarded (sealed_name name) held ∷ [])
 
 -- What goes with the line of a file of this name that is to be sealed under a key, in a shape, of at most so many

@@ -14,6 +14,8 @@ mod files;
 #[cfg(test)]
 mod keys;
 #[cfg(test)]
+mod labels;
+#[cfg(test)]
 mod lanes;
 #[cfg(test)]
 mod pipes;

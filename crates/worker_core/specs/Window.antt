@@ -1,8 +1,16 @@
--- The chunks of a round of a file where no number of them is asked for.
-use Rattle.std.specs.Prelude.{ℕ, ◌*◌, ◌/◌, ◌==◌, min, max, if◌then◌else◌}
+-- The chunks of a round of a file where no number of them is asked for, of chunks of so many plaintext bytes.
+use Rattle.std.specs.Prelude.{ℕ, ◌/◌, ◌==◌, min, max, if◌then◌else◌}
 
--- of chunks of so many plaintext bytes: as many as 1 MiB has. One worker takes 16 of them at most and one at least;
--- several take 256 at most, and two each at least
+-- as many as so many bytes have: one worker takes 16 of them at most and one at least; several take 256 at most, and one
+-- each at least
+abbrev pub chunks_in : ℕ → ℕ → ℕ → ℕ
+chunks_in bytes chunk workers = if workers == 1 then max (min (bytes / chunk) 16) 1
+    else max (min (bytes / chunk) 256) workers
+
+-- where they are sealed: as many as 1 MiB has
 abbrev pub usual : ℕ → ℕ → ℕ
-usual chunk workers = if workers == 1 then max (min (1048576 / chunk) 16) 1
-    else max (min (1048576 / chunk) 256) (2 * workers)
+usual chunk workers = chunks_in 1048576 chunk workers
+
+-- where they are opened or checked: as many as 256 KiB has by one worker, and 4 MiB by several
+abbrev pub usual_opening : ℕ → ℕ → ℕ
+usual_opening chunk workers = chunks_in (if workers == 1 then 262144 else 4194304) chunk workers

@@ -11,7 +11,7 @@ mod workers;
 
 pub use crate::gate::{Free, Gate};
 pub use crate::rounds::Crew;
-pub use crate::window::{ROUND_BYTES, usual_window};
+pub use crate::window::{CREW_BYTES, OPENING_BYTES, ROUND_BYTES, usual_opening, usual_window};
 
 /// The most workers of one sealing or opening.
 pub const MAX_WORKERS: u32 = 16;

@@ -1,6 +1,6 @@
 use Rattle.std.proofs.Common.{List, Some, map, subst, sym}
 use Rattle.folder_memory.specs.Memory.{AreAsTold, event_of, file_of}
-use Rattle.folder_memory.specs.declared.memory.Told.{Told}
+use Rattle.folder_memory.specs.declared.told.Told.{Told}
 use Rattle.folder_memory.proofs.Truth.{true_of_none}
 use Rattle.folder_memory.proofs.memory.MemoryFolder.new.Goals as goal
 

@@ -1,6 +1,6 @@
 use Rattle.pipe_core.proofs.Orders.{order_same}
 use Rattle.pipe_core.proofs.RoundLemmas.{way_step}
-use Rattle.pipe_core.proofs.feed.hand_over.Goals as goal
+use Rattle.pipe_core.proofs.handing.hand_over.Goals as goal
 
 pub returns-clause-way : goal.returns-clause-way
 returns-clause-way g c = λ left pieces few over was.

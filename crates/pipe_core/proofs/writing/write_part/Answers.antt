@@ -1,7 +1,7 @@
 use Rattle.std.proofs.Common.{arith, ◌++◌, ℕ, List, sym, subst}
 use Rattle.io_core.specs.Streams.{AppendsFront}
 use Rattle.pipe_core.proofs.ChunkLemmas.{begun_before, begun_behind, front_first, on_err}
-use Rattle.pipe_core.proofs.feed.write_part.Goals as goal
+use Rattle.pipe_core.proofs.writing.write_part.Goals as goal
 
 pub returns-in-Err-clause-err : goal.returns-in-Err-clause-err
 returns-in-Err-clause-err g c =

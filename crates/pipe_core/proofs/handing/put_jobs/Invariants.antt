@@ -5,7 +5,7 @@ use Rattle.pipe_core.specs.Hands.{all_numbers}
 use Rattle.pipe_core.specs.Order.{empty}
 use Rattle.pipe_core.specs.Pieces.{task_numbers}
 use Rattle.pipe_core.specs.Round.{AreJobs}
-use Rattle.pipe_core.proofs.feed.put_jobs.Given as goal
+use Rattle.pipe_core.proofs.handing.put_jobs.Given as goal
 
 abbrev pub invariant-putting : goal.invariant-putting
 invariant-putting g l = record {

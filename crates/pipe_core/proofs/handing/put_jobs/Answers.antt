@@ -2,7 +2,7 @@ use Rattle.std.proofs.Common.{rules, arith, ap, ◌∙◌, ◌+◌, [], ◌∷�
 use Rattle.pipe_core.specs.declared.line.Hand.{Hand}
 use Rattle.pipe_core.proofs.Orders.{place_step, put_step}
 use Rattle.pipe_core.proofs.RoundLemmas.{jobs_tasks}
-use Rattle.pipe_core.proofs.feed.put_jobs.Goals as goal
+use Rattle.pipe_core.proofs.handing.put_jobs.Goals as goal
 
 pub put_task-requires-clause-task : goal.put_task-requires-clause-task
 put_task-requires-clause-task g c =

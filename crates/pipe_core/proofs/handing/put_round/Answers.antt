@@ -2,7 +2,7 @@ use Rattle.std.proofs.Common.{arith, refl, ap, ◌∙◌, ◌++◌, length}
 use Rattle.pipe_core.specs.Order.{empty}
 use Rattle.pipe_core.proofs.Orders.{length_opened}
 use Rattle.pipe_core.proofs.RoundLemmas.{way_put}
-use Rattle.pipe_core.proofs.feed.put_round.Goals as goal
+use Rattle.pipe_core.proofs.handing.put_round.Goals as goal
 
 pub returns-clause-way : goal.returns-clause-way
 returns-clause-way g c = λ left pieces few over was.

@@ -2,7 +2,7 @@ use Rattle.std.proofs.Common.{arith}
 use Rattle.pipe_core.proofs.ChunkLemmas.{written_next, begun_next}
 use Rattle.pipe_core.proofs.MayLemmas.{may_turn}
 use Rattle.pipe_core.proofs.Orders.{first_is, order_next}
-use Rattle.pipe_core.proofs.feed.write_next.Goals as goal
+use Rattle.pipe_core.proofs.writing.write_next.Goals as goal
 
 pub keep-requires-clause-buffer : goal.keep-requires-clause-buffer
 keep-requires-clause-buffer g c =

@@ -1,0 +1,93 @@
+//! What happened in a folder in memory, and how it is kept.
+ghost use Rattle.std.specs.Prelude.{◌≡◌, IfSome, map, option_map};
+ghost use Rattle.command_core.specs.Trace.{Created, Discarded, Does, Finished, Reading, Refused, Unread};
+ghost use Rattle.folder_memory.specs.Memory.{IsEvent, event_of};
+
+use command_core::FolderFault;
+use std::alloc::Global;
+
+/// What happened in a folder.
+#[derive(Drop)]
+pub enum Told {
+    /// A file of this name was opened to be read, and these were its bytes.
+    Reading(String, Vec<u8>),
+    /// A file could not be opened.
+    Unread(String),
+    /// An output was created.
+    Created(String),
+    /// An output could not be created, by this fault.
+    Refused(String, FolderFault),
+    /// An output was finished, and these were all its bytes.
+    Finished(String, Vec<u8>),
+    /// An output was given up with these bytes, and its removal was tried.
+    Discarded(String, Vec<u8>),
+}
+
+/// Keeps what happened, or forgets all where memory for it was refused.
+pub(crate) fn tell(told: &mut Option<Vec<Told>>, event: Option<Told>)
+    ensures { Does (IsEvent event) (option_map (λ told. map event_of told.items) told.old)
+        (option_map (λ told. map event_of told.items) told.new) }
+{
+    let Some(event) = event else {
+        *told = None;
+        return;
+    };
+    let is_kept = match told {
+        Some(told) => told.push(event).is_ok(),
+        None => false,
+    };
+    if !is_kept {
+        *told = None;
+    }
+}
+
+/// That a file was opened to be read.
+pub(crate) fn reading(alloc: Global, name: &str, bytes: &[u8]) -> Option<Told>
+    ensures { IfSome result (λ told. event_of told ≡ Reading name.now bytes.now) }
+{
+    let name = String::from_str(alloc, name).ok()?;
+    let bytes = Vec::from_slice(alloc, bytes).ok()?;
+    Some(Told::Reading(name, bytes))
+}
+
+/// That a file could not be opened.
+pub(crate) fn unread(alloc: Global, name: &str) -> Option<Told>
+    ensures { IfSome result (λ told. event_of told ≡ Unread name.now) }
+{
+    let name = String::from_str(alloc, name).ok()?;
+    Some(Told::Unread(name))
+}
+
+/// That an output was created.
+pub(crate) fn created(alloc: Global, name: &str) -> Option<Told>
+    ensures { IfSome result (λ told. event_of told ≡ Created name.now) }
+{
+    let name = String::from_str(alloc, name).ok()?;
+    Some(Told::Created(name))
+}
+
+/// That an output could not be created.
+pub(crate) fn refused(alloc: Global, name: &str, fault: FolderFault) -> Option<Told>
+    ensures { IfSome result (λ told. event_of told ≡ Refused name.now fault) }
+{
+    let name = String::from_str(alloc, name).ok()?;
+    Some(Told::Refused(name, fault))
+}
+
+/// That an output was finished.
+pub(crate) fn finished(alloc: Global, name: &str, bytes: &[u8]) -> Option<Told>
+    ensures { IfSome result (λ told. event_of told ≡ Finished name.now bytes.now) }
+{
+    let name = String::from_str(alloc, name).ok()?;
+    let bytes = Vec::from_slice(alloc, bytes).ok()?;
+    Some(Told::Finished(name, bytes))
+}
+
+/// That an output was given up.
+pub(crate) fn discarded(alloc: Global, name: &str, bytes: &[u8]) -> Option<Told>
+    ensures { IfSome result (λ told. event_of told ≡ Discarded name.now bytes.now) }
+{
+    let name = String::from_str(alloc, name).ok()?;
+    let bytes = Vec::from_slice(alloc, bytes).ok()?;
+    Some(Told::Discarded(name, bytes))
+}

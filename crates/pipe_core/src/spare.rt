@@ -1,0 +1,47 @@
+//! Buffers for blocks, made once and used again.
+ghost use Rattle.std.specs.Prelude.{◌≡◌, ◌<◌, length, All, IfOk, IfSome};
+
+use std::alloc::{AllocError, Global};
+
+/// So many buffers, each for a block and its tags.
+pub(crate) fn buffers(alloc: Global, count: usize, size: usize) -> Result<Vec<Vec<u8>>, AllocError>
+    ensures { IfOk result (λ spare. All (λ b. length b.items ≡ size) spare.items) }
+{
+    let mut spare = Vec::with_capacity(alloc, count)?;
+    'making: for _ in 0..count {
+        spare.push_reserved(vec![in alloc; 0; size]?);
+    }
+    Ok(spare)
+}
+
+/// A buffer for another block, where reading needn't wait, and so many blocks are fewer than may be read.
+pub(crate) fn take_spare(
+    spare: &mut Vec<Vec<u8>>,
+    size: usize,
+    waits: bool,
+    count: usize,
+    depth: usize,
+) -> Option<Vec<u8>>
+    requires spare { All (λ b. length b.items ≡ size) spare.old.items }
+    ensures spare { All (λ b. length b.items ≡ size) spare.new.items }
+    ensures buffer { IfSome result (λ b. (length b.items ≡ size) × (count < depth)) }
+{
+    if waits || count >= depth {
+        return None;
+    }
+    match spare.pop() {
+        Some(buffer) => Some(buffer),
+        None => None,
+    }
+}
+
+/// Keeps a buffer for another block, where there is a place for it.
+pub(crate) fn keep(spare: &mut Vec<Vec<u8>>, buffer: Vec<u8>, size: usize)
+    requires spare { All (λ b. length b.items ≡ size) spare.old.items }
+    requires buffer { length buffer.items ≡ size }
+    ensures spare { All (λ b. length b.items ≡ size) spare.new.items }
+{
+    if spare.len() < spare.capacity() {
+        spare.push_reserved(buffer);
+    }
+}
