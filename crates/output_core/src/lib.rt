@@ -4,5 +4,7 @@
 #![tactic(auto)]
 
 pub mod output;
+pub mod parts;
 
 pub use crate::output::{Output, put_all};
+pub use crate::parts::put_each;

@@ -9,10 +9,12 @@
 mod append;
 pub mod bench;
 pub mod laws;
+pub mod parts;
 mod piece;
 pub mod places;
 pub mod round;
 
 pub use crate::bench::Bench;
+pub use crate::parts::Parts;
 pub use crate::places::Places;
 pub use crate::round::{Round, Task};

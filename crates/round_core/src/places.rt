@@ -18,9 +18,9 @@ use std::marker::Model;
 /// piece, or none where it doesn't check.
 #[derive(Drop)]
 pub struct Places {
-    size: usize,
-    count: u32,
-    pieces: Vec<Piece>,
+    pub(crate) size: usize,
+    pub(crate) count: u32,
+    pub(crate) pieces: Vec<Piece>,
 }
 
 impl Model for Places {

@@ -1,0 +1,48 @@
+//! Bytes in several buffers, one behind the other, as the pieces of rounds leave them.
+ghost use Rattle.std.specs.Prelude.{◌≡◌, ◌++◌, [], flat_map, OnOk};
+
+use std::alloc::{AllocError, Global};
+use std::marker::Model;
+
+/// Bytes that stand in several buffers, one behind the other. Contracts see them as one list.
+#[derive(Drop)]
+pub struct Parts {
+    buffers: Vec<Vec<u8>>,
+}
+
+impl Model for Parts {
+    ghost use Rattle.std.specs.Prelude.{ℕ, List, flat_map};
+
+    ghost Value = { List ℕ };
+
+    ghost view = { λ p. flat_map (λ b. b.items) p.buffers.items };
+}
+
+impl Parts {
+    /// No bytes. Takes no memory.
+    pub fn new(alloc: Global) -> Parts
+        ensures { result ≡ [] }
+    {
+        Parts {
+            buffers: Vec::new(alloc),
+        }
+    }
+
+    /// Adds a buffer behind the others; its bytes aren't copied. `AllocError`, with nothing added, where memory for its
+    /// place was refused.
+    pub fn push(&mut self, buffer: Vec<u8>) -> Result<(), AllocError>
+        ensures added { OnOk result (self.new ≡ self.old ++ buffer.items) }
+    {
+        match self.buffers.push(buffer) {
+            Ok(()) => Ok(()),
+            Err(_) => Err(AllocError),
+        }
+    }
+
+    /// The buffers, in order.
+    pub fn buffers(&self) -> &[Vec<u8>]
+        ensures { flat_map (λ b. b.items) result.now ≡ self.now }
+    {
+        self.buffers.as_slice()
+    }
+}
