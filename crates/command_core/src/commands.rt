@@ -21,7 +21,7 @@ use crate::label::is_labelled;
 use crate::line::{FileFault, FileOutcome, Line};
 use container_core::{Key, MAX_OPENED, MAX_PLAIN, OpenFault};
 use crew_core::{Free, MAX_WORKERS};
-use engine_core::{run_check, run_read};
+use engine_core::{Plaintext, run_check, run_read};
 use ledger_core::{Failed, Sink, Source, write_all};
 use std::alloc::Global;
 use std::thread::Threads;
@@ -87,10 +87,10 @@ fn read_labelled<T: Threads + Sync, R: Source>(
     key: &Key,
     reader: &mut R,
     options: &OpenOptions,
-) -> Result<Vec<u8>, FileFault>
+) -> Result<Plaintext, FileFault>
     requires { AreInRange options.now }
     ensures plaintext { IfOk result (λ plain. IfSome (R.left reader.old) (λ input.
-        IsGood key.now options.now.max_bytes (asked_label options.now) input plain.items)) }
+        IsGood key.now options.now.max_bytes (asked_label options.now) input plain)) }
     ensures exact { IfErr result (λ fault. IfSome (R.left reader.old) (λ input.
         IsFaultOf key.now options.now.max_bytes (asked_label options.now) input fault)) }
     ensures fault { IfErr result (λ fault. (name : List ℕ) → IsSealedName name
@@ -160,8 +160,8 @@ fn open_file<T: Threads + Sync, F: OpeningFolder>(
         Err(FolderFault::Exists) => return FileOutcome::Failed(FileFault::OutputExists),
         Err(FolderFault::Failed) => return FileOutcome::Failed(FileFault::CannotCreate),
     };
-    match write_or_discard(folder, writer, key, name, plain.as_slice()) {
-        Ok(()) => FileOutcome::Opened(plain.len() as u64),
+    match write_or_discard(folder, writer, key, name, &plain) {
+        Ok(()) => FileOutcome::Opened(plain.len()),
         Err(Failed) => FileOutcome::Failed(FileFault::Unopened(OpenFault::Write)),
     }
 }

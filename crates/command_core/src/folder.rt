@@ -7,8 +7,9 @@ ghost use Rattle.command_core.specs.Trace.{Event, Creates, Discards, Does, Fails
 ghost use Rattle.command_core.specs.Trace.{IsOpenedBy, Refuses};
 
 use container_core::Key;
+use engine_core::Plaintext;
 use ledger_core::{Failed, Source};
-use output_core::{Output, put_all};
+use output_core::Output;
 use thiserror::Error;
 
 /// Why a folder refused a call.
@@ -77,7 +78,7 @@ pub trait Folder {
 pub trait OpeningFolder: Folder {
     /// Says, before anything is written to a new output, that it is to hold this plaintext: that of a container which
     /// was read. A folder over real files has nothing to do here.
-    fn allow_plain(&mut self, output: &mut Self::Writer, key: &Key, name: &str, plain: &[u8])
+    fn allow_plain(&mut self, output: &mut Self::Writer, key: &Key, name: &str, plain: &Plaintext)
         requires new { IsNew (Self.Writer.bound output.old) (Self.Writer.taken output.old) }
         requires read { IfSome (Self.told self.old) (IsOpenedBy key.now name.now plain.now) }
         ensures told { Self.told self.new ≡ Self.told self.old }
@@ -87,18 +88,22 @@ pub trait OpeningFolder: Folder {
             (IsBoundTo (λ held. Exactly (held ++ plain.now)) (Self.Writer.taken output.old)) };
 }
 
-// Writes all of an output, and finishes it. Where a write fails, or the finishing, the output comes back, to be given
+// Writes a plaintext to an output, and finishes it. Where a write fails, or the finishing, the output comes back, to be given
 // up.
-fn write_output<F: Folder>(folder: &mut F, output: F::Writer, bytes: &[u8]) -> Result<(), F::Writer>
-    requires may { Admits (F.Writer.bound output) (F.Writer.taken output) bytes.now }
-    ensures ok { OnOk result ((taken : Option (List ℕ)) × Appends (F.Writer.taken output) taken bytes.now
+fn write_output<F: Folder>(
+    folder: &mut F,
+    output: F::Writer,
+    plain: &Plaintext,
+) -> Result<(), F::Writer>
+    requires may { Admits (F.Writer.bound output) (F.Writer.taken output) plain.now }
+    ensures ok { OnOk result ((taken : Option (List ℕ)) × Appends (F.Writer.taken output) taken plain.now
         × Does (Finishes taken) (F.told folder.old) (F.told folder.new)) }
-    ensures err { IfErr result (λ back. AppendsFront (F.Writer.taken output) (F.Writer.taken back) bytes.now) }
+    ensures err { IfErr result (λ back. AppendsFront (F.Writer.taken output) (F.Writer.taken back) plain.now) }
     ensures untold { OnErr result (Does Nothing (F.told folder.old) (F.told folder.new)) }
     ensures session { F.session folder.new ≡ F.session folder.old }
 {
     let mut output = output;
-    match put_all(&mut output, bytes) {
+    match plain.put_to(&mut output) {
         Ok(()) => folder.finish(output),
         Err(Failed) => Err(output),
     }
@@ -111,7 +116,7 @@ pub(crate) fn write_or_discard<F: OpeningFolder>(
     output: F::Writer,
     key: &Key,
     name: &str,
-    plain: &[u8],
+    plain: &Plaintext,
 ) -> Result<(), Failed>
     requires new { IsNew (F.Writer.bound output) (F.Writer.taken output) }
     requires read { IfSome (F.told folder.old) (IsOpenedBy key.now name.now plain.now) }

@@ -19,3 +19,4 @@ pub use crate::folder::{Folder, FolderFault, OpeningFolder};
 pub use crate::key_file::{KeyFault, read_key};
 pub use crate::line::{FileFault, FileOutcome, Line};
 pub use crew_core::MAX_WORKERS;
+pub use engine_core::Plaintext;

@@ -14,13 +14,14 @@ ghost use Rattle.engine_core.specs.Engine.{HasReadPlain, HasWrittenRounds, HasRe
 ghost use Rattle.engine_core.specs.Engine.{HasHeader, OpensTo};
 ghost use Rattle.output_core.specs.Bounds.{Admits};
 
+use crate::plaintext::Plaintext;
 use crate::windows::open_rounds;
 use container_core::{Header, Key, MAX_OPENED, MAX_PLAIN, OpenFault, SealFault, Shape};
 use crew_core::{DEFAULT_WINDOW, Gate, MAX_WINDOW, MAX_WORKERS};
-use ledger_core::{Failed, Grant, Sink, Source, Spent, write_all};
+use ledger_core::{Failed, Grant, Sink, Source, Spent};
 use output_core::Output;
 use pipe_core::pipe_rounds;
-use round_core::Task;
+use round_core::{Parts, Task};
 use std::alloc::Global;
 use std::sync::Wait;
 use std::thread::Threads;
@@ -181,7 +182,40 @@ pub fn run_plain<T: Threads + Sync, R: Source, G: Gate + Sync>(
     run_plain_by(rt, alloc, key, reader, max_bytes, workers, window, gate)
 }
 
-/// `run_plain`, which answers with the plaintext the container's header. Its rounds have `usual_opening` chunks.
+// Reads a container and opens it in rounds of `window` chunks, or of `usual_opening` where no number is given.
+fn read_rounds<T: Threads + Sync, R: Source, G: Gate + Sync>(
+    rt: &T,
+    alloc: Global,
+    key: &Key,
+    reader: &mut R,
+    max_bytes: u64,
+    workers: u32,
+    window: Option<u32>,
+    gate: &G,
+) -> Result<(Header, Plaintext), OpenFault>
+    requires max_bytes { max_bytes ≤ MAX_OPENED }
+    requires workers { (0 < workers) × (workers ≤ MAX_WORKERS) }
+    requires window { IfSome window (λ chunks. (0 < chunks) × (chunks ≤ MAX_WINDOW)) }
+    ensures header { IfOk result (λ read. IfSome (R.left reader.old) (HasHeader read.0)) }
+    ensures plaintext { IfOk result (λ read.
+        IfSome (R.left reader.old) (λ input. opening key.now max_bytes input ≡ Ok read.1)) }
+    ensures no_write { result ≢ Err OpenFault.Write }
+    ensures reads { HasReadContainer key.now max_bytes (R.left reader.old) (R.left reader.new)
+        (R.failures reader.old) (R.failures reader.new) result }
+{
+    let task = Task::Opening;
+    let mut parts = Parts::new(alloc);
+    match open_rounds(
+        rt, alloc, task, key, reader, max_bytes, workers, window, &mut parts, gate,
+    ) {
+        Ok((header, bytes)) => Ok((header, Plaintext::of(parts, bytes))),
+        Err(fault) => Err(fault),
+    }
+}
+
+/// Reads a container and checks it, as `run_plain` does, and answers its header and its plaintext, which stays in the
+/// buffers in which its chunks were opened: none of its bytes is copied. Its rounds have `usual_opening` chunks. It
+/// takes the memory of the plaintext, with 40 bytes for each chunk, and beside it what `run_plain_by` takes.
 pub fn run_read<T: Threads + Sync, R: Source, G: Gate + Sync>(
     rt: &T,
     alloc: Global,
@@ -190,36 +224,21 @@ pub fn run_read<T: Threads + Sync, R: Source, G: Gate + Sync>(
     max_bytes: u64,
     workers: u32,
     gate: &G,
-) -> Result<(Header, Vec<u8>), OpenFault>
+) -> Result<(Header, Plaintext), OpenFault>
     requires max_bytes { max_bytes ≤ MAX_OPENED }
     requires workers { (0 < workers) × (workers ≤ MAX_WORKERS) }
     ensures header { IfOk result (λ read. IfSome (R.left reader.old) (HasHeader read.0)) }
     ensures plaintext { IfOk result (λ read.
-        IfSome (R.left reader.old) (λ input. opening key.now max_bytes input ≡ Ok read.1.items)) }
+        IfSome (R.left reader.old) (λ input. opening key.now max_bytes input ≡ Ok read.1)) }
     ensures no_write { result ≢ Err OpenFault.Write }
     ensures reads { HasReadContainer key.now max_bytes (R.left reader.old) (R.left reader.new)
         (R.failures reader.old) (R.failures reader.new) result }
 {
-    let mut out = Vec::new(alloc);
-    match open_rounds(
-        rt,
-        alloc,
-        Task::Opening,
-        key,
-        reader,
-        max_bytes,
-        workers,
-        None,
-        &mut out,
-        gate,
-    ) {
-        Ok((header, _)) => Ok((header, out)),
-        Err(fault) => Err(fault),
-    }
+    read_rounds(rt, alloc, key, reader, max_bytes, workers, None, gate)
 }
 
-/// Reads a container and writes its plaintext, once every chunk was checked: `run_plain_by`, and the writing. Answers
-/// the plaintext's length, or the first fault of the container. At every fault but `Write` nothing was written; at
+/// Reads a container and writes its plaintext, once every chunk was checked, in rounds of `window` chunks (1 to 256).
+/// Answers the plaintext's length, or the first fault of the container. At every fault but `Write` nothing was written; at
 /// `Write` the whole input was read, and a beginning of its plaintext was written, and not the whole.
 pub fn run_open_by<T: Threads + Sync, R: Source, W: Sink, G: Gate + Sync>(
     rt: &T,
@@ -240,9 +259,21 @@ pub fn run_open_by<T: Threads + Sync, R: Source, W: Sink, G: Gate + Sync>(
     ensures writes { HasWrittenPlain key.now max_bytes (R.left reader.old)
         (W.taken writer.old) (W.taken writer.new) (W.failures writer.old) (W.failures writer.new) result }
 {
-    let plain = run_plain_by(rt, alloc, key, reader, max_bytes, workers, window, gate)?;
-    match write_all(writer, plain.as_slice()) {
-        Ok(()) => Ok(plain.len() as u64),
+    let (_, plain) = match read_rounds(
+        rt,
+        alloc,
+        key,
+        reader,
+        max_bytes,
+        workers,
+        Some(window),
+        gate,
+    ) {
+        Ok(read) => read,
+        Err(fault) => return Err(fault),
+    };
+    match plain.put_to(writer) {
+        Ok(()) => Ok(plain.len()),
         Err(Failed) => Err(OpenFault::Write),
     }
 }

@@ -20,6 +20,7 @@ ghost use Rattle.engine_core.specs.Windows.{HasTurned, OpensRound, IsReady};
 
 use crate::front::{open_front, refuse};
 use crate::rooms::{Rooms, byte_behind};
+use crate::taking::Taking;
 use container_core::laws::{chunks_by_number, chunks_of_two_parts, rounds_open};
 use container_core::{Cut, Header, Key, MAX_CHUNKS, MAX_OPENED, OpenFault, TAG, begin_within};
 use io_core::{Failed, Source};
@@ -50,19 +51,21 @@ fn plain_bytes(chunks: u32, header: &Header) -> u64
 }
 
 // Takes the plaintext of the round before, and reads the next one on behind the byte of it that was seen.
-fn turn<R: Source>(
+fn turn<R: Source, O: Taking>(
+    alloc: Global,
     reader: &mut R,
-    out: &mut Vec<u8>,
-    places: &Places,
+    out: &mut O,
+    places: &mut Places,
     next: &mut Window,
     ahead: u8,
     upto: usize,
 ) -> Result<(), OpenFault>
     requires { (0 < upto) × (upto ≤ next.old.room) }
-    ensures { HasTurned (R.left reader.old) (R.left reader.new) (R.failures reader.old) (R.failures reader.new)
-        out.old.items out.new.items places.now.values next.old next.new ahead upto result }
+    ensures turned { HasTurned (R.left reader.old) (R.left reader.new) (R.failures reader.old) (R.failures reader.new)
+        (O.bytes out.old) (O.bytes out.new) places.old.values next.old next.new ahead upto result }
+    ensures places { (places.new.room ≡ places.old.room) × (places.new.size ≡ places.old.size) }
 {
-    if places.append_to(out).is_err() {
+    if out.take(alloc, places).is_err() {
         return Err(OpenFault::OutOfMemory);
     }
     next.begin_with(ahead);
@@ -174,7 +177,7 @@ fn full_round<'a>(
 
 // Opens a full round, while the plaintext of the one before is taken and the next one is read, behind the byte of it
 // that was seen.
-fn open_full<T: Threads + Sync, R: Source, G: Gate + Sync>(
+fn open_full<T: Threads + Sync, R: Source, G: Gate + Sync, O: Taking>(
     rt: &T,
     alloc: Global,
     task: Task,
@@ -184,7 +187,7 @@ fn open_full<T: Threads + Sync, R: Source, G: Gate + Sync>(
     chunks: u32,
     rooms: &mut Rooms,
     reader: &mut R,
-    out: &mut Vec<u8>,
+    out: &mut O,
     upto: usize,
     gate: &G,
 ) -> Result<(), OpenFault>
@@ -199,7 +202,7 @@ fn open_full<T: Threads + Sync, R: Source, G: Gate + Sync>(
         (take (chunks * (size_in header.now + TAG)) rooms.old.current.held)) }
     ensures count { OnOk result (length rooms.new.places.values ≡ chunks) }
     ensures turned { HasTurned (R.left reader.old) (R.left reader.new) (R.failures reader.old) (R.failures reader.new)
-        out.old.items out.new.items rooms.old.places.values rooms.old.next rooms.new.current
+        (O.bytes out.old) (O.bytes out.new) rooms.old.places.values rooms.old.next rooms.new.current
         (slice_index rooms.old.current.held (chunks * (size_in header.now + TAG))) upto result }
     ensures ready { IsReady task (size_in header.now) (chunks * (size_in header.now + TAG))
         rooms.new.crew rooms.new.places }
@@ -213,14 +216,16 @@ fn open_full<T: Threads + Sync, R: Source, G: Gate + Sync>(
     } = rooms;
     let ahead = byte_behind(current, sealed_bytes(chunks, header));
     let round = full_round(task, key, header, first, chunks, current);
-    let waiting = &*places;
+    let waiting = &mut *places;
     let behind = &mut *next;
     let mut chore = || -> Result<(), OpenFault>
         requires { (0 < upto) × (upto ≤ behind.now.room) }
-        ensures { HasTurned (R.left reader.entry.now) (R.left reader.exit.now) (R.failures reader.entry.now)
-            (R.failures reader.exit.now) out.entry.now.items out.exit.now.items waiting.entry.now.values
+        ensures turned { HasTurned (R.left reader.entry.now) (R.left reader.exit.now) (R.failures reader.entry.now)
+            (R.failures reader.exit.now) (O.bytes out.entry.now) (O.bytes out.exit.now) waiting.entry.now.values
             behind.entry.now behind.exit.now ahead upto result }
-    { turn(reader, out, waiting, behind, ahead, upto) };
+        ensures places { (waiting.exit.now.room ≡ waiting.entry.now.room)
+            × (waiting.exit.now.size ≡ waiting.entry.now.size) }
+    { turn(alloc, reader, out, waiting, behind, ahead, upto) };
     let turned = crew.make(rt, alloc, &round, gate, &mut chore);
     crew.put(&round, places);
     mem::swap(current, next);
@@ -228,7 +233,7 @@ fn open_full<T: Threads + Sync, R: Source, G: Gate + Sync>(
 }
 
 // Opens the last round, and takes the plaintext of the one before and of this.
-fn open_last<T: Threads + Sync, G: Gate + Sync>(
+fn open_last<T: Threads + Sync, G: Gate + Sync, O: Taking>(
     rt: &T,
     alloc: Global,
     task: Task,
@@ -236,7 +241,7 @@ fn open_last<T: Threads + Sync, G: Gate + Sync>(
     header: &Header,
     first: u32,
     rooms: &mut Rooms,
-    out: &mut Vec<u8>,
+    out: &mut O,
     gate: &G,
 ) -> Result<(), OpenFault>
     requires task { task ≢ Task.Sealing }
@@ -246,7 +251,7 @@ fn open_last<T: Threads + Sync, G: Gate + Sync>(
         rooms.old.crew rooms.old.places }
     ensures opened { OnOk result ((last : List ℕ)
         × OpensRound task key.now header.now first true rooms.old.current.held last
-        × (out.new.items ≡ (out.old.items ++ joined rooms.old.places.values) ++ last)) }
+        × (O.bytes out.new ≡ (O.bytes out.old ++ joined rooms.old.places.values) ++ last)) }
     ensures refused { IfErr result (λ fault. IsOfBytes fault
         → unsealed_by key.now header.now first true (sealed_chunks (size_in header.now) rooms.old.current.held)
         ≡ Err fault) }
@@ -265,10 +270,13 @@ fn open_last<T: Threads + Sync, G: Gate + Sync>(
         unreachable!();
     };
     let round = Round::new(task, key, header, first, true, cut, bytes);
-    let waiting = &*places;
+    let waiting = &mut *places;
     let mut chore = || -> Result<(), AllocError>
-        ensures { OnOk result (out.exit.now.items ≡ out.entry.now.items ++ joined waiting.entry.now.values) }
-    { waiting.append_to(out) };
+        ensures bytes { OnOk result (O.bytes out.exit.now
+            ≡ O.bytes out.entry.now ++ joined waiting.entry.now.values) }
+        ensures places { (waiting.exit.now.room ≡ waiting.entry.now.room)
+            × (waiting.exit.now.size ≡ waiting.entry.now.size) }
+    { out.take(alloc, waiting) };
     if crew.make(rt, alloc, &round, gate, &mut chore).is_err() {
         return Err(OpenFault::OutOfMemory);
     }
@@ -277,7 +285,7 @@ fn open_last<T: Threads + Sync, G: Gate + Sync>(
         Ok(()) => {}
         Err(fault) => return Err(fault),
     }
-    match places.append_to(out) {
+    match out.take(alloc, places) {
         Ok(()) => Ok(()),
         Err(AllocError) => Err(OpenFault::OutOfMemory),
     }
@@ -285,7 +293,7 @@ fn open_last<T: Threads + Sync, G: Gate + Sync>(
 
 // Opens all that stands behind a header in rounds, appends its plaintext where it isn't only checked, and answers how
 // many bytes that has.
-fn open_body<T: Threads + Sync, R: Source, G: Gate + Sync>(
+fn open_body<T: Threads + Sync, R: Source, G: Gate + Sync, O: Taking>(
     rt: &T,
     alloc: Global,
     task: Task,
@@ -295,7 +303,7 @@ fn open_body<T: Threads + Sync, R: Source, G: Gate + Sync>(
     max_bytes: u64,
     workers: u32,
     window: u32,
-    out: &mut Vec<u8>,
+    out: &mut O,
     gate: &G,
 ) -> Result<u64, OpenFault>
     requires task { task ≢ Task.Sealing }
@@ -305,10 +313,10 @@ fn open_body<T: Threads + Sync, R: Source, G: Gate + Sync>(
     requires max_bytes { max_bytes ≤ MAX_OPENED }
     requires workers { (0 < workers) × (workers ≤ MAX_WORKERS) }
     requires window { (0 < window) × (window ≤ MAX_WINDOW) }
-    requires empty { out.old.items ≡ [] }
+    requires empty { O.bytes out.old ≡ [] }
     ensures opened { IfOk result (λ n. (plain : List ℕ) × (n ≡ length plain)
         × Answers key.now header.now max_bytes (R.left reader.old) (R.left reader.new) (Ok plain)
-        × (task ≡ Task.Opening → out.new.items ≡ plain)) }
+        × (task ≡ Task.Opening → O.bytes out.new ≡ plain)) }
     ensures refused { IfErr result (λ fault. IsOfBytes fault
         → Answers key.now header.now max_bytes (R.left reader.old) (R.left reader.new) (Err fault)) }
     ensures bound { ConsumesUpTo (R.left reader.old) (R.left reader.new)
@@ -357,7 +365,7 @@ fn open_body<T: Threads + Sync, R: Source, G: Gate + Sync>(
 /// 1 to 16 workers, appends its plaintext where the task is `Opening`, and answers its header and
 /// how many bytes the plaintext has; or the first fault of the container. A failure leaves some of the plaintext. Of an
 /// input that is too long one byte past the longest container is read.
-pub(crate) fn open_rounds<T: Threads + Sync, R: Source, G: Gate + Sync>(
+pub(crate) fn open_rounds<T: Threads + Sync, R: Source, G: Gate + Sync, O: Taking>(
     rt: &T,
     alloc: Global,
     task: Task,
@@ -366,19 +374,20 @@ pub(crate) fn open_rounds<T: Threads + Sync, R: Source, G: Gate + Sync>(
     max_bytes: u64,
     workers: u32,
     window: Option<u32>,
-    out: &mut Vec<u8>,
+    out: &mut O,
     gate: &G,
 ) -> Result<(Header, u64), OpenFault>
     requires task { task ≢ Task.Sealing }
     requires max_bytes { max_bytes ≤ MAX_OPENED }
     requires workers { (0 < workers) × (workers ≤ MAX_WORKERS) }
     requires window { IfSome window (λ chunks. (0 < chunks) × (chunks ≤ MAX_WINDOW)) }
-    requires empty { out.old.items ≡ [] }
+    requires empty { O.bytes out.old ≡ [] }
     ensures header { IfOk result (λ opened. IfSome (R.left reader.old) (HasHeader opened.0)) }
     ensures length { IfOk result (λ opened. IfSome (R.left reader.old) (λ input.
         OpensTo key.now max_bytes input opened.1)) }
     ensures plaintext { OnOk result (task ≡ Task.Opening
-        → IfSome (R.left reader.old) (λ input. opening key.now max_bytes input ≡ Ok out.new.items)) }
+        → IfSome (R.left reader.old) (λ input. opening key.now max_bytes input ≡ Ok (O.bytes out.new))) }
+    ensures taken { IfOk result (λ opened. task ≡ Task.Opening → opened.1 ≡ length (O.bytes out.new)) }
     ensures no_write { result ≢ Err OpenFault.Write }
     ensures reads { HasReadContainer key.now max_bytes (R.left reader.old) (R.left reader.new)
         (R.failures reader.old) (R.failures reader.new) result }

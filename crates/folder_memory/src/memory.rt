@@ -18,7 +18,7 @@ ghost use Rattle.folder_memory.specs.Memory.{with_bytes, without};
 use crate::session::{SessionNote, is_shape};
 use crate::streams::{MemoryReader, MemoryWriter, Pace, STEADY, Shown, new_writer};
 use crate::told::{Told, created, discarded, finished, reading, refused, tell, unread};
-use command_core::{Folder, FolderFault, OpeningFolder};
+use command_core::{Folder, FolderFault, OpeningFolder, Plaintext};
 use container_core::{Key, Shape};
 use front_core::SealingFolder;
 use ledger_core::{Ledger, Seat};
@@ -425,7 +425,13 @@ impl Folder for MemoryFolder {
 
 impl OpeningFolder for MemoryFolder {
     // It tells no bound of what an output may hold.
-    fn allow_plain(&mut self, output: &mut MemoryWriter, _key: &Key, _name: &str, _plain: &[u8])
+    fn allow_plain(
+        &mut self,
+        output: &mut MemoryWriter,
+        _key: &Key,
+        _name: &str,
+        _plain: &Plaintext,
+    )
         ensures folder { self.new ≡ self.old }
         ensures output { output.new ≡ output.old }
     {}

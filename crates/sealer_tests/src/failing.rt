@@ -4,7 +4,7 @@ use container_core::{Key, Shape};
 use folder_memory::{MemoryFolder, MemoryReader, MemoryWriter};
 use ledger_core::{Failed, Ledger, Seat, Sink, Source};
 use reserve_core::Fold;
-use sealer_core::{Folder, FolderFault, LedgerFile, OpeningFolder, SealingFolder};
+use sealer_core::{Folder, FolderFault, LedgerFile, OpeningFolder, Plaintext, SealingFolder};
 use std::sync::atomic::{AtomicU64, Ordering};
 
 /// How many calls were made, and which one fails.
@@ -120,7 +120,7 @@ impl<'a> OpeningFolder for Failing<'a> {
         _output: &mut FailingWriter<'a>,
         _key: &Key,
         _name: &str,
-        _plain: &[u8],
+        _plain: &Plaintext,
     ) {}
 }
 

@@ -4,7 +4,7 @@ ghost use Rattle.std.specs.Prelude.{◌≢◌, Err};
 use crate::ledger::{is_beside, is_of_ledger};
 use crate::places::put_below;
 use crate::progress::{Counted, Progress};
-use command_core::{Folder, FolderFault, OpeningFolder};
+use command_core::{Folder, FolderFault, OpeningFolder, Plaintext};
 use container_core::{Key, Shape};
 use front_core::SealingFolder;
 use ledger_core::{FromRead, Ledger, Seat, ToWrite};
@@ -223,7 +223,13 @@ impl<'p, 'r, R: Files + AllocGlobal + Clock + Eprint> Folder for SystemFiles<'p,
 
 // What an output may hold is asked by the prover, of who writes it. Here nothing is to be done for it.
 impl<'p, 'r, R: Files + AllocGlobal + Clock + Eprint> OpeningFolder for SystemFiles<'p, 'r, R> {
-    fn allow_plain(&mut self, _output: &mut Self::Writer, _key: &Key, _name: &str, _plain: &[u8]) {}
+    fn allow_plain(
+        &mut self,
+        _output: &mut Self::Writer,
+        _key: &Key,
+        _name: &str,
+        _plain: &Plaintext,
+    ) {}
 }
 
 impl<'p, 'r, R: Files + AllocGlobal + Clock + Eprint> SealingFolder for SystemFiles<'p, 'r, R> {

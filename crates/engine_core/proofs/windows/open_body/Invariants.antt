@@ -14,7 +14,7 @@ invariant-rounds g l = record {
   plain : List ℕ;
   consumed : Consumes (g.R.Source.left l.fn.reader) (g.R.Source.left l.reader) (past ++ l.rooms.current.held);
   opens : OpensBehind l.key l.header l.first past plain;
-  kept : l.task ≡ Opening → plain ≡ l.out.items ++ joined l.rooms.places.values;
+  kept : l.task ≡ Opening → plain ≡ g.O.Taking.bytes l.out ++ joined l.rooms.places.values;
   long : length past ≡ l.first * (size_in l.header + 16);
   total : (l.total ≡ length l.header + (l.first * (size_in l.header + 16) + length l.rooms.current.held)) × (l.total ≤ l.limit);
   held : length l.rooms.current.held ≤ l.fn.window * (size_in l.header + 16) + 1;

@@ -1,4 +1,4 @@
-use Rattle.std.proofs.Common.{◌≡◌, true, length, ap, ◌∙◌, arith}
+use Rattle.std.proofs.Common.{rules, ◌≡◌, true, length, ap, ◌∙◌, arith}
 use Rattle.std.proofs.lemmas.Result.{IfErr-at_err}
 use Rattle.container_core.specs.Chunks.{body_length}
 use Rattle.container_core.specs.Container.{size_in}
@@ -44,4 +44,6 @@ put-requires-clause-room g c =
     ∙ count-last c.args.task size body plain c.requires.task (c.chunks_by_number.ensures.sealed_count size body plain (some_size c.args.header.now) long) in
     let made = ap (λ r. length r.values) c.new-round.ensures in
     let room = count-room size plain c.args.rooms.now.places.room (some_size c.args.header.now) (omega (arith, is, c.requires.ready.enough)) in
-    omega (arith, values, made, room)
+    let same = c.make.ensures.chore.met.1.1.0 in
+    let back : c.make.new.chore.2.now ≡ c.places-2-1.given.0 = search rules in
+    rw (← back) (omega (arith, values, made, room, same))
