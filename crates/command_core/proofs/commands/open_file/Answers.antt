@@ -6,10 +6,10 @@ pub returns-in-Ok-write_or_discard-clause-events : goal.returns-in-Ok-write_or_d
 returns-in-Ok-write_or_discard-clause-events g c =
     all_written _ _ _ _ _ _ _ _ _ _ _ _ _ c.in-Some.ensures.name c.in-Ok.ensures.opened
     c.in-Ok-read_labelled.ensures.plaintext
-    c.in-Ok-create.ensures.created (rw (← c.as_slice.ensures.value) c.in-Ok-write_or_discard.ensures.ok) (search rules)
+    c.in-Ok-create.ensures.created c.in-Ok-write_or_discard.ensures.ok (search rules)
 
 pub returns-clause-events : goal.returns-clause-events
 returns-clause-events g c =
     not_written _ _ _ _ _ _ _ _ _ _ _ _ c.in-Some.ensures.name c.in-Ok.ensures.opened
     c.in-Ok-read_labelled.ensures.plaintext
-    c.in-Ok-create.ensures.created (rw (← c.as_slice.ensures.value) c.in-Err-write_or_discard.ensures.err)
+    c.in-Ok-create.ensures.created c.in-Err-write_or_discard.ensures.err
