@@ -11,6 +11,6 @@ chunks_in bytes chunk workers = if workers == 1 then max (min (bytes / chunk) 16
 abbrev pub usual : ℕ → ℕ → ℕ
 usual chunk workers = chunks_in 1048576 chunk workers
 
--- where they are opened or checked: as many as 256 KiB has by one worker, and 4 MiB by several
+-- where they are opened or checked: as many as 256 KiB has by one worker, and 2 MiB by several
 abbrev pub usual_opening : ℕ → ℕ → ℕ
-usual_opening chunk workers = chunks_in (if workers == 1 then 262144 else 4194304) chunk workers
+usual_opening chunk workers = chunks_in (if workers == 1 then 262144 else 2097152) chunk workers

@@ -16,7 +16,7 @@ pub const ROUND_BYTES: usize = 1 << 20;
 pub const OPENING_BYTES: usize = 1 << 18;
 
 /// The same where several do.
-pub const CREW_BYTES: usize = 1 << 22;
+pub const CREW_BYTES: usize = 1 << 21;
 
 // As many chunks as so many bytes have: by one worker at most `DEFAULT_WINDOW` and at least one, by several at most
 // `MAX_WINDOW` and at least one each.
