@@ -56,7 +56,7 @@ name_of (Read name writer bytes) = name.now
 -- Where no output was created, it has such a fault; where it was read, nothing can be written to its output yet.
 abbrev pub IsPrepared : {W : Type 0} → (W → Option Bound) → (W → Option (List ℕ)) → Prepared W → Type 0
 IsPrepared bound taken (Refused name fault) = IsUnmade fault
-IsPrepared bound taken (Unread name writer fault) = ⊤
+IsPrepared bound taken (Unread name writer fault) = fault ≢ sealing_fault.TooManyChunks
 IsPrepared bound taken (Read name writer bytes) = IsNew (bound writer) (taken writer)
 
 -- how many bytes it has, where it was read

@@ -63,7 +63,7 @@ IsOfSealing (Failed OutputExists) = ⊤
 IsOfSealing (Failed CannotCreate) = ⊤
 IsOfSealing (Failed OutOfMemory) = ⊤
 IsOfSealing (Failed NoNumber) = ⊤
-IsOfSealing (Failed (Unsealed fault)) = ⊤
+IsOfSealing (Failed (Unsealed fault)) = fault ≢ sealing_fault.TooManyChunks
 IsOfSealing _ = ⊥
 
 -- the fault of a file for which no number was issued
