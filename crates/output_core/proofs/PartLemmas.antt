@@ -1,5 +1,5 @@
 -- Bytes that are written buffer by buffer.
-use Rattle.std.proofs.Common.{◌≡◌, ℕ, suc, ◌+◌, ◌<◌, List, [], ◌∷◌, ◌++◌, length, take, drop, get_or, flat_map, Option, None, Some, Result, Ok, Err, OnErr, sym, ap, ◌∙◌, append_assoc, append-nil, take-append-drop, arith, length-append}
+use Rattle.std.proofs.Common.{◌≡◌, ℕ, suc, ◌+◌, ◌<◌, List, [], ◌∷◌, ◌++◌, length, take, drop, get_or, flat_map, Option, None, Some, sym, ap, ◌∙◌, append_assoc, append-nil, take-append-drop, arith, length-append}
 use Rattle.std.proofs.lemmas.Grind.{flat_map-append}
 use Rattle.std.proofs.lemmas.List.Concat.{flat_map-cons}
 use Rattle.std.proofs.Math.Seq.{drop-cons}
@@ -53,7 +53,3 @@ lacks_within (Some xs) None c done part rest before begun lacks = absurd before
 lacks_within (Some xs) (Some ys) None done part rest before begun lacks = absurd begun.2
 lacks_within (Some xs) (Some ys) (Some zs) done part rest before begun lacks =
     short xs ys zs done part rest begun.0 begun.1.0 before begun.1.1 begun.2 lacks
-
-pub map_err : {T E : Type 0} {P Q : Type 0} (r : Result T E) → (P → Q) → OnErr r P → OnErr r Q
-map_err (Ok x) h p = tt
-map_err (Err e) h p = h p
