@@ -154,7 +154,7 @@ fn two_workers_meet_in_each_engine(rt: HostRuntime) -> Result<(), Fail> {
     Ok(())
 }
 
-// Whether two workers meet over a container of two chunks of 1 MiB, whose windows have two chunks for each worker.
+// Whether two workers meet over a container of two chunks of 1 MiB, whose windows have a chunk for each worker.
 fn meet_over_great_chunks<R: Threads + Sync>(rt: &R, alloc: Global, plain: &[u8]) -> Option<bool> {
     let shape = Shape::two(20, b"").ok()?;
     let container = seal(alloc, &Key::new(COUNTING), &shape, PREFIX, plain).ok()?;
