@@ -16,6 +16,10 @@ pub(crate) trait Taking {
         ensures bytes { OnOk result (bytes self.new ≡ bytes self.old ++ joined places.old.values) }
         ensures room { places.new.room ≡ places.old.room }
         ensures size { places.new.size ≡ places.old.size };
+
+    /// The same of the last round, behind which the places serve no other.
+    fn take_last(&mut self, alloc: Global, places: &mut Places) -> Result<(), AllocError>
+        ensures bytes { OnOk result (bytes self.new ≡ bytes self.old ++ joined places.old.values) };
 }
 
 /// Copied, behind one another.
@@ -23,6 +27,10 @@ impl Taking for Vec<u8> {
     ghost bytes = { λ out. out.items };
 
     fn take(&mut self, _alloc: Global, places: &mut Places) -> Result<(), AllocError> {
+        places.append_to(self)
+    }
+
+    fn take_last(&mut self, _alloc: Global, places: &mut Places) -> Result<(), AllocError> {
         places.append_to(self)
     }
 }
@@ -33,5 +41,9 @@ impl Taking for Parts {
 
     fn take(&mut self, alloc: Global, places: &mut Places) -> Result<(), AllocError> {
         places.move_to(alloc, self)
+    }
+
+    fn take_last(&mut self, alloc: Global, places: &mut Places) -> Result<(), AllocError> {
+        places.pour_to(alloc, self)
     }
 }

@@ -285,7 +285,7 @@ fn open_last<T: Threads + Sync, G: Gate + Sync, O: Taking>(
         Ok(()) => {}
         Err(fault) => return Err(fault),
     }
-    match out.take(alloc, places) {
+    match out.take_last(alloc, places) {
         Ok(()) => Ok(()),
         Err(AllocError) => Err(OpenFault::OutOfMemory),
     }

@@ -10,7 +10,8 @@ use crate::places::Places;
 use std::alloc::{AllocError, Global};
 use std::mem;
 
-// Moves the bytes of a piece behind others, where it checks, and puts a fresh buffer in the place of theirs.
+// Moves the bytes of a piece behind others, where it checks, and puts a fresh buffer, of so many bytes, in the place of
+// theirs.
 fn move_piece(
     alloc: Global,
     piece: &mut Piece,
@@ -66,13 +67,31 @@ impl Places {
     }
 
     /// Moves the bytes of the pieces from their places behind others, in order, and none of a piece that doesn't check.
-    /// No byte is copied: a place gets a fresh buffer, with room for as many bytes as before. `AllocError`, with some of
-    /// them moved, where memory for one was refused. What stands on the places then isn't told.
+    /// No byte is copied: a place gets a fresh buffer, with room for as many bytes as before, and none is taken then.
+    /// `AllocError`, with some of them moved, where memory was refused.
     pub fn move_to(&mut self, alloc: Global, out: &mut Parts) -> Result<(), AllocError>
         ensures bytes { OnOk result (out.new ≡ out.old ++ joined self.old.values) }
+        ensures values { OnOk result (self.new.values ≡ []) }
         ensures room { self.new.room ≡ self.old.room }
         ensures size { self.new.size ≡ self.old.size }
     {
-        move_pieces(alloc, &mut self.pieces, self.count, self.size, out)
+        move_pieces(alloc, &mut self.pieces, self.count, self.size, out)?;
+        self.count = 0;
+        Ok(())
+    }
+
+    /// The same of a last round: no fresh buffers are made, and there are no places then. `AllocError`, with some of the
+    /// bytes moved, where memory for the list of buffers was refused.
+    pub fn pour_to(&mut self, alloc: Global, out: &mut Parts) -> Result<(), AllocError>
+        ensures bytes { OnOk result (out.new ≡ out.old ++ joined self.old.values) }
+        ensures values { self.new.values ≡ [] }
+        ensures room { self.new.room ≡ 0 }
+        ensures size { self.new.size ≡ self.old.size }
+    {
+        let mut pieces = Vec::new(alloc);
+        mem::swap(&mut self.pieces, &mut pieces);
+        let count = self.count;
+        self.count = 0;
+        move_pieces(alloc, &mut pieces, count, 0, out)
     }
 }

@@ -1,5 +1,5 @@
 //! Bytes in several buffers, one behind the other, as the pieces of rounds leave them.
-ghost use Rattle.std.specs.Prelude.{◌≡◌, ◌++◌, [], flat_map, OnOk};
+ghost use Rattle.std.specs.Prelude.{◌≡◌, ◌++◌, [], flat_map, OnOk, OnErr};
 
 use std::alloc::{AllocError, Global};
 use std::marker::Model;
@@ -32,6 +32,7 @@ impl Parts {
     /// place was refused.
     pub fn push(&mut self, buffer: Vec<u8>) -> Result<(), AllocError>
         ensures added { OnOk result (self.new ≡ self.old ++ buffer.items) }
+        ensures kept { OnErr result (self.new ≡ self.old) }
     {
         match self.buffers.push(buffer) {
             Ok(()) => Ok(()),
