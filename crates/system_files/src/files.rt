@@ -174,7 +174,7 @@ pub fn open_unbuffered<R: Files>(rt: &R, name: &str) -> Result<R::File, FolderFa
 impl<'p, 'r, R: Files + AllocGlobal + Clock + Eprint> Folder for SystemFiles<'p, 'r, R> {
     type Reader = FromRead<Counted<'p, 'r, R, BufReader<R::File>>>;
 
-    // No buffer is wanted: who writes an output hands over a whole plaintext, or many chunks of it, in one call.
+    // No buffer is wanted: who writes an output hands over a chunk, or many of them, in one call.
     type Writer = ToWrite<Output<R::File>>;
 
     fn open(&mut self, name: &str) -> Result<Self::Reader, FolderFault> {
