@@ -215,8 +215,8 @@ fn read_rounds<T: Threads + Sync, R: Source, G: Gate + Sync>(
 
 /// Reads a container and checks it, as `run_plain` does, and answers its header and its plaintext, which stays in the
 /// buffers in which its chunks were opened: none of its bytes is copied. Its rounds have `usual_opening` chunks. It
-/// takes the memory of the plaintext, with 40 to 64 bytes for each chunk, of two windows of sealed chunks, and of a window of
-/// plaintext and as much for each worker.
+/// takes the memory of the plaintext, with 40 to 64 bytes for each chunk, of two windows of sealed chunks, and of a
+/// window of plaintext and as much for each worker.
 pub fn run_read<T: Threads + Sync, R: Source, G: Gate + Sync>(
     rt: &T,
     alloc: Global,
