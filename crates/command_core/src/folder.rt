@@ -88,8 +88,8 @@ pub trait OpeningFolder: Folder {
             (IsBoundTo (λ held. Exactly (held ++ plain.now)) (Self.Writer.taken output.old)) };
 }
 
-// Writes a plaintext to an output, and finishes it. Where a write fails, or the finishing, the output comes back, to be given
-// up.
+// Writes a plaintext to an output, and finishes it. Where a write fails, or the finishing, the output comes back, to be
+// given up.
 fn write_output<F: Folder>(
     folder: &mut F,
     output: F::Writer,

@@ -2,9 +2,9 @@
 //!
 //! `engine` has those of one thread, `run` those with workers, whose answers are the same, and
 //! `pipe` the one that seals a stream of any length. `front` reads a header, and
-//! `reading` what is read whole before anything is written; `windows` has what opens or checks a window at a time, over the
-//! room of `rooms`, and `taking` what its pieces are taken to. `plaintext` is what a container opened to. `auditor` has the
-//! audit.
+//! `reading` what is read whole before anything is written; `windows` has what opens or checks a window at a time,
+//! over the room of `rooms`, and `taking` what its pieces are taken to. `plaintext` is what a container opened to.
+//! `auditor` has the audit.
 #![tactic(auto)]
 
 pub mod auditor;

@@ -33,7 +33,8 @@ use Rattle.command_core.specs.Lines.{FileLine}
 use Rattle.command_core.specs.Session.{IsNew, Session, started, times_begun}
 use Rattle.output_core.specs.Bounds.{Bound}
 use Rattle.sealer_core.specs.Sealing.{IsOfSealing, unissued_as, line_of, prepared, sealed_name, void_at}
-use Rattle.sealer_core.specs.Sealing.{FitsFault, IsClosed, operations_of, times_in, times_sealed, times_voided, times_told}
+use Rattle.sealer_core.specs.Sealing.{FitsFault, IsClosed, operations_of, times_in, times_sealed, times_told}
+use Rattle.sealer_core.specs.Sealing.{times_voided}
 use Rattle.command_core.specs.Trace.{Discards, tape}
 use Rattle.command_core.specs.Trace as trace
 use Rattle.command_core.specs.Work.{AreTold}
