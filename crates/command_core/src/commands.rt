@@ -5,7 +5,6 @@
 ghost use Rattle.std.specs.Prelude.{◌≡◌, ℕ, ◌<◌, ◌≤◌, List, [], ◌∷◌, ◌++◌, length, map, take, Option, Ok, Err, IfSome};
 ghost use Rattle.std.specs.Prelude.{Bool, if◌then◌else◌, option_map, IfOk, IfErr, MatchOption};
 ghost use Rattle.container_core.specs.Container.{header_length};
-ghost use Rattle.container_core.specs.Opening.{opening};
 ghost use Rattle.engine_core.specs.Engine.{OpensTo};
 ghost use Rattle.io_core.specs.Streams.{counted};
 ghost use Rattle.command_core.specs.Facts.{IsOfHeader};

@@ -238,9 +238,11 @@ pub fn run_read<T: Threads + Sync, R: Source, G: Gate + Sync>(
     read_rounds(rt, alloc, key, reader, max_bytes, workers, None, gate)
 }
 
-/// Reads a container and writes its plaintext, once every chunk was checked, in rounds of `window` chunks (1 to 256).
-/// Answers the plaintext's length, or the first fault of the container. At every fault but `Write` nothing was written; at
-/// `Write` the whole input was read, and a beginning of its plaintext was written, and not the whole.
+/// Reads a container and checks it as `run_plain_by` does, in rounds of `window` chunks (1 to 256), by 1 to 16 workers,
+/// and then writes its plaintext, of at most `max_bytes` bytes, chunk by chunk. Answers the plaintext's length, or the
+/// first fault of the container. At every fault but `Write` nothing was written; at `Write` the whole input was read, and
+/// a beginning of its plaintext was written, and not the whole. The plaintext stays in the buffers in which its chunks
+/// were opened: it takes the memory of `run_read`.
 pub fn run_open_by<T: Threads + Sync, R: Source, W: Sink, G: Gate + Sync>(
     rt: &T,
     alloc: Global,

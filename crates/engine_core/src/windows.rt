@@ -291,7 +291,7 @@ fn open_last<T: Threads + Sync, G: Gate + Sync, O: Taking>(
     }
 }
 
-// Opens all that stands behind a header in rounds, appends its plaintext where it isn't only checked, and answers how
+// Opens all that stands behind a header in rounds, has its plaintext taken where it isn't only checked, and answers how
 // many bytes that has.
 fn open_body<T: Threads + Sync, R: Source, G: Gate + Sync, O: Taking>(
     rt: &T,
@@ -362,7 +362,7 @@ fn open_body<T: Threads + Sync, R: Source, G: Gate + Sync, O: Taking>(
 }
 
 /// Opens all that the reader has left in rounds of `window` chunks (of `usual_opening`, where no number is given), by
-/// 1 to 16 workers, appends its plaintext where the task is `Opening`, and answers its header and
+/// 1 to 16 workers, has its plaintext taken where the task is `Opening`, and answers its header and
 /// how many bytes the plaintext has; or the first fault of the container. A failure leaves some of the plaintext. Of an
 /// input that is too long one byte past the longest container is read.
 pub(crate) fn open_rounds<T: Threads + Sync, R: Source, G: Gate + Sync, O: Taking>(
