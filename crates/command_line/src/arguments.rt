@@ -47,35 +47,48 @@ Exit status: 0 where all were told, 2 where standard error tells why not.";
 
 /// The program's command: `seal`, `pipe`, `open`, `verify`, `audit` and `ledger`.
 pub fn command<'a>(alloc: Global) -> Result<Command<'a>, Error> {
-    let seal = seal_command(alloc)?;
-    let pipe = pipe_command(alloc)?;
-    let open = open_command(
-        alloc,
-        "open",
-        "Checks each FILE whole, then writes its plaintext to the name without .stm",
-    )?;
-    let open = with_rows(alloc, open, &OUTPUT_ROWS)?;
-    let verify = open_command(alloc, "verify", "Checks each FILE whole and writes no file")?;
-    let verify = with_rows(alloc, verify, &SHOW_ROWS)?;
-    let audit = Command::new(alloc, "audit")
-        .about("Audits the journal on standard input and prints the verdict")
-        .after_help(AUDIT_HELP);
-    let ledger = Command::new(alloc, "ledger")
-        .about("Tells what a ledger file holds, and changes nothing")
-        .after_help(LEDGER_HELP);
-    let ledger = with_rows(alloc, ledger, &HOLDINGS_ROWS)?;
     let sealer = Command::new(alloc, "sealer")
         .version(VERSION)
         .about("Seals, opens and verifies many files under one key, each under a number of its own")
         .after_help(SEALER_HELP)
-        .subcommand_required(true)
-        .subcommand(seal)?
-        .subcommand(pipe)?
-        .subcommand(open)?
-        .subcommand(verify)?
-        .subcommand(audit)?
-        .subcommand(ledger)?;
-    Ok(sealer)
+        .subcommand_required(true);
+    let sealer = with_command(sealer, seal_command(alloc))?;
+    let sealer = with_command(sealer, pipe_command(alloc))?;
+    let sealer = with_command(sealer, opening_command(alloc))?;
+    let sealer = with_command(sealer, verifying_command(alloc))?;
+    let sealer = with_command(sealer, Ok(audit_command(alloc)))?;
+    with_command(sealer, ledger_command(alloc))
+}
+
+// A command with one more below it.
+fn with_command<'a>(
+    command: Command<'a>,
+    below: Result<Command<'a>, Error>,
+) -> Result<Command<'a>, Error> {
+    Ok(command.subcommand(below?)?)
+}
+
+fn opening_command<'a>(alloc: Global) -> Result<Command<'a>, Error> {
+    let about = "Checks each FILE whole, then writes its plaintext to the name without .stm";
+    with_rows(alloc, open_command(alloc, "open", about)?, &OUTPUT_ROWS)
+}
+
+fn verifying_command<'a>(alloc: Global) -> Result<Command<'a>, Error> {
+    let about = "Checks each FILE whole and writes no file";
+    with_rows(alloc, open_command(alloc, "verify", about)?, &SHOW_ROWS)
+}
+
+fn audit_command<'a>(alloc: Global) -> Command<'a> {
+    Command::new(alloc, "audit")
+        .about("Audits the journal on standard input and prints the verdict")
+        .after_help(AUDIT_HELP)
+}
+
+fn ledger_command<'a>(alloc: Global) -> Result<Command<'a>, Error> {
+    let command = Command::new(alloc, "ledger")
+        .about("Tells what a ledger file holds, and changes nothing")
+        .after_help(LEDGER_HELP);
+    with_rows(alloc, command, &HOLDINGS_ROWS)
 }
 
 // A command that takes a key.
