@@ -109,54 +109,145 @@ fn print_times<R: Print>(rt: &R, what: &str, name: &str, best: &Best) -> Result<
     Ok(())
 }
 
+impl Best {
+    // No time so far.
+    fn none() -> Best {
+        Best {
+            in_place: u64::MAX,
+            fresh: u64::MAX,
+            whole: u64::MAX,
+        }
+    }
+
+    // The better of each.
+    fn or(self, other: Best) -> Best {
+        Best {
+            in_place: self.in_place.min(other.in_place),
+            fresh: self.fresh.min(other.fresh),
+            whole: self.whole.min(other.whole),
+        }
+    }
+}
+
+// How long the AEAD alone takes in place, sealing and opening.
+fn in_place<C: Clock>(
+    clock: &C,
+    header: &[u8],
+    text: &mut [u8],
+    tags: &mut [[u8; 16]],
+) -> Result<(u64, u64)> {
+    let start = Instant::now(clock)?;
+    seal_in_chunks(header, text, tags)?;
+    let sealing = nanos_since(clock, &start)?;
+    let start = Instant::now(clock)?;
+    open_in_chunks(header, text, tags)?;
+    Ok((sealing, nanos_since(clock, &start)?))
+}
+
+// How long the AEAD alone takes to seal into a fresh vector, and what it made.
+fn sealed_fresh<C: Clock>(
+    clock: &C,
+    alloc: Global,
+    header: &[u8],
+    plain: &[u8],
+) -> Result<(u64, Vec<u8>)> {
+    let start = Instant::now(clock)?;
+    let sealed = seal_into_fresh(alloc, header, plain)?;
+    Ok((nanos_since(clock, &start)?, sealed))
+}
+
+// How long it takes to open that into another.
+fn opened_fresh<C: Clock>(
+    clock: &C,
+    alloc: Global,
+    header: &[u8],
+    sealed: &[u8],
+    plain: &[u8],
+) -> Result<u64> {
+    let start = Instant::now(clock)?;
+    let back = open_into_fresh(alloc, header, sealed)?;
+    let nanos = nanos_since(clock, &start)?;
+    ensure!(back.as_slice() == plain, "the AEAD's plaintext");
+    Ok(nanos)
+}
+
+// How long `seal` takes, and its container, whose chunks are those that the AEAD alone made.
+fn sealed_whole<C: Clock>(
+    clock: &C,
+    alloc: Global,
+    key: &Key,
+    plain: &[u8],
+    sealed: &[u8],
+) -> Result<(u64, Vec<u8>)> {
+    let shape = Shape::one();
+    let start = Instant::now(clock)?;
+    let bytes = seal(alloc, key, &shape, prefix_of(0), plain)?;
+    let nanos = nanos_since(clock, &start)?;
+    ensure!(
+        bytes.len() >= HEADER && &bytes[HEADER..] == sealed,
+        "the container"
+    );
+    Ok((nanos, bytes))
+}
+
+// How long `open` takes.
+fn opened_whole<C: Clock>(
+    clock: &C,
+    alloc: Global,
+    key: &Key,
+    bytes: &[u8],
+    plain: &[u8],
+) -> Result<u64> {
+    let start = Instant::now(clock)?;
+    let back = open(alloc, key, bytes)?;
+    let nanos = nanos_since(clock, &start)?;
+    ensure!(back.as_slice() == plain, "the container's plaintext");
+    Ok(nanos)
+}
+
+// One sample of each, sealing and opening.
+fn sample<C: Clock>(
+    clock: &C,
+    alloc: Global,
+    key: &Key,
+    plain: &[u8],
+    text: &mut [u8],
+    tags: &mut [[u8; 16]],
+) -> Result<(Best, Best)> {
+    let header = Header::of(key, &Shape::one(), prefix_of(0));
+    let (sealing, opening) = in_place(clock, header.bytes(), text, tags)?;
+    let (sealing_fresh, sealed) = sealed_fresh(clock, alloc, header.bytes(), plain)?;
+    let opening_fresh = opened_fresh(clock, alloc, header.bytes(), sealed.as_slice(), plain)?;
+    let (sealing_whole, bytes) = sealed_whole(clock, alloc, key, plain, sealed.as_slice())?;
+    drop(sealed);
+    let opening_whole = opened_whole(clock, alloc, key, bytes.as_slice(), plain)?;
+    Ok((
+        Best {
+            in_place: sealing,
+            fresh: sealing_fresh,
+            whole: sealing_whole,
+        },
+        Best {
+            in_place: opening,
+            fresh: opening_fresh,
+            whole: opening_whole,
+        },
+    ))
+}
+
 /// Prints the best times of sealing and opening, and of the AEAD alone.
 pub fn measure<R: Print + Clock>(rt: &R, alloc: Global) -> Result<()> {
     let key = Key::new(COUNTING);
-    let shape = Shape::one();
-    let header = Header::of(&key, &shape, prefix_of(0));
     let plain = vec![in alloc; 7u8; TEXT]?;
     let mut text = vec![in alloc; 7u8; TEXT]?;
     let mut tags = [[0; 16]; COUNT];
-    let mut sealing = Best {
-        in_place: u64::MAX,
-        fresh: u64::MAX,
-        whole: u64::MAX,
-    };
-    let mut opening = Best {
-        in_place: u64::MAX,
-        fresh: u64::MAX,
-        whole: u64::MAX,
-    };
+    let mut sealing = Best::none();
+    let mut opening = Best::none();
     for _sample in 0..SAMPLES {
-        let start = Instant::now(rt)?;
-        seal_in_chunks(header.bytes(), text.as_mut_slice(), &mut tags)?;
-        sealing.in_place = sealing.in_place.min(nanos_since(rt, &start)?);
-        let start = Instant::now(rt)?;
-        open_in_chunks(header.bytes(), text.as_mut_slice(), &tags)?;
-        opening.in_place = opening.in_place.min(nanos_since(rt, &start)?);
-        let start = Instant::now(rt)?;
-        let sealed = seal_into_fresh(alloc, header.bytes(), plain.as_slice())?;
-        sealing.fresh = sealing.fresh.min(nanos_since(rt, &start)?);
-        let start = Instant::now(rt)?;
-        let back = open_into_fresh(alloc, header.bytes(), sealed.as_slice())?;
-        opening.fresh = opening.fresh.min(nanos_since(rt, &start)?);
-        ensure!(back.as_slice() == plain.as_slice(), "the AEAD's plaintext");
-        drop(back);
-        let start = Instant::now(rt)?;
-        let bytes = seal(alloc, &key, &shape, prefix_of(0), plain.as_slice())?;
-        sealing.whole = sealing.whole.min(nanos_since(rt, &start)?);
-        ensure!(
-            bytes.len() >= HEADER && &bytes[HEADER..] == sealed.as_slice(),
-            "the container"
-        );
-        drop(sealed);
-        let start = Instant::now(rt)?;
-        let back = open(alloc, &key, bytes.as_slice())?;
-        opening.whole = opening.whole.min(nanos_since(rt, &start)?);
-        ensure!(
-            back.as_slice() == plain.as_slice(),
-            "the container's plaintext"
-        );
+        let (plain, text) = (plain.as_slice(), text.as_mut_slice());
+        let (sealed, opened) = sample(rt, alloc, &key, plain, text, &mut tags)?;
+        sealing = sealing.or(sealed);
+        opening = opening.or(opened);
     }
     print_times(rt, "sealing", "seal", &sealing)?;
     print_times(rt, "opening", "open", &opening)
