@@ -2,12 +2,12 @@
 ghost use Rattle.std.specs.Prelude.{◌≢◌, Err};
 
 use crate::ledger::{is_beside, is_of_ledger};
-use crate::places::put_below;
 use crate::progress::{Counted, Progress};
 use command_core::{Folder, FolderFault, OpeningFolder, Plaintext};
 use container_core::{Key, Shape};
 use front_core::SealingFolder;
 use ledger_core::{FromRead, Ledger, Seat, ToWrite};
+use path_core::put_below;
 use reserve_core::{Fold, LedgerFile};
 use std::fs::{File, OpenFile};
 use std::io::{BufReader, ErrorKind, Read, Write};

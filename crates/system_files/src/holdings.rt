@@ -115,15 +115,19 @@ fn has_one_name<R: Files>(rt: &R, path: &str) -> bool {
 }
 
 // Whether there is something else than an empty journal, or one that begins with a byte 0.
-fn is_hot<R: Files + AllocGlobal>(rt: &R, journal: &str) -> bool {
+fn is_hot<R: Files>(rt: &R, journal: &str) -> bool {
     match fs::symlink_metadata(rt, journal) {
-        Ok(found) if found.is_file() => match fs::read(rt, journal) {
-            Ok(bytes) => bytes.first().is_some_and(|byte| *byte != 0),
-            Err(_) => true,
-        },
-        Ok(_) => true,
+        Ok(found) => !found.is_file() || found.len() > 0 && !begins_with_zero(rt, journal),
         Err(error) => error.kind() != ErrorKind::NotFound,
     }
+}
+
+fn begins_with_zero<R: Files>(rt: &R, path: &str) -> bool {
+    let Ok(mut file) = File::open(rt, path) else {
+        return false;
+    };
+    let mut front = [1];
+    file.read_exact(&mut front).is_ok() && front == [0]
 }
 
 // The bytes of a file, none where it isn't there.

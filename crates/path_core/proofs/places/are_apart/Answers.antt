@@ -1,8 +1,8 @@
 use Rattle.std.proofs.Common.{List, [], ◌<◌, ◌≡◌, ℕ, Bor, map, length, get_or, sym, subst, rules, arith}
 use Rattle.std.proofs.lemmas.List.{length-map, get_or-map}
-use Rattle.system_files.specs.Places.{IsLastName, HasNoLastName}
-use Rattle.system_files.proofs.Names.{FoundUpTo, none_found, one_found, found_before, all_found}
-use Rattle.system_files.proofs.places.are_apart.Goals as goal
+use Rattle.path_core.specs.Places.{IsLastName, HasNoLastName}
+use Rattle.path_core.proofs.Names.{FoundUpTo, none_found, one_found, found_before, all_found}
+use Rattle.path_core.proofs.places.are_apart.Goals as goal
 
 abbrev texts : List (Bor (List ℕ)) → List (List ℕ)
 texts files = map (λ file. file.now) files

@@ -1,6 +1,6 @@
 use Rattle.std.proofs.Common.{Some, None, inl, inr, arith, refl}
-use Rattle.system_files.proofs.Names.{rsplit_parts}
-use Rattle.system_files.proofs.places.behind.Goals as goal
+use Rattle.path_core.proofs.Names.{rsplit_parts}
+use Rattle.path_core.proofs.places.behind.Goals as goal
 
 pub returns-in-Some : goal.returns-in-Some
 returns-in-Some c =

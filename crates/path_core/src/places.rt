@@ -1,7 +1,8 @@
 //! Where outputs go that a run puts into one folder: below it, under the last name of the file.
 
 ghost use Rattle.std.specs.Prelude.{◌≡◌, IfErr, IfSome, OnOk, None, map, string_bytes, true};
-ghost use Rattle.system_files.specs.Places.{AreApart, HasNoLastName, IsBehind, IsBelow, IsLastName, OneHasNone, TwoHaveOne};
+ghost use Rattle.path_core.specs.Places.{AreApart, HasNoLastName, IsBehind, IsBelow, IsLastName, OneHasNone};
+ghost use Rattle.path_core.specs.Places.{TwoHaveOne};
 
 use std::alloc::Global;
 use std::collections::BTreeSet;
@@ -21,7 +22,8 @@ pub enum PlaceFault {
     OutOfMemory,
 }
 
-/// The last name of a path: what stands behind its last slash. A path has none where nothing stands there, or only `.` or `..`.
+/// The last name of a path: what stands behind its last slash. A path has none where nothing stands there, or only `.`
+/// or `..`.
 pub fn last_name(path: &str) -> Option<&str>
     ensures name { IfSome result (λ name. IsLastName path.now name.now) }
     ensures none { result ≡ None → HasNoLastName path.now }
@@ -45,8 +47,10 @@ fn behind(path: &str) -> &str
 /// Whether each of these files has a last name, and no two have the same.
 pub fn are_apart(alloc: Global, files: &[&str]) -> Result<(), PlaceFault>
     ensures apart { OnOk result (AreApart (map (λ file. file.now) files.now)) }
-    ensures no_name { IfErr result (λ fault. fault ≡ PlaceFault.NoName → OneHasNone (map (λ file. file.now) files.now)) }
-    ensures same_name { IfErr result (λ fault. fault ≡ PlaceFault.SameName → TwoHaveOne (map (λ file. file.now) files.now)) }
+    ensures no_name { IfErr result (λ fault. fault ≡ PlaceFault.NoName
+        → OneHasNone (map (λ file. file.now) files.now)) }
+    ensures same_name { IfErr result (λ fault. fault ≡ PlaceFault.SameName
+        → TwoHaveOne (map (λ file. file.now) files.now)) }
 {
     let mut names = BTreeSet::new(alloc);
     'files: for file in files {
@@ -62,9 +66,9 @@ pub fn are_apart(alloc: Global, files: &[&str]) -> Result<(), PlaceFault>
     Ok(())
 }
 
-// Puts the path of an output of this name below a folder, where it answers true. There is none where the name has no last one or the
-// folder's is empty, nor where memory is refused.
-pub(crate) fn put_below(path: &mut String, folder: &str, name: &str) -> bool
+/// Puts the path of an output of this name below a folder, where it answers true. There is none where the name has no
+/// last one or the folder's is empty, nor where memory is refused.
+pub fn put_below(path: &mut String, folder: &str, name: &str) -> bool
     ensures { result ≡ true → IsBelow folder.now name.now (string_bytes path.new) }
 {
     if folder.is_empty() {

@@ -14,7 +14,7 @@ use Rattle.std.proofs.lemmas.Map.Keys.{IsDistinct-push}
 use Rattle.std.proofs.lemmas.Map.Made.{AllPairs-from_IsDistinct}
 use Rattle.std.proofs.lemmas.Map.Text.{is_eq-slice_cmp}
 use Rattle.std.proofs.lemmas.Str.Pattern.{NoCharPasses-char, drop_at_char}
-use Rattle.system_files.specs.Places.{IsBehind, IsNoName, IsLastName, HasNoLastName, AreApart, TwoHaveOne}
+use Rattle.path_core.specs.Places.{IsBehind, IsNoName, IsLastName, HasNoLastName, AreApart, TwoHaveOne}
 
 -- what `rsplit_once` gives at an ASCII character
 pub rsplit_parts : (c : ℕ) (text : List ℕ) (r : Option (Bor (List ℕ) × Bor (List ℕ)))
