@@ -2,10 +2,10 @@
 ghost use Rattle.std.specs.Prelude.{◌<◌, ◌≤◌};
 
 use crate::containers::{EMPTY, FOUR, PLAIN};
-use container_core::{CHUNK, HEADER, Key, OpenFault, SEALED, SealFault, Shape, seal};
+use container_core::{Key, OpenFault, SealFault, Shape, seal};
 use crew_core::{Free, MAX_WORKERS};
 use crew_tests::{COUNTING, flip, grant_of, pattern};
-use engine_core::{run_open, run_plain, run_seal, run_verify};
+use engine_core::{run_open, run_seal, run_verify};
 use io_memory::{FromMemory, Schedule, ToMemory};
 use ledger_core::Way;
 use std::alloc::Global;
@@ -90,16 +90,6 @@ fn verify_from<R: Threads + Sync>(
     run_verify(rt, alloc, &key, &mut reader, max_bytes, workers, &Free)
 }
 
-// Whether the plaintext of a container is this.
-fn is_plain<R: Threads + Sync>(rt: &R, alloc: Global, bytes: &[u8], plain: &[u8]) -> bool {
-    let key = Key::new(COUNTING);
-    let mut reader = FromMemory::new(bytes, 70_000, Schedule::Never);
-    match run_plain(rt, alloc, &key, &mut reader, 1 << 20, 3, &Free) {
-        Ok(all) => all.as_slice() == plain,
-        Err(_) => false,
-    }
-}
-
 fn leaves_ten_bytes<R: Threads + Wait + Sync>(rt: &R, alloc: Global, workers: u32) -> Option<bool>
     requires workers { (0 < workers) × (workers ≤ MAX_WORKERS) }
 {
@@ -182,97 +172,6 @@ fn no_plaintext_byte_allowed_in_version_two(rt: HostRuntime) -> Result<(), Fail>
     Ok(())
 }
 
-// Whether what is sealed of this plaintext opens to it.
-fn opens_again<R: Threads + Wait + Sync>(rt: &R, alloc: Global, plain: &[u8]) -> Option<bool> {
-    let reader = FromMemory::new(plain, 70_000, Schedule::Never);
-    let mut writer = ToMemory::new(alloc, 300_000, 99_999, Schedule::Never).ok()?;
-    let (result, way) = seal_from(rt, alloc, 1, reader, &mut writer, 200_000, 3)?;
-    let is_sealed = result == Ok(200_000) && way == Way::Sealed;
-    Some(
-        is_sealed
-            && opens_to(rt, alloc, writer.bytes(), plain)?
-            && is_plain(rt, alloc, writer.bytes(), plain),
-    )
-}
-
-fn opens_to<R: Threads + Sync>(rt: &R, alloc: Global, bytes: &[u8], plain: &[u8]) -> Option<bool> {
-    let reader = FromMemory::new(bytes, 70_000, Schedule::Never);
-    let mut back = ToMemory::new(alloc, 300_000, 99_999, Schedule::Never).ok()?;
-    let result = open_from(rt, alloc, reader, &mut back, 200_000, 3);
-    Some(result == Ok(200_000) && back.bytes() == plain)
-}
-
-#[test]
-fn what_is_sealed_opens(rt: HostRuntime) -> Result<(), Fail> {
-    let plain = pattern(rt.alloc(), 200_000)?;
-    assert!(rt; opens_again(&rt, rt.alloc(), plain.as_slice()) == Some(true));
-    Ok(())
-}
-
-// Whether sealing and verifying fail where this call of the reader does.
-fn is_failed_call_seen<R: Threads + Wait + Sync>(
-    rt: &R,
-    alloc: Global,
-    bytes: &[u8],
-    writer: &mut ToMemory,
-    call: u64,
-) -> Option<bool> {
-    let reader = FromMemory::new(b"plain", 1, Schedule::Call(call));
-    let (result, way) = seal_from(rt, alloc, 0, reader, writer, 9, 2)?;
-    let is_void = result == Err(SealFault::Read) && way == Way::Void;
-    let reader = FromMemory::new(bytes, 8, Schedule::Call(call));
-    let verified = verify_from(rt, alloc, reader, 9, 2);
-    Some(is_void && verified == Err(OpenFault::Read))
-}
-
-fn are_failed_calls_seen<R: Threads + Wait + Sync>(
-    rt: &R,
-    alloc: Global,
-    bytes: &[u8],
-) -> Option<bool> {
-    let mut writer = ToMemory::new(alloc, 64, MOST, Schedule::Never).ok()?;
-    for call in 0..6 {
-        if is_failed_call_seen(rt, alloc, bytes, &mut writer, call) != Some(true) {
-            return None;
-        }
-    }
-    Some(writer.bytes().is_empty())
-}
-
-#[test]
-fn a_failed_read_is_no_end(rt: HostRuntime) -> Result<(), Fail> {
-    let bytes = seal(
-        rt.alloc(),
-        &Key::new(COUNTING),
-        &Shape::one(),
-        PREFIX,
-        b"plain",
-    )?;
-    assert!(rt; are_failed_calls_seen(&rt, rt.alloc(), bytes.as_slice()) == Some(true));
-    Ok(())
-}
-
-// Whether opening the container of `plain` to a writer that fails behind three bytes leaves `pla`.
-fn leaves_three<R: Threads + Sync>(rt: &R, alloc: Global, bytes: &[u8]) -> Option<bool> {
-    let reader = FromMemory::new(bytes, 8, Schedule::Never);
-    let mut writer = ToMemory::new(alloc, 64, 1, Schedule::Bytes(3)).ok()?;
-    let result = open_from(rt, alloc, reader, &mut writer, 9, 2);
-    Some(result == Err(OpenFault::Write) && writer.bytes() == b"pla".as_slice())
-}
-
-#[test]
-fn a_failed_write_leaves_a_beginning(rt: HostRuntime) -> Result<(), Fail> {
-    let bytes = seal(
-        rt.alloc(),
-        &Key::new(COUNTING),
-        &Shape::one(),
-        PREFIX,
-        b"plain",
-    )?;
-    assert!(rt; leaves_three(&rt, rt.alloc(), bytes.as_slice()) == Some(true));
-    Ok(())
-}
-
 // Whether a writer with room for the container gets it, and one with room for the plaintext that.
 fn has_room<R: Threads + Wait + Sync>(
     rt: &R,
@@ -349,57 +248,4 @@ fn is_damage_seen<R: Threads + Sync>(rt: &R, alloc: Global) -> Option<bool> {
 #[test]
 fn nothing_of_a_damaged_container_is_written(rt: HostRuntime) {
     assert!(rt; is_damage_seen(&rt, rt.alloc()) == Some(true));
-}
-
-// What the plaintext of a container is refused for.
-fn fault_of<R: Threads + Sync>(
-    rt: &R,
-    alloc: Global,
-    bytes: &[u8],
-    workers: u32,
-) -> Option<OpenFault>
-    requires workers { (0 < workers) × (workers ≤ MAX_WORKERS) }
-{
-    let key = Key::new(COUNTING);
-    let mut reader = FromMemory::new(bytes, MOST, Schedule::Never);
-    run_plain(rt, alloc, &key, &mut reader, 1 << 24, workers, &Free).err()
-}
-
-// Whether all engines name chunk 97.
-fn is_97_named<R: Threads + Sync>(rt: &R, alloc: Global, bytes: &[u8], workers: u32) -> bool
-    requires workers { (0 < workers) × (workers ≤ MAX_WORKERS) }
-{
-    let fault = OpenFault::Forged { chunk: 97 };
-    let reader = FromMemory::new(bytes, MOST, Schedule::Never);
-    fault_of(rt, alloc, bytes, workers) == Some(fault)
-        && is_forged(rt, alloc, bytes, MOST, 1 << 24, workers, 97) == Some(true)
-        && verify_from(rt, alloc, reader, 1 << 24, workers) == Err(fault)
-}
-
-fn late_damage(alloc: Global) -> Option<Vec<u8>> {
-    let plain = pattern(alloc, 100 * CHUNK).ok()?;
-    let mut bytes = seal(
-        alloc,
-        &Key::new(COUNTING),
-        &Shape::one(),
-        PREFIX,
-        plain.as_slice(),
-    )
-    .ok()?;
-    if bytes.len() != HEADER + 100 * SEALED {
-        return None;
-    }
-    flip(bytes.as_mut_slice(), HEADER + 97 * SEALED + 1_000, 4);
-    Some(bytes)
-}
-
-fn is_late_damage_seen<R: Threads + Sync>(rt: &R, alloc: Global) -> Option<bool> {
-    let bytes = late_damage(alloc)?;
-    Some(is_97_named(rt, alloc, bytes.as_slice(), 1) && is_97_named(rt, alloc, bytes.as_slice(), 3))
-}
-
-// In the last round of several: no fault stands in its place, `OutOfMemory` among them.
-#[test]
-fn a_late_bad_chunk_is_named(rt: HostRuntime) {
-    assert!(rt; is_late_damage_seen(&rt, rt.alloc()) == Some(true));
 }

@@ -148,8 +148,11 @@ fn a_byte_a_call_changes_no_answer(rt: HostRuntime) {
 
 // ---- writers that fail after so many bytes
 
-// In the header, at its end and behind it; in the tag of chunk 0, at its end and behind it; and before the last byte.
-static ROOMS: [usize; 10] = [0, 1, 23, 24, 25, 65_535, 65_575, 65_576, 65_592, 65_593];
+// In the header, at its end and behind it; before the last byte of the plaintext, and all of it; in the tag of chunk 0,
+// at its end and behind it; and before the last byte, and all of the container.
+static ROOMS: [usize; 11] = [
+    0, 1, 23, 24, 25, 65_535, 65_537, 65_575, 65_576, 65_592, 65_593,
+];
 
 // Whether a sealing into this room ends with `Write`, unless it is room for all, and has written just so much.
 fn is_sealed_into<R: Threads + Wait + Sync>(

@@ -76,6 +76,20 @@ pub(crate) fn fault_in<R: Threads + Sync>(
     if verified != opened {
         return Err("opening says something else".into());
     }
+    let mut reader = FromMemory::new(bytes, MOST, Schedule::Never);
+    let plain = run_plain_by(
+        rt,
+        alloc,
+        &key,
+        &mut reader,
+        max_bytes,
+        workers,
+        window,
+        &Free,
+    );
+    if plain.err() != verified.err() {
+        return Err("what answers the plaintext says something else".into());
+    }
     if !writer.bytes().is_empty() {
         return Err("something was written".into());
     }

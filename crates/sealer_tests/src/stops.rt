@@ -1,5 +1,6 @@
-//! `seal_all` over the two files of a ledger: the next run goes on without the log of the first. And a disk stops below it and below
-//! `pipe_all`, one of the two files failing from some call on: each call in turn is the first to fail, until a run has no stop.
+//! `seal_all` over the two files of a ledger: the next run goes on without the log of the first. And a disk stops below
+//! it and below `pipe_all`, one of the two files failing from some call on: each call in turn is the first to fail,
+//! until a run has no stop.
 use crate::cases::{Case, Left, Trouble, Work, ends_over};
 use crate::runs::{COUNTING, EMPTY, MemoryOuts, folder_of, has_bytes, seal_over, steady_outs};
 use crate::streams::sealed_or_unreserved;
@@ -12,20 +13,57 @@ use std::alloc::Global;
 use std::sync::Wait;
 use std::thread::Threads;
 
-// The ledger over these files. Its database has little memory, which is filled each time that one is opened.
-pub(crate) fn ledger_over<D: Disk + Drop>(
+// All files here stop at some call or other; those that are to go on stop at none.
+pub(crate) type Stopping = Fuse<Memory>;
+
+// A file that stops at no call.
+pub(crate) fn steady(alloc: Global) -> Stopping {
+    Fuse::new(Memory::new(alloc), u64::MAX)
+}
+
+// What is done over a connection is written over any store, since a function that lets go of a value over files costs
+// far more to prove: such a value is moved only.
+
+// A connection over these files, or the files. Its database has little memory, which is filled each time that one is
+// opened.
+pub(crate) fn connect<D: Disk + Drop>(
     alloc: Global,
     files: Files<D>,
-) -> Option<LedgerFile<FileStore<D>>> {
+) -> Result<Connection<FileStore<D>>, Files<D>> {
     if !files.may_be_used() {
-        return None;
+        return Err(files);
     }
     let mut options = Options::new(1);
     options.cache_pages = 50;
     options.spill_pages = 50;
-    let conn = Connection::open_files(alloc, files, options).ok()?;
-    let keeper = Keeper::open(conn).ok()?;
-    Some(LedgerFile::Kept(keeper))
+    match Connection::open_files(alloc, files, options) {
+        Ok(conn) => Ok(conn),
+        Err((_, left)) => Err(left.into_files()),
+    }
+}
+
+// The ledger over a connection.
+pub(crate) fn ledger_over<S: Fold>(conn: Connection<S>) -> Option<LedgerFile<S>> {
+    match Keeper::open(conn) {
+        Ok(keeper) => Some(LedgerFile::Kept(keeper)),
+        Err(_) => None,
+    }
+}
+
+// What is left of a ledger that was folded.
+pub(crate) fn left_of<S: Fold>(file: LedgerFile<S>) -> Option<S::Left> {
+    match file {
+        LedgerFile::Folded(left) => Some(left),
+        LedgerFile::Kept(_) | LedgerFile::Gone => None,
+    }
+}
+
+// The database file of these.
+pub(crate) fn database_of(files: Option<Files<Stopping>>) -> Option<Stopping> {
+    match files {
+        Some(Files { log: _log, db }) => Some(db),
+        None => None,
+    }
 }
 
 // ---- the next run
@@ -80,49 +118,38 @@ fn opens_to(alloc: Global, sealed: &[u8], plain: &[u8]) -> bool {
     }
 }
 
-// The database file of a ledger that was folded.
-pub(crate) fn database_of(file: LedgerFile<FileStore<Memory>>) -> Option<Memory> {
-    match file {
-        LedgerFile::Kept(_kept) => None,
-        LedgerFile::Folded(files) => {
-            let Files { log: _log, db } = files;
-            Some(db)
-        }
-        LedgerFile::Gone => None,
-    }
-}
-
-// The database file that the first run leaves.
-fn file_of_first_run<R: AllocGlobal + Threads + Wait + Sync>(
+// What a run leaves of the files of this connection, where it ends as it has to.
+fn left_after<R: AllocGlobal + Threads + Wait + Sync, S: Fold>(
     rt: &R,
+    conn: Connection<S>,
     folder: &mut MemoryFolder,
-) -> Option<Memory> {
-    let log = Memory::new(rt.alloc());
-    let db = Memory::new(rt.alloc());
-    let mut file = ledger_over(rt.alloc(), Files { log, db })?;
-    if ends_over(rt, &mut file, folder, &FIRST_RUN) {
-        database_of(file)
+    run: &Case,
+) -> Option<S::Left> {
+    let mut file = ledger_over(conn)?;
+    if ends_over(rt, &mut file, folder, run) {
+        left_of(file)
     } else {
         None
     }
 }
 
-// Whether the second run, over that file and an empty log, ends as it has to.
-fn goes_on<R: AllocGlobal + Threads + Wait + Sync>(
+// The database file that a run over this one and an empty log leaves, where it ends as it has to.
+fn database_after<R: AllocGlobal + Threads + Wait + Sync>(
     rt: &R,
+    db: Stopping,
     folder: &mut MemoryFolder,
-    db: Memory,
-) -> bool {
-    let log = Memory::new(rt.alloc());
-    match ledger_over(rt.alloc(), Files { log, db }) {
-        Some(mut file) => ends_over(rt, &mut file, folder, &SECOND_RUN),
-        None => false,
+    run: &Case,
+) -> Option<Stopping> {
+    let log = steady(rt.alloc());
+    match connect(rt.alloc(), Files { log, db }) {
+        Ok(conn) => database_of(left_after(rt, conn, folder, run)),
+        Err(_) => None,
     }
 }
 
 fn both_run<R: AllocGlobal + Threads + Wait + Sync>(rt: &R, folder: &mut MemoryFolder) -> bool {
-    match file_of_first_run(rt, folder) {
-        Some(db) => goes_on(rt, folder, db),
+    match database_after(rt, steady(rt.alloc()), folder, &FIRST_RUN) {
+        Some(db) => database_after(rt, db, folder, &SECOND_RUN).is_some(),
         None => false,
     }
 }
@@ -187,6 +214,18 @@ fn end_of(status: u8, folder: &MemoryFolder, out: &MemoryOuts) -> End {
     }
 }
 
+// The end of a run over this connection.
+fn end_of_run<R: AllocGlobal + Threads + Wait + Sync, S: Fold>(
+    rt: &R,
+    conn: Connection<S>,
+    pipes: bool,
+) -> Option<End> {
+    match ledger_over(conn) {
+        Some(mut file) => end_over(rt, &mut file, pipes),
+        None => Some(End::Unopened),
+    }
+}
+
 // The end of a run whose files fail each call after so many.
 fn end_after<R: AllocGlobal + Threads + Wait + Sync>(
     rt: &R,
@@ -196,9 +235,9 @@ fn end_after<R: AllocGlobal + Threads + Wait + Sync>(
 ) -> Option<End> {
     let log = Fuse::new(Memory::new(rt.alloc()), log_calls);
     let db = Fuse::new(Memory::new(rt.alloc()), db_calls);
-    match ledger_over(rt.alloc(), Files { log, db }) {
-        Some(mut file) => end_over(rt, &mut file, pipes),
-        None => Some(End::Unopened),
+    match connect(rt.alloc(), Files { log, db }) {
+        Ok(conn) => end_of_run(rt, conn, pipes),
+        Err(_) => Some(End::Unopened),
     }
 }
 

@@ -2,11 +2,10 @@
 //! 00 01 .. 1f and device 1; lines and journals are written by hand.
 use crate::pipes::{Left, Run, ends, ends_over, first_or_second, sealed_or_failed};
 use crate::runs::is_legal;
-use crate::stops::{database_of, ledger_over};
+use crate::stops::{Stopping, connect, database_of, ledger_over, left_of, steady};
 use io_memory::Schedule;
 use reserve_core::{Fold, LedgerFile};
-use sqlite::Files;
-use sqlite_disk::Memory;
+use sqlite::{Connection, Files};
 use std::sync::Wait;
 use std::thread::Threads;
 
@@ -270,24 +269,36 @@ static UNDER_NUMBER_1: Run = Run {
     left: Left::Whole(8_249, &SECOND),
 };
 
-// The database file that a run over this one and an empty log leaves, where it ends as it has to.
-fn database_after<R: AllocGlobal + Threads + Wait + Sync>(
+// What a run leaves of the files of this connection, where it ends as it has to.
+fn left_after<R: AllocGlobal + Threads + Wait + Sync, S: Fold>(
     rt: &R,
-    db: Memory,
+    conn: Connection<S>,
     run: &Run,
-) -> Option<Memory> {
-    let log = Memory::new(rt.alloc());
-    let mut file = ledger_over(rt.alloc(), Files { log, db })?;
+) -> Option<S::Left> {
+    let mut file = ledger_over(conn)?;
     if ends_over(rt, &mut file, run) {
-        database_of(file)
+        left_of(file)
     } else {
         None
     }
 }
 
+// The database file that a run over this one and an empty log leaves, where it ends as it has to.
+fn database_after<R: AllocGlobal + Threads + Wait + Sync>(
+    rt: &R,
+    db: Stopping,
+    run: &Run,
+) -> Option<Stopping> {
+    let log = steady(rt.alloc());
+    match connect(rt.alloc(), Files { log, db }) {
+        Ok(conn) => database_of(left_after(rt, conn, run)),
+        Err(_) => None,
+    }
+}
+
 // Whether one run and then another, over what the first one leaves, end as they have to.
 fn both_end<R: AllocGlobal + Threads + Wait + Sync>(rt: &R, first: &Run, second: &Run) -> bool {
-    match database_after(rt, Memory::new(rt.alloc()), first) {
+    match database_after(rt, steady(rt.alloc()), first) {
         Some(db) => database_after(rt, db, second).is_some(),
         None => false,
     }
