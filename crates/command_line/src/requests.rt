@@ -13,6 +13,10 @@ use thiserror::Error as ThisError;
 
 /// Plaintext bytes of a file where no limit is given: 1 GiB.
 pub const DEFAULT_MAX_BYTES: u64 = 1 << 30;
+/// Chunks of a stream where no limit is given.
+pub const DEFAULT_MAX_CHUNKS: u32 = 1 << 14;
+/// Chunks of a stream that are read and not yet written, where no number is given.
+pub const DEFAULT_DEPTH: u32 = 16;
 /// The exponent of the size of the chunks where a label is given alone: chunks of 65,536 bytes.
 pub const DEFAULT_EXPONENT: u32 = 16;
 
@@ -233,7 +237,10 @@ pub fn pipe_request<'a>(matches: &ArgMatches<'a>) -> Result<PipeRequest<'a>, Usa
         device,
         workers: workers(matches),
         depth: depth(matches),
-        max_chunks: matches.get_one::<u32>("max-chunks").unwrap_or(1).max(1),
+        max_chunks: matches
+            .get_one::<u32>("max-chunks")
+            .unwrap_or(DEFAULT_MAX_CHUNKS)
+            .max(1),
         journal: matches.get_str("journal"),
         shape,
         to_terminal: matches.get_flag("force-terminal"),
@@ -379,7 +386,7 @@ fn depth(matches: &ArgMatches<'_>) -> u32
 {
     matches
         .get_one::<u32>("depth")
-        .unwrap_or(1)
+        .unwrap_or(DEFAULT_DEPTH)
         .max(1)
         .min(MAX_DEPTH)
 }
