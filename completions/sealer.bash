@@ -57,7 +57,7 @@ _sealer() {
 _sealer_files() {
     local name
     while IFS= read -r name; do
-        if [ -d "$name" ] || [[ $name == *"${2:-}" ]]; then COMPREPLY+=("$name"); fi
+        if [ -d "${name/#~\//$HOME/}" ] || [[ $name == *"${2:-}" ]]; then COMPREPLY+=("$name"); fi
     done < <(compgen -f -- "$1")
     compopt -o filenames 2>/dev/null
 }

@@ -3,8 +3,9 @@
 # prints what it did; with --uninstall it takes away what it put there.
 # usage: tools/install.sh [PREFIX] [--uninstall]
 #
-# Of the builds crates/sealer/out/sealer-x86-64-v3 and crates/sealer/out/sealer (tools/build.py) it picks the first that runs here and is
-# no older than its sources: the first runs on processors with AVX2 alone. PREFIX/share/sealer/installed has a line for each file, with its
+# Of the builds crates/sealer/out/sealer-x86-64-v3 and crates/sealer/out/sealer (tools/build.py) it picks the first that runs here: the
+# former runs on processors with AVX2 alone, and is left out where it is older than its sources, since a build without AVX2 doesn't renew
+# it. PREFIX/share/sealer/installed has a line for each file, with its
 # SHA-256, and for each folder that was made. A file that isn't on it, or was changed since, is neither replaced nor removed: then nothing
 # is installed, and the status is 1.
 set -u

@@ -45,7 +45,10 @@ statements() { tr -s ' \n' ' ' | sed 's/( /(/g; s/ *; */;/g; s/^ //; s/ $//'; }
 wants statements "$(written | statements)" "$(sqlite3 ours "SELECT sql || ';' FROM sqlite_schema WHERE type = 'table' ORDER BY name" | statements)"
 for row in "mark VALUES (X'$key_id', 3, 4294967297)" "mark VALUES (X'$key_id', 3, -1)" "mark VALUES (X'$key_id', 1, 9)" "mark VALUES (NULL, 3, 0)" \
     "taken VALUES (X'$key_id', 3, 0, 0)" "taken VALUES (X'$key_id', 3, 4294967295, 2)" "taken VALUES (X'$key_id', 1, 0, 9)"; do
-    sqlite3 ours "INSERT INTO $row" 2>/dev/null && { echo "ledger_file_check: taken in: $row"; exit 1; }
+    case $(sqlite3 ours "INSERT INTO $row" 2>&1) in
+        *'constraint failed'*) ;;
+        *) echo "ledger_file_check: no rule refuses: $row"; exit 1 ;;
+    esac
 done
 
 # A file of sqlite3's, by the statements of docs/FORMATS.md.

@@ -251,6 +251,22 @@ sealed files/b file 1 bytes 1492' ''
         is "no-container-is-left by $lanes" no test -e files/a.stm
         rm files/b.stm
     done
+    # How many threads are started: a group has a lane for each of its files that are worth one, the caller's thread among them.
+    fresh
+    started() { strace -f -e trace=clone,clone3 -o calls "$sealer" seal --key "$key" --ledger files/l --device 1 "$@" > out 2> err; status=$?; }
+    for name in a b c d; do head -c 32768 /dev/zero > "files/$name"; done
+    started --lanes 4 files/a files/b files/c files/d
+    is lanes-of-a-group test "$status $(grep -c 'clone3\?(' calls)" = '0 3'
+    rm files/*.stm
+    started --lanes 2 files/a files/b files/c files/d
+    is lanes-of-two-groups test "$status $(grep -c 'clone3\?(' calls)" = '0 2'
+    rm files/*.stm
+    for name in b c d; do head -c 32767 /dev/zero > "files/$name"; done
+    started --lanes 4 files/a files/b files/c files/d
+    is lanes-of-small-files test "$status $(grep -c 'clone3\?(' calls)" = '0 0'
+    head -c 262144 /dev/zero > files/e
+    started --workers 4 files/e
+    is workers-of-a-file test "$status $(grep -c 'clone3\?(' calls)" = '0 3'
 elif [ -n "${CI:-}" ]; then
     bad=1
     echo 'strace is missing'
@@ -871,8 +887,10 @@ is held-is-not-changed cmp -s life/held/l life/l
 is its-log-is-not-changed cmp -s life/held/l-wal life/l-wal
 is nothing-is-beside-it test "$(ls life/held | tr '\n' ' ')" = 'l l-wal '
 chmod 444 life/held/l life/held/l-wal
-holds life/held/l
+chmod 555 life/held
+as_user locked/sealer ledger --ledger life/held/l > out 2> err; status=$?
 is held-may-be-read-only test "$status $(wc -l < out)" = '0 3'
+chmod 755 life/held
 chmod 644 life/held/l life/held/l-wal
 rm life/held/l-wal
 holds life/held/l
