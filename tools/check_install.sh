@@ -87,6 +87,22 @@ is link test $status = 1
 is link-stays test "$(readlink "$prefix/bin/sealer")" = nowhere
 rm "$prefix/bin/sealer"
 
+# nothing is written to a name that isn't its own, nor through a link, and nothing is removed that isn't below PREFIX
+echo precious > "$room/precious"
+ln -s "$room/precious" "$prefix/bin/sealer.new"
+install "$prefix"
+is beside-a-link test $status = 0
+is the-link-stays test "$(readlink "$prefix/bin/sealer.new")" = "$room/precious"
+is what-it-names-stays test "$(cat "$room/precious")" = precious
+is the-program-is-a-file test -f "$prefix/bin/sealer" -a ! -L "$prefix/bin/sealer"
+is modes test "$(stat -c %a "$prefix/bin/sealer" "$prefix/share/man/man1/sealer.1" "$prefix/share/sealer/installed" | tr '\n' ' ')" = '755 644 644 '
+rm "$prefix/bin/sealer.new"
+echo "$(sha256sum < "$room/precious" | cut -d ' ' -f 1) ../precious" >> "$prefix/share/sealer/installed"
+install "$prefix" --uninstall
+is uninstalled-below-it test $status = 0
+is what-is-above-stays test -f "$room/precious"
+is nothing-else-stays test "$(find "$prefix" | wc -l)" = 2
+
 # below a home's .local man and the shells find what they look for by themselves, and zsh by what is told
 home="$room/home"
 mkdir "$home"

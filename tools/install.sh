@@ -24,7 +24,8 @@ case $prefix in /*) ;; *) prefix=$PWD/$prefix ;; esac
 record=$prefix/share/sealer/installed
 
 sum() { sha256sum < "$1" | cut -d ' ' -f 1; }
-recorded() { [ -f "$record" ] && sed -n 's/^[0-9a-f]\{64\} //p' "$record"; } # the names below PREFIX that were installed
+below() { grep -vE '^/|(^|/)\.\.(/|$)'; } # of names, those that lead nowhere but below PREFIX
+recorded() { [ -f "$record" ] && sed -n 's/^[0-9a-f]\{64\} //p' "$record" | below; } # the names below PREFIX that were installed
 # ours NAME: whether the file is as it was installed
 ours() { [ -f "$record" ] && [ ! -L "$prefix/$1" ] && grep -qxF "$(sum "$prefix/$1") $1" "$record"; }
 there() { [ -e "$prefix/$1" ] || [ -L "$prefix/$1" ]; }
@@ -44,7 +45,7 @@ if [ -n "$uninstall" ]; then
             kept=1
         fi
     done < <(recorded)
-    folders=$(sed -n 's/^folder //p' "$record" | sort -r)
+    folders=$(sed -n 's/^folder //p' "$record" | below | sort -r)
     drop share/sealer/installed
     while IFS= read -r name; do
         [ -z "$name" ] || rmdir --ignore-fail-on-non-empty "$prefix/$name" 2>/dev/null
@@ -96,22 +97,26 @@ missing_folders() { # of a file, those that aren't there
     local folder=$name
     while folder=$(dirname "$folder") && [ "$folder" != . ]; do [ -d "$prefix/$folder" ] || echo "folder $folder"; done
 }
-put() {
-    mkdir -p "$(dirname "$prefix/$name")" && cp "$file" "$prefix/$name.new" && chmod "$mode" "$prefix/$name.new" &&
-        mv -f "$prefix/$name.new" "$prefix/$name" && echo "installed $prefix/$name"
+# renewed FILE MODE: a file of what comes, in the place of another at once. It is made under a name that nobody has.
+renewed() {
+    local new
+    new=$(mktemp "$1.XXXXXX") && cat > "$new" && chmod "$2" "$new" && mv -fT "$new" "$1" && return
+    rm -f "$new"
+    return 1
 }
+put() { mkdir -p "$(dirname "$prefix/$name")" && renewed "$prefix/$name" "$mode" < "$file" && echo "installed $prefix/$name"; }
 before=$(recorded)
 plan_of_record() { name=share/sealer/installed; missing_folders; each missing_folders; [ ! -f "$record" ] || grep '^folder ' "$record"; }
 folders=$(plan_of_record | sort -u)
 mkdir -p "$prefix/share/sealer" || exit 1
 # first the record, of what was there and what comes, so that an installation that was cut off can be taken away
-{ [ ! -f "$record" ] || cat "$record"; echo "$folders"; each listed; } > "$record.new" && mv -f "$record.new" "$record" || exit 1
+lines=$({ [ ! -f "$record" ] || cat "$record"; } && echo "$folders" && each listed) && renewed "$record" 644 <<< "$lines" || exit 1
 each put || { echo "the installation is not whole; take it away by --uninstall" >&2; exit 1; }
 # what an earlier one had besides
 while IFS= read -r old; do
     [ -n "$old" ] && there "$old" && [ -z "$(awk -v name="$old" '$NF == name' <<< "$plan")" ] && ours "$old" && drop "$old"
 done <<< "$before"
-{ echo "$folders"; each listed; } > "$record.new" && mv -f "$record.new" "$record" || exit 1
+lines=$(echo "$folders" && each listed) && renewed "$record" 644 <<< "$lines" || exit 1
 case :$PATH: in
     *":$prefix/bin:"*) ;;
     *) echo "$prefix/bin is not in PATH: PATH=$prefix/bin:\$PATH" ;;

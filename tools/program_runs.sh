@@ -267,6 +267,7 @@ sealed files/b file 1 bytes 1492' ''
     head -c 262144 /dev/zero > files/e
     started --workers 4 files/e
     is workers-of-a-file test "$status $(grep -c 'clone3\?(' calls)" = '0 3'
+    fresh
 elif [ -n "${CI:-}" ]; then
     bad=1
     echo 'strace is missing'
@@ -283,13 +284,30 @@ done
 run verify --key "$key" --sync files/numbers.stm
 wants verify-has-no-sync 2 '' "begins error: unexpected argument '--sync' found"
 
+# An output that failed is removed only while its name is its own.
+fresh
+mkfifo files/waits
+other_comes() {
+    for _ in $(seq 200); do [ ! -e files/waits.stm ] || break; sleep 0.05; done
+    rm files/waits.stm
+    echo theirs > files/waits.stm
+    head -c 100 /dev/zero
+}
+export -f other_comes
+timeout 60 bash -c 'other_comes > files/waits' & run seal --key "$key" --ledger files/ledger --device 1 --max-bytes 50 files/waits
+wait
+wants another-has-its-name 1 'failed files/waits: too long' ''
+is what-another-made-stays test "$(cat files/waits.stm)" = theirs
+
 # How far a run is: one line on standard error, which is gone at the end. What stands in the pipe comes slowly, and has no size.
 fresh
 cp files/numbers.stm files/second.stm
 mkfifo files/slow.stm
 slowly() { head -c 100 files/numbers.stm; for at in 101 201 301 401 501; do sleep 0.25; tail -c +$at files/numbers.stm | head -c 100; done
     sleep 0.25; tail -c +601 files/numbers.stm; }
-slowly > files/slow.stm & run verify --key "$key" --progress=always files/slow.stm files/second.stm
+export -f slowly
+comes_slowly() { timeout 60 bash -c 'slowly > files/slow.stm'; }
+comes_slowly & run verify --key "$key" --progress=always files/slow.stm files/second.stm
 wait
 wants progress 0 'good files/slow.stm bytes 1492
 good files/second.stm bytes 1492' "begins $(printf '\r0 of 2 files, 0 MiB, 0.0 MiB/s\033[K')"
@@ -298,7 +316,7 @@ is progress-is-redrawn test "$drawn" -ge 2 -a "$drawn" -le 8
 is progress-is-gone test "$(tail -c 4 err | od -An -c | tr -d ' ')" = '\r033[K'
 is progress-has-no-line-end test "$(wc -l < err)" = 0
 for option in --progress --progress=terminal; do
-    slowly > files/slow.stm & run verify --key "$key" $option files/slow.stm
+    comes_slowly & run verify --key "$key" $option files/slow.stm
     wait
     wants "$option, no terminal" 0 'good files/slow.stm bytes 1492' ''
 done

@@ -57,6 +57,8 @@ OTHERS = "execve access arch_prctl set_tid_address set_robust_list rseq prlimit6
 FAULTS = {**{call: ("error=EIO", "error=ENOSPC", "error=EINTR") for call in ON_FILES}, **{call: ("error=ENOMEM",) for call in ON_MEMORY}}
 # It answers the end of the heap, and never an error: one that is not higher says that memory was refused.
 FAULTS["brk"] = ("retval=0",)
+# The ledger's bytes, and that the disk has them: a run that couldn't see to these tells it.
+MUST_SHOW = ["fsync", "fdatasync", "pwrite64", "ftruncate"]
 # How often these are called is open, and they do nothing.
 PASSED_OVER = ["sched_yield"]
 WAYS = {"one lane": [], "two lanes": ["--lanes", "2"], "two workers": ["--workers", "2"]}
@@ -147,6 +149,8 @@ def stopped(way, call, n, how):
     if how != "signal=KILL":
         if run.returncode not in (0, 1, 2):
             differs(f"{what}: status {run.returncode}")
+        if run.returncode == 0 and call in MUST_SHOW and how in ("error=EIO", "error=ENOSPC"):
+            differs(f"{what}: nobody tells of it")
         for line in run.stderr.splitlines():
             if not TEXTS.fullmatch(line):
                 differs(f"{what}: prints {line}")

@@ -25,12 +25,13 @@ use std::sync::Wait;
 use std::thread::Threads;
 use system_files::stand_ins;
 
-/// The status of a fault of usage, of the key file, or of the program's own reading and writing.
+/// The status of a fault of usage, of the list of names, of the key file, the ledger or the journal file, or of the
+/// program's own reading and writing.
 pub(crate) const FAULT: u8 = 2;
 
 fn main(rt: HostRuntime) -> ExitCode {
     let _streams = stand_ins(&rt);
-    let Some(words) = command_line(&rt) else {
+    let Some(words) = words_of(&rt) else {
         return ExitCode::from(FAULT);
     };
     let status = match parse(rt.alloc(), words.as_slice()) {
@@ -62,7 +63,7 @@ pub(crate) struct Terminals {
 }
 
 /// The words of the command line. A fault is printed.
-fn command_line<R: Env + AllocGlobal + Eprint>(rt: &R) -> Option<Vec<String>> {
+fn words_of<R: Env + AllocGlobal + Eprint>(rt: &R) -> Option<Vec<String>> {
     let Ok(arguments) = std::env::args(rt) else {
         let _ = eprintln!(rt; "usage: an argument is no text");
         return None;

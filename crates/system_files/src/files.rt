@@ -11,6 +11,7 @@ use path_core::put_below;
 use reserve_core::{Fold, LedgerFile};
 use std::fs::{File, OpenFile};
 use std::io::{BufReader, ErrorKind, Read, Write};
+use std::os::unix::fs::MetadataExt;
 use std::rt::{Clock, Files};
 use std::{fs, io};
 use thiserror::Error;
@@ -137,6 +138,15 @@ fn put_on_disk<F: OpenFile>(file: &F, folder: &Option<F>) -> io::Result<()> {
     Ok(())
 }
 
+// Whether another file has this name by now: ours was moved away or removed, and somebody else made one. Where that can't
+// be told it counts as ours.
+fn is_anothers<R: Files>(rt: &R, own: &R::File, path: &str) -> bool {
+    match (own.metadata(), fs::symlink_metadata(rt, path)) {
+        (Ok(own), Ok(found)) => found.dev() != own.dev() || found.ino() != own.ino(),
+        _ => false,
+    }
+}
+
 // Removes a file. Its only fault is `Failed`.
 fn remove_at<R: Files>(rt: &R, path: &str) -> Result<(), FolderFault>
     ensures fault { result ≢ Err FolderFault.Exists }
@@ -210,12 +220,17 @@ impl<'p, 'r, R: Files + AllocGlobal + Clock + Eprint> Folder for SystemFiles<'p,
         }
     }
 
-    // The file is closed before it is removed.
+    // The file is closed before it is removed. One that somebody else made under its name since then stays.
     fn discard(&mut self, output: Self::Writer) -> Result<(), FolderFault> {
         let ToWrite(Output { path, file, folder }) = output;
+        let is_own = !is_anothers(self.rt, &file, path.as_str());
         drop(file);
         drop(folder);
-        remove_at(self.rt, path.as_str())
+        if is_own {
+            remove_at(self.rt, path.as_str())
+        } else {
+            Err(FolderFault::Failed)
+        }
     }
 
     ghost sound = { λ _. ∣ tt ∣₁ };
