@@ -1,5 +1,5 @@
 //! What a gate sees of the engines: as many workers as are asked for work, and all of them pass the gate that was
-//! given.
+//! given. And whatever the gate does, the answer is the container or the plaintext.
 ghost use Rattle.std.specs.Prelude.{◌<◌, ◌≤◌};
 
 use container_core::{Key, Shape, seal};
@@ -42,7 +42,7 @@ static ENGINES: [Engine; 6] = [
     Engine::Check,
 ];
 
-// Whether an engine does its work over this plaintext: over its container, where the engine doesn't seal.
+// Whether an engine does its work over this plaintext, or over its container, and answers as it has to.
 fn runs<R: Threads + Wait + Sync, G: Gate + Sync>(
     rt: &R,
     alloc: Global,
@@ -53,12 +53,13 @@ fn runs<R: Threads + Wait + Sync, G: Gate + Sync>(
 ) -> bool
     requires workers { (0 < workers) × (workers ≤ MAX_WORKERS) }
 {
+    let Ok(sealed) = seal(alloc, &Key::new(COUNTING), &Shape::one(), PREFIX, plain) else {
+        return false;
+    };
+    let container = sealed.as_slice();
     match engine {
-        Engine::Seal => seals(rt, alloc, plain, workers, gate) == Some(true),
-        _ => match seal(alloc, &Key::new(COUNTING), &Shape::one(), PREFIX, plain) {
-            Ok(container) => reads(rt, alloc, engine, container.as_slice(), workers, gate),
-            Err(_) => false,
-        },
+        Engine::Seal => seals(rt, alloc, plain, container, workers, gate) == Some(true),
+        _ => reads(rt, alloc, engine, plain, container, workers, gate),
     }
 }
 
@@ -66,6 +67,7 @@ fn seals<R: Threads + Wait + Sync, G: Gate + Sync>(
     rt: &R,
     alloc: Global,
     plain: &[u8],
+    container: &[u8],
     workers: u32,
     gate: &G,
 ) -> Option<bool>
@@ -87,13 +89,14 @@ fn seals<R: Threads + Wait + Sync, G: Gate + Sync>(
         workers,
         gate,
     );
-    Some(sealed.is_ok())
+    Some(sealed == Ok(plain.len() as u64) && writer.bytes() == container)
 }
 
 fn reads<R: Threads + Sync, G: Gate + Sync>(
     rt: &R,
     alloc: Global,
     engine: Engine,
+    plain: &[u8],
     container: &[u8],
     workers: u32,
     gate: &G,
@@ -101,20 +104,55 @@ fn reads<R: Threads + Sync, G: Gate + Sync>(
     requires workers { (0 < workers) × (workers ≤ MAX_WORKERS) }
 {
     let key = Key::new(COUNTING);
+    let bytes = plain.len() as u64;
     let mut reader = FromMemory::new(container, MOST, Schedule::Never);
     match engine {
-        Engine::Open => opens(rt, alloc, &mut reader, workers, gate) == Some(true),
-        Engine::Verify => run_verify(rt, alloc, &key, &mut reader, LIMIT, workers, gate).is_ok(),
-        Engine::Read => run_read(rt, alloc, &key, &mut reader, LIMIT, workers, gate).is_ok(),
-        Engine::Check => run_check(rt, alloc, &key, &mut reader, LIMIT, workers, gate).is_ok(),
-        _ => run_plain(rt, alloc, &key, &mut reader, LIMIT, workers, gate).is_ok(),
+        Engine::Open => opens(rt, alloc, &mut reader, plain, workers, gate) == Some(true),
+        Engine::Verify => {
+            run_verify(rt, alloc, &key, &mut reader, LIMIT, workers, gate) == Ok(bytes)
+        }
+        Engine::Read => {
+            reads_all(rt, alloc, &mut reader, plain, container, workers, gate) == Some(true)
+        }
+        Engine::Check => match run_check(rt, alloc, &key, &mut reader, LIMIT, workers, gate) {
+            Ok((header, checked)) => checked == bytes && begins(container, header.bytes()),
+            Err(_) => false,
+        },
+        _ => match run_plain(rt, alloc, &key, &mut reader, LIMIT, workers, gate) {
+            Ok(all) => all.as_slice() == plain,
+            Err(_) => false,
+        },
     }
+}
+
+fn begins(bytes: &[u8], front: &[u8]) -> bool {
+    bytes.get(..front.len()) == Some(front)
+}
+
+// Whether `run_read` answers the header and the plaintext.
+fn reads_all<R: Threads + Sync, G: Gate + Sync>(
+    rt: &R,
+    alloc: Global,
+    reader: &mut FromMemory<'_>,
+    plain: &[u8],
+    container: &[u8],
+    workers: u32,
+    gate: &G,
+) -> Option<bool>
+    requires workers { (0 < workers) × (workers ≤ MAX_WORKERS) }
+{
+    let key = Key::new(COUNTING);
+    let mut writer = ToMemory::new(alloc, 64, MOST, Schedule::Never).ok()?;
+    let (header, all) = run_read(rt, alloc, &key, reader, LIMIT, workers, gate).ok()?;
+    let is_put = all.put_to(&mut writer).is_ok() && all.len() == plain.len() as u64;
+    Some(is_put && writer.bytes() == plain && begins(container, header.bytes()))
 }
 
 fn opens<R: Threads + Sync, G: Gate + Sync>(
     rt: &R,
     alloc: Global,
     reader: &mut FromMemory<'_>,
+    plain: &[u8],
     workers: u32,
     gate: &G,
 ) -> Option<bool>
@@ -123,7 +161,7 @@ fn opens<R: Threads + Sync, G: Gate + Sync>(
     let key = Key::new(COUNTING);
     let mut writer = ToMemory::new(alloc, 64, MOST, Schedule::Never).ok()?;
     let opened = run_open(rt, alloc, &key, reader, &mut writer, LIMIT, workers, gate);
-    Some(opened.is_ok())
+    Some(opened == Ok(plain.len() as u64) && writer.bytes() == plain)
 }
 
 // Whether two passes are made by so many workers in each engine, and the gate gives up as told.
@@ -160,7 +198,8 @@ fn meet_over_great_chunks<R: Threads + Sync>(rt: &R, alloc: Global, plain: &[u8]
     let container = seal(alloc, &Key::new(COUNTING), &shape, PREFIX, plain).ok()?;
     for engine in [Engine::Read, Engine::Check] {
         let gate = Meeting::new(2, TURNS);
-        if !reads(rt, alloc, engine, container.as_slice(), 2, &gate) || gate.gave_up() {
+        let is_done = reads(rt, alloc, engine, plain, container.as_slice(), 2, &gate);
+        if !is_done || gate.gave_up() {
             return Some(false);
         }
     }
