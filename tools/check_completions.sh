@@ -113,6 +113,7 @@ room, wrong, lines = tempfile.mkdtemp(prefix="sealer-completions-"), [], 0
 try:
     for name in ("one.stm", "two words.stm", "plain", ".zshrc"):
         open(os.path.join(room, name), "w").close()
+    os.mkdir(os.path.join(room, "below"))
     names, options = told()
     if not {"seal", "pipe", "open", "verify", "audit"} <= names:
         sys.exit(f"--help tells these commands: {names}")
@@ -129,6 +130,8 @@ try:
             # fish has those with the end first, and then the others
             asked += [("sealer open ", all_names if kind == "fish" else stm, pattern)]
             asked += [("sealer verify --key ", all_names, pattern), ("sealer seal ", all_names, pattern)]
+            # in a folder behind a tilde, folders too
+            asked += [("sealer open ~/", {"below"} | (all_names if kind == "fish" else stm), r"(?:one\.stm|words\.stm|plain|below)\b")]
             asked += [("sealer audit ", set(), pattern), ("sealer pipe ", set(), pattern), ("sealer seal --label ", set(), pattern)]
             asked += [(f"sealer {it} --exponent ", {str(it) for it in range(12, 21)}, r"\b\d\d\b") for it in ("seal", "pipe")]
             asked += [("sealer seal --progress=", {"terminal", "always"}, r"\b(?:terminal|always)\b")]
