@@ -784,6 +784,15 @@ rm life/first.stm
 run seal --key "$key" --ledger life/lost --no-new-ledger --device 1 life/first
 wants ledger-is-there 0 'sealed life/first file 1 bytes 1492' ''
 rm life/first.stm
+# a file of one byte: a 0, with which the database begins its own, or another, which is somebody else's
+printf '\0' > life/begun
+run seal --key "$key" --ledger life/begun --device 1 life/first
+wants ledger-that-was-only-begun 0 'sealed life/first file 0 bytes 1492' ''
+rm life/first.stm
+printf 1 > life/one
+run seal --key "$key" --ledger life/one --device 1 life/first
+wants ledger-of-one-byte 2 '' 'ledger: cannot open'
+is the-one-byte-stays test "$(cat life/one)" = 1
 # the log that a run left, and its file lost or emptied
 cp life/lost-wal life/kept-wal
 : > life/lost

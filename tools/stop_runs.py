@@ -244,7 +244,7 @@ def logs_with_pages():
 
 
 def altered_logs():
-    """One run after each alteration of the log that a killed run left."""
+    """One run after each alteration of the two files that a killed run left."""
     global stops
     # another ledger, and two of its logs
     subprocess.run(command("one lane", ["a"]), stdout=subprocess.DEVNULL, check=True)
@@ -285,6 +285,25 @@ def altered_logs():
         elif (run.returncode, run.stderr) != (2, "ledger: cannot open\n") or files_of_ledger()[0] != ledger:
             differs(f"the log {what}: status {run.returncode}, {run.stderr}")
         clear()
+    page = int.from_bytes(ledger[16:18], "big")
+    pages = range(0, len(ledger), page)
+    cuts = {1, 16, 99, 100, page - 1, len(ledger) - 1, *pages[1:]}
+    files = [(f"cut at {at} bytes", ledger[:at]) for at in sorted(cuts)]
+    files += [(f"with zeros at {at}", ledger[:at] + bytes(page) + ledger[at + page :]) for at in pages]
+    files += [("with a page of zeros behind it", ledger + bytes(page))]
+    for what, bytes_of_file in files:
+        for which, bytes_of_log in ("its log", log), ("no log", None):
+            stops += 1
+            put(bytes_of_file, bytes_of_log)
+            run = subprocess.run(command("one lane", ["c"]), capture_output=True, text=True, timeout=60)
+            with open("ledger", "rb") as file:
+                left = file.read()
+            if run.returncode == 0:
+                if number_in("c.stm") <= last:
+                    differs(f"the ledger {what}, with {which}: number {number_in('c.stm')} was given before, up to {last}")
+            elif run.returncode != 2 or run.stderr not in ("ledger: cannot open\n", "ledger: not a ledger\n") or left != bytes_of_file:
+                differs(f"the ledger {what}, with {which}: status {run.returncode}, {run.stderr}")
+            clear()
 
 
 def first_runs():

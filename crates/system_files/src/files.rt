@@ -158,13 +158,18 @@ fn remove_at<R: Files>(rt: &R, path: &str) -> Result<(), FolderFault>
 }
 
 /// What stands in for standard streams that are closed, so that no file that is opened later takes the number of one and gets what
-/// is meant for the stream. It is a folder, opened to be read: who reads or writes it fails, as on a closed stream.
+/// is meant for the stream.
 pub fn stand_ins<R: Files>(rt: &R) -> [Option<R::File>; 3] {
-    [
-        File::open(rt, "/").ok(),
-        File::open(rt, "/").ok(),
-        File::open(rt, "/").ok(),
-    ]
+    [stand_in(rt), stand_in(rt), stand_in(rt)]
+}
+
+// A folder, opened to be read: who reads or writes it fails, as on a closed stream. It is the current one where the root
+// may not be read.
+fn stand_in<R: Files>(rt: &R) -> Option<R::File> {
+    match File::open(rt, "/") {
+        Ok(file) => Some(file),
+        Err(_) => File::open(rt, ".").ok(),
+    }
 }
 
 /// Opens a file to be read. A directory is none.

@@ -122,7 +122,8 @@ fn is_hot<R: Files>(rt: &R, journal: &str) -> bool {
     }
 }
 
-fn begins_with_zero<R: Files>(rt: &R, path: &str) -> bool {
+/// Whether a file can be read, and its first byte is a 0.
+pub(crate) fn begins_with_zero<R: Files>(rt: &R, path: &str) -> bool {
     let Ok(mut file) = File::open(rt, path) else {
         return false;
     };

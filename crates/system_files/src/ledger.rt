@@ -9,6 +9,7 @@ ghost use Rattle.reserve_core.specs.Lasting.{LeavesOnlyThis};
 ghost use Rattle.reserve_core.specs.Reservations.{Holds, Opened, no_lists};
 ghost use Rattle.reserve_core.specs.NextRun.{IsFound};
 
+use crate::holdings::begins_with_zero;
 use crate::log::{log_adds, log_beside, log_is_begun};
 use reserve_core::{Keeper, LedgerFile, ReserveFault};
 use sqlite::{Alter, Connection, FileFrom, FileStore, Options, Start};
@@ -51,7 +52,7 @@ pub struct LedgerPath<'a> {
 /// empty file any but one that was only begun, since that file was lost or put elsewhere, and the database would begin anew
 /// over it, from number 0; and one with pages with which the file has fewer numbers of some key and device than without it, as
 /// far as the file alone is a ledger, or for which memory to tell this is refused. `NotThere` comes where there is no file, or an empty one,
-/// and none may be made. A file of one byte counts as empty, since the database begins its file with a single 0.
+/// and none may be made. A file of a single 0 counts as empty, since the database begins its file so; one of another byte is no database.
 pub fn may_open<R: Files + AllocGlobal>(
     rt: &R,
     ledger: &LedgerPath<'_>,
@@ -63,6 +64,10 @@ pub fn may_open<R: Files + AllocGlobal>(
     let (Ok(file_bytes), Ok(log_bytes)) = (length_of(rt, path), length_of(rt, log.as_str())) else {
         return Err(LedgerFault::CannotOpen);
     };
+    // The database takes any file of one byte for one that it only began, and would write over it.
+    if file_bytes == Some(1) && !begins_with_zero(rt, path) {
+        return Err(LedgerFault::CannotOpen);
+    }
     let is_new = file_bytes.unwrap_or(0) <= 1;
     let goes_with_it = if file_bytes.is_none() {
         log_bytes.unwrap_or(0) == 0
