@@ -11,7 +11,8 @@ ledger of its own; with NIGHTS each NIGHTS-th, from the NIGHT-th on (0).
 Then it is killed as it makes a ledger, at each of its calls on files: the next run succeeds. And it is killed right behind its first finished
 output, and of the ledger's two files the log is deleted, cut at 20 lengths, has one bit flipped at 50 places, or is another ledger's, without
 pages and with them: the next run gives a number that no run had, or ends with `ledger: cannot open` and leaves the file as it was; the latter where the
-file is lost or emptied.
+file is lost or emptied. So it does where the file itself is cut at each page and about its ends, has a page of zeros, or one behind it, with its
+log and without.
 
 Prints 'N stops as they should be', or what differs. Needs strace, and Python's package `cryptography`; where one isn't there it says so and ends
 well, and under CI it fails.
@@ -243,7 +244,7 @@ def logs_with_pages():
     return logs
 
 
-def altered_logs():
+def altered_ledgers():
     """One run after each alteration of the two files that a killed run left."""
     global stops
     # another ledger, and two of its logs
@@ -367,7 +368,7 @@ def all_stops():
 def worked(chosen):
     """The work of one process: some stops, or what has a name."""
     if isinstance(chosen, str):
-        return in_a_folder({"first runs": first_runs, "altered logs": altered_logs}[chosen])
+        return in_a_folder({"first runs": first_runs, "altered ledgers": altered_ledgers}[chosen])
     return in_a_folder(lambda: [stopped(*stop) for stop in chosen])
 
 
@@ -378,7 +379,7 @@ shared = tempfile.mkdtemp(dir=place)
 processors = len(os.sched_getaffinity(0))
 stops_to_try, _, bad = in_a_folder(all_stops)
 stops_to_try = stops_to_try[night % nights :: nights]
-parts = ["altered logs", "first runs"] + [stops_to_try[i :: 4 * processors] for i in range(4 * processors)]
+parts = ["altered ledgers", "first runs"] + [stops_to_try[i :: 4 * processors] for i in range(4 * processors)]
 counts, met = [], 0
 with multiprocessing.Pool(processors) as pool:
     for part, (answer, some, wrong) in zip(parts, pool.imap(worked, parts)):
