@@ -1,7 +1,9 @@
-//! Measures the cipher: ChaCha20, Poly1305, and the AEAD's sealing, opening and checking, over texts of 64 KiB and of 1 KiB.
+//! Measures the cipher: ChaCha20, Poly1305, and the AEAD's sealing, opening and checking, over texts of 64 KiB and of 1
+//! KiB.
 //!
-//! Without an argument it works once over 64 KiB of zeros by each and prints what comes out. With the argument `measure` it
-//! prints for each work and length the picoseconds a byte of its best sample; a sample works over 64 KiB, in texts of the length.
+//! Without an argument it works once over 64 KiB of zeros by each and prints what comes out. With the argument
+//! `measure` it prints for each work and length the picoseconds a byte of its best sample; a sample works over 64 KiB,
+//! in texts of the length.
 #![tactic(auto)]
 
 ghost use Rattle.std.specs.Prelude.{◌≡◌, ◌≤◌, length};

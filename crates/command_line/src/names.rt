@@ -1,6 +1,7 @@
-//! The names of the files of a command: those of the command line, and those of a list, a text with a name a line, or with a byte 0
-//! behind each.
-ghost use Rattle.std.specs.Prelude.{◌≡◌, ◌≢◌, ◌<◌, ◌++◌, ◌∷◌, ℕ, List, [], IfOk, IfSome, None, Some, codes, length, map};
+//! The names of the files of a command: those of the command line, and those of a list, a text with a name a line, or
+//! with a byte 0 behind each.
+ghost use Rattle.std.specs.Prelude.{◌≡◌, ◌≢◌, ◌<◌, ◌++◌, ◌∷◌, ℕ, List, [], IfOk};
+ghost use Rattle.std.specs.Prelude.{IfSome, None, Some, codes, length, map};
 ghost use Rattle.std.specs.Prelude.{option_map, true, false};
 ghost use Rattle.clap.specs.Matches.{first_value, found_of, one_text};
 ghost use Rattle.std.specs.List.{All};
@@ -43,8 +44,8 @@ pub fn list_request<'a>(matches: &ArgMatches<'a>) -> Option<ListRequest<'a>>
     }
 }
 
-/// The names of the command line, and behind them those of the list, where there is one. `ListNoText` where the list isn't UTF-8,
-/// `EmptyName` where a name in it is empty.
+/// The names of the command line, and behind them those of the list, where there is one. `ListNoText` where the list
+/// isn't UTF-8, `EmptyName` where a name in it is empty.
 pub fn files_of<'n>(
     alloc: Global,
     given: &[&'n str],
@@ -76,8 +77,8 @@ pub fn files_of<'n>(
     }
 }
 
-/// The names that a text lists, in its order, each with the separator behind it; the last one may stand without. `EmptyName` where
-/// one is empty.
+/// The names that a text lists, in its order, each with the separator behind it; the last one may stand without.
+/// `EmptyName` where one is empty.
 pub fn names_in(alloc: Global, text: &str, separator: char) -> Result<Vec<&str>, UsageFault>
     requires ascii { separator < 128 }
     ensures names { IfOk result (λ names. IsListOf separator text.now (map (λ name. name.now) names.items)) }

@@ -102,14 +102,15 @@ pub struct SealRequest<'m, 'a> {
     pub sync: bool,
 }
 
-/// What `seal` is asked for, of these files. `NoFiles` where there are none, then `LanesAndWorkers` where both are above 1, and
-/// then `LabelTooLong` where the label has more than 255 bytes.
+/// What `seal` is asked for, of these files. `NoFiles` where there are none, then `LanesAndWorkers` where both are
+/// above 1, and then `LabelTooLong` where the label has more than 255 bytes.
 pub fn seal_request<'m, 'a>(
     matches: &ArgMatches<'a>,
     files: &'m [&'m str],
 ) -> Result<SealRequest<'m, 'a>, UsageFault>
     ensures key { IfOk result (λ request. Some request.key.now ≡ first_value (found_of matches.now) (codes "key")) }
-    ensures ledger { IfOk result (λ request. Some request.ledger.now ≡ first_value (found_of matches.now) (codes "ledger")) }
+    ensures ledger { IfOk result (λ request. Some request.ledger.now
+        ≡ first_value (found_of matches.now) (codes "ledger")) }
     ensures journal { IfOk result (λ request. option_map (λ journal. journal.now) request.journal
         ≡ first_value (found_of matches.now) (codes "journal")) }
     ensures files { IfOk result (λ request. (request.files.now ≡ files.now) × (0 < length request.files.now)) }
@@ -195,7 +196,8 @@ pub struct PipeRequest<'a> {
 /// What `pipe` is asked for. `LabelTooLong` where the label has more than 255 bytes.
 pub fn pipe_request<'a>(matches: &ArgMatches<'a>) -> Result<PipeRequest<'a>, UsageFault>
     ensures key { IfOk result (λ request. Some request.key.now ≡ first_value (found_of matches.now) (codes "key")) }
-    ensures ledger { IfOk result (λ request. Some request.ledger.now ≡ first_value (found_of matches.now) (codes "ledger")) }
+    ensures ledger { IfOk result (λ request. Some request.ledger.now
+        ≡ first_value (found_of matches.now) (codes "ledger")) }
     ensures journal { IfOk result (λ request. option_map (λ journal. journal.now) request.journal
         ≡ first_value (found_of matches.now) (codes "journal")) }
     ensures workers { IfOk result (λ request. (0 < request.workers) × (request.workers ≤ MAX_WORKERS)) }
@@ -265,8 +267,8 @@ pub struct OpenRequest<'m, 'a> {
     pub sync: bool,
 }
 
-/// What `open` or `verify` is asked for, of these files. `NoFiles` where there are none, then `LabelTooLong` where the label has
-/// more than 255 bytes: no container has it.
+/// What `open` or `verify` is asked for, of these files. `NoFiles` where there are none, then `LabelTooLong` where the
+/// label has more than 255 bytes: no container has it.
 pub fn open_request<'m, 'a>(
     matches: &ArgMatches<'a>,
     files: &'m [&'m str],

@@ -3,7 +3,8 @@
 //!
 //! A `Cut` is a size of chunks and the number of plaintext bytes. It gives each chunk by its number, of the plaintext
 //! and of the container. Nothing here takes memory.
-ghost use Rattle.std.specs.Prelude.{◌≡◌, ℕ, ◌+◌, ◌-◌, ◌*◌, ◌^◌, ◌<◌, ◌≤◌, List, [], length, take, drop, min, slice_index_or};
+ghost use Rattle.std.specs.Prelude.{◌≡◌, ℕ, ◌+◌, ◌-◌, ◌*◌, ◌^◌, ◌<◌, ◌≤◌, List, []};
+ghost use Rattle.std.specs.Prelude.{length, take, drop, min, slice_index_or};
 ghost use Rattle.std.specs.Prelude.{◌≢◌, IfOk, IfErr, IfSome, IfNone};
 ghost use Rattle.container_core.specs.Chunks.{chunks, chunk_count, body_length, container_length, container_limit};
 ghost use Rattle.container_core.specs.Chunks.{most_of, sealed_chunks};

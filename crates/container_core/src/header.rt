@@ -11,7 +11,8 @@
 //! | from 25 | version 2: the label |
 ghost use Rattle.std.specs.Prelude.{◌≡◌, ◌≤◌, ◌+◌, length, take, drop, slice_index, None, Some, IfOk, IfErr, OnOk};
 ghost use Rattle.container_core.specs.Chunks.{container_length, container_limit};
-ghost use Rattle.container_core.specs.Container.{front_of, header_of, header_length, is_two, size_in, label_bytes, version_of};
+ghost use Rattle.container_core.specs.Container.{front_of, header_of, header_length, is_two};
+ghost use Rattle.container_core.specs.Container.{size_in, label_bytes, version_of};
 ghost use Rattle.container_core.specs.Opening.{header_fault, header_fault_one, header_fault_two};
 ghost use Rattle.container_core.specs.Stream.{prefix_in};
 

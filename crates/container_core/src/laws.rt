@@ -5,10 +5,12 @@ ghost use Rattle.container_core.specs.Chunks.{chunks, chunk_count, sealed_chunks
 ghost use Rattle.container_core.specs.Chunks.{body_length, container_length, container_limit, has_plaintext, most_of};
 ghost use Rattle.container_core.specs.Shape.{ShapeView, IsShape, size_of, two};
 ghost use Rattle.container_core.specs.Stream.{nonce_of, prefix_in, stream, stream_by};
-ghost use Rattle.container_core.specs.Container.{container, header_of, header_length, is_two, label_bytes, shape_in, size_in};
+ghost use Rattle.container_core.specs.Container.{container, header_of, header_length, is_two};
+ghost use Rattle.container_core.specs.Container.{label_bytes, shape_in, size_in};
 ghost use Rattle.container_core.specs.declared.fault.OpenFault.{OpenFault};
 ghost use Rattle.container_core.specs.Faults.{IsOfBytes};
-ghost use Rattle.container_core.specs.Opening.{header_fault, early_fault, longest, opening, unsealed, unsealed_by, behind};
+ghost use Rattle.container_core.specs.Opening.{header_fault, early_fault, longest, opening};
+ghost use Rattle.container_core.specs.Opening.{unsealed, unsealed_by, behind};
 
 use crate::{MAX_CHUNKS, MAX_PLAIN};
 
@@ -46,7 +48,8 @@ pub fn sealed_opens()
 /// What a limit is lessened to, so that a chunk's number has 32 bits: no limit of at most 2^40 bytes is.
 pub fn limits_lessened()
     ensures least { (most size n : ℕ) → (n ≤ most_of most size) ↔ ((n ≤ most) × (n ≤ MAX_CHUNKS * size)) }
-    ensures same { (most : ℕ) (shape : ShapeView) → IsShape shape → most ≤ MAX_PLAIN → most_of most (size_of shape) ≡ most }
+    ensures same { (most : ℕ) (shape : ShapeView) → IsShape shape → most ≤ MAX_PLAIN
+        → most_of most (size_of shape) ≡ most }
     ensures count { (most size n : ℕ) → 0 < size → n ≤ most_of most size → chunk_count size n < 2 ^ 32 }
 {}
 
@@ -88,7 +91,8 @@ pub fn limits_agree()
 
 /// How long a container may be that begins as some bytes do: what does not begin as version 2 is held to version 1.
 pub fn longest_containers()
-    ensures one { (bytes : List ℕ) (most : ℕ) → is_two bytes ≡ false → longest most bytes ≡ container_limit 24 65536 most }
+    ensures one { (bytes : List ℕ) (most : ℕ) → is_two bytes ≡ false
+        → longest most bytes ≡ container_limit 24 65536 most }
     ensures two { (bytes : List ℕ) (most : ℕ) → is_two bytes ≡ true
         → longest most bytes ≡ container_limit (header_length bytes) (size_in bytes) most }
     ensures good { (key bytes : List ℕ) (most : ℕ) → header_fault key bytes ≡ None
@@ -102,8 +106,8 @@ pub fn containers_differ()
         → length prefix ≡ 7 → length other ≡ 7
         → container key shape prefix plain ≡ container another form other more
         → (shape ≡ form) × (prefix ≡ other) }
-    ensures plaintext { (key prefix other plain another : List ℕ) (shape form : ShapeView) → IsShape shape → IsShape form
-        → length prefix ≡ 7 → length other ≡ 7
+    ensures plaintext { (key prefix other plain another : List ℕ) (shape form : ShapeView)
+        → IsShape shape → IsShape form → length prefix ≡ 7 → length other ≡ 7
         → container key shape prefix plain ≡ container key form other another
         → (shape ≡ form) × (prefix ≡ other) × (plain ≡ another) }
 {}
@@ -210,7 +214,8 @@ pub fn rounds_open()
 pub fn headers_stand_in_front()
     ensures length { (front rest : List ℕ) → header_length front ≤ length front
         → header_length (front ++ rest) ≡ header_length front }
-    ensures size { (front rest : List ℕ) → header_length front ≤ length front → size_in (front ++ rest) ≡ size_in front }
+    ensures size { (front rest : List ℕ) → header_length front ≤ length front
+        → size_in (front ++ rest) ≡ size_in front }
     ensures two { (front rest : List ℕ) → header_length front ≤ length front → is_two (front ++ rest) ≡ is_two front }
     ensures header { (key front rest : List ℕ) → header_length front ≤ length front
         → header_fault key (front ++ rest) ≡ header_fault key front }

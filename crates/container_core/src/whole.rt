@@ -180,9 +180,11 @@ pub fn open(alloc: Global, key: &Key, bytes: &[u8]) -> Result<Vec<u8>, OpenFault
 
     // What opens is the container of its plaintext, of the shape and under the prefix that its header names, and such a
     // container opens.
-    ensures sealed { IfOk result (λ out. bytes.now ≡ container key.now (shape_in bytes.now) (prefix_in bytes.now) out.items) }
+    ensures sealed { IfOk result (λ out. bytes.now
+        ≡ container key.now (shape_in bytes.now) (prefix_in bytes.now) out.items) }
     ensures shape { OnOk result (IsShape (shape_in bytes.now)) }
-    ensures opens { (plain : List ℕ) → length plain ≤ most_of MAX_OPENED (size_in bytes.now) → IsShape (shape_in bytes.now)
+    ensures opens { (plain : List ℕ) → length plain ≤ most_of MAX_OPENED (size_in bytes.now)
+        → IsShape (shape_in bytes.now)
         → bytes.now ≡ container key.now (shape_in bytes.now) (prefix_in bytes.now) plain
         → MatchResult result (λ out. out.items ≡ plain) (λ fault. fault ≡ OpenFault.OutOfMemory) }
     ensures opens_sealed { (plain : List ℕ) → length plain ≤ MAX_PLAIN → IsShape (shape_in bytes.now)

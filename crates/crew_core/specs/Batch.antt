@@ -42,8 +42,8 @@ issues number outcomes = map (entry number) (flat_map issue_of outcomes)
 abbrev pub of_seat : ℕ → List Outcome → List Outcome
 of_seat place outcomes = filter (λ o. nat_eq (seat_of o) place) outcomes
 
--- the outcome is one of this job: its container in a shape, under the prefix of a number spent as sealed, or a number spent as
--- void, or no number
+-- the outcome is one of this job: its container in a shape, under the prefix of a number spent as sealed, or a number
+-- spent as void, or no number
 abbrev pub IsOutcome : List ℕ → ShapeView → List ℕ → Outcome → Type 0
 IsOutcome key shape job (Sealed seat bytes spent) =
     (bytes.items ≡ container key shape (prefix_of spent.device spent.number) job) × (spent.way ≡ AsSealed)
@@ -51,7 +51,8 @@ IsOutcome key shape job (Spoiled seat spent) = spent.way ≡ AsVoid
 IsOutcome key shape job (Unissued seat fault) = ⊤
 
 -- one outcome for each job, in the order of the jobs
-pub record AreOutcomes (key : List ℕ) (shape : ShapeView) (jobs : List (List ℕ)) (outcomes : List Outcome) : Type 0 where
+pub record AreOutcomes (key : List ℕ) (shape : ShapeView)
+    (jobs : List (List ℕ)) (outcomes : List Outcome) : Type 0 where
   pub count : length outcomes ≡ length jobs
   pub each : (n : ℕ) (job : List ℕ) (o : Outcome) → slice_get jobs n ≡ Some job
       → slice_get outcomes n ≡ Some o → IsOutcome key shape job o

@@ -20,7 +20,8 @@ pub record BatchView : Type 0 where
   pub claims : ClaimsView
 
 abbrev pub batch_of : List ℕ → ShapeView → LedgerId → List (List ℕ) → ClaimsView → BatchView
-batch_of key shape ledger jobs claims = record { key = key; shape = shape; ledger = ledger; jobs = jobs; claims = claims }
+batch_of key shape ledger jobs claims =
+    record { key = key; shape = shape; ledger = ledger; jobs = jobs; claims = claims }
 
 -- at most 65,535 jobs, each of at most 2^40 bytes, whose numbers are those that are claimed
 pub record IsBatch (batch : BatchView) : Type 0 where
@@ -37,7 +38,8 @@ abbrev pub ended : ClaimsView → ℕ → List ℕ → ClaimantView
 ended claims lanes drawn = claimant_of claims lanes drawn lanes
 
 -- what one job does to its lane's seat
-pub record IsStep (key : List ℕ) (shape : ShapeView) (job : List ℕ) (lane : ℕ) (old new : SeatView) (o : Outcome) : Type 0 where
+pub record IsStep (key : List ℕ) (shape : ShapeView) (job : List ℕ) (lane : ℕ)
+    (old new : SeatView) (o : Outcome) : Type 0 where
   pub outcome : IsOutcome key shape job o
   pub seat : seat_of o ≡ lane
   pub stands : IsAt new o

@@ -1,6 +1,7 @@
 //! The lanes of a batch: each draws its jobs from the claims that all share, one after the other till none is left, and
 //! works on them with a seat of its own, in places of its own. So a lane that is held up holds up one job alone.
-ghost use Rattle.std.specs.Prelude.{◌≡◌, ℕ, ◌+◌, ◌<◌, ◌≤◌, [], length, map, All, IfOk, OnOk, OnErr, IfSome, IfNone, slice_index_or};
+ghost use Rattle.std.specs.Prelude.{◌≡◌, ℕ, ◌+◌, ◌<◌, ◌≤◌, [], length, map, All, IfOk};
+ghost use Rattle.std.specs.Prelude.{OnOk, OnErr, IfSome, IfNone, slice_index_or};
 ghost use Rattle.std.specs.Thread.{IsSync};
 ghost use Rattle.claim_core.specs.Claims.{IsOf, newcomer, with_number, with_end, joined, times, once_below};
 ghost use Rattle.container_core.specs.Container.{container};
@@ -37,7 +38,8 @@ impl<'a> Model for Batch<'a> {
 
     ghost Value = { BatchView };
 
-    ghost view = { λ b. batch_of b.key.now b.shape.now b.ledger.now.ledger (map (λ job. job.items) b.jobs.now) b.claims };
+    ghost view = { λ b.
+        batch_of b.key.now b.shape.now b.ledger.now.ledger (map (λ job. job.items) b.jobs.now) b.claims };
 
     ghost invariant = { λ b. IsBatch
         (batch_of b.key.now b.shape.now b.ledger.now.ledger (map (λ job. job.items) b.jobs.now) b.claims) };
@@ -128,7 +130,8 @@ impl<'a> Batch<'a> {
     fn seal_job(&self, alloc: Global, lane: u32, job: u32, seat: &mut Seat) -> Outcome
         requires job { job < length self.now.jobs }
         requires ours { seat.old.ledger ≡ self.now.ledger }
-        ensures { IsStep self.now.key self.now.shape (slice_index_or self.now.jobs job []) lane seat.old seat.new result }
+        ensures { IsStep self.now.key self.now.shape (slice_index_or self.now.jobs job [])
+            lane seat.old seat.new result }
     {
         sealed_job(
             alloc,

@@ -114,7 +114,8 @@ impl Rooms {
         requires workers { (0 < workers) × (workers ≤ MAX_WORKERS) }
         ensures crew { IfOk result (λ rooms. rooms.crew
             ≡ idle (min workers (min (round_count size) chunks)) (min (round_count size) chunks) (room_of task size)) }
-        ensures ready { IfOk result (λ rooms. CanMake task size (min (round_count size) chunks) rooms.crew rooms.places) }
+        ensures ready { IfOk result (λ rooms.
+            CanMake task size (min (round_count size) chunks) rooms.crew rooms.places) }
         ensures empty { IfOk result (λ rooms. rooms.places.values ≡ []) }
     {
         let pieces = chunks.min(chunks_of_round(size));

@@ -1,5 +1,6 @@
 //! A whole container sealed or opened by several workers, and a round of one sealed.
-ghost use Rattle.std.specs.Prelude.{◌≡◌, ℕ, ◌+◌, ◌*◌, ◌^◌, ◌<◌, ◌≤◌, ◌++◌, ◌⊎◌, List, true, false, None, length, Ok, Err};
+ghost use Rattle.std.specs.Prelude.{◌≡◌, ℕ, ◌+◌, ◌*◌, ◌^◌, ◌<◌, ◌≤◌, ◌++◌, ◌⊎◌};
+ghost use Rattle.std.specs.Prelude.{List, true, false, None, length, Ok, Err};
 ghost use Rattle.std.specs.Prelude.{IfOk, IfErr, OnOk, OnErr};
 ghost use Rattle.container_core.specs.Chunks.{chunk_count, chunks};
 ghost use Rattle.container_core.specs.Container.{container, size_in};

@@ -1,5 +1,6 @@
 -- What the contracts of the engines cite: what an engine did with its reader, and what with its writer.
-use Rattle.std.specs.Prelude.{◌≡◌, ◌≢◌, ℕ, ◌+◌, ◌*◌, ◌<◌, ◌≤◌, ◌++◌, Bool, true, false, List, [], ◌∷◌, length, take, Option}
+use Rattle.std.specs.Prelude.{◌≡◌, ◌≢◌, ℕ, ◌+◌, ◌*◌, ◌<◌, ◌≤◌, ◌++◌, Bool, true}
+use Rattle.std.specs.Prelude.{false, List, [], ◌∷◌, length, take, Option}
 use Rattle.std.specs.Prelude.{Result, Ok, Err}
 use Rattle.std.specs.Prelude.{IfOk, IfErr, OnOk, OnErr, IfSome}
 use Rattle.container_core.specs.Chunks.{chunks, container_length, container_limit}

@@ -1,5 +1,6 @@
 -- What the contract of the engine that seals a stream cites.
-use Rattle.std.specs.Prelude.{◌≡◌, ◌≢◌, ℕ, ◌+◌, ◌*◌, ◌<◌, ◌≤◌, List, length, Option, Result, Err, IfOk, OnOk, OnErr, IfSome}
+use Rattle.std.specs.Prelude.{◌≡◌, ◌≢◌, ℕ, ◌+◌, ◌*◌, ◌<◌, ◌≤◌, List, length, Option}
+use Rattle.std.specs.Prelude.{Result, Err, IfOk, OnOk, OnErr, IfSome}
 use Rattle.container_core.specs.Container.{container}
 use Rattle.container_core.specs.Shape.{ShapeView, size_of}
 use Rattle.container_core.specs.declared.fault.SealFault.{SealFault}

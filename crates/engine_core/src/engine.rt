@@ -114,10 +114,10 @@ fn plain_one<R: Source>(
     }
 }
 
-/// Reads a container and writes its plaintext, which has at most `max_bytes` bytes (2^52 - 2^20 at most), once every chunk was
-/// checked. Answers the plaintext's length, or the first fault of the container. At every fault but `Write` nothing was
-/// written; at `Write` the whole input was read, and a beginning of its plaintext was written, and not the whole. Of an
-/// input that is too long one byte past the longest container is read.
+/// Reads a container and writes its plaintext, which has at most `max_bytes` bytes (2^52 - 2^20 at most), once every
+/// chunk was checked. Answers the plaintext's length, or the first fault of the container. At every fault but `Write`
+/// nothing was written; at `Write` the whole input was read, and a beginning of its plaintext was written, and not the
+/// whole. Of an input that is too long one byte past the longest container is read.
 pub fn open_one<R: Source, W: Sink>(
     alloc: Global,
     key: &Key,

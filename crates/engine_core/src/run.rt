@@ -31,9 +31,9 @@ use std::thread::Threads;
 /// input, where at most two windows of chunks are read and not written. Answers the input's length. `TooLong` where a
 /// byte more was read, and nothing past it is; the round in hand is dropped then, and those before it were written. At
 /// every fault what was written begins the container of the input (or, where the reader tells nothing, of some
-/// plaintext), and at `OutOfMemory` it is nothing. Memory is taken before anything is written: two windows of chunks, two
-/// queues and a bell for each worker; of an input that ends within the first round a buffer for each chunk, or for each
-/// block of small ones, and no queue where one worker suffices.
+/// plaintext), and at `OutOfMemory` it is nothing. Memory is taken before anything is written: two windows of chunks,
+/// two queues and a bell for each worker; of an input that ends within the first round a buffer for each chunk, or for
+/// each block of small ones, and no queue where one worker suffices.
 ///
 /// What the writer may hold, where that is bounded, has to allow the container of any plaintext. So a run
 /// that is killed left no more than a beginning of that.
@@ -119,10 +119,10 @@ pub fn run_seal<T: Threads + Wait + Sync, R: Source, W: Output, G: Gate + Sync>(
 
 /// Reads a container and checks it by 1 to 16 workers, in rounds of `window` chunks (1 to 256): while one is opened,
 /// the plaintext of the one before is taken and the one behind is read. Answers its plaintext, which has at most
-/// `max_bytes` bytes (2^52 - 2^20 at most), or the first fault of the container. A header's fault of version 2 is answered
-/// without reading on; of an input that is too long one byte past the longest container is read. It takes the memory of
-/// the plaintext, whose room doubles as it grows, of two windows of sealed chunks, and of a window of plaintext and as
-/// much for each worker.
+/// `max_bytes` bytes (2^52 - 2^20 at most), or the first fault of the container. A header's fault of version 2 is
+/// answered without reading on; of an input that is too long one byte past the longest container is read. It takes the
+/// memory of the plaintext, whose room doubles as it grows, of two windows of sealed chunks, and of a window of
+/// plaintext and as much for each worker.
 pub fn run_plain_by<T: Threads + Sync, R: Source, G: Gate + Sync>(
     rt: &T,
     alloc: Global,
@@ -240,9 +240,9 @@ pub fn run_read<T: Threads + Sync, R: Source, G: Gate + Sync>(
 
 /// Reads a container and checks it as `run_plain_by` does, in rounds of `window` chunks (1 to 256), by 1 to 16 workers,
 /// and then writes its plaintext, of at most `max_bytes` bytes, chunk by chunk. Answers the plaintext's length, or the
-/// first fault of the container. At every fault but `Write` nothing was written; at `Write` the whole input was read, and
-/// a beginning of its plaintext was written, and not the whole. The plaintext stays in the buffers in which its chunks
-/// were opened: it takes the memory of `run_read`.
+/// first fault of the container. At every fault but `Write` nothing was written; at `Write` the whole input was read,
+/// and a beginning of its plaintext was written, and not the whole. The plaintext stays in the buffers in which its
+/// chunks were opened: it takes the memory of `run_read`.
 pub fn run_open_by<T: Threads + Sync, R: Source, W: Sink, G: Gate + Sync>(
     rt: &T,
     alloc: Global,

@@ -362,8 +362,8 @@ fn a_round_is_written_before_the_second_behind_it_is_read(rt: HostRuntime) -> Re
     Ok(())
 }
 
-// The same by several workers: rounds 0 and 1 of one chunk before round 3, and round 0 of two chunks before round 2; but
-// not chunk 2, which is of the round before.
+// The same by several workers: rounds 0 and 1 of one chunk before round 3, and round 0 of two chunks before round 2;
+// but not chunk 2, which is of the round before.
 #[test]
 fn several_workers_write_a_round_before_the_second_behind_it_is_read(
     rt: HostRuntime,

@@ -221,8 +221,8 @@ fn an_opening_writes_what_there_is_room_for(rt: HostRuntime) {
 
 // ---- a growth that is refused. Run these with each allocation refused in turn (`tools/refused_tests.py`).
 
-// Whether a sealing gives the container and a sealed number, or a void one without memory and nothing written. `None` is
-// that memory was refused.
+// Whether a sealing gives the container and a sealed number, or a void one without memory and nothing written. `None`
+// is that memory was refused.
 fn is_sealed_or_refused<R: Threads + Wait + Sync>(rt: &R, alloc: Global) -> Option<Option<bool>> {
     let mut writer = writer_of(alloc, MOST, Schedule::Never)?;
     Some(match seal_zeros(rt, alloc, MOST, &mut writer)? {

@@ -1,7 +1,8 @@
 -- What the contracts of readers and writers cite. The words on known bytes are std's, which a `Read` and a `Write`
 -- have too, so that an adapter says what the inner one says.
 pub use Rattle.std.specs.Io.KnownBytes.{Keeps, Appends, Consumes, IsAtEnd, ReadConsumes, WriteAppends}
-use Rattle.std.specs.Prelude.{◌≡◌, ℕ, ◌+◌, Bool, true, false, nat_lt, if◌then◌else◌, List, ◌++◌, Option, None, Some, IfSome}
+use Rattle.std.specs.Prelude.{◌≡◌, ℕ, ◌+◌, Bool, true, false, nat_lt, if◌then◌else◌}
+use Rattle.std.specs.Prelude.{List, ◌++◌, Option, None, Some, IfSome}
 
 -- the greatest number of 64 bits: 2^64 - 1
 abbrev pub most_count : ℕ

@@ -1,7 +1,8 @@
 -- The ledger of one thread.
 use Rattle.std.specs.Prelude.{ℕ}
 use Rattle.journal_core.specs.declared.book.BookFault.{BookFault}
-use Rattle.journal_core.specs.declared.book.BookFault.TheVariants.{Exhausted, SeatClosed, NotOpen, OutOfMemory, BadSeats}
+use Rattle.journal_core.specs.declared.book.BookFault.TheVariants.{Exhausted, SeatClosed, NotOpen}
+use Rattle.journal_core.specs.declared.book.BookFault.TheVariants.{OutOfMemory, BadSeats}
 
 -- the fault's number
 abbrev pub fault_number : BookFault → ℕ

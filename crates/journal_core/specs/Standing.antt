@@ -1,5 +1,6 @@
 -- What a running ledger keeps of its history: the counts, which seats are closed, and what became of each number.
-use Rattle.std.specs.Prelude.{◌≡◌, ℕ, ◌+◌, ◌-◌, ◌<◌, ◌≤◌, ◌↔◌, Bool, true, false, nat_lt, if◌then◌else◌, List, [], ◌∷◌, ◌++◌, length, replicate, slice_set}
+use Rattle.std.specs.Prelude.{◌≡◌, ℕ, ◌+◌, ◌-◌, ◌<◌, ◌≤◌, ◌↔◌, Bool, true, false, nat_lt, if◌then◌else◌}
+use Rattle.std.specs.Prelude.{List, [], ◌∷◌, ◌++◌, length, replicate, slice_set}
 use Rattle.std.specs.List.{slice_index_or}
 use Rattle.journal_core.specs.declared.entry.Way.TheVariants.{Sealed, Void}
 use Rattle.journal_core.specs.declared.entry.Event.{Event}

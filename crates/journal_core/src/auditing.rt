@@ -1,7 +1,8 @@
 //! The audit of a journal: a reader read to its end, the verdict on its bytes, and its line written.
 //!
 //! `progress` keeps what the audit needs of the bytes so far, `state` what the lines so far are.
-ghost use Rattle.std.specs.Prelude.{◌≡◌, ◌≢◌, ◌<◌, List, [], ◌∷◌, ◌++◌, length, IfOk, IfErr, IfSome, IsErrOf, OnOk, Some};
+ghost use Rattle.std.specs.Prelude.{◌≡◌, ◌≢◌, ◌<◌, List, [], ◌∷◌, ◌++◌, length};
+ghost use Rattle.std.specs.Prelude.{IfOk, IfErr, IfSome, IsErrOf, OnOk, Some};
 ghost use Rattle.journal_core.specs.declared.entry.Entry.{Entry};
 ghost use Rattle.journal_core.specs.AuditFaults.{fault_number, is_read, is_write};
 ghost use Rattle.journal_core.specs.History.{Terms, IsLawful, Legal, tally_of};

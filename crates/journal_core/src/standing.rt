@@ -4,7 +4,8 @@
 //! history.
 ghost use Rattle.std.specs.Prelude.{◌≡◌, ◌<◌, ◌↔◌, false, length, IfOk, IsTrue};
 ghost use Rattle.journal_core.specs.History.{IsLawful};
-ghost use Rattle.journal_core.specs.Standing.{CanFollow, IsSmall, after, answer_of, fresh, is_closed, issued, number_at};
+ghost use Rattle.journal_core.specs.Standing.{CanFollow, IsSmall, after, answer_of, fresh};
+ghost use Rattle.journal_core.specs.Standing.{is_closed, issued, number_at};
 
 use crate::entry::{Entry, Event, Tally, Way};
 use crate::terms::{MAX_SEATS, Terms};

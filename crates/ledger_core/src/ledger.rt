@@ -3,7 +3,8 @@
 //! An operation is one addition to one atomic word, and a tally is one load. Nobody waits: there is no lock, and no
 //! step is tried again. Whatever the schedule, the operations of all seats are one legal history, each once, and what
 //! each seat has seen is a beginning of it.
-ghost use Rattle.std.specs.Prelude.{◌≡◌, ◌<◌, ◌↔◌, ◌⊎◌, ℕ, List, [], Some, IsOk, IfOk, IfErr, slice_get, replicate, false};
+ghost use Rattle.std.specs.Prelude.{◌≡◌, ◌<◌, ◌↔◌, ◌⊎◌, ℕ, List, [], Some, IsOk};
+ghost use Rattle.std.specs.Prelude.{IfOk, IfErr, slice_get, replicate, false};
 ghost use Rattle.journal_core.specs.declared.entry.Entry.{Entry};
 ghost use Rattle.journal_core.specs.declared.entry.Event.TheVariants.{Granted, Settled};
 ghost use Rattle.journal_core.specs.declared.entry.Way.{Way};

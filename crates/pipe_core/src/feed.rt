@@ -220,7 +220,8 @@ fn take_in<N: Naming, T: Wait, R: Source, W: Output, G: Gate>(
     requires bells { 0 < length bells.now }
     requires into { IsPassOf jobs.now into.old × (0 < (view into.old).parts) }
     requires from { IsPassOf pieces.now from.old × (0 < (view from.old).parts) }
-    requires way { IsUnderWay N.each N.key N.header N.told (R.left reader.old) plan early.old (view into.old) (view from.old) round.old }
+    requires way { IsUnderWay N.each N.key N.header N.told (R.left reader.old) plan
+        early.old (view into.old) (view from.old) round.old }
     requires handed { IsHanded plan.group round.old }
     requires room { (plan.depth ≤ deque_capacity early.old.places) × (plan.group ≤ deque_capacity round.old.held)
         × (length early.old.places.items + length round.old.held.items ≤ plan.depth) }
@@ -232,7 +233,8 @@ fn take_in<N: Naming, T: Wait, R: Source, W: Output, G: Gate>(
     ensures from { IsPassOf pieces.now from.new × ((view from.new).parts ≡ (view from.old).parts) }
     ensures spare { All (λ b. length b.items ≡ room N.each N.header) spare.new.items }
     ensures all { IfOk result (λ all. all ≡ true
-        → IsUnderWay N.each N.key N.header N.told (R.left reader.new) plan early.new (view into.new) (view from.new) round.new
+        → IsUnderWay N.each N.key N.header N.told (R.left reader.new) plan
+        early.new (view into.new) (view from.new) round.new
         × IsHanded plan.group round.new × (round.new.intake.over ≡ false → round.new.intake.ended ≡ true)) }
     ensures bound { ConsumesUpTo N.told (R.left reader.new) plan.limit }
     ensures written { OnOk result (AreWritten N.each front.now N.key N.header N.told
@@ -311,7 +313,8 @@ fn drain<N: Naming, T: Wait, W: Output, G: Gate>(
     ensures all { OnOk result (length early.new.places.items ≡ 0) }
     ensures way { (left : Option (List ℕ)) (plan : Plan)
         → IsUnderWay N.each N.key N.header N.told left plan early.old (view into.old) (view from.old) round.old
-        → OnOk result (IsUnderWay N.each N.key N.header N.told left plan early.new (view into.new) (view from.new) round.new) }
+        → OnOk result (IsUnderWay N.each N.key N.header N.told left plan
+        early.new (view into.new) (view from.new) round.new) }
     ensures written { (taken : Option (List ℕ))
         → AreWritten N.each front.now N.key N.header N.told taken (W.taken writer.old) early.old.written
         → OnOk result (AreWritten N.each front.now N.key N.header N.told taken (W.taken writer.new) early.new.written) }

@@ -116,7 +116,8 @@ fn a_byte_behind_two_small_chunks_voids_the_grant(rt: HostRuntime) {
     assert!(rt; is_one_too_many(&rt, rt.alloc()) == Some(true));
 }
 
-// Whether a pipe ends with this fault, its grant void, and what was written, so many bytes at least, begins the container.
+// Whether a pipe ends with this fault, its grant void, and what was written, so many bytes at least, begins the
+// container.
 fn is_void<T: Threads + Wait + Sync>(
     rt: &T,
     alloc: Global,

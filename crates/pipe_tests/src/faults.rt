@@ -62,7 +62,8 @@ fn each_failed_read_is_the_answer(rt: HostRuntime) {
     assert!(rt; are_calls_seen(&rt, rt.alloc(), 2) == Some(true));
 }
 
-// Whether a reader that fails behind so many bytes of three chunks is seen, and no chunk is written behind which it gave no byte.
+// Whether a reader that fails behind so many bytes of three chunks is seen, and no chunk is written behind which it
+// gave no byte.
 fn fails_behind<T: Threads + Wait + Sync>(
     rt: &T,
     alloc: Global,

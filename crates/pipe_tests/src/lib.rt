@@ -1,5 +1,5 @@
-//! Tests of `pipe_core` and of `run_pipe`: streams sealed by 1 to 16 workers, and files in small chunks, over readers and
-//! writers in memory.
+//! Tests of `pipe_core` and of `run_pipe`: streams sealed by 1 to 16 workers, and files in small chunks, over readers
+//! and writers in memory.
 #![tactic(auto)]
 
 #[cfg(test)]

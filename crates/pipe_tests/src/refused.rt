@@ -46,8 +46,8 @@ fn writer_of(alloc: Global) -> Option<ToMemory> {
     }
 }
 
-// Whether a pipe gives the container and a sealed number, or a void one without memory and a beginning of the container.
-// `None` is that memory was refused.
+// Whether a pipe gives the container and a sealed number, or a void one without memory and a beginning of the
+// container. `None` is that memory was refused.
 fn is_sealed_or_refused<T: Threads + Wait + Sync>(
     rt: &T,
     alloc: Global,

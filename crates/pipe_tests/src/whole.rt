@@ -131,7 +131,8 @@ fn all_lengths(rt: HostRuntime) {
     }
 }
 
-// Whether three chunks are sealed to their container from a reader that gives a byte a call, by a writer that takes one.
+// Whether three chunks are sealed to their container from a reader that gives a byte a call, by a writer that takes
+// one.
 fn seals_by_bytes<T: Threads + Wait + Sync>(rt: &T, alloc: Global, workers: u32) -> Option<bool> {
     let (count, _, digest) = &LENGTHS[6];
     let plain = pattern(alloc, *count).ok()?;

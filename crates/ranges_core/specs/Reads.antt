@@ -1,5 +1,6 @@
 -- What the queries ask of the rows of the two tables, and what they show.
-use Rattle.std.specs.Prelude.{Bool, Option, Some, None, is_some, length, not, nat_lt, List, [], ◌∷◌, ℕ, pos, true, false, ◌&&◌, ◌==◌, bytes_eq, codes}
+use Rattle.std.specs.Prelude.{Bool, Option, Some, None, is_some, length, not, nat_lt, List}
+use Rattle.std.specs.Prelude.{[], ◌∷◌, ℕ, pos, true, false, ◌&&◌, ◌==◌, bytes_eq, codes}
 use Rattle.sqlite.specs.declared.types.Value.{Value}
 use Rattle.sqlite.specs.declared.types.Value.TheVariants.{Int, Blob}
 use Rattle.sqlite.specs.Order.{Row, column}

@@ -1,5 +1,6 @@
 -- The two tables of a ledger file.
-use Rattle.std.specs.Prelude.{◌≡◌, Bool, true, false, ◌&&◌, [], ◌∷◌, Option, None, Some, is_some, slice_get, option_and_then, codes, List, ℕ, pos}
+use Rattle.std.specs.Prelude.{◌≡◌, Bool, true, false, ◌&&◌, [], ◌∷◌, Option, None, Some, is_some}
+use Rattle.std.specs.Prelude.{slice_get, option_and_then, codes, List, ℕ, pos}
 use Rattle.std.specs.List.{list_all}
 use Rattle.journal_core.specs.Range.{number_limit}
 use Rattle.sqlite.specs.declared.types.Value.TheVariants.{Null, Int}

@@ -4,7 +4,7 @@ ghost use Rattle.ranges_core.specs.Faults.{fault_number};
 
 use thiserror::Error;
 
-/// Why a call was refused. Nothing changed.
+/// Why a call was refused. What was committed stays as it was.
 #[derive(Clone, Copy, PartialEq, Eq, Debug, Error)]
 pub enum ReserveFault {
     /// No number was asked for.

@@ -1,13 +1,17 @@
 //! What the tables hold, read.
 ghost use Rattle.std.specs.List.{AllByRecursion, list_all};
-ghost use Rattle.std.specs.Prelude.{◌≡◌, Err, ◌⊎◌, ◌≤◌, IsTrue, OnOk, IfOk, IfErr, true, false, [], ◌∷◌, pos, Ok, Some, None, map, filter, IsPermutation};
+ghost use Rattle.std.specs.Prelude.{◌≡◌, Err, ◌⊎◌, ◌≤◌, IsTrue, OnOk, IfOk, IfErr, true, false};
+ghost use Rattle.std.specs.Prelude.{[], ◌∷◌, pos, Ok, Some, None, map, filter, IsPermutation};
 ghost use Rattle.sqlite.specs.declared.types.Value.TheVariants.{Int};
 ghost use Rattle.sqlite.specs.State.{HasCleanDisk, IsLive, Survives, KeepsCommit, Shows};
 ghost use Rattle.sqlite.specs.Held.{state};
-ghost use Rattle.ranges_core.specs.Calls.{CommitsNothing, KeepsCommitted, OnlyRead, ReadInside, StillShows, Unchanged, WasOpen, WhileOpen, marks_in, taken_in};
+ghost use Rattle.ranges_core.specs.Calls.{CommitsNothing, KeepsCommitted, OnlyRead, ReadInside, StillShows};
+ghost use Rattle.ranges_core.specs.Calls.{Unchanged, WasOpen, WhileOpen, marks_in, taken_in};
 ghost use Rattle.ranges_core.specs.Tables.{IsLedger};
-ghost use Rattle.ranges_core.specs.Reads.{is_for, is_range_row, shown_id, shown_mark, shown_next, shown_range, shown_taken};
-ghost use Rattle.ranges_core.specs.Reservations.{Adjacent, IsMarkRow, Lists, Holds, HoldLists, answered_range, ranges_of_pairs};
+ghost use Rattle.ranges_core.specs.Reads.{is_for, is_range_row, shown_id, shown_mark};
+ghost use Rattle.ranges_core.specs.Reads.{shown_next, shown_range, shown_taken};
+ghost use Rattle.ranges_core.specs.Reservations.{Adjacent, IsMarkRow, Lists, Holds, HoldLists};
+ghost use Rattle.ranges_core.specs.Reservations.{answered_range, ranges_of_pairs};
 ghost use Rattle.ranges_core.specs.Writes.{HaveRowids, IsMarkOf, IsReady};
 
 use crate::NUMBERS;

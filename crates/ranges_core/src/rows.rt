@@ -1,10 +1,12 @@
 //! Whether the rows of both tables are lists of adjacent ranges: one pass over the rows in the order of their keys.
-ghost use Rattle.std.specs.Prelude.{◌≡◌, ◌⊎◌, IfErr, ◌<◌, ◌≤◌, ◌+◌, ◌++◌, ◌^◌, IsTrue, IsSome, IfSome, OnOk, Err, None, Some, [], filter, map, true};
+ghost use Rattle.std.specs.Prelude.{◌≡◌, ◌⊎◌, IfErr, ◌<◌, ◌≤◌, ◌+◌, ◌++◌, ◌^◌, IsTrue, IsSome};
+ghost use Rattle.std.specs.Prelude.{IfSome, OnOk, Err, None, Some, [], filter, map, true};
 ghost use Rattle.std.specs.List.{list_all};
 ghost use Rattle.sqlite.specs.Order.{column};
 ghost use Rattle.sqlite.specs.declared.types.Value.TheVariants.{Blob};
 ghost use Rattle.sqlite_value.specs.Value.{owned};
-ghost use Rattle.ranges_core.specs.Reads.{as_number, is_blob, is_for, is_key, is_mark_row, is_number, is_rowid, is_taken_row, is_within};
+ghost use Rattle.ranges_core.specs.Reads.{as_number, is_blob, is_for, is_key, is_mark_row};
+ghost use Rattle.ranges_core.specs.Reads.{is_number, is_rowid, is_taken_row, is_within};
 ghost use Rattle.ranges_core.specs.Reservations.{Adjacent, HoldLists, IsNext, Lists, next_of, range_in};
 ghost use Rattle.ranges_core.specs.Runs.{Chain, IsBefore, IsBelow, OwnRun, RisesFrom, Runs, owner_cmp};
 

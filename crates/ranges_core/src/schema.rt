@@ -2,7 +2,9 @@
 ghost use Rattle.std.specs.Prelude.{◌≡◌, IsTrue, [], ◌∷◌, None, false};
 ghost use Rattle.std.specs.Option.{option_copied};
 ghost use Rattle.sqlite_value.specs.Keys.{plain};
-ghost use Rattle.ranges_core.specs.Tables.{IsLedger, are_readable, has_columns, index_for, keyed_table, mark_index, mark_names, mark_table, no_schema, required, table_at, taken_index, taken_names, taken_table};
+ghost use Rattle.ranges_core.specs.Tables.{IsLedger, are_readable, has_columns, index_for, keyed_table};
+ghost use Rattle.ranges_core.specs.Tables.{mark_index, mark_names, mark_table, no_schema, required};
+ghost use Rattle.ranges_core.specs.Tables.{table_at, taken_index, taken_names, taken_table};
 
 use sqlite_items::Items;
 use sqlite_schema::schema::{Column, Index, Kind, Schema, Table};

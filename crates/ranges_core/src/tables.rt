@@ -2,7 +2,8 @@
 ghost use Rattle.std.specs.Prelude.{◌≡◌, IsTrue, OnOk, OnErr, true, false, []};
 ghost use Rattle.sqlite.specs.State.{HasCleanDisk, Survives, KeepsCommit, Shows};
 ghost use Rattle.sqlite.specs.Held.{state};
-ghost use Rattle.ranges_core.specs.Calls.{CommitsNothing, Inside, KeepsCommitted, Unchanged, WasOpen, WhileOpen, Wrote, marks_in};
+ghost use Rattle.ranges_core.specs.Calls.{CommitsNothing, Inside, KeepsCommitted, Unchanged};
+ghost use Rattle.ranges_core.specs.Calls.{WasOpen, WhileOpen, Wrote, marks_in};
 ghost use Rattle.ranges_core.specs.Tables.{no_schema, mark_schema};
 ghost use Rattle.ranges_core.specs.Writes.{IsBlank, IsEmptyLedger};
 

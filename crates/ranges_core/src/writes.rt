@@ -1,12 +1,14 @@
 //! The two writes of a reservation, in one transaction: the mark of the key and device is moved to the end of the
 //! range, and the range is taken. The commit is the last call to the database.
-ghost use Rattle.std.specs.Prelude.{◌≡◌, IsTrue, OnOk, OnErr, true, false, [], ◌∷◌, ◌+◌, ◌≤◌, ◌^◌, pos, filter, unwrap_or};
+ghost use Rattle.std.specs.Prelude.{◌≡◌, IsTrue, OnOk, OnErr, true, false, [], ◌∷◌};
+ghost use Rattle.std.specs.Prelude.{◌+◌, ◌≤◌, ◌^◌, pos, filter, unwrap_or};
 ghost use Rattle.std.specs.List.{AllByRecursion};
 ghost use Rattle.sqlite.specs.State.{HasCleanDisk, Survives, KeepsCommit, Shows};
 ghost use Rattle.sqlite.specs.Edit.{id_in};
 ghost use Rattle.sqlite.specs.Held.{state};
 ghost use Rattle.sqlite.specs.Tree.{rowid};
-ghost use Rattle.ranges_core.specs.Calls.{CommitsNothing, Inside, KeepsCommitted, Unchanged, WasOpen, WhileOpen, Wrote, marks_in};
+ghost use Rattle.ranges_core.specs.Calls.{CommitsNothing, Inside, KeepsCommitted, Unchanged};
+ghost use Rattle.ranges_core.specs.Calls.{WasOpen, WhileOpen, Wrote, marks_in};
 ghost use Rattle.ranges_core.specs.Tables.{IsLedger};
 ghost use Rattle.ranges_core.specs.Lasting.{StillLast};
 ghost use Rattle.ranges_core.specs.Reads.{is_for};

@@ -32,8 +32,8 @@ module _ {D : Type 0} {g : Ghosts D} where
     pub these : files last ≡ (left.log, left.db)
     pub quiet : IsQuiet view faults recovers is_shielded store last
 
-  -- Where the disk returned what was written, whatever a crash leaves of the two files has the last commit, with the log
-  -- and without one.
+  -- Where the disk returned what was written, whatever a crash leaves of the two files has the last commit, with the
+  -- log and without one.
   pub record AreFolded (store : FileStore D g) (left : Files D) : Type 0 where
     pub clean : IsClean (view store)
     pub is_open : IsTrue (view store).is_open

@@ -68,16 +68,16 @@ impl Fold for MemStore {
 pub enum LedgerFile<S: Fold> {
     /// Its keeper, which reserves.
     Kept(Keeper<S>),
-    /// The files, once the log was copied into the ledger file, or that failed. They are held, and nothing reads or writes
-    /// them any more.
+    /// The files, once the log was copied into the ledger file, or that failed. They are held, and nothing reads or
+    /// writes them any more.
     Folded(S::Left),
     /// Neither: it stands here only while `fold` moves the files.
     Gone,
 }
 
 impl<S: Fold> LedgerFile<S> {
-    /// Copies the log into the ledger file and syncs that, so that it has what was committed without its log. A keeper is
-    /// folded once: `Store` comes where the copying failed, and where there is no keeper.
+    /// Copies the log into the ledger file and syncs that, so that it has what was committed without its log. A keeper
+    /// is folded once: `Store` comes where the copying failed, and where there is no keeper.
     pub fn fold(&mut self) -> Result<(), ReserveFault>
         ensures kept { (k : Held S) → self.old ≡ LedgerFile.Kept k → (left : S.Left)
             × (self.new ≡ LedgerFile.Folded left) × LeftBy S.Store S.is_left k left

@@ -40,9 +40,9 @@ pub fn next_run_has_the_ranges<S: Alter, T: Alter>()
         → Begins before lists }
 {}
 
-/// What a crash leaves holds the lists. Where all that it may leave of a connection over files has lists that begin with
-/// these, whatever it leaves of the two files holds a database with such lists. `IsConnected` is what every connection
-/// keeps true.
+/// What a crash leaves holds the lists. Where all that it may leave of a connection over files has lists that begin
+/// with these, whatever it leaves of the two files holds a database with such lists. `IsConnected` is what every
+/// connection keeps true.
 pub fn a_crash_leaves_the_ranges<D: Disk + Drop>()
     ensures { (was : _) (before : Lists) → HasCleanDisk (file_state {g = D.Disk} was)
         → IsConnected (store.view was.store) (store.recovers was.store) was.schema was.saved was.in_transaction
@@ -50,8 +50,8 @@ pub fn a_crash_leaves_the_ranges<D: Disk + Drop>()
         → AreIn before files }
 {}
 
-/// Once a connection over files was folded, the ledger file alone has its lists: whatever a crash leaves of the two files
-/// from then on holds them, with the log as it was left and with none at all.
+/// Once a connection over files was folded, the ledger file alone has its lists: whatever a crash leaves of the two
+/// files from then on holds them, with the log as it was left and with none at all.
 pub fn a_folded_file_has_the_ranges<D: Disk + Drop>()
     ensures { (was : _) (left : Files D) (before : Lists)
         → LeftBy (over_files {g = D.Disk}) (λ store left. AreClean D.Disk left.log left.db → AreFolded store left)
@@ -68,8 +68,9 @@ pub fn the_next_keeper_has_the_ranges<T: Alter>()
         → IsFound T.Store files keeper → Holds (state T.Store keeper).now lists → Begins before lists }
 {}
 
-/// A run passes on what the files hold, from the moment at which its connection stands and as long as one stands: where it
-/// is cut off before its keeper is made, where that is refused and the connection is let go, and at any call of the keeper.
+/// A run passes on what the files hold, from the moment at which its connection stands and as long as one stands: where
+/// it is cut off before its keeper is made, where that is refused and the connection is let go, and at any call of the
+/// keeper.
 pub fn a_connection_passes_on_what_it_found<D: Disk + Drop>()
     ensures { (files later : Image) (found last : _) → FindsIn files (file_state {g = D.Disk} found)
         → Opens (file_state found) → StillLast over_files found last → HasCleanDisk (file_state last)
@@ -101,8 +102,8 @@ pub fn a_folded_run_passes_on_what_it_found<D: Disk + Drop>()
         → PassesOn files later × PassesOn files (record later { log = [] }) }
 {}
 
-/// Where files hold a range of a key id and device, and whatever runs pass on what they found, one after another, the number
-/// at which a later run's keeper begins to reserve lies behind that range.
+/// Where files hold a range of a key id and device, and whatever runs pass on what they found, one after another, the
+/// number at which a later run's keeper begins to reserve lies behind that range.
 pub fn a_later_run_reserves_behind<T: Alter>()
     ensures { (files last : Image) (between : List Image) (keeper : Held T) (before lists : Lists)
         → AreIn before files → PassInTurn files between last → IsFound T.Store last keeper

@@ -1,4 +1,5 @@
-//! The log copied into the ledger file: that file alone then has the ranges. Where the disk stops on the way the two files have them.
+//! The log copied into the ledger file: that file alone then has the ranges. Where the disk stops on the way the two
+//! files have them.
 use crate::disk::{
     ALL_LEFT, Left, Rest, Run, Stopping, Which, answer_over, begins_with, copy, found, fused,
     run_over,

@@ -1,4 +1,5 @@
-//! Runs whose disk stops: from some call on one of the two files answers errors alone, so that each call is the first to fail once.
+//! Runs whose disk stops: from some call on one of the two files answers errors alone, so that each call is the first
+//! to fail once.
 use crate::disk::{
     ALL_LEFT, Left, Rest, Run, Stopping, Which, answer_over, begins_with, found, fused,
     has_both_or_none, run_over,

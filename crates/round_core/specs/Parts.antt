@@ -31,8 +31,8 @@ least_part Sealing = 0
 least_part Opening = TAG
 least_part Checking = TAG
 
--- a body is cut into the chunks that its header names, as so many plaintext bytes are, and each of its chunks has a number
--- of 32 bits
+-- a body is cut into the chunks that its header names, as so many plaintext bytes are, and each of its chunks has a
+-- number of 32 bits
 pub record IsCutBy (task : Task) (header : List ℕ) (first : ℕ) (cut : CutView) (body : List ℕ) : Type 0 where
   pub size : cut.size ≡ size_in header
   pub bytes : length body ≡ body_bytes task cut.size cut.plain

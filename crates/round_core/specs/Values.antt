@@ -28,7 +28,8 @@ value_at Checking key header number last part = option_map (λ _. []) (opened_ch
 -- the values of all pieces of a round whose first chunk has this number, in order; the flag says whether its last chunk
 -- is the whole's last
 unfoldable pub values_of : Task → List ℕ → List ℕ → ℕ → Bool → List ℕ → List (Option (List ℕ))
-values_of task key header first last body = numbered (value_at task key header) first last (parts_of task (size_in header) body)
+values_of task key header first last body =
+    numbered (value_at task key header) first last (parts_of task (size_in header) body)
 
 -- a round of a body
 abbrev pub round_of : Task → List ℕ → List ℕ → ℕ → Bool → List ℕ → RoundView

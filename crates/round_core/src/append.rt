@@ -80,8 +80,8 @@ impl Places {
         Ok(())
     }
 
-    /// The same of a last round: no fresh buffers are made, and there are no places then. `AllocError`, with some of the
-    /// bytes moved, where memory for the list of buffers was refused.
+    /// The same of a last round: no fresh buffers are made, and there are no places then. `AllocError`, with some of
+    /// the bytes moved, where memory for the list of buffers was refused.
     pub fn pour_to(&mut self, alloc: Global, out: &mut Parts) -> Result<(), AllocError>
         ensures bytes { OnOk result (out.new ≡ out.old ++ joined self.old.values) }
         ensures values { self.new.values ≡ [] }

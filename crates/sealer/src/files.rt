@@ -74,7 +74,8 @@ pub(crate) fn names_of<'n>(
     }
 }
 
-/// The folder of a run whose outputs go into another one, where one is asked for. Then no two of the files may have one last name.
+/// The folder of a run whose outputs go into another one, where one is asked for. Then no two of the files may have one
+/// last name.
 pub(crate) fn outputs_of<'p, 'r, R: Files + AllocGlobal + Clock + Eprint>(
     rt: &'r R,
     into: Option<&'r str>,
@@ -100,8 +101,8 @@ pub(crate) fn clear<R: Clock + Eprint>(progress: Option<&Progress<'_, R>>) {
     }
 }
 
-/// What tells on standard error how far a run over these files is, where that is asked for. `terminal` tells whether standard error
-/// is one.
+/// What tells on standard error how far a run over these files is, where that is asked for. `terminal` tells whether
+/// standard error is one.
 pub(crate) fn progress_of<'r, R: Files + Clock + Eprint>(
     rt: &'r R,
     matches: &ArgMatches<'_>,

@@ -1,7 +1,8 @@
-//! The program `sealer`: the commands of `sealer_core`, as the command line asks for them, over real files and the standard streams.
+//! The program `sealer`: the commands of `sealer_core`, as the command line asks for them, over real files and the
+//! standard streams.
 //!
-//! Exit status: 0 all well; 1 some file failed, or the journal isn't legal; 2 a fault of usage, of the key file, the ledger or the
-//! journal file, or of the program's own reading and writing.
+//! Exit status: 0 all well; 1 some file failed, or the journal isn't legal; 2 a fault of usage, of the key file, the
+//! ledger or the journal file, or of the program's own reading and writing.
 #![tactic(auto)]
 
 mod files;
@@ -82,8 +83,8 @@ fn parse<'a>(alloc: Global, words: &'a [String]) -> Result<ArgMatches<'a>, Error
     command(alloc)?.try_get_matches_from(words)
 }
 
-/// Prints what the command line's parser says. The status is 0 for a request for help, 2 for a fault of usage, or where the text
-/// could not be printed.
+/// Prints what the command line's parser says. The status is 0 for a request for help, 2 for a fault of usage, or where
+/// the text could not be printed.
 fn told<R: Print + Eprint>(rt: &R, error: &Error) -> u8 {
     if error.print(rt).is_err() {
         return FAULT;

@@ -9,8 +9,8 @@
 --
 -- A run names no disk: what is asked of it is said of the bytes of two files. So each may be over a disk of its own
 -- type, as the runs of the program are. All of it is what a call promises, over its own disk
--- (`theorem::a_call_is_a_run` has that in the clauses' own words, `a_killed_call_is_a_run` in those of what holds at every
--- moment), but for four premises:
+-- (`theorem::a_call_is_a_run` has that in the clauses' own words, `a_killed_call_is_a_run` in those of what holds at
+-- every moment), but for four premises:
 -- - Folder, reader and writer tell what they did. (What a folder told, its session, and what reader and writer had, is
 --   `Some`.)
 -- - Nobody else writes a ledger file. (`Follows`: a run finds what those before it left.)

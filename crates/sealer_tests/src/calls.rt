@@ -1,5 +1,5 @@
-//! Runs over two files in which each call of the folder fails in turn: to open an input, to create its output, to finish
-//! it. The lines and journals are written by hand.
+//! Runs over two files in which each call of the folder fails in turn: to open an input, to create its output, to
+//! finish it. The lines and journals are written by hand.
 use crate::cases::{Case, Left, Trouble, Work, ends};
 use crate::runs::{EMPTY, SECRET};
 use std::sync::Wait;
@@ -13,8 +13,8 @@ struct Run {
     left: &'static [(&'static str, Left<'static>)],
 }
 
-// By one lane the calls are: open `a`, create `a.stm`, finish it, and the same of `b`. Behind a finishing that fails the
-// output is removed.
+// By one lane the calls are: open `a`, create `a.stm`, finish it, and the same of `b`. Behind a finishing that fails
+// the output is removed.
 static ONE_LANE: [Run; 7] = [
     Run {
         status: 1,

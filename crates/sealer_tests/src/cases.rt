@@ -53,8 +53,8 @@ pub(crate) enum Left<'a> {
     Holds(u8, &'a [u8]),
 }
 
-// A run, what it has to tell, where no journal is an empty one, and what it leaves. `folder` is what `ends` puts in: a run
-// over another folder doesn't look at it.
+// A run, what it has to tell, where no journal is an empty one, and what it leaves. `folder` is what `ends` puts in: a
+// run over another folder doesn't look at it.
 #[derive(Clone, Copy)]
 pub(crate) struct Case<'a> {
     pub(crate) folder: &'a [(&'a str, &'a [u8])],

@@ -1,6 +1,6 @@
-//! Streams: a run of `pipe_all` over a reader and a writer in memory, what it has to tell, and what it has to write. It is
-//! under the key 00 01 .. 1f and device 1, in at most two chunks of 4 KiB under an empty label, by two workers with four
-//! chunks in hand.
+//! Streams: a run of `pipe_all` over a reader and a writer in memory, what it has to tell, and what it has to write. It
+//! is under the key 00 01 .. 1f and device 1, in at most two chunks of 4 KiB under an empty label, by two workers with
+//! four chunks in hand.
 use crate::runs::{COUNTING, MemoryOuts, journal_of, ledger_after, outs};
 use container_core::{Key, Shape, seal};
 use io_memory::{FromMemory, Schedule, ToMemory};

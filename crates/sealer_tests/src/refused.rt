@@ -71,8 +71,8 @@ fn holds_any(alloc: Global, folder: &MemoryFolder, output: &str, plain: &[u8]) -
     false
 }
 
-// How many of the lines say that their file was sealed, and how many that it failed for want of memory. An output is there
-// where its line says so, and not where it says that its file failed.
+// How many of the lines say that their file was sealed, and how many that it failed for want of memory. An output is
+// there where its line says so, and not where it says that its file failed.
 fn told_in(folder: &MemoryFolder, text: &str) -> Option<(usize, usize)> {
     let mut lines = text.lines();
     let (mut sealed, mut failed) = (0usize, 0usize);
@@ -96,8 +96,8 @@ fn told_in(folder: &MemoryFolder, text: &str) -> Option<(usize, usize)> {
     }
 }
 
-// Whether a line ends as one of a file for which memory was refused: the folder in memory takes that for a failure of its
-// own.
+// Whether a line ends as one of a file for which memory was refused: the folder in memory takes that for a failure of
+// its own.
 fn lacks_memory(line: &str) -> bool {
     for fault in &FAULTS {
         if line.ends_with(*fault) {
@@ -122,8 +122,8 @@ fn is_of(line: &str, word: &str, name: &str) -> bool {
     }
 }
 
-// Whether a journal that was written whole is legal, with nothing open: the number of each file that is sealed is so, and a
-// file that failed has a void one or none.
+// Whether a journal that was written whole is legal, with nothing open: the number of each file that is sealed is so,
+// and a file that failed has a void one or none.
 fn is_closed(alloc: Global, journal: &[u8], there: usize) -> bool {
     (there < 3 && counts(alloc, journal, there, 1)) || counts(alloc, journal, there, 0)
 }

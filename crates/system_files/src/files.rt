@@ -24,8 +24,8 @@ const BUFFER: usize = 1 << 16;
 pub struct SystemFiles<'p, 'r, R: Files + AllocGlobal + Clock + Eprint> {
     /// What opens them.
     pub rt: &'r R,
-    /// The folder into which outputs go, each under the last name of its path, where one is asked for; else they go where their path
-    /// says.
+    /// The folder into which outputs go, each under the last name of its path, where one is asked for; else they go
+    /// where their path says.
     pub into: Option<&'r str>,
     /// Whether an output and its name are on the disk once it is finished.
     pub sync: bool,
@@ -44,8 +44,8 @@ pub enum JournalFault {
     CannotCreate,
 }
 
-/// A new journal file, where one is asked for. It may not be the ledger file or a file beside it, by whatever path: the ledger would
-/// write there, or its next opening would take the journal for what a database left undone.
+/// A new journal file, where one is asked for. It may not be the ledger file or a file beside it, by whatever path: the
+/// ledger would write there, or its next opening would take the journal for what a database left undone.
 pub fn new_journal<R: Files + AllocGlobal>(
     rt: &R,
     path: Option<&str>,
@@ -72,7 +72,8 @@ pub fn new_journal<R: Files + AllocGlobal>(
     Ok(Some(ToWrite(journal)))
 }
 
-// Creates a file. The system makes it only where there is none of the name, so no other program's file is ever replaced.
+// Creates a file. The system makes it only where there is none of the name, so no other program's file is ever
+// replaced.
 fn create_new<R: Files>(rt: &R, path: &str) -> Result<R::File, FolderFault> {
     match File::create_new(rt, path) {
         Ok(file) => Ok(file),
@@ -81,7 +82,8 @@ fn create_new<R: Files>(rt: &R, path: &str) -> Result<R::File, FolderFault> {
     }
 }
 
-/// An output that is written: its path, its file, and the folder that has its name, where both are to be put on the disk.
+/// An output that is written: its path, its file, and the folder that has its name, where both are to be put on the
+/// disk.
 #[derive(Drop)]
 pub struct Output<F: Read + Write + Drop> {
     // It is made before the file is, so that the removal takes no memory.
@@ -138,8 +140,8 @@ fn put_on_disk<F: OpenFile>(file: &F, folder: &Option<F>) -> io::Result<()> {
     Ok(())
 }
 
-// Whether another file has this name by now: ours was moved away or removed, and somebody else made one. Where that can't
-// be told it counts as ours.
+// Whether another file has this name by now: ours was moved away or removed, and somebody else made one. Where that
+// can't be told it counts as ours.
 fn is_anothers<R: Files>(rt: &R, own: &R::File, path: &str) -> bool {
     match (own.metadata(), fs::symlink_metadata(rt, path)) {
         (Ok(own), Ok(found)) => found.dev() != own.dev() || found.ino() != own.ino(),
@@ -157,14 +159,14 @@ fn remove_at<R: Files>(rt: &R, path: &str) -> Result<(), FolderFault>
     }
 }
 
-/// What stands in for standard streams that are closed, so that no file that is opened later takes the number of one and gets what
-/// is meant for the stream.
+/// What stands in for standard streams that are closed, so that no file that is opened later takes the number of one
+/// and gets what is meant for the stream.
 pub fn stand_ins<R: Files>(rt: &R) -> [Option<R::File>; 3] {
     [stand_in(rt), stand_in(rt), stand_in(rt)]
 }
 
-// A folder, opened to be read: who reads or writes it fails, as on a closed stream. It is the current one where the root
-// may not be read.
+// A folder, opened to be read: who reads or writes it fails, as on a closed stream. It is the current one where the
+// root may not be read.
 fn stand_in<R: Files>(rt: &R) -> Option<R::File> {
     match File::open(rt, "/") {
         Ok(file) => Some(file),

@@ -43,9 +43,9 @@ impl Display for Holding {
 
 /// What the ledger file at a path holds, for each key and device, in the order of their ids and numbers.
 ///
-/// The files are read twice, and where they were not the same another run wrote them: `CannotOpen`. It refuses what a run of
-/// `seal` refuses that may make no ledger, but that another run may hold the ledger at this time, and that files and folder need not
-/// be writable.
+/// The files are read twice, and where they were not the same another run wrote them: `CannotOpen`. It refuses what a
+/// run of `seal` refuses that may make no ledger, but that another run may hold the ledger at this time, and that files
+/// and folder need not be writable.
 pub fn read_holdings<R: Files + AllocGlobal>(
     rt: &R,
     path: &str,
@@ -65,7 +65,8 @@ pub fn read_holdings<R: Files + AllocGlobal>(
     let Ok(log_bytes) = read_if_there(rt, log) else {
         return Err(LedgerFault::CannotOpen);
     };
-    // What is no database is refused before it is read whole. Where the log has pages the file's first one may be among them.
+    // What is no database is refused before it is read whole. Where the log has pages the file's first one may be among
+    // them.
     if log_bytes.is_empty() && !begins_as_database(rt, path) {
         return Err(LedgerFault::CannotOpen);
     }
@@ -93,8 +94,8 @@ fn begins_as_database<R: Files>(rt: &R, path: &str) -> bool {
     file.read_exact(&mut front).is_ok() && front == *b"SQLite format 3\0"
 }
 
-// Whether a run could open these files: each has one name and is no folder or device, and no database left something beside it to
-// play back.
+// Whether a run could open these files: each has one name and is no folder or device, and no database left something
+// beside it to play back.
 fn is_alone<R: Files + AllocGlobal>(rt: &R, path: &str, log: &str) -> bool {
     let Some(base) = log.strip_suffix("-wal") else {
         return false;

@@ -25,8 +25,8 @@ use thiserror::Error;
 /// Why the ledger file can't be used. The texts are those that the program prints.
 #[derive(Clone, Copy, PartialEq, Eq, Debug, Error)]
 pub enum LedgerFault {
-    /// There is no such folder, the file is no database or can't be read, its log doesn't go with it, its tables are not
-    /// alone, memory was refused, or another process holds it.
+    /// There is no such folder, the file is no database or can't be read, its log doesn't go with it, its tables are
+    /// not alone, memory was refused, or another process holds it.
     #[error("cannot open")]
     CannotOpen,
     /// The database holds something else.
@@ -48,11 +48,12 @@ pub struct LedgerPath<'a> {
 
 /// Whether a run may open this ledger file, before anything is opened or made.
 ///
-/// `CannotOpen` comes for a log (PATH-wal) that doesn't go with the file: beside no file any that isn't empty, and beside an
-/// empty file any but one that was only begun, since that file was lost or put elsewhere, and the database would begin anew
-/// over it, from number 0; and one with pages with which the file has fewer numbers of some key and device than without it, as
-/// far as the file alone is a ledger, or for which memory to tell this is refused. `NotThere` comes where there is no file, or an empty one,
-/// and none may be made. A file of a single 0 counts as empty, since the database begins its file so; one of another byte is no database.
+/// `CannotOpen` comes for a log (PATH-wal) that doesn't go with the file: beside no file any that isn't empty, and
+/// beside an empty file any but one that was only begun, since that file was lost or put elsewhere, and the database
+/// would begin anew over it, from number 0; and one with pages with which the file has fewer numbers of some key and
+/// device than without it, as far as the file alone is a ledger, or for which memory to tell this is refused.
+/// `NotThere` comes where there is no file, or an empty one, and none may be made. A file of a single 0 counts as
+/// empty, since the database begins its file so; one of another byte is no database.
 pub fn may_open<R: Files + AllocGlobal>(
     rt: &R,
     ledger: &LedgerPath<'_>,
@@ -95,11 +96,12 @@ fn length_of<R: Files + AllocGlobal>(rt: &R, path: &str) -> io::Result<Option<u6
     }
 }
 
-/// This ledger file, with its keeper; it is made where there is none. A path that names no file (an empty one, `:memory:`
-/// or a URI) is refused: two runs must never be without a file between them. A refusal leaves the log as it is.
+/// This ledger file, with its keeper; it is made where there is none. A path that names no file (an empty one,
+/// `:memory:` or a URI) is refused: two runs must never be without a file between them. A refusal leaves the log as it
+/// is.
 ///
-/// Where none may be made, a database without tables is `NotThere`, also one that the opening itself began since the file was
-/// gone. `S` stands for what the files hold, as the database's own way to open a path has it.
+/// Where none may be made, a database without tables is `NotThere`, also one that the opening itself began since the
+/// file was gone. `S` stands for what the files hold, as the database's own way to open a path has it.
 pub fn open_ledger<S: Start>(
     rt: &HostRuntime,
     ledger: &LedgerPath<'_>,
@@ -138,8 +140,8 @@ fn connect<S: Start>(
     }
 }
 
-// How many pages of those read, and of those written, the database keeps in memory: a run comes to few of them again, and the
-// 2,000 that it keeps else are filled as it opens.
+// How many pages of those read, and of those written, the database keeps in memory: a run comes to few of them again,
+// and the 2,000 that it keeps else are filled as it opens.
 const CACHED_PAGES: usize = 128;
 
 // The salts of a new log are drawn at random. `None` is that the system gives no random bytes.
@@ -173,8 +175,8 @@ pub(crate) fn keeper_over<S: Alter + Drop>(
     }
 }
 
-/// Closes a ledger file. Where no fold was tried its log is copied into it; where that fails the log stays, and the next run
-/// reads it.
+/// Closes a ledger file. Where no fold was tried its log is copied into it; where that fails the log stays, and the
+/// next run reads it.
 pub fn close_ledger<D: Disk + Drop>(file: LedgerFile<FileStore<D>>) {
     if let LedgerFile::Kept(keeper) = file {
         let _ = keeper.release().close();
@@ -189,8 +191,8 @@ pub fn is_beside(path: &str, ledger: &str) -> bool {
     }
 }
 
-/// Whether a file that was just created is, by whatever path, the ledger file or one that its database keeps beside it. Where that
-/// can't be told it counts as one.
+/// Whether a file that was just created is, by whatever path, the ledger file or one that its database keeps beside it.
+/// Where that can't be told it counts as one.
 pub fn is_of_ledger<R: Files + AllocGlobal, F: OpenFile>(
     rt: &R,
     created: &F,

@@ -8,8 +8,8 @@ use std::rt::Files;
 // Bytes of a log that holds no page yet: its header, and that of a frame.
 const WITHOUT_PAGE: u64 = 32 + 24;
 
-// Where a log's header has the number of its round, and that of a log that was begun with its file. Each copying into the file begins
-// a further round, and the first of these is 0.
+// Where a log's header has the number of its round, and that of a log that was begun with its file. Each copying into
+// the file begins a further round, and the first of these is 0.
 const ROUND: usize = 12;
 
 const BEGUN: [u8; 4] = [0xff; 4];
@@ -22,8 +22,8 @@ pub(crate) fn log_beside<R: Files + AllocGlobal>(rt: &R, path: &str) -> Result<S
     }
 }
 
-// Whether a log of this length is one that a run left which was killed while it made the file: there is none, it has at most a byte, or
-// it is in its first round and has no page.
+// Whether a log of this length is one that a run left which was killed while it made the file: there is none, it has at
+// most a byte, or it is in its first round and has no page.
 pub(crate) fn log_is_begun<R: Files + AllocGlobal>(rt: &R, log: &str, bytes: Option<u64>) -> bool {
     match bytes {
         None | Some(0 | 1) => true,
@@ -35,9 +35,10 @@ pub(crate) fn log_is_begun<R: Files + AllocGlobal>(rt: &R, log: &str, bytes: Opt
     }
 }
 
-// Whether a log of this length only adds to a ledger file: with it no key and device has fewer numbers than without. That of a run
-// that was cut off does; another ledger's needn't. Where the file alone is no ledger, as where a run was killed while it copied its
-// log, there is nothing to compare. Where memory is refused it doesn't count as one that only adds. Nothing is opened but in memory.
+// Whether a log of this length only adds to a ledger file: with it no key and device has fewer numbers than without.
+// That of a run that was cut off does; another ledger's needn't. Where the file alone is no ledger, as where a run was
+// killed while it copied its log, there is nothing to compare. Where memory is refused it doesn't count as one that
+// only adds. Nothing is opened but in memory.
 pub(crate) fn log_adds<R: Files + AllocGlobal>(
     rt: &R,
     path: &str,

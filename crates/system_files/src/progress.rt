@@ -1,8 +1,8 @@
-//! The line on standard error that tells how far a run is: files done of all, bytes done, bytes a second, and the time left where the
-//! sizes of all files are known.
+//! The line on standard error that tells how far a run is: files done of all, bytes done, bytes a second, and the time
+//! left where the sizes of all files are known.
 //!
-//! It is redrawn at most five times a second, as bytes are read, and taken away before a line of the run is told and at the end. It
-//! changes nothing else, and where the clock fails there is none.
+//! It is redrawn at most five times a second, as bytes are read, and taken away before a line of the run is told and at
+//! the end. It changes nothing else, and where the clock fails there is none.
 ghost use Rattle.std.specs.Prelude.{◌≡◌};
 
 use std::cell::Cell;

@@ -1,8 +1,8 @@
 -- The chunks of a round of a file where no number of them is asked for, of chunks of so many plaintext bytes.
 use Rattle.std.specs.Prelude.{ℕ, ◌/◌, ◌==◌, min, max, if◌then◌else◌}
 
--- as many as so many bytes have: one worker takes 16 of them at most and one at least; several take 256 at most, and one
--- each at least
+-- as many as so many bytes have: one worker takes 16 of them at most and one at least; several take 256 at most, and
+-- one each at least
 abbrev pub chunks_in : ℕ → ℕ → ℕ → ℕ
 chunks_in bytes chunk workers = if workers == 1 then max (min (bytes / chunk) 16) 1
     else max (min (bytes / chunk) 256) workers

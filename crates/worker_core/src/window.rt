@@ -1,7 +1,7 @@
 //! How many chunks a round of a file has where no number of them is asked for.
 //!
-//! A file is sealed by workers that live as long as it: a round need be no longer than a processor's nearer cache holds.
-//! What is opened starts its workers anew for each round, so by several a round is long; one starts none, and is
+//! A file is sealed by workers that live as long as it: a round need be no longer than a processor's nearer cache
+//! holds. What is opened starts its workers anew for each round, so by several a round is long; one starts none, and is
 //! quickest where a round and the one that is read behind it stay in that cache.
 ghost use Rattle.std.specs.Prelude.{◌≡◌, ◌<◌, ◌≤◌};
 ghost use Rattle.worker_core.specs.Window.{chunks_in, usual, usual_opening};
