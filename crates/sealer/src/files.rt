@@ -1,15 +1,16 @@
-//! What a run needs before its files: the key, the list of their names, and where their outputs go.
+//! What a run needs before its files: the key, the list of their names, where their outputs go, and on what it tells.
 ghost use Rattle.std.specs.Prelude.{◌<◌, IfOk, IfSome};
 
+use crate::Streams;
 use clap::ArgMatches;
 use command_line::{ListRequest, Showing, UsageFault, files_of, list_request, showing_asked};
 use container_core::Key;
-use ledger_core::FromRead;
-use sealer_core::{KeyFault, read_key};
+use ledger_core::{FromRead, ToWrite};
+use sealer_core::{KeyFault, Outs, read_key};
 use std::alloc::Global;
-use std::io::{ErrorKind, Read};
+use std::io::{ErrorKind, Read, Write};
 use std::rt::{Clock, Files};
-use system_files::{PlaceFault, Progress, SystemFiles, are_apart, open_unbuffered};
+use system_files::{PlaceFault, Progress, SystemFiles, Told, are_apart, open_unbuffered};
 
 /// The key in the file of this path.
 pub(crate) fn key_of<R: Files + AllocGlobal>(rt: &R, path: &str) -> Result<Key, KeyFault> {
@@ -92,6 +93,27 @@ pub(crate) fn outputs_of<'p, 'r, R: Files + AllocGlobal + Clock + Eprint>(
         sync,
         progress,
     })
+}
+
+/// What a run over files tells on: what was drawn of how far it is is taken away before each line.
+pub(crate) fn outs_of<'p, 'r, R: Files + Clock + Eprint, O: Write + Drop, E: Write + Drop>(
+    streams: Streams<O, E>,
+    progress: Option<&'p Progress<'r, R>>,
+    journal: Option<ToWrite<R::File>>,
+) -> Outs<ToWrite<Told<'p, 'r, R, O>>, ToWrite<Told<'p, 'r, R, E>>, ToWrite<R::File>> {
+    Outs {
+        lines: ToWrite(Told {
+            writer: streams.output,
+            progress,
+            of_files: true,
+        }),
+        faults: ToWrite(Told {
+            writer: streams.errors,
+            progress,
+            of_files: false,
+        }),
+        journal,
+    }
 }
 
 /// Takes away what was told of how far the run is.

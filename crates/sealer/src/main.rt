@@ -10,8 +10,9 @@ mod ledger;
 mod opening;
 mod sealing;
 
+use crate::files::{names_of, read_list};
 use crate::ledger::tell_ledger;
-use crate::opening::over_files;
+use crate::opening::{Reading, open};
 use crate::sealing::{pipe, seal};
 use clap::{ArgMatches, Error};
 use command_line::command;
@@ -37,30 +38,35 @@ fn main(rt: HostRuntime) -> ExitCode {
     };
     let status = match parse(rt.alloc(), words.as_slice()) {
         Ok(matches) => {
-            let terminals = Terminals {
-                output: rt.stdout().is_terminal(),
-                errors: rt.stderr().is_terminal(),
+            let streams = Streams {
+                to_terminal: rt.stdout().is_terminal(),
+                output: rt.stdout(),
+                draws: rt.stderr().is_terminal(),
+                errors: rt.stderr(),
             };
-            run(
-                &rt,
-                &rt,
-                &matches,
-                rt.stdin(),
-                rt.stdout(),
-                rt.stderr(),
-                terminals,
-            )
+            run(&rt, &rt, &matches, rt.stdin(), streams)
         }
         Err(error) => told(&rt, &error),
     };
     ExitCode::from(status)
 }
 
-/// Which of the streams that a run writes are terminals.
+/// The streams that a run writes.
+#[derive(Drop)]
+pub(crate) struct Streams<O: Write + Drop, E: Write + Drop> {
+    pub(crate) output: O,
+    /// Whether the output is a terminal.
+    pub(crate) to_terminal: bool,
+    pub(crate) errors: E,
+    /// Whether the errors' stream is a terminal.
+    pub(crate) draws: bool,
+}
+
+/// A command over files.
 #[derive(Clone, Copy)]
-pub(crate) struct Terminals {
-    pub(crate) output: bool,
-    pub(crate) errors: bool,
+enum OverFiles {
+    Seal,
+    Read(Reading),
 }
 
 /// The words of the command line. A fault is printed.
@@ -104,23 +110,48 @@ fn run<
     I: Read + Drop,
     O: Write + Drop,
     E: Write + Drop,
+>(rt: &R, host: &HostRuntime, matches: &ArgMatches<'_>, input: I, streams: Streams<O, E>) -> u8 {
+    match matches.subcommand() {
+        Some(("seal", asked)) => over_files(rt, host, OverFiles::Seal, asked, input, streams),
+        Some(("pipe", asked)) => pipe(rt, host, asked, input, streams),
+        Some(("open", asked)) => {
+            let open = OverFiles::Read(Reading::Open);
+            over_files(rt, host, open, asked, input, streams)
+        }
+        Some(("verify", asked)) => {
+            let verify = OverFiles::Read(Reading::Verify);
+            over_files(rt, host, verify, asked, input, streams)
+        }
+        Some(("ledger", asked)) => tell_ledger(rt, asked, streams.output),
+        Some(("audit", _)) => audit_input(rt, rt.alloc(), input, streams.output),
+        _ => FAULT,
+    }
+}
+
+/// Seals, opens or verifies the files of the command line, and behind them those of its list.
+fn over_files<
+    R: Files + AllocGlobal + Clock + Eprint + Threads + Wait + Sync,
+    I: Read + Drop,
+    O: Write + Drop,
+    E: Write + Drop,
 >(
     rt: &R,
     host: &HostRuntime,
+    command: OverFiles,
     matches: &ArgMatches<'_>,
     input: I,
-    output: O,
-    errors: E,
-    terminals: Terminals,
+    streams: Streams<O, E>,
 ) -> u8 {
-    match matches.subcommand() {
-        Some(("seal", asked)) => seal(rt, host, asked, input, output, errors, terminals),
-        Some(("pipe", asked)) => pipe(rt, host, asked, input, output, errors, terminals),
-        Some(("open", asked)) => over_files(rt, asked, input, output, errors, terminals, false),
-        Some(("verify", asked)) => over_files(rt, asked, input, output, errors, terminals, true),
-        Some(("ledger", asked)) => tell_ledger(rt, asked, output),
-        Some(("audit", _)) => audit_input(rt, rt.alloc(), input, output),
-        _ => FAULT,
+    let list = match read_list(rt, matches, input) {
+        Ok(list) => list,
+        Err(fault) => return complain(rt, "usage", fault),
+    };
+    match names_of(rt.alloc(), matches, &list) {
+        Ok(names) => match command {
+            OverFiles::Seal => seal(rt, host, matches, names.as_slice(), streams),
+            OverFiles::Read(reading) => open(rt, reading, matches, names.as_slice(), streams),
+        },
+        Err(fault) => complain(rt, "usage", fault),
     }
 }
 

@@ -13,10 +13,10 @@ ghost use Rattle.reserve_core.specs.NextRun.{IsFound};
 ghost use Rattle.sealer_core.specs.Piping.{HasSealedStream};
 ghost use Rattle.sealer_core.specs.Sealing.{FoldsFiles, Happened, HasSealed, IsWritten, ReservesFilesOnce};
 
-use crate::files::{clear, key_of, names_of, outputs_of, progress_of, read_list};
-use crate::{Terminals, complain};
+use crate::files::{clear, key_of, outputs_of, outs_of, progress_of};
+use crate::{Streams, complain};
 use clap::ArgMatches;
-use command_line::{SealRequest, UsageFault, pipe_request, seal_request};
+use command_line::{PipeRequest, SealRequest, UsageFault, pipe_request, seal_request};
 use container_core::Key;
 use ledger_core::{FromRead, Sink, Source, ToWrite};
 use sealer_core::{
@@ -29,7 +29,7 @@ use std::rt::{Clock, Files};
 use std::sync::Wait;
 use std::thread::Threads;
 use system_files::{
-    LedgerFault, LedgerPath, SystemFiles, Told, close_ledger, may_open, new_journal, open_ledger,
+    LedgerFault, LedgerPath, SystemFiles, close_ledger, may_open, new_journal, open_ledger,
 };
 
 /// What a run that seals begins with, in this order: the key file is read, it is looked whether there is a ledger
@@ -53,41 +53,8 @@ fn begin<R: Files + AllocGlobal + Eprint>(
     }
 }
 
-/// Seals the files.
+/// Seals the files of these names.
 pub(crate) fn seal<
-    R: Files + AllocGlobal + Clock + Eprint + Threads + Wait + Sync,
-    I: Read + Drop,
-    O: Write + Drop,
-    E: Write + Drop,
->(
-    rt: &R,
-    host: &HostRuntime,
-    matches: &ArgMatches<'_>,
-    input: I,
-    output: O,
-    errors: E,
-    terminals: Terminals,
-) -> u8 {
-    let list = match read_list(rt, matches, input) {
-        Ok(list) => list,
-        Err(fault) => return complain(rt, "usage", fault),
-    };
-    match names_of(rt.alloc(), matches, &list) {
-        Ok(names) => seal_named(
-            rt,
-            host,
-            matches,
-            names.as_slice(),
-            output,
-            errors,
-            terminals,
-        ),
-        Err(fault) => complain(rt, "usage", fault),
-    }
-}
-
-// Seals the files of these names.
-fn seal_named<
     R: Files + AllocGlobal + Clock + Eprint + Threads + Wait + Sync,
     O: Write + Drop,
     E: Write + Drop,
@@ -96,17 +63,15 @@ fn seal_named<
     host: &HostRuntime,
     matches: &ArgMatches<'_>,
     names: &[&str],
-    output: O,
-    errors: E,
-    terminals: Terminals,
+    streams: Streams<O, E>,
 ) -> u8 {
     let request = match seal_request(matches, names) {
         Ok(request) => request,
         Err(fault) => return complain(rt, "usage", fault),
     };
-    let progress = progress_of(rt, matches, names, terminals.errors);
+    let progress = progress_of(rt, matches, names, streams.draws);
     match outputs_of(rt, request.into, names, request.sync, progress.as_ref()) {
-        Ok(folder) => seal_to(rt, host, &request, folder, output, errors),
+        Ok(folder) => seal_to(rt, host, &request, folder, streams),
         Err(fault) => complain(rt, "usage", fault),
     }
 }
@@ -121,8 +86,7 @@ fn seal_to<
     host: &HostRuntime,
     request: &SealRequest<'_, '_>,
     folder: SystemFiles<'_, '_, R>,
-    output: O,
-    errors: E,
+    streams: Streams<O, E>,
 ) -> u8
     requires files { 0 < length request.now.files.now }
     requires workers { (0 < request.now.workers) × (request.now.workers ≤ MAX_WORKERS) }
@@ -149,19 +113,7 @@ fn seal_to<
         max_bytes: request.max_bytes,
         shape: &request.shape,
     };
-    let mut out = Outs {
-        lines: ToWrite(Told {
-            writer: output,
-            progress,
-            of_files: true,
-        }),
-        faults: ToWrite(Told {
-            writer: errors,
-            progress,
-            of_files: false,
-        }),
-        journal,
-    };
+    let mut out = outs_of(streams, progress, journal);
     match seal_from(
         rt,
         host,
@@ -187,22 +139,28 @@ pub(crate) fn pipe<
     I: Read + Drop,
     O: Write + Drop,
     E: Write + Drop,
->(
-    rt: &R,
-    host: &HostRuntime,
-    matches: &ArgMatches<'_>,
-    input: I,
-    output: O,
-    errors: E,
-    terminals: Terminals,
-) -> u8 {
+>(rt: &R, host: &HostRuntime, matches: &ArgMatches<'_>, input: I, streams: Streams<O, E>) -> u8 {
     let request = match pipe_request(matches) {
         Ok(request) => request,
         Err(fault) => return complain(rt, "usage", fault),
     };
-    if terminals.output && !request.to_terminal {
+    if streams.to_terminal && !request.to_terminal {
         return complain(rt, "usage", UsageFault::Terminal);
     }
+    pipe_to(rt, host, &request, input, streams)
+}
+
+// Seals the input as it is asked for.
+fn pipe_to<
+    R: Files + AllocGlobal + Eprint + Threads + Wait + Sync,
+    I: Read + Drop,
+    O: Write + Drop,
+    E: Write + Drop,
+>(rt: &R, host: &HostRuntime, request: &PipeRequest<'_>, input: I, streams: Streams<O, E>) -> u8
+    requires workers { (0 < request.now.workers) × (request.now.workers ≤ MAX_WORKERS) }
+    requires depth { (0 < request.now.depth) × (request.now.depth ≤ MAX_DEPTH) }
+    requires most { 0 < request.now.max_chunks }
+{
     let ledger = LedgerPath {
         path: request.ledger,
         may_make: request.may_make,
@@ -220,7 +178,7 @@ pub(crate) fn pipe<
     };
     let mut out = Outs {
         lines: ToWrite(sink()),
-        faults: ToWrite(errors),
+        faults: ToWrite(streams.errors),
         journal,
     };
     match pipe_from(
@@ -230,7 +188,7 @@ pub(crate) fn pipe<
         &ledger,
         Wary,
         &mut FromRead(input),
-        &mut ToWrite(output),
+        &mut ToWrite(streams.output),
         &options,
         &mut out,
     ) {
