@@ -39,9 +39,9 @@ fn main(rt: HostRuntime) -> ExitCode {
     let status = match parse(rt.alloc(), words.as_slice()) {
         Ok(matches) => {
             let streams = Streams {
-                to_terminal: rt.stdout().is_terminal(),
+                output_terminal: rt.stdout().is_terminal(),
                 output: rt.stdout(),
-                draws: rt.stderr().is_terminal(),
+                errors_terminal: rt.stderr().is_terminal(),
                 errors: rt.stderr(),
             };
             run(&rt, &rt, &matches, rt.stdin(), streams)
@@ -55,11 +55,11 @@ fn main(rt: HostRuntime) -> ExitCode {
 #[derive(Drop)]
 pub(crate) struct Streams<O: Write + Drop, E: Write + Drop> {
     pub(crate) output: O,
-    /// Whether the output is a terminal.
-    pub(crate) to_terminal: bool,
+    /// Whether `output` is a terminal.
+    pub(crate) output_terminal: bool,
     pub(crate) errors: E,
-    /// Whether the errors' stream is a terminal.
-    pub(crate) draws: bool,
+    /// Whether `errors` is a terminal.
+    pub(crate) errors_terminal: bool,
 }
 
 /// A command over files.

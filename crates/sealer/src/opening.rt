@@ -37,7 +37,7 @@ pub(crate) fn open<
         Ok(request) => request,
         Err(fault) => return complain(rt, "usage", fault),
     };
-    let progress = progress_of(rt, matches, names, streams.draws);
+    let progress = progress_of(rt, matches, names, streams.errors_terminal);
     match outputs_of(rt, request.into, names, request.sync, progress.as_ref()) {
         Ok(folder) => open_to(rt, reading, &request, folder, streams),
         Err(fault) => complain(rt, "usage", fault),

@@ -69,7 +69,7 @@ pub(crate) fn seal<
         Ok(request) => request,
         Err(fault) => return complain(rt, "usage", fault),
     };
-    let progress = progress_of(rt, matches, names, streams.draws);
+    let progress = progress_of(rt, matches, names, streams.errors_terminal);
     match outputs_of(rt, request.into, names, request.sync, progress.as_ref()) {
         Ok(folder) => seal_to(rt, host, &request, folder, streams),
         Err(fault) => complain(rt, "usage", fault),
@@ -144,7 +144,7 @@ pub(crate) fn pipe<
         Ok(request) => request,
         Err(fault) => return complain(rt, "usage", fault),
     };
-    if streams.to_terminal && !request.to_terminal {
+    if streams.output_terminal && !request.to_terminal {
         return complain(rt, "usage", UsageFault::Terminal);
     }
     pipe_to(rt, host, &request, input, streams)
