@@ -2,7 +2,7 @@
 //! left where the sizes of all files are known.
 //!
 //! It is redrawn at most five times a second, as bytes are read, and taken away before a line of the run is told and at
-//! the end. It changes nothing else, and where the clock fails there is none.
+//! the end. The time begins with the first bytes. It changes nothing else, and where the clock fails there is none.
 ghost use Rattle.std.specs.Prelude.{◌≡◌};
 
 use std::cell::Cell;
@@ -22,6 +22,8 @@ const MIB: u64 = 1 << 20;
 struct Done {
     files: u64,
     bytes: u64,
+    // When the first bytes were read.
+    begun: Instant,
     // Since when the line may be drawn again.
     last: Instant,
     is_drawn: bool,
@@ -34,7 +36,6 @@ pub struct Progress<'r, R: Clock + Eprint> {
     // The files of the run, and the bytes of all, where they are known.
     files: usize,
     bytes: Option<u64>,
-    begun: Instant,
     done: Cell<Done>,
 }
 
@@ -49,10 +50,10 @@ impl<'r, R: Clock + Eprint> Progress<'r, R> {
             rt,
             files: names.len(),
             bytes: bytes_of(rt, names),
-            begun,
             done: Cell::new(Done {
                 files: 0,
                 bytes: 0,
+                begun,
                 last: begun,
                 is_drawn: false,
             }),
@@ -62,13 +63,19 @@ impl<'r, R: Clock + Eprint> Progress<'r, R> {
     /// So many bytes more were read. The line is drawn where it is time.
     pub fn add(&self, bytes: usize) {
         let mut done = self.done.get();
+        let is_first = done.bytes == 0;
         done.bytes = done.bytes.saturating_add(bytes as u64);
-        if let Ok(now) = Instant::now(self.rt)
-            && now.saturating_duration_since(done.last).as_millis() >= BETWEEN
-        {
-            done.last = now;
-            done.is_drawn = true;
-            self.draw(&done, now.saturating_duration_since(self.begun));
+        if let Ok(now) = Instant::now(self.rt) {
+            // What the run did before, as to open the ledger file, says nothing of its speed.
+            if is_first {
+                done.begun = now;
+                done.last = now;
+            }
+            if now.saturating_duration_since(done.last).as_millis() >= BETWEEN {
+                done.last = now;
+                done.is_drawn = true;
+                self.draw(&done, now.saturating_duration_since(done.begun));
+            }
         }
         self.done.set(done);
     }
