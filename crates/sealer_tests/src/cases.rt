@@ -1,13 +1,12 @@
 //! Cases: a run over a folder in memory, what it has to tell, and what it has to leave.
 use crate::runs::{
-    COUNTING, MemoryOuts, folder_of, has_bytes, holds, journal_of, ledger_after, outs, seal_over,
-    steady_outs,
+    MemoryOuts, folder_of, has_bytes, holds, journal_of, ledger_after, open_over, outs, seal_over,
+    seal_shaped, steady_outs,
 };
-use container_core::Key;
+use container_core::Shape;
 use folder_memory::{MemoryFolder, Pace};
 use io_memory::Schedule;
 use reserve_core::{Fold, LedgerFile};
-use sealer_core::{OpenOptions, open_all, verify_all};
 use std::alloc::Global;
 use std::sync::Wait;
 use std::thread::Threads;
@@ -32,6 +31,8 @@ pub(crate) enum Trouble {
 #[derive(Clone, Copy)]
 pub(crate) enum Work {
     Seal { workers: u32, lanes: u32 },
+    // In version 2, in chunks of 4,096 bytes under this label, by one worker.
+    SealLabelled { lanes: u32, label: &'static [u8] },
     Open,
     Verify,
     // The same where this label is asked for.
@@ -45,10 +46,7 @@ pub(crate) enum Work {
 #[derive(Clone, Copy)]
 pub(crate) enum Left<'a> {
     Absent,
-    Present,
     Is(&'a [u8]),
-    // It is there with other bytes.
-    IsNot(&'a [u8]),
     // A container under the number's prefix, of this plaintext.
     Holds(u8, &'a [u8]),
 }
@@ -111,9 +109,7 @@ fn make_trouble(folder: &mut MemoryFolder, trouble: Trouble) {
 fn is_left(alloc: Global, folder: &MemoryFolder, name: &str, left: Left) -> bool {
     match left {
         Left::Absent => !folder.has(name),
-        Left::Present => folder.has(name),
         Left::Is(bytes) => has_bytes(folder, name, bytes),
-        Left::IsNot(bytes) => folder.has(name) && !has_bytes(folder, name, bytes),
         Left::Holds(number, plain) => holds(alloc, folder, name, number, plain),
     }
 }
@@ -128,7 +124,7 @@ fn are_left(alloc: Global, folder: &MemoryFolder, case: &Case) -> bool {
     true
 }
 
-// The status of `open_all`, or of `verify_all`, by one worker; `None` for no files, or a limit over the greatest.
+// The status of `open_all`, or of `verify_all`, by one worker; `None` where it can't be asked for.
 fn open_in<R: AllocGlobal + Threads + Sync>(
     rt: &R,
     folder: &mut MemoryFolder,
@@ -138,24 +134,8 @@ fn open_in<R: AllocGlobal + Threads + Sync>(
     label: Option<&[u8]>,
     show: bool,
 ) -> Option<u8> {
-    let files = case.files;
-    let max_bytes = case.max_bytes;
-    if files.is_empty() || max_bytes > 1 << 40 {
-        return None;
-    }
-    let options = OpenOptions {
-        files,
-        workers: 1,
-        max_bytes,
-        label,
-        show,
-    };
-    let key = Key::new(COUNTING);
-    if verifies {
-        Some(verify_all(rt, rt.alloc(), &key, folder, &options, out))
-    } else {
-        Some(open_all(rt, rt.alloc(), &key, folder, &options, out))
-    }
+    let (files, max_bytes) = (case.files, case.max_bytes);
+    open_over(rt, folder, files, out, max_bytes, 1, verifies, label, show)
 }
 
 // The status of the case's run; `None` where it can't be asked for.
@@ -178,6 +158,20 @@ fn status_over<R: AllocGlobal + Threads + Wait + Sync, S: Fold>(
             workers,
             lanes,
         ),
+        Work::SealLabelled { lanes, label } => {
+            let shape = Shape::two(12, label).ok()?;
+            seal_shaped(
+                rt,
+                file,
+                folder,
+                case.files,
+                out,
+                case.max_bytes,
+                1,
+                lanes,
+                &shape,
+            )
+        }
         Work::Open => open_in(rt, folder, case, out, false, None, false),
         Work::Verify => open_in(rt, folder, case, out, true, None, false),
         Work::OpenLabelled(label) => open_in(rt, folder, case, out, false, Some(label), false),

@@ -1,15 +1,14 @@
 //! Each call of a folder, of its readers and of its writers fails once in turn, while files are sealed, opened and
-//! verified. Each file has its line, and at most one more fails than where no call does; an output whose line says that
-//! it was made is whole, one whose line says that it failed isn't there, and the journal is legal with nothing open.
+//! verified. Each file has its line, and at most one more fails than where no call does, by the fault of that call; an
+//! output whose line says that it was made is whole, one whose line says that it failed isn't there, and the journal is
+//! legal with nothing open, and as many numbers sealed and void as the lines tell.
 use crate::failing::{Calls, Failing};
 use crate::runs::{
-    COUNTING, CUT, EMPTY, MemoryOuts, SECRET, folder_of, has_bytes, holds, is_legal, journal_of,
-    ledger_after, seal_over, steady_outs,
+    CUT, EMPTY, MemoryOuts, SECRET, folder_of, has_bytes, holds, is_legal, journal_of,
+    ledger_after, open_over, seal_over, steady_outs,
 };
-use container_core::Key;
 use folder_memory::{MemoryFolder, Pace};
 use io_memory::Schedule;
-use sealer_core::{OpenOptions, open_all, verify_all};
 use std::alloc::{AllocError, Global};
 use std::sync::Wait;
 use std::thread::Threads;
@@ -21,18 +20,17 @@ enum Work {
     Verify { workers: u32 },
 }
 
-// What is worked. `results` has for each of the files the name of its output, and the plaintext.
+// What is worked. `results` has for each of the files the name of its output, the plaintext, and the fault that it has
+// where no call fails, or none.
 #[derive(Clone, Copy)]
 struct Run<'a> {
     work: Work,
     folder: &'a [(&'a str, &'a [u8])],
     files: &'a [&'a str],
-    results: &'a [(&'a str, &'a [u8])],
+    results: &'a [(&'a str, &'a [u8], &'a str)],
     max_bytes: u64,
     // Bytes of a call of a reader or a writer.
     step: usize,
-    // How many files fail where no call does.
-    faulty: usize,
 }
 
 // What a run left and told.
@@ -40,8 +38,11 @@ struct Run<'a> {
 struct Ended {
     folder: MemoryFolder,
     out: MemoryOuts,
-    status: u8,
+    // `None` where it couldn't be asked for.
+    status: Option<u8>,
     has_failed: bool,
+    // The fault of the call that failed.
+    fault: &'static str,
     is_unremoved: bool,
 }
 
@@ -54,24 +55,8 @@ fn status_of_opening<R: AllocGlobal + Threads + Sync>(
     workers: u32,
     verifies: bool,
 ) -> Option<u8> {
-    let files = run.files;
-    let max_bytes = run.max_bytes;
-    if files.is_empty() || max_bytes > 1 << 40 || workers == 0 || workers > 16 {
-        return None;
-    }
-    let options = OpenOptions {
-        files,
-        workers,
-        max_bytes,
-        label: None,
-        show: false,
-    };
-    let key = Key::new(COUNTING);
-    if verifies {
-        Some(verify_all(rt, rt.alloc(), &key, folder, &options, out))
-    } else {
-        Some(open_all(rt, rt.alloc(), &key, folder, &options, out))
-    }
+    let (files, most) = (run.files, run.max_bytes);
+    open_over(rt, folder, files, out, most, workers, verifies, None, false)
 }
 
 fn status_of<R: AllocGlobal + Threads + Wait + Sync>(
@@ -118,26 +103,16 @@ fn run_failing<R: AllocGlobal + Threads + Wait + Sync>(
         folder,
         calls: &calls,
     };
-    let status = status_of(rt, &mut failing, run, &mut out)?;
+    let status = status_of(rt, &mut failing, run, &mut out);
     let Failing { folder, .. } = failing;
     Some(Ended {
         folder,
         out,
         status,
         has_failed: calls.has_failed(),
+        fault: calls.fault(),
         is_unremoved: calls.has_failed_to_remove(),
     })
-}
-
-// Whether a line says that this file failed.
-fn is_failed(line: &str, name: &str) -> bool {
-    match line.strip_prefix("failed ") {
-        Some(rest) => match rest.strip_prefix(name) {
-            Some(fault) => fault.starts_with(": "),
-            None => false,
-        },
-        None => false,
-    }
 }
 
 fn is_text(line: &str, text: Result<String, AllocError>) -> bool {
@@ -145,6 +120,11 @@ fn is_text(line: &str, text: Result<String, AllocError>) -> bool {
         Ok(text) => text.as_str() == line,
         Err(AllocError) => false,
     }
+}
+
+// Whether a line says that this file failed, by this fault.
+fn is_failed(alloc: Global, line: &str, name: &str, fault: &str) -> bool {
+    is_text(line, format!(in alloc; "failed {name}: {fault}"))
 }
 
 // The number under which a line says that a file was sealed: one of the first ten.
@@ -196,14 +176,40 @@ fn is_told_elsewhere(text: &str, name: &str) -> bool {
     false
 }
 
-// How many of the files failed, where each line fits what is left of its file's output.
-fn failed_in(alloc: Global, run: &Run, ended: &Ended, text: &str) -> Option<usize> {
+// What the lines say of the files that failed.
+#[derive(Clone, Copy)]
+struct Failures {
+    // How many files failed, and how many of them by a fault that they have where no call fails.
+    all: usize,
+    own: usize,
+    // How many left a void number.
+    void: usize,
+}
+
+// Whether a file whose line is this one was given a number before it failed: by one lane it is given one before it is
+// read, by several behind that.
+fn has_void_number(work: Work, line: &str) -> bool {
+    match work {
+        Work::Seal { lanes } => {
+            line.ends_with(": write failed")
+                || (lanes == 1 && (line.ends_with(": too long") || line.ends_with(": read failed")))
+        }
+        _ => false,
+    }
+}
+
+// How many of the files failed, each by its own fault or by that of the call that failed, where each line fits what is
+// left of its file's output.
+fn failures_in(alloc: Global, run: &Run, ended: &Ended, text: &str) -> Option<Failures> {
     let mut lines = text.lines();
-    let mut failed = 0usize;
-    for (name, (output, plain)) in run.files.iter().zip(run.results) {
+    let (mut all, mut own, mut void) = (0usize, 0usize, 0usize);
+    for (name, (output, plain, fault)) in run.files.iter().zip(run.results) {
         let line = lines.next()?;
-        if is_failed(line, name) {
-            failed = failed.saturating_add(1);
+        let is_own = is_failed(alloc, line, name, fault);
+        if is_own || is_failed(alloc, line, name, ended.fault) {
+            all = all.saturating_add(1);
+            own = own.saturating_add(usize::from(is_own));
+            void = void.saturating_add(usize::from(has_void_number(run.work, line)));
             let may_be_there = ended.is_unremoved || is_told_elsewhere(text, name);
             if ended.folder.has(output) && !may_be_there {
                 return None;
@@ -213,48 +219,54 @@ fn failed_in(alloc: Global, run: &Run, ended: &Ended, text: &str) -> Option<usiz
         }
     }
     if lines.next().is_none() {
-        Some(failed)
+        Some(Failures { all, own, void })
     } else {
         None
     }
 }
 
-// Whether the journal is legal, and so many numbers are sealed, the others void, and none open.
-fn is_closed(alloc: Global, journal: &[u8], sealed: usize) -> bool {
-    for void in 0..10usize {
-        let granted = sealed.saturating_add(void);
-        let text = format!(in alloc;
-            "legal: {granted} granted, {sealed} sealed, {void} void, 0 open, 0 refused\n"
-        );
-        let is_this = match text {
-            Ok(text) => is_legal(alloc, journal, text.as_bytes()) == Some(true),
-            Err(AllocError) => false,
-        };
-        if is_this {
-            return true;
-        }
+// Whether the journal is legal, and so many numbers are sealed, so many void, and none open.
+fn is_closed(alloc: Global, journal: &[u8], sealed: usize, void: usize) -> bool {
+    let granted = sealed.saturating_add(void);
+    let text = format!(in alloc;
+        "legal: {granted} granted, {sealed} sealed, {void} void, 0 open, 0 refused\n"
+    );
+    match text {
+        Ok(text) => is_legal(alloc, journal, text.as_bytes()),
+        Err(AllocError) => false,
     }
-    false
 }
 
-fn is_journal(alloc: Global, run: &Run, journal: &[u8], failed: usize) -> bool {
+fn is_journal(alloc: Global, run: &Run, journal: &[u8], failed: Failures) -> bool {
     match run.work {
         Work::Seal { lanes: _ } => {
-            is_closed(alloc, journal, run.files.len().saturating_sub(failed))
+            let sealed = run.files.len().saturating_sub(failed.all);
+            is_closed(alloc, journal, sealed, failed.void)
         }
         _ => journal.is_empty(),
     }
 }
 
-// Whether a run ended as it has to.
+// How many files fail where no call does.
+fn faulty_in(run: &Run) -> usize {
+    let mut faulty = 0usize;
+    for (_, _, fault) in run.results {
+        faulty = faulty.saturating_add(usize::from(!fault.is_empty()));
+    }
+    faulty
+}
+
+// Whether a run ended as it has to: where no call failed each file with a fault of its own failed, and else one more at
+// most.
 fn is_right(alloc: Global, run: &Run, ended: &Ended) -> Option<bool> {
     let text = std::str::from_utf8(ended.out.lines.bytes()).ok()?;
-    let failed = failed_in(alloc, run, ended, text)?;
-    let most = run.faulty.saturating_add(usize::from(ended.has_failed));
+    let failed = failures_in(alloc, run, ended, text)?;
+    let faulty = faulty_in(run);
+    let others = failed.all.saturating_sub(failed.own);
     Some(
-        failed <= most
-            && (ended.has_failed || failed == run.faulty)
-            && ended.status == u8::from(failed > 0)
+        others <= usize::from(ended.has_failed)
+            && (ended.has_failed || failed.own == faulty)
+            && ended.status == Some(u8::from(failed.all > 0))
             && ended.out.faults.bytes().is_empty()
             && is_journal(alloc, run, journal_of(&ended.out), failed),
     )
@@ -290,10 +302,13 @@ static EMPTY_MISSING_AGAIN: Run = Run {
     work: Work::Seal { lanes: 1 },
     folder: &[("a", b"")],
     files: &["a", "m", "a"],
-    results: &[("a.stm", b""), ("m.stm", b""), ("a.stm", b"")],
+    results: &[
+        ("a.stm", b"", ""),
+        ("m.stm", b"", "cannot open"),
+        ("a.stm", b"", "output exists"),
+    ],
     max_bytes: 1 << 30,
     step: 16,
-    faulty: 2,
 };
 
 static LONG_AND_OTHERS: Run = Run {
@@ -301,15 +316,14 @@ static LONG_AND_OTHERS: Run = Run {
     folder: &[("a", b""), ("long", b"twelve bytes"), ("b", b"eleven byte")],
     files: &["a", "long", "m", "b", "a"],
     results: &[
-        ("a.stm", b""),
-        ("long.stm", b"twelve bytes"),
-        ("m.stm", b""),
-        ("b.stm", b"eleven byte"),
-        ("a.stm", b""),
+        ("a.stm", b"", ""),
+        ("long.stm", b"twelve bytes", "too long"),
+        ("m.stm", b"", "cannot open"),
+        ("b.stm", b"eleven byte", ""),
+        ("a.stm", b"", "output exists"),
     ],
     max_bytes: 11,
     step: 4,
-    faulty: 3,
 };
 
 #[test]
@@ -328,13 +342,13 @@ static LONG: [u8; 40_001] = [3; 40_001];
 // Six files by two lanes, in groups of two.
 fn holds_in_groups<R: AllocGlobal + Threads + Wait + Sync>(rt: &R) -> bool {
     let folder: [(&str, &[u8]); 4] = [("a", &ONES), ("b", &TWOS), ("c", b"333"), ("long", &LONG)];
-    let results: [(&str, &[u8]); 6] = [
-        ("a.stm", &ONES),
-        ("b.stm", &TWOS),
-        ("long.stm", b""),
-        ("c.stm", b"333"),
-        ("m.stm", b""),
-        ("a.stm", &ONES),
+    let results: [(&str, &[u8], &str); 6] = [
+        ("a.stm", &ONES, ""),
+        ("b.stm", &TWOS, ""),
+        ("long.stm", b"", "too long"),
+        ("c.stm", b"333", ""),
+        ("m.stm", b"", "cannot open"),
+        ("a.stm", &ONES, "output exists"),
     ];
     let run = Run {
         work: Work::Seal { lanes: 2 },
@@ -343,7 +357,6 @@ fn holds_in_groups<R: AllocGlobal + Threads + Wait + Sync>(rt: &R) -> bool {
         results: &results,
         max_bytes: 40_000,
         step: 20_000,
-        faulty: 3,
     };
     holds_at_each_call(rt, &run, 30)
 }
@@ -359,15 +372,14 @@ static OPENED: Run = Run {
     folder: &[("a.stm", &EMPTY), ("b.stm", &SECRET), ("cut.stm", &CUT)],
     files: &["a.stm", "b.stm", "m.stm", "cut.stm", "b.stm"],
     results: &[
-        ("a", b""),
-        ("b", b"a secret"),
-        ("m", b""),
-        ("cut", b""),
-        ("b", b"a secret"),
+        ("a", b"", ""),
+        ("b", b"a secret", ""),
+        ("m", b"", "cannot open"),
+        ("cut", b"", "chunk 0 does not check"),
+        ("b", b"a secret", "output exists"),
     ],
     max_bytes: 8,
     step: 5,
-    faulty: 3,
 };
 
 static VERIFIED: Run = Run {
@@ -375,15 +387,14 @@ static VERIFIED: Run = Run {
     folder: &[("a.stm", &EMPTY), ("b.stm", &SECRET), ("cut.stm", &CUT)],
     files: &["a.stm", "b.stm", "m.stm", "cut.stm", "b.stm"],
     results: &[
-        ("a", b""),
-        ("b", b"a secret"),
-        ("m", b""),
-        ("cut", b""),
-        ("b", b"a secret"),
+        ("a", b"", ""),
+        ("b", b"a secret", ""),
+        ("m", b"", "cannot open"),
+        ("cut", b"", "chunk 0 does not check"),
+        ("b", b"a secret", ""),
     ],
     max_bytes: 8,
     step: 5,
-    faulty: 2,
 };
 
 fn by_workers<'a>(run: &Run<'a>, work: Work) -> Run<'a> {

@@ -7,12 +7,24 @@ use reserve_core::Fold;
 use sealer_core::{Folder, FolderFault, LedgerFile, OpeningFolder, Plaintext, SealingFolder};
 use std::sync::atomic::{AtomicU64, Ordering};
 
+/// What a call does that fails.
+#[derive(Clone, Copy)]
+enum Act {
+    Open,
+    Create,
+    Read,
+    // To a writer, or to finish what was written.
+    Write,
+    Remove,
+}
+
 /// How many calls were made, and which one fails.
 #[derive(Drop)]
 pub(crate) struct Calls {
     failing: u64,
     made: AtomicU64,
-    unremoved: AtomicU64,
+    // 0 before a call has failed, then which act it was.
+    act: AtomicU64,
 }
 
 impl Calls {
@@ -21,23 +33,45 @@ impl Calls {
         Calls {
             failing,
             made: AtomicU64::new(0),
-            unremoved: AtomicU64::new(0),
+            act: AtomicU64::new(0),
         }
     }
 
     /// Whether a call has failed.
     pub(crate) fn has_failed(&self) -> bool {
-        self.made.load(Ordering::SeqCst) > self.failing
+        self.act.load(Ordering::SeqCst) != 0
+    }
+
+    /// The fault that a file's line has for the call that failed; empty where none did, or to remove a file.
+    pub(crate) fn fault(&self) -> &'static str {
+        match self.act.load(Ordering::SeqCst) {
+            1 => "cannot open",
+            2 => "cannot create",
+            3 => "read failed",
+            4 => "write failed",
+            _ => "",
+        }
     }
 
     /// Whether the call that failed was to remove a file.
     pub(crate) fn has_failed_to_remove(&self) -> bool {
-        self.unremoved.load(Ordering::SeqCst) > 0
+        self.act.load(Ordering::SeqCst) == 5
     }
 
-    // Whether this call fails.
-    fn fails(&self) -> bool {
-        self.made.fetch_add(1, Ordering::SeqCst) == self.failing
+    // Whether this call fails, which is to do that.
+    fn fails(&self, act: Act) -> bool {
+        if self.made.fetch_add(1, Ordering::SeqCst) != self.failing {
+            return false;
+        }
+        let number = match act {
+            Act::Open => 1,
+            Act::Create => 2,
+            Act::Read => 3,
+            Act::Write => 4,
+            Act::Remove => 5,
+        };
+        self.act.store(number, Ordering::SeqCst);
+        true
     }
 }
 
@@ -69,7 +103,7 @@ impl<'a> Folder for Failing<'a> {
 
     fn open(&mut self, name: &str) -> Result<FailingReader<'a>, FolderFault> {
         let calls = self.calls;
-        if calls.fails() {
+        if calls.fails(Act::Open) {
             return Err(FolderFault::Failed);
         }
         match self.folder.open(name) {
@@ -80,7 +114,7 @@ impl<'a> Folder for Failing<'a> {
 
     fn create(&mut self, name: &str) -> Result<FailingWriter<'a>, FolderFault> {
         let calls = self.calls;
-        if calls.fails() {
+        if calls.fails(Act::Create) {
             return Err(FolderFault::Failed);
         }
         match self.folder.create(name) {
@@ -91,7 +125,7 @@ impl<'a> Folder for Failing<'a> {
 
     fn finish(&mut self, output: FailingWriter<'a>) -> Result<(), FailingWriter<'a>> {
         let calls = self.calls;
-        if calls.fails() {
+        if calls.fails(Act::Write) {
             return Err(output);
         }
         let FailingWriter { writer, calls: _ } = output;
@@ -102,8 +136,7 @@ impl<'a> Folder for Failing<'a> {
     }
 
     fn discard(&mut self, output: FailingWriter<'a>) -> Result<(), FolderFault> {
-        if self.calls.fails() {
-            self.calls.unremoved.store(1, Ordering::SeqCst);
+        if self.calls.fails(Act::Remove) {
             return Err(FolderFault::Failed);
         }
         let FailingWriter { writer, calls: _ } = output;
@@ -140,7 +173,7 @@ impl<'a> SealingFolder for Failing<'a> {
 
 impl Source for FailingReader<'_> {
     fn read(&mut self, buffer: &mut [u8]) -> Result<usize, Failed> {
-        if self.calls.fails() {
+        if self.calls.fails(Act::Read) {
             return Err(Failed);
         }
         self.reader.read(buffer)
@@ -149,7 +182,7 @@ impl Source for FailingReader<'_> {
 
 impl Sink for FailingWriter<'_> {
     fn write(&mut self, bytes: &[u8]) -> Result<usize, Failed> {
-        if self.calls.fails() {
+        if self.calls.fails(Act::Write) {
             return Err(Failed);
         }
         self.writer.write(bytes)

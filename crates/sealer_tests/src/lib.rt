@@ -26,8 +26,6 @@ mod runs;
 #[cfg(test)]
 mod sealing;
 #[cfg(test)]
-mod shapes;
-#[cfg(test)]
 mod stops;
 #[cfg(test)]
 mod streams;

@@ -1,8 +1,8 @@
 //! Streams: a run of `pipe_all` over a reader and a writer in memory, what it has to tell, and what it has to write. It
 //! is under the key 00 01 .. 1f and device 1, in at most two chunks of 4 KiB under an empty label, by two workers with
 //! four chunks in hand.
-use crate::runs::{COUNTING, MemoryOuts, journal_of, ledger_after, outs};
-use container_core::{Key, Shape, seal};
+use crate::runs::{MemoryOuts, counting_key, journal_of, ledger_after, outs};
+use container_core::{Shape, seal};
 use io_memory::{FromMemory, Schedule, ToMemory};
 use ledger_core::{Device, Failed, fill};
 use reserve_core::{Fold, LedgerFile};
@@ -44,11 +44,12 @@ pub(crate) struct Run<'a> {
 // How a run ended.
 #[derive(Drop)]
 struct Ended {
-    status: u8,
+    // `None` where it couldn't be asked for.
+    status: Option<u8>,
     writer: ToMemory,
     out: MemoryOuts,
     // How many bytes of the stream were not read, where none of the reader's calls fails any more.
-    unread: usize,
+    unread: Option<usize>,
 }
 
 fn outs_of(alloc: Global, run: &Run) -> Option<MemoryOuts> {
@@ -89,7 +90,7 @@ fn status_over<R: AllocGlobal + Threads + Wait + Sync, S: Fold>(
         max_chunks: 2,
         shape: &shape,
     };
-    let key = Key::new(COUNTING);
+    let key = counting_key();
     Some(pipe_all(rt, rt.alloc(), &key, file, reader, writer, &options, out))
 }
 
@@ -102,8 +103,8 @@ fn end_over<R: AllocGlobal + Threads + Wait + Sync, S: Fold>(
     let mut reader = FromMemory::new(plain.as_slice(), run.step, run.reads);
     let mut writer = ToMemory::new(rt.alloc(), 64, run.step, run.writes).ok()?;
     let mut out = outs_of(rt.alloc(), run)?;
-    let status = status_over(rt, file, &mut reader, &mut writer, &mut out)?;
-    let unread = unread_of(rt.alloc(), &mut reader)?;
+    let status = status_over(rt, file, &mut reader, &mut writer, &mut out);
+    let unread = unread_of(rt.alloc(), &mut reader);
     Some(Ended {
         status,
         writer,
@@ -125,7 +126,7 @@ fn is_begun(
     let shape = Shape::two(12, b"").ok()?;
     // Device 1, number 0.
     let prefix = [0, 0, 1, 0, 0, 0, 0];
-    let whole = seal(alloc, &Key::new(COUNTING), &shape, prefix, plain.as_slice()).ok()?;
+    let whole = seal(alloc, &counting_key(), &shape, prefix, plain.as_slice()).ok()?;
     let is_known = Sha256::digest(whole.as_slice()) == *digest;
     let fits = least <= bytes.len() && bytes.len() <= most;
     Some(is_known && fits && whole.as_slice().starts_with(bytes))
@@ -134,7 +135,7 @@ fn is_begun(
 fn is_written(alloc: Global, ended: &Ended, run: &Run) -> bool {
     let bytes = ended.writer.bytes();
     match run.left {
-        Left::Untouched => bytes.is_empty() && ended.unread == run.count,
+        Left::Untouched => bytes.is_empty() && ended.unread == Some(run.count),
         Left::Is(all) => bytes == all,
         Left::Whole(length, digest) => bytes.len() == length && Sha256::digest(bytes) == *digest,
         Left::Begun(least, most, digest) => {
@@ -145,14 +146,15 @@ fn is_written(alloc: Global, ended: &Ended, run: &Run) -> bool {
 
 // Whether a run ended as it has to.
 fn is_as(alloc: Global, ended: &Ended, run: &Run) -> bool {
-    ended.status == run.status
+    ended.status == Some(run.status)
         && ended.out.faults.bytes() == run.line
         && ended.out.lines.bytes().is_empty()
         && journal_of(&ended.out) == run.journal
         && is_written(alloc, ended, run)
 }
 
-pub(crate) fn ends_over<R: AllocGlobal + Threads + Wait + Sync, S: Fold>(
+// Whether a run over this ledger file ends as it has to.
+pub(crate) fn stream_ends_over<R: AllocGlobal + Threads + Wait + Sync, S: Fold>(
     rt: &R,
     file: &mut LedgerFile<S>,
     run: &Run,
@@ -166,7 +168,7 @@ pub(crate) fn ends_over<R: AllocGlobal + Threads + Wait + Sync, S: Fold>(
 // The same over a new ledger file.
 pub(crate) fn ends<R: AllocGlobal + Threads + Wait + Sync>(rt: &R, run: &Run) -> bool {
     match ledger_after(rt.alloc(), "") {
-        Some(mut file) => ends_over(rt, &mut file, run),
+        Some(mut file) => stream_ends_over(rt, &mut file, run),
         None => false,
     }
 }

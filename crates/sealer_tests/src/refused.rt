@@ -43,7 +43,7 @@ fn counts(alloc: Global, journal: &[u8], sealed: usize, void: usize) -> bool {
         "legal: {granted} granted, {sealed} sealed, {void} void, 0 open, 0 refused\n"
     );
     match text {
-        Ok(text) => is_legal(alloc, journal, text.as_bytes()) == Some(true),
+        Ok(text) => is_legal(alloc, journal, text.as_bytes()),
         Err(AllocError) => false,
     }
 }

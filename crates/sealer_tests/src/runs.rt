@@ -1,5 +1,5 @@
 //! What the tests of the commands share: containers that Python's `cryptography` made, folders, ledger files and
-//! outputs in memory, and a run of `seal_all` over them.
+//! outputs in memory, and a run of a command over them.
 ghost use Rattle.std.specs.Prelude.{◌≡◌, IfSome, []};
 
 use container_core::{Key, Shape, open};
@@ -7,16 +7,24 @@ use folder_memory::MemoryFolder;
 use io_memory::{FromMemory, Schedule, ToMemory};
 use ledger_core::Device;
 use reserve_core::{Fold, Keeper, LedgerFile};
-use sealer_core::{Outs, SealOptions, SealingFolder, run_audit, seal_all};
+use sealer_core::{
+    OpenOptions, OpeningFolder, Outs, SealOptions, SealingFolder, open_all, run_audit, seal_all,
+    verify_all,
+};
 use sqlite::{Connection, MemStore};
 use std::alloc::Global;
 use std::sync::Wait;
 use std::thread::Threads;
 
-pub(crate) const COUNTING: [u8; 32] = [
+const COUNTING: [u8; 32] = [
     0, 1, 2, 3, 4, 5, 6, 7, 8, 9, 10, 11, 12, 13, 14, 15, 16, 17, 18, 19, 20, 21, 22, 23, 24, 25,
     26, 27, 28, 29, 30, 31,
 ];
+
+// The key 00 01 .. 1f.
+pub(crate) fn counting_key() -> Key {
+    Key::new(COUNTING)
+}
 
 // Of no plaintext.
 pub(crate) const EMPTY: [u8; 40] = [
@@ -24,6 +32,9 @@ pub(crate) const EMPTY: [u8; 40] = [
     0x00, 0x63, 0x0d, 0xcd, 0x29, 0x66, 0xc4, 0x33, 0x27, 0x55, 0xaa, 0x90, 0x44, 0xd3, 0x91, 0x66,
     0x88, 0xa3, 0x63, 0xf0, 0x4a, 0x03, 0x69, 0x2e,
 ];
+
+// The first 10 bytes of each container of version 1.
+pub(crate) const BEGUN: [u8; 10] = [0x53, 0x54, 0x52, 0x4d, 0x53, 0x45, 0x41, 0x4c, 0x01, 0x10];
 
 // Of `a secret`.
 pub(crate) const SECRET: [u8; 48] = [
@@ -38,6 +49,21 @@ pub(crate) const LABELLED: [u8; 56] = [
     0x00, 0x63, 0x0d, 0xcd, 0x29, 0x66, 0xc4, 0x33, 0x07, 0x64, 0x62, 0x20, 0x64, 0x75, 0x6d, 0x70,
     0x3d, 0x35, 0x01, 0x31, 0x22, 0x7b, 0x94, 0xc7, 0x55, 0xb4, 0xb9, 0xe6, 0x36, 0xb0, 0x86, 0x2c,
     0x11, 0x12, 0x58, 0xdb, 0x14, 0x5c, 0xd0, 0x6c,
+];
+
+// Of `a secret`, in chunks of 4,096 bytes under the label `db-dump`, of files 0 and 1.
+pub(crate) const DUMPED_0: [u8; 56] = [
+    0x53, 0x54, 0x52, 0x4d, 0x53, 0x45, 0x41, 0x4c, 0x02, 0x0c, 0x00, 0x00, 0x01, 0x00, 0x00, 0x00,
+    0x00, 0x63, 0x0d, 0xcd, 0x29, 0x66, 0xc4, 0x33, 0x07, 0x64, 0x62, 0x2d, 0x64, 0x75, 0x6d, 0x70,
+    0x3d, 0x35, 0x01, 0x31, 0x22, 0x7b, 0x94, 0xc7, 0xa0, 0x6f, 0x70, 0xaa, 0xc8, 0xeb, 0xdb, 0xe1,
+    0x86, 0x48, 0x59, 0x4e, 0x45, 0x65, 0x57, 0xe0,
+];
+
+pub(crate) const DUMPED_1: [u8; 56] = [
+    0x53, 0x54, 0x52, 0x4d, 0x53, 0x45, 0x41, 0x4c, 0x02, 0x0c, 0x00, 0x00, 0x01, 0x00, 0x00, 0x00,
+    0x01, 0x63, 0x0d, 0xcd, 0x29, 0x66, 0xc4, 0x33, 0x07, 0x64, 0x62, 0x2d, 0x64, 0x75, 0x6d, 0x70,
+    0xf7, 0x80, 0x53, 0x38, 0x61, 0x1c, 0x59, 0x16, 0xe5, 0x20, 0xbf, 0x01, 0xf5, 0x49, 0x47, 0x9c,
+    0xef, 0x1b, 0x7e, 0x94, 0x01, 0xb7, 0x5c, 0x3b,
 ];
 
 // `LABELLED` without its last byte.
@@ -83,11 +109,19 @@ pub(crate) fn steady_outs(alloc: Global) -> Option<MemoryOuts> {
     outs(alloc, Schedule::Never, Schedule::Never)
 }
 
+// The ledger over a connection.
+pub(crate) fn ledger_over<S: Fold>(conn: Connection<S>) -> Option<LedgerFile<S>> {
+    match Keeper::open(conn) {
+        Ok(keeper) => Some(LedgerFile::Kept(keeper)),
+        Err(_) => None,
+    }
+}
+
+// A ledger in memory after these statements.
 pub(crate) fn ledger_after(alloc: Global, sql: &str) -> Option<MemoryLedger> {
     let mut conn = Connection::open_in_memory(alloc).ok()?;
     conn.execute_batch(sql).ok()?;
-    let keeper = Keeper::open(conn).ok()?;
-    Some(LedgerFile::Kept(keeper))
+    ledger_over(conn)
 }
 
 pub(crate) fn journal_of(out: &MemoryOuts) -> &[u8] {
@@ -98,11 +132,13 @@ pub(crate) fn journal_of(out: &MemoryOuts) -> &[u8] {
 }
 
 // Whether the audit of this journal writes this line, and finds it legal.
-pub(crate) fn is_legal(alloc: Global, journal: &[u8], line: &[u8]) -> Option<bool> {
+pub(crate) fn is_legal(alloc: Global, journal: &[u8], line: &[u8]) -> bool {
     let mut reader = FromMemory::new(journal, 4096, Schedule::Never);
-    let mut verdict = ToMemory::new(alloc, 256, 256, Schedule::Never).ok()?;
+    let Ok(mut verdict) = ToMemory::new(alloc, 256, 256, Schedule::Never) else {
+        return false;
+    };
     let status = run_audit(alloc, &mut reader, &mut verdict);
-    Some(status == Ok(0) && verdict.bytes() == line)
+    status == Ok(0) && verdict.bytes() == line
 }
 
 // A folder with these files.
@@ -150,7 +186,7 @@ fn opens_to(alloc: Global, sealed: &[u8], number: u8, plain: &[u8]) -> bool {
     let begin = [
         0x53, 0x54, 0x52, 0x4d, 0x53, 0x45, 0x41, 0x4c, 1, 16, 0, 0, 1, 0, 0, 0, number,
     ];
-    match open(alloc, &Key::new(COUNTING), sealed) {
+    match open(alloc, &counting_key(), sealed) {
         Ok(opened) => opened.as_slice() == plain && sealed.starts_with(&begin),
         Err(_) => false,
     }
@@ -206,6 +242,36 @@ pub(crate) fn seal_shaped<R: AllocGlobal + Threads + Wait + Sync, S: Fold, F: Se
         max_bytes,
         shape,
     };
-    let key = Key::new(COUNTING);
+    let key = counting_key();
     Some(seal_all(rt, rt.alloc(), &key, file, folder, &options, out))
+}
+
+// The status of `open_all`, or of `verify_all`, under that key, where it may be asked for that.
+pub(crate) fn open_over<R: AllocGlobal + Threads + Sync, F: OpeningFolder>(
+    rt: &R,
+    folder: &mut F,
+    files: &[&str],
+    out: &mut MemoryOuts,
+    max_bytes: u64,
+    workers: u32,
+    verifies: bool,
+    label: Option<&[u8]>,
+    show: bool,
+) -> Option<u8> {
+    if files.is_empty() || max_bytes > 1 << 40 || workers == 0 || workers > 16 {
+        return None;
+    }
+    let options = OpenOptions {
+        files,
+        workers,
+        max_bytes,
+        label,
+        show,
+    };
+    let key = counting_key();
+    if verifies {
+        Some(verify_all(rt, rt.alloc(), &key, folder, &options, out))
+    } else {
+        Some(open_all(rt, rt.alloc(), &key, folder, &options, out))
+    }
 }

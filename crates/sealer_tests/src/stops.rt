@@ -1,12 +1,12 @@
-//! `seal_all` over the two files of a ledger: the next run goes on without the log of the first. And a disk stops below
-//! it and below `pipe_all`, one of the two files failing from some call on: each call in turn is the first to fail,
-//! until a run has no stop.
+//! `seal_all` and `pipe_all` over the two files of a ledger: the next run goes on without the log of the first. And a
+//! disk stops below them, one of the two files failing from some call on: each call in turn is the first to fail, until
+//! a run has no stop.
 use crate::cases::{Case, Left, Trouble, Work, ends_over};
-use crate::runs::{COUNTING, EMPTY, MemoryOuts, folder_of, has_bytes, seal_over, steady_outs};
+use crate::pipes::{Run, stream_ends_over};
+use crate::runs::{EMPTY, MemoryOuts, folder_of, has_bytes, ledger_over, seal_over, steady_outs};
 use crate::streams::sealed_or_unreserved;
-use container_core::{Key, open};
 use folder_memory::MemoryFolder;
-use reserve_core::{Fold, Keeper, LedgerFile};
+use reserve_core::{Fold, LedgerFile};
 use sqlite::{Connection, FileStore, Files, Options};
 use sqlite_disk::{Disk, Fuse, Memory};
 use std::alloc::Global;
@@ -14,10 +14,10 @@ use std::sync::Wait;
 use std::thread::Threads;
 
 // All files here stop at some call or other; those that are to go on stop at none.
-pub(crate) type Stopping = Fuse<Memory>;
+type Stopping = Fuse<Memory>;
 
 // A file that stops at no call.
-pub(crate) fn steady(alloc: Global) -> Stopping {
+fn steady(alloc: Global) -> Stopping {
     Fuse::new(Memory::new(alloc), u64::MAX)
 }
 
@@ -26,7 +26,7 @@ pub(crate) fn steady(alloc: Global) -> Stopping {
 
 // A connection over these files, or the files. Its database has little memory, which is filled each time that one is
 // opened.
-pub(crate) fn connect<D: Disk + Drop>(
+fn connect<D: Disk + Drop>(
     alloc: Global,
     files: Files<D>,
 ) -> Result<Connection<FileStore<D>>, Files<D>> {
@@ -42,16 +42,8 @@ pub(crate) fn connect<D: Disk + Drop>(
     }
 }
 
-// The ledger over a connection.
-pub(crate) fn ledger_over<S: Fold>(conn: Connection<S>) -> Option<LedgerFile<S>> {
-    match Keeper::open(conn) {
-        Ok(keeper) => Some(LedgerFile::Kept(keeper)),
-        Err(_) => None,
-    }
-}
-
 // What is left of a ledger that was folded.
-pub(crate) fn left_of<S: Fold>(file: LedgerFile<S>) -> Option<S::Left> {
+fn left_of<S: Fold>(file: LedgerFile<S>) -> Option<S::Left> {
     match file {
         LedgerFile::Folded(left) => Some(left),
         LedgerFile::Kept(_) | LedgerFile::Gone => None,
@@ -59,7 +51,7 @@ pub(crate) fn left_of<S: Fold>(file: LedgerFile<S>) -> Option<S::Left> {
 }
 
 // The database file of these.
-pub(crate) fn database_of(files: Option<Files<Stopping>>) -> Option<Stopping> {
+fn database_of(files: Option<Files<Stopping>>) -> Option<Stopping> {
     match files {
         Some(Files { log: _log, db }) => Some(db),
         None => None,
@@ -67,6 +59,56 @@ pub(crate) fn database_of(files: Option<Files<Stopping>>) -> Option<Stopping> {
 }
 
 // ---- the next run
+
+// A run over the files of a ledger: of files in a folder, or of a stream.
+#[derive(Clone, Copy)]
+pub(crate) enum Next<'a> {
+    Files(&'a Case<'a>),
+    Stream(&'a Run<'a>),
+}
+
+// What a run leaves of the files of this connection, where it ends as it has to.
+fn left_after<R: AllocGlobal + Threads + Wait + Sync, S: Fold>(
+    rt: &R,
+    conn: Connection<S>,
+    folder: &mut MemoryFolder,
+    next: Next,
+) -> Option<S::Left> {
+    let mut file = ledger_over(conn)?;
+    let ends = match next {
+        Next::Files(case) => ends_over(rt, &mut file, folder, case),
+        Next::Stream(run) => stream_ends_over(rt, &mut file, run),
+    };
+    if ends { left_of(file) } else { None }
+}
+
+// The database file that a run over this one and an empty log leaves, where it ends as it has to.
+fn database_after<R: AllocGlobal + Threads + Wait + Sync>(
+    rt: &R,
+    db: Stopping,
+    folder: &mut MemoryFolder,
+    next: Next,
+) -> Option<Stopping> {
+    let log = steady(rt.alloc());
+    match connect(rt.alloc(), Files { log, db }) {
+        Ok(conn) => database_of(left_after(rt, conn, folder, next)),
+        Err(_) => None,
+    }
+}
+
+// Whether one run and then another, over the database file that the first one leaves, end as they have to. Streams
+// don't look at the folder.
+pub(crate) fn both_run<R: AllocGlobal + Threads + Wait + Sync>(
+    rt: &R,
+    folder: &mut MemoryFolder,
+    first: Next,
+    second: Next,
+) -> bool {
+    match database_after(rt, steady(rt.alloc()), folder, first) {
+        Some(db) => database_after(rt, db, folder, second).is_some(),
+        None => false,
+    }
+}
 
 static FIRST_RUN: Case = Case {
     folder: &[],
@@ -84,80 +126,32 @@ static FIRST_RUN: Case = Case {
     left: &[("a.stm", Left::Is(&EMPTY)), ("m.stm", Left::Absent)],
 };
 
-static SECOND_RUN: Case = Case {
-    folder: &[],
-    trouble: Trouble::Nothing,
-    work: Work::Seal {
-        workers: 1,
-        lanes: 1,
-    },
-    files: &["b"],
-    max_bytes: 1 << 30,
-    status: 0,
-    lines: b"sealed b file 3 bytes 65537\n",
-    faults: b"",
-    journal: b"range 1 3 1 1\n0 issue 3\n0 sealed 3\n",
-    left: &[],
-};
-
-// Whether the output of the second run has number 3, and opens to its plaintext.
-fn has_number_3(alloc: Global, folder: &MemoryFolder, plain: &[u8]) -> bool {
-    match folder.bytes("b.stm") {
-        Ok(sealed) => opens_to(alloc, sealed.as_slice(), plain),
-        Err(_) => false,
-    }
-}
-
-fn opens_to(alloc: Global, sealed: &[u8], plain: &[u8]) -> bool {
-    if sealed.len() != 65_593 || &sealed[10..17] != [0, 0, 1, 0, 0, 0, 3].as_slice() {
-        return false;
-    }
-    match open(alloc, &Key::new(COUNTING), sealed) {
-        Ok(opened) => opened.as_slice() == plain,
-        Err(_) => false,
-    }
-}
-
-// What a run leaves of the files of this connection, where it ends as it has to.
-fn left_after<R: AllocGlobal + Threads + Wait + Sync, S: Fold>(
-    rt: &R,
-    conn: Connection<S>,
-    folder: &mut MemoryFolder,
-    run: &Case,
-) -> Option<S::Left> {
-    let mut file = ledger_over(conn)?;
-    if ends_over(rt, &mut file, folder, run) {
-        left_of(file)
-    } else {
-        None
-    }
-}
-
-// The database file that a run over this one and an empty log leaves, where it ends as it has to.
-fn database_after<R: AllocGlobal + Threads + Wait + Sync>(
-    rt: &R,
-    db: Stopping,
-    folder: &mut MemoryFolder,
-    run: &Case,
-) -> Option<Stopping> {
-    let log = steady(rt.alloc());
-    match connect(rt.alloc(), Files { log, db }) {
-        Ok(conn) => database_of(left_after(rt, conn, folder, run)),
-        Err(_) => None,
-    }
-}
-
-fn both_run<R: AllocGlobal + Threads + Wait + Sync>(rt: &R, folder: &mut MemoryFolder) -> bool {
-    match database_after(rt, steady(rt.alloc()), folder, &FIRST_RUN) {
-        Some(db) => database_after(rt, db, folder, &SECOND_RUN).is_some(),
-        None => false,
+// The run behind it, of 65,537 bytes.
+fn second_run<'a>(left: &'a [(&'a str, Left<'a>)]) -> Case<'a> {
+    Case {
+        folder: &[],
+        trouble: Trouble::Nothing,
+        work: Work::Seal {
+            workers: 1,
+            lanes: 1,
+        },
+        files: &["b"],
+        max_bytes: 1 << 30,
+        status: 0,
+        lines: b"sealed b file 3 bytes 65537\n",
+        faults: b"",
+        journal: b"range 1 3 1 1\n0 issue 3\n0 sealed 3\n",
+        left,
     }
 }
 
 fn goes_on_without_log<R: AllocGlobal + Threads + Wait + Sync>(rt: &R) -> Option<bool> {
     let plain = vec![in rt.alloc(); 7u8; 65_537].ok()?;
     let mut folder = folder_of(rt.alloc(), &[("a", b""), ("b", plain.as_slice())])?;
-    Some(both_run(rt, &mut folder) && has_number_3(rt.alloc(), &folder, plain.as_slice()))
+    let left = [("b.stm", Left::Holds(3, plain.as_slice()))];
+    let second = second_run(&left);
+    let (first, second) = (Next::Files(&FIRST_RUN), Next::Files(&second));
+    Some(both_run(rt, &mut folder, first, second))
 }
 
 #[test]

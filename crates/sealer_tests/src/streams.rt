@@ -1,11 +1,11 @@
 //! `pipe_all` over streams of zero bytes. What is written is of Python's `cryptography` and `hashlib`, under the key
 //! 00 01 .. 1f and device 1; lines and journals are written by hand.
-use crate::pipes::{Left, Run, ends, ends_over, first_or_second, sealed_or_failed};
+use crate::pipes::{Left, Run, ends, first_or_second, sealed_or_failed};
 use crate::runs::is_legal;
-use crate::stops::{Stopping, connect, database_of, ledger_over, left_of, steady};
+use crate::stops::{Next, both_run};
+use folder_memory::MemoryFolder;
 use io_memory::Schedule;
 use reserve_core::{Fold, LedgerFile};
-use sqlite::{Connection, Files};
 use std::sync::Wait;
 use std::thread::Threads;
 
@@ -47,80 +47,109 @@ static TWO_CHUNKS: Run = Run {
     left: Left::Whole(8_249, &FIRST),
 };
 
-// ---- streams that are sealed
+// What a row shows, and its run.
+static RUNS: [(&str, Run); 6] = [
+    (
+        "without a journal a stream is sealed",
+        Run {
+            count: 8_192,
+            step: usize::MAX,
+            reads: Schedule::Never,
+            writes: Schedule::Never,
+            lines: Schedule::Never,
+            journals: None,
+            status: 0,
+            line: b"sealed - file 0 bytes 8192\n",
+            journal: b"",
+            left: Left::Whole(8_249, &FIRST),
+        },
+    ),
+    (
+        "a byte a call is the same",
+        Run {
+            count: 8_192,
+            step: 1,
+            reads: Schedule::Never,
+            writes: Schedule::Never,
+            lines: Schedule::Never,
+            journals: Some(Schedule::Never),
+            status: 0,
+            line: b"sealed - file 0 bytes 8192\n",
+            journal: b"range 1 0 1 1\n0 issue 0\n0 sealed 0\n",
+            left: Left::Whole(8_249, &FIRST),
+        },
+    ),
+    (
+        "no byte is sealed as one empty chunk",
+        Run {
+            count: 0,
+            step: 1_000,
+            reads: Schedule::Never,
+            writes: Schedule::Never,
+            lines: Schedule::Never,
+            journals: Some(Schedule::Never),
+            status: 0,
+            line: b"sealed - file 0 bytes 0\n",
+            journal: b"range 1 0 1 1\n0 issue 0\n0 sealed 0\n",
+            left: Left::Is(&EMPTY),
+        },
+    ),
+    (
+        // The header was written before anything was read; how many chunks were is the workers' affair.
+        "a byte past the most chunks voids the number",
+        Run {
+            count: 8_193,
+            step: 1_000,
+            reads: Schedule::Never,
+            writes: Schedule::Never,
+            lines: Schedule::Never,
+            journals: Some(Schedule::Never),
+            status: 1,
+            line: b"failed -: too many chunks\n",
+            journal: b"range 1 0 1 1\n0 issue 0\n0 void 0\n",
+            left: Left::Begun(25, 8_266, &A_BYTE_MORE),
+        },
+    ),
+    (
+        "a line that fails is status 2, and the journal is written",
+        Run {
+            count: 8_192,
+            step: 1_000,
+            reads: Schedule::Never,
+            writes: Schedule::Never,
+            lines: Schedule::Bytes(8),
+            journals: Some(Schedule::Never),
+            status: 2,
+            line: b"sealed -",
+            journal: b"range 1 0 1 1\n0 issue 0\n0 sealed 0\n",
+            left: Left::Whole(8_249, &FIRST),
+        },
+    ),
+    (
+        "a journal that fails is status 2, and the line stands",
+        Run {
+            count: 8_192,
+            step: 1_000,
+            reads: Schedule::Never,
+            writes: Schedule::Never,
+            lines: Schedule::Never,
+            journals: Some(Schedule::Bytes(9)),
+            status: 2,
+            line: b"sealed - file 0 bytes 8192\njournal: write failed\n",
+            journal: b"range 1 0",
+            left: Left::Whole(8_249, &FIRST),
+        },
+    ),
+];
 
 #[test]
-fn two_chunks_are_sealed_and_the_line_is_on_standard_error(rt: HostRuntime) {
-    assert!(rt; ends(&rt, &TWO_CHUNKS));
-    let line = b"legal: 1 granted, 1 sealed, 0 void, 0 open, 0 refused\n";
-    assert!(rt; is_legal(rt.alloc(), TWO_CHUNKS.journal, line) == Some(true));
+fn each_stream_has_its_line_its_number_and_its_container(rt: HostRuntime) {
+    for (what, run) in &RUNS {
+        assert!(rt; ends(&rt, run), "{what}");
+    }
 }
 
-static WITHOUT_A_JOURNAL: Run = Run {
-    count: 8_192,
-    step: usize::MAX,
-    reads: Schedule::Never,
-    writes: Schedule::Never,
-    lines: Schedule::Never,
-    journals: None,
-    status: 0,
-    line: b"sealed - file 0 bytes 8192\n",
-    journal: b"",
-    left: Left::Whole(8_249, &FIRST),
-};
-
-#[test]
-fn without_a_journal_a_stream_is_sealed(rt: HostRuntime) {
-    assert!(rt; ends(&rt, &WITHOUT_A_JOURNAL));
-}
-
-#[test]
-fn a_byte_a_call_is_the_same(rt: HostRuntime) {
-    let mut run = TWO_CHUNKS;
-    run.step = 1;
-    assert!(rt; ends(&rt, &run));
-}
-
-static NO_BYTE: Run = Run {
-    count: 0,
-    step: 1_000,
-    reads: Schedule::Never,
-    writes: Schedule::Never,
-    lines: Schedule::Never,
-    journals: Some(Schedule::Never),
-    status: 0,
-    line: b"sealed - file 0 bytes 0\n",
-    journal: b"range 1 0 1 1\n0 issue 0\n0 sealed 0\n",
-    left: Left::Is(&EMPTY),
-};
-
-#[test]
-fn no_byte_is_sealed_as_one_empty_chunk(rt: HostRuntime) {
-    assert!(rt; ends(&rt, &NO_BYTE));
-}
-
-// ---- streams that fail
-
-// The header was written before anything was read; how many chunks were is the workers' affair.
-static TOO_MANY: Run = Run {
-    count: 8_193,
-    step: 1_000,
-    reads: Schedule::Never,
-    writes: Schedule::Never,
-    lines: Schedule::Never,
-    journals: Some(Schedule::Never),
-    status: 1,
-    line: b"failed -: too many chunks\n",
-    journal: b"range 1 0 1 1\n0 issue 0\n0 void 0\n",
-    left: Left::Begun(25, 8_266, &A_BYTE_MORE),
-};
-
-#[test]
-fn a_byte_past_the_most_chunks_voids_the_number(rt: HostRuntime) {
-    assert!(rt; ends(&rt, &TOO_MANY));
-    let line = b"legal: 1 granted, 0 sealed, 1 void, 0 open, 0 refused\n";
-    assert!(rt; is_legal(rt.alloc(), TOO_MANY.journal, line) == Some(true));
-}
+// ---- calls that fail
 
 // In the tag of chunk 0.
 static WRITE_FAILED: Run = Run {
@@ -136,11 +165,6 @@ static WRITE_FAILED: Run = Run {
     left: Left::Begun(4_130, 4_130, &FIRST),
 };
 
-#[test]
-fn a_failed_write_voids_the_number(rt: HostRuntime) {
-    assert!(rt; ends(&rt, &WRITE_FAILED));
-}
-
 // Behind 4,097 bytes chunk 0 may be sealed, and chunk 1 isn't.
 static READ_FAILED: Run = Run {
     count: 8_192,
@@ -154,11 +178,6 @@ static READ_FAILED: Run = Run {
     journal: b"range 1 0 1 1\n0 issue 0\n0 void 0\n",
     left: Left::Begun(25, 4_137, &FIRST),
 };
-
-#[test]
-fn a_failed_read_voids_the_number(rt: HostRuntime) {
-    assert!(rt; ends(&rt, &READ_FAILED));
-}
 
 // How many runs fail, each at the next call of the reader or of the writer, before one that fails at none.
 fn failed_before<R: AllocGlobal + Threads + Wait + Sync>(rt: &R, of_reader: bool) -> Option<u64> {
@@ -192,44 +211,6 @@ fn each_failed_read_is_told(rt: HostRuntime) {
 #[test]
 fn each_failed_write_is_told(rt: HostRuntime) {
     assert!(rt; failed_before(&rt, false) == Some(11));
-}
-
-// ---- the line and the journal
-
-static LINE_FAILED: Run = Run {
-    count: 8_192,
-    step: 1_000,
-    reads: Schedule::Never,
-    writes: Schedule::Never,
-    lines: Schedule::Bytes(8),
-    journals: Some(Schedule::Never),
-    status: 2,
-    line: b"sealed -",
-    journal: b"range 1 0 1 1\n0 issue 0\n0 sealed 0\n",
-    left: Left::Whole(8_249, &FIRST),
-};
-
-#[test]
-fn a_line_that_fails_is_status_2_and_the_journal_is_written(rt: HostRuntime) {
-    assert!(rt; ends(&rt, &LINE_FAILED));
-}
-
-static JOURNAL_FAILED: Run = Run {
-    count: 8_192,
-    step: 1_000,
-    reads: Schedule::Never,
-    writes: Schedule::Never,
-    lines: Schedule::Never,
-    journals: Some(Schedule::Bytes(9)),
-    status: 2,
-    line: b"sealed - file 0 bytes 8192\njournal: write failed\n",
-    journal: b"range 1 0",
-    left: Left::Whole(8_249, &FIRST),
-};
-
-#[test]
-fn a_journal_that_fails_is_status_2_and_the_line_stands(rt: HostRuntime) {
-    assert!(rt; ends(&rt, &JOURNAL_FAILED));
 }
 
 // ---- the ledger file
@@ -269,43 +250,23 @@ static UNDER_NUMBER_1: Run = Run {
     left: Left::Whole(8_249, &SECOND),
 };
 
-// What a run leaves of the files of this connection, where it ends as it has to.
-fn left_after<R: AllocGlobal + Threads + Wait + Sync, S: Fold>(
-    rt: &R,
-    conn: Connection<S>,
-    run: &Run,
-) -> Option<S::Left> {
-    let mut file = ledger_over(conn)?;
-    if ends_over(rt, &mut file, run) {
-        left_of(file)
-    } else {
-        None
-    }
-}
-
-// The database file that a run over this one and an empty log leaves, where it ends as it has to.
-fn database_after<R: AllocGlobal + Threads + Wait + Sync>(
-    rt: &R,
-    db: Stopping,
-    run: &Run,
-) -> Option<Stopping> {
-    let log = steady(rt.alloc());
-    match connect(rt.alloc(), Files { log, db }) {
-        Ok(conn) => database_of(left_after(rt, conn, run)),
-        Err(_) => None,
-    }
-}
-
-// Whether one run and then another, over what the first one leaves, end as they have to.
-fn both_end<R: AllocGlobal + Threads + Wait + Sync>(rt: &R, first: &Run, second: &Run) -> bool {
-    match database_after(rt, steady(rt.alloc()), first) {
-        Some(db) => database_after(rt, db, second).is_some(),
-        None => false,
-    }
+// Whether the run behind this one has number 1, where both end as they have to.
+fn is_followed<R: AllocGlobal + Threads + Wait + Sync>(rt: &R, first: &Run) -> bool {
+    let mut folder = MemoryFolder::new(rt.alloc());
+    let (first, second) = (Next::Stream(first), Next::Stream(&UNDER_NUMBER_1));
+    both_run(rt, &mut folder, first, second)
 }
 
 #[test]
 fn the_next_run_has_the_next_number(rt: HostRuntime) {
-    assert!(rt; both_end(&rt, &TWO_CHUNKS, &UNDER_NUMBER_1));
-    assert!(rt; both_end(&rt, &WRITE_FAILED, &UNDER_NUMBER_1));
+    assert!(rt; is_followed(&rt, &TWO_CHUNKS));
+    assert!(rt; is_followed(&rt, &WRITE_FAILED));
+}
+
+#[test]
+fn the_journal_of_a_stream_is_legal_whether_it_is_sealed_or_not(rt: HostRuntime) {
+    let sealed = b"legal: 1 granted, 1 sealed, 0 void, 0 open, 0 refused\n";
+    assert!(rt; is_legal(rt.alloc(), TWO_CHUNKS.journal, sealed));
+    let failed = b"legal: 1 granted, 0 sealed, 1 void, 0 open, 0 refused\n";
+    assert!(rt; is_legal(rt.alloc(), WRITE_FAILED.journal, failed));
 }
