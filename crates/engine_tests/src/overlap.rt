@@ -1,9 +1,9 @@
 //! A file is read while it is worked: a reader that goes on only once a second worker has begun isn't kept waiting.
 ghost use Rattle.std.specs.Prelude.{◌<◌, ◌≤◌};
 
-use container_core::{CHUNK, HEADER, Key, OpenFault, SEALED, SealFault, Shape, seal};
+use container_core::{CHUNK, HEADER, OpenFault, SEALED, SealFault, Shape, seal};
 use crew_core::{Gate, MAX_WORKERS};
-use crew_tests::{COUNTING, grant_of, pattern};
+use crew_tests::{PREFIX, counting_key, grant_of, pattern};
 use engine_core::{run_plain_by, run_seal_by, run_verify_by};
 use io_core::FromRead;
 use io_memory::{Schedule, ToMemory};
@@ -14,9 +14,6 @@ use std::sync::Wait;
 use std::sync::atomic::{AtomicU64, Ordering};
 use std::test::Fail;
 use std::thread::Threads;
-
-// Device 1, file 0.
-const PREFIX: [u8; 7] = [0, 0, 1, 0, 0, 0, 0];
 
 // How often the reader looks for the second worker.
 const TURNS: u64 = 1_000_000_000;
@@ -99,7 +96,7 @@ fn seal_held<T: Threads + Wait + Sync>(
         turns,
     });
     let mut writer = ToMemory::new(alloc, 1 << 20, usize::MAX, Schedule::Never)?;
-    let key = Key::new(COUNTING);
+    let key = counting_key();
     let grant = grant_of(alloc, 0).ok_or("no grant")?;
     let (result, _) = run_seal_by(
         rt,
@@ -118,7 +115,7 @@ fn seal_held<T: Threads + Wait + Sync>(
 }
 
 // Verifies the container of five chunks likewise, or opens it.
-fn verify_held<T: Threads + Sync>(
+fn read_held<T: Threads + Sync>(
     rt: &T,
     alloc: Global,
     opens: bool,
@@ -127,7 +124,7 @@ fn verify_held<T: Threads + Sync>(
 ) -> Result<Result<u64, OpenFault>, Fail>
     requires workers { (0 < workers) × (workers ≤ MAX_WORKERS) }
 {
-    let key = Key::new(COUNTING);
+    let key = counting_key();
     let plain = pattern(alloc, 5 * CHUNK)?;
     let bytes = seal(alloc, &key, &Shape::one(), PREFIX, plain.as_slice())?;
     let others = Others {
@@ -162,9 +159,9 @@ fn a_round_is_sealed_while_the_next_one_is_read(rt: HostRuntime) -> Result<(), F
 #[test]
 fn a_round_is_opened_while_the_next_one_is_read(rt: HostRuntime) -> Result<(), Fail> {
     for opens in [false, true] {
-        let done = verify_held(&rt, rt.alloc(), opens, 2, TURNS)?;
+        let done = read_held(&rt, rt.alloc(), opens, 2, TURNS)?;
         assert!(rt; done == Ok(327_680));
-        let alone = verify_held(&rt, rt.alloc(), opens, 1, 1000)?;
+        let alone = read_held(&rt, rt.alloc(), opens, 1, 1000)?;
         assert!(rt; alone == Err(OpenFault::Read));
     }
     Ok(())
