@@ -4,7 +4,7 @@ ghost use Rattle.std.specs.Prelude.{◌<◌, ◌≤◌, length};
 use crate::sealed::{opens_to, sealed};
 use crate::{EIGHT, Late, Meeting, Recorder, ZEROS, is_digest, pattern, zeros};
 use container_core::MAX_PLAIN;
-use crew_core::{Gate, MAX_WORKERS};
+use crew_core::MAX_WORKERS;
 use std::alloc::Global;
 use std::test::Fail;
 use std::thread::Threads;
