@@ -5,20 +5,10 @@ use crate::jobs::jobs_of;
 use crate::run::Run;
 use container_core::{Key, MAX_PLAIN, Shape, open, seal};
 use crew_core::{Gate, MAX_JOBS, MAX_LANES, Outcome};
+use crew_tests::counting_key;
 use ledger_core::{Device, IssueFault, Range, Spent, Way, prefix};
 use std::alloc::Global;
 use std::thread::Threads;
-
-// 00 01 .. 1f.
-const COUNTING: [u8; 32] = [
-    0, 1, 2, 3, 4, 5, 6, 7, 8, 9, 10, 11, 12, 13, 14, 15, 16, 17, 18, 19, 20, 21, 22, 23, 24, 25,
-    26, 27, 28, 29, 30, 31,
-];
-
-// The key of all batches.
-pub fn key() -> Key {
-    Key::new(COUNTING)
-}
 
 // A run over so many numbers from `lo` on. A refused allocation is the one that the run was asked for, so the same call
 // finds memory at once.
@@ -188,14 +178,20 @@ pub fn is_first_job_late(outcomes: &[Outcome]) -> bool {
     }
 }
 
-// Whether the outcome is a container, a void number, or a refused growth.
-pub fn is_kept(outcome: &Outcome) -> bool {
+// Whether a container opens to this text. A refusal that was asked for is met once, so the same call finds memory at
+// once.
+fn opens_again(alloc: Global, bytes: &[u8], text: &[u8]) -> bool {
+    opens_to(alloc, &counting_key(), bytes, text) || opens_to(alloc, &counting_key(), bytes, text)
+}
+
+// Whether the outcome is the container of this text, a void number, or a refused growth.
+pub fn is_kept(alloc: Global, text: &[u8], outcome: &Outcome) -> bool {
     match outcome {
         Outcome::Sealed {
             seat: _,
             bytes,
             spent,
-        } => spent.way() == Way::Sealed && bytes.len() >= 40,
+        } => spent.way() == Way::Sealed && opens_again(alloc, bytes.as_slice(), text),
         Outcome::Spoiled { seat: _, spent } => spent.way() == Way::Void,
         Outcome::Unissued { seat: _, fault } => *fault == IssueFault::OutOfMemory,
     }
@@ -217,7 +213,8 @@ pub fn outcomes_of<R: Threads + Sync, G: Gate + Sync>(
     requires short { All (λ job. length job.items ≤ MAX_PLAIN) jobs.now }
 {
     let mut run = opened(alloc, lo, jobs.len() as u32, seats)?;
-    run.seal(rt, alloc, &key(), shape, jobs, lanes, gate).ok()
+    run.seal(rt, alloc, &counting_key(), shape, jobs, lanes, gate)
+        .ok()
 }
 
 // The outcomes of so many jobs under the numbers from 0 on, where each job has its container of version 1.
@@ -235,7 +232,7 @@ pub fn sealed<R: Threads + Sync, G: Gate + Sync>(
     let jobs = jobs.as_slice();
     let shape = Shape::one();
     let outcomes = outcomes_of(rt, alloc, &shape, 0, seats, jobs, lanes, gate)?;
-    if all_sealed(alloc, &key(), &shape, jobs, outcomes.as_slice()) {
+    if all_sealed(alloc, &counting_key(), &shape, jobs, outcomes.as_slice()) {
         Some(outcomes)
     } else {
         None

@@ -4,48 +4,65 @@ ghost use Rattle.std.specs.Prelude.{◌≡◌, ◌<◌, ◌≤◌};
 use crate::held::Held;
 use crate::jobs::{jobs_of, texts};
 use crate::outcomes::{
-    all_sealed, are_numbered, at_seat, draw_one_each, faults, is_first_job_late, is_kept, key,
-    numbers, opened, outcomes_of, sealed, seat_of, spent_of,
+    all_sealed, are_numbered, at_seat, draw_one_each, faults, is_first_job_late, is_kept, numbers,
+    opened, outcomes_of, sealed, seat_of, spent_of,
 };
 use crate::run::Run;
 use container_core::Shape;
 use crew_core::{Free, MAX_LANES, Outcome};
-use crew_tests::{Late, Meeting};
+use crew_tests::{Late, Meeting, counting_key};
 use io_memory::{FromMemory, Schedule, ToMemory};
 use ledger_core::{IssueFault, Journal, Tally, audit};
 use std::alloc::Global;
 use std::test::Fail;
 use std::thread::Threads;
 
-// How often the first pass looks for a second, where two lanes are to meet.
+// How often a pass looks for the others, where lanes are to meet, and where they can't.
 const TURNS: u64 = 1_000_000_000;
 
-// The containers of no bytes, `a` and `bc` under the key 00 01 .. 1f, of device 1 and files 7, 8 and 9, by Python's
-// `cryptography`.
-static SEVEN: [u8; 40] = [
-    0x53, 0x54, 0x52, 0x4d, 0x53, 0x45, 0x41, 0x4c, 0x01, 0x10, 0x00, 0x00, 0x01, 0x00, 0x00, 0x00,
-    0x07, 0x63, 0x0d, 0xcd, 0x29, 0x66, 0xc4, 0x33, 0x47, 0x44, 0xc4, 0xde, 0x8d, 0x8c, 0x35, 0xb3,
-    0x63, 0x78, 0x70, 0xde, 0x7c, 0xfe, 0xc3, 0x20,
+const FEW_TURNS: u64 = 1000;
+
+static TEXTS: [&[u8]; 3] = [b"", b"a", b"bc"];
+
+// Their containers under the key 00 01 .. 1f, of device 1 and files 7, 8 and 9, by Python's `cryptography`.
+static OF_ONE: [&[u8]; 3] = [
+    &[
+        0x53, 0x54, 0x52, 0x4d, 0x53, 0x45, 0x41, 0x4c, 0x01, 0x10, 0x00, 0x00, 0x01, 0x00, 0x00,
+        0x00, 0x07, 0x63, 0x0d, 0xcd, 0x29, 0x66, 0xc4, 0x33, 0x47, 0x44, 0xc4, 0xde, 0x8d, 0x8c,
+        0x35, 0xb3, 0x63, 0x78, 0x70, 0xde, 0x7c, 0xfe, 0xc3, 0x20,
+    ],
+    &[
+        0x53, 0x54, 0x52, 0x4d, 0x53, 0x45, 0x41, 0x4c, 0x01, 0x10, 0x00, 0x00, 0x01, 0x00, 0x00,
+        0x00, 0x08, 0x63, 0x0d, 0xcd, 0x29, 0x66, 0xc4, 0x33, 0x89, 0x5d, 0x41, 0x07, 0x27, 0x29,
+        0x49, 0xf8, 0x53, 0x21, 0x1e, 0x26, 0x45, 0xfc, 0x3c, 0x7a, 0xb6,
+    ],
+    &[
+        0x53, 0x54, 0x52, 0x4d, 0x53, 0x45, 0x41, 0x4c, 0x01, 0x10, 0x00, 0x00, 0x01, 0x00, 0x00,
+        0x00, 0x09, 0x63, 0x0d, 0xcd, 0x29, 0x66, 0xc4, 0x33, 0x60, 0xb6, 0xd0, 0xb1, 0x58, 0xf1,
+        0xbd, 0xf8, 0xd3, 0xa1, 0xeb, 0x03, 0x38, 0xa9, 0x0b, 0xe3, 0x73, 0x22,
+    ],
 ];
 
-static EIGHT: [u8; 41] = [
-    0x53, 0x54, 0x52, 0x4d, 0x53, 0x45, 0x41, 0x4c, 0x01, 0x10, 0x00, 0x00, 0x01, 0x00, 0x00, 0x00,
-    0x08, 0x63, 0x0d, 0xcd, 0x29, 0x66, 0xc4, 0x33, 0x89, 0x5d, 0x41, 0x07, 0x27, 0x29, 0x49, 0xf8,
-    0x53, 0x21, 0x1e, 0x26, 0x45, 0xfc, 0x3c, 0x7a, 0xb6,
-];
-
-static NINE: [u8; 42] = [
-    0x53, 0x54, 0x52, 0x4d, 0x53, 0x45, 0x41, 0x4c, 0x01, 0x10, 0x00, 0x00, 0x01, 0x00, 0x00, 0x00,
-    0x09, 0x63, 0x0d, 0xcd, 0x29, 0x66, 0xc4, 0x33, 0x60, 0xb6, 0xd0, 0xb1, 0x58, 0xf1, 0xbd, 0xf8,
-    0xd3, 0xa1, 0xeb, 0x03, 0x38, 0xa9, 0x0b, 0xe3, 0x73, 0x22,
-];
-
-// The container of `bc` of file 9 in version 2, in chunks of 4 KiB, with the label `db-dump`.
-static NINE_OF_TWO: [u8; 50] = [
-    0x53, 0x54, 0x52, 0x4d, 0x53, 0x45, 0x41, 0x4c, 0x02, 0x0c, 0x00, 0x00, 0x01, 0x00, 0x00, 0x00,
-    0x09, 0x63, 0x0d, 0xcd, 0x29, 0x66, 0xc4, 0x33, 0x07, 0x64, 0x62, 0x2d, 0x64, 0x75, 0x6d, 0x70,
-    0x60, 0xb6, 0xbf, 0xe9, 0x4e, 0xc5, 0xb9, 0x63, 0x72, 0xf2, 0xcb, 0x0c, 0x2c, 0x33, 0xd5, 0xa4,
-    0xe2, 0x0b,
+// The same in version 2, in chunks of 4 KiB, with the label `db-dump`.
+static OF_TWO: [&[u8]; 3] = [
+    &[
+        0x53, 0x54, 0x52, 0x4d, 0x53, 0x45, 0x41, 0x4c, 0x02, 0x0c, 0x00, 0x00, 0x01, 0x00, 0x00,
+        0x00, 0x07, 0x63, 0x0d, 0xcd, 0x29, 0x66, 0xc4, 0x33, 0x07, 0x64, 0x62, 0x2d, 0x64, 0x75,
+        0x6d, 0x70, 0x9c, 0xf0, 0x92, 0xe8, 0xb0, 0xb6, 0x8e, 0x5c, 0x89, 0x01, 0xd1, 0x4b, 0xe3,
+        0x15, 0xd7, 0xe1,
+    ],
+    &[
+        0x53, 0x54, 0x52, 0x4d, 0x53, 0x45, 0x41, 0x4c, 0x02, 0x0c, 0x00, 0x00, 0x01, 0x00, 0x00,
+        0x00, 0x08, 0x63, 0x0d, 0xcd, 0x29, 0x66, 0xc4, 0x33, 0x07, 0x64, 0x62, 0x2d, 0x64, 0x75,
+        0x6d, 0x70, 0x89, 0xc3, 0x86, 0xf4, 0xf2, 0x4c, 0x86, 0x43, 0x67, 0x43, 0xa1, 0xa0, 0xe0,
+        0x4b, 0x3e, 0xda, 0xd3,
+    ],
+    &[
+        0x53, 0x54, 0x52, 0x4d, 0x53, 0x45, 0x41, 0x4c, 0x02, 0x0c, 0x00, 0x00, 0x01, 0x00, 0x00,
+        0x00, 0x09, 0x63, 0x0d, 0xcd, 0x29, 0x66, 0xc4, 0x33, 0x07, 0x64, 0x62, 0x2d, 0x64, 0x75,
+        0x6d, 0x70, 0x60, 0xb6, 0xbf, 0xe9, 0x4e, 0xc5, 0xb9, 0x63, 0x72, 0xf2, 0xcb, 0x0c, 0x2c,
+        0x33, 0xd5, 0xa4, 0xe2, 0x0b,
+    ],
 ];
 
 const NOTHING: Tally = Tally {
@@ -56,99 +73,95 @@ const NOTHING: Tally = Tally {
 };
 
 // Whether the outcome is this container, sealed at seat 0.
-fn is_container(outcome: Option<&Outcome>, want: &[u8]) -> bool {
+fn is_container(outcome: &Outcome, want: &[u8]) -> bool {
     match outcome {
-        Some(
-            Outcome::Sealed {
-                seat: 0,
-                bytes,
-                spent: _,
-            },
-        ) => bytes.as_slice() == want,
+        Outcome::Sealed {
+            seat: 0,
+            bytes,
+            spent: _,
+        } => bytes.as_slice() == want,
         _ => false,
     }
 }
 
+// Whether the outcomes are these containers.
+fn are_containers(outcomes: &[Outcome], wanted: &[&[u8]]) -> bool {
+    for (outcome, want) in outcomes.iter().zip(wanted) {
+        if !is_container(outcome, want) {
+            return false;
+        }
+    }
+    outcomes.len() == wanted.len()
+}
+
+// Whether one lane seals the texts in a shape to these containers.
+fn gives<R: Threads + Sync>(
+    rt: &R,
+    alloc: Global,
+    shape: &Shape,
+    wanted: &[&[u8]],
+) -> Option<bool> {
+    let jobs = texts(alloc, &TEXTS).ok()?;
+    let jobs = jobs.as_slice();
+    let outcomes = outcomes_of(rt, alloc, shape, 7, 1, jobs, 1, &Free)?;
+    let outcomes = outcomes.as_slice();
+    Some(
+        are_containers(outcomes, wanted)
+            && all_sealed(alloc, &counting_key(), shape, jobs, outcomes),
+    )
+}
+
 #[test]
 fn containers_made_elsewhere(rt: HostRuntime) -> Result<(), Fail> {
-    let jobs = texts(
-        rt.alloc(),
-        &[b"".as_slice(), b"a".as_slice(), b"bc".as_slice()],
-    )?;
-    let jobs = jobs.as_slice();
-    let outcomes = outcomes_of(&rt, rt.alloc(), &Shape::one(), 7, 1, jobs, 1, &Free).ok_or(
-        "no outcomes",
-    )?;
-    assert!(rt; outcomes.len() == 3);
-    assert!(rt; is_container(outcomes.first(), &SEVEN));
-    assert!(rt; is_container(outcomes.get(1), &EIGHT));
-    assert!(rt; is_container(outcomes.get(2), &NINE));
+    assert!(rt; gives(&rt, rt.alloc(), &Shape::one(), &OF_ONE) == Some(true));
+    let two = Shape::two(12, b"db-dump")?;
+    assert!(rt; gives(&rt, rt.alloc(), &two, &OF_TWO) == Some(true));
     Ok(())
 }
 
-#[test]
-fn a_batch_of_version_two(rt: HostRuntime) -> Result<(), Fail> {
-    let shape = Shape::two(12, b"db-dump")?;
-    let jobs = texts(
-        rt.alloc(),
-        &[b"".as_slice(), b"a".as_slice(), b"bc".as_slice()],
-    )?;
-    let jobs = jobs.as_slice();
-    let outcomes = outcomes_of(&rt, rt.alloc(), &shape, 7, 1, jobs, 1, &Free).ok_or("no outcomes")?;
-    let outcomes = outcomes.as_slice();
-    assert!(rt; is_container(outcomes.get(2), &NINE_OF_TWO));
-    assert!(rt; all_sealed(rt.alloc(), &key(), &shape, jobs, outcomes));
-    Ok(())
+// How many jobs there are, which all have to meet at a gate, over how many seats and on how many lanes; and whether the
+// gate gives up.
+static MEETINGS: [(u8, u32, u32, bool); 3] = [
+    (2, 2, 2, false),
+    // A thread of its own for each lane that has a job: with fewer, four would not all be held at once.
+    (4, 16, 16, false),
+    // That the rows above can fail: two jobs on one lane.
+    (2, 2, 1, true),
+];
+
+// Whether two outcomes have the numbers 0 and 1, in either order, and where they met each of so many seats drew one.
+fn are_met(outcomes: &[Outcome], seats: u32, gives_up: bool) -> bool {
+    let numbered = are_numbered(outcomes, 0, 1) || are_numbered(outcomes, 1, 0);
+    (gives_up || draw_one_each(outcomes, seats)) && (outcomes.len() != 2 || numbered)
 }
 
-// Whether a gate that all of so many jobs have to meet gives up, and the outcomes, where there are as many passes as
-// jobs and each job is sealed.
-fn met<R: Threads + Sync>(
+// Whether so many jobs meet so, or don't, and each is sealed.
+fn is_met<R: Threads + Sync>(
     rt: &R,
     alloc: Global,
     count: u8,
     seats: u32,
     lanes: u32,
-    turns: u64,
-) -> Option<(bool, Vec<Outcome>)>
-    requires lanes { (0 < lanes) × (lanes ≤ MAX_LANES) × (lanes ≤ seats) }
-{
-    let wanted = u64::from(count);
-    let gate = Meeting::new(wanted, turns);
-    let outcomes = sealed(rt, alloc, count, seats, lanes, &gate)?;
-    if gate.passes() == wanted {
-        Some((gate.gave_up(), outcomes))
-    } else {
-        None
+    gives_up: bool,
+) -> Option<bool> {
+    if lanes == 0 || lanes > MAX_LANES || lanes > seats {
+        return None;
     }
+    let wanted = u64::from(count);
+    let gate = Meeting::new(wanted, if gives_up { FEW_TURNS } else { TURNS });
+    let outcomes = sealed(rt, alloc, count, seats, lanes, &gate)?;
+    let right = are_met(outcomes.as_slice(), u32::from(count), gives_up);
+    Some(right && gate.passes() == wanted && gate.gave_up() == gives_up)
 }
 
 #[test]
-fn two_lanes_meet(rt: HostRuntime) -> Result<(), Fail> {
-    let (gave_up, outcomes) = met(&rt, rt.alloc(), 2, 2, 2, TURNS).ok_or("not sealed")?;
-    let outcomes = outcomes.as_slice();
-    assert!(rt; !gave_up);
-    assert!(rt; draw_one_each(outcomes, 2));
-    // 0 and 1, in either order.
-    assert!(rt; are_numbered(outcomes, 0, 1) || are_numbered(outcomes, 1, 0));
-    Ok(())
-}
-
-// A thread of its own for each lane that has a job: with fewer, four would not all be held at once.
-#[test]
-fn four_lanes_meet(rt: HostRuntime) -> Result<(), Fail> {
-    let (gave_up, outcomes) = met(&rt, rt.alloc(), 4, 16, 16, TURNS).ok_or("not sealed")?;
-    assert!(rt; !gave_up);
-    assert!(rt; draw_one_each(outcomes.as_slice(), 4));
-    Ok(())
-}
-
-// That the tests above can fail: two jobs on one lane, and the gate gives up.
-#[test]
-fn one_lane_meets_nobody(rt: HostRuntime) -> Result<(), Fail> {
-    let (gave_up, outcomes) = met(&rt, rt.alloc(), 2, 2, 1, 1000).ok_or("not sealed")?;
-    assert!(rt; gave_up && outcomes.len() == 2);
-    Ok(())
+fn as_many_lanes_meet_as_have_a_job(rt: HostRuntime) {
+    for (count, seats, lanes, gives_up) in &MEETINGS {
+        assert!(rt;
+            is_met(&rt, rt.alloc(), *count, *seats, *lanes, *gives_up) == Some(true),
+            "{count} jobs on {lanes} lanes"
+        );
+    }
 }
 
 // A lane that is held up holds up one job alone: lane 1 is held with its job until lane 0 has passed with all others.
@@ -192,7 +205,7 @@ fn told<R: Threads + Sync>(
         .seal(
             rt,
             alloc,
-            &key(),
+            &counting_key(),
             &Shape::one(),
             jobs.as_slice(),
             lanes,
@@ -252,9 +265,15 @@ fn journal_of<R: Threads + Sync>(rt: &R, alloc: Global) -> Option<Journal> {
     let jobs = jobs.as_slice();
     let mut run = opened(alloc, 3, 40, 16)?;
     let outcomes = run
-        .seal(rt, alloc, &key(), &Shape::one(), jobs, 16, &Free)
+        .seal(rt, alloc, &counting_key(), &Shape::one(), jobs, 16, &Free)
         .ok()?;
-    let sealed = all_sealed(alloc, &key(), &Shape::one(), jobs, outcomes.as_slice());
+    let sealed = all_sealed(
+        alloc,
+        &counting_key(),
+        &Shape::one(),
+        jobs,
+        outcomes.as_slice(),
+    );
     if are_settled(&mut run, outcomes) && sealed {
         run.close().ok()
     } else {
@@ -290,12 +309,28 @@ fn sealed_again<R: Threads + Sync>(rt: &R, alloc: Global, run: &mut Run) -> Opti
         Ok(jobs) => jobs,
         Err(_) => jobs_of(alloc, 3).ok()?,
     };
-    match run.seal(rt, alloc, &key(), &Shape::one(), jobs.as_slice(), 2, &Free) {
+    match run.seal(
+        rt,
+        alloc,
+        &counting_key(),
+        &Shape::one(),
+        jobs.as_slice(),
+        2,
+        &Free,
+    ) {
         Ok(outcomes) => Some(outcomes),
         Err(_) => {
             if run.tally(0) == NOTHING {
-                run.seal(rt, alloc, &key(), &Shape::one(), jobs.as_slice(), 2, &Free)
-                    .ok()
+                run.seal(
+                    rt,
+                    alloc,
+                    &counting_key(),
+                    &Shape::one(),
+                    jobs.as_slice(),
+                    2,
+                    &Free,
+                )
+                .ok()
             } else {
                 None
             }
@@ -303,12 +338,22 @@ fn sealed_again<R: Threads + Sync>(rt: &R, alloc: Global, run: &mut Run) -> Opti
     }
 }
 
-// Whether each of three jobs has an outcome, and as many numbers were granted as outcomes have one.
-fn are_kept(outcomes: &[Outcome], tally: Tally) -> bool {
+// The three jobs of `jobs_of`.
+static THREE: [&[u8]; 3] = [b"", b"\x01", b"\x02\x02"];
+
+// Whether each of the outcomes is one of these jobs.
+fn all_kept(alloc: Global, outcomes: &[Outcome]) -> bool {
+    for (outcome, job) in outcomes.iter().zip(&THREE) {
+        if !is_kept(alloc, job, outcome) {
+            return false;
+        }
+    }
     outcomes.len() == 3
-        && outcomes.iter().all(is_kept)
-        && tally.granted as usize == numbers(outcomes)
-        && tally.refused == 0
+}
+
+// Whether each of three jobs has an outcome, and as many numbers were granted as outcomes have one.
+fn are_kept(alloc: Global, outcomes: &[Outcome], tally: Tally) -> bool {
+    all_kept(alloc, outcomes) && tally.granted as usize == numbers(outcomes) && tally.refused == 0
 }
 
 // Three jobs on two lanes. Run it with each allocation refused in turn: either the batch was refused and nothing was
@@ -317,6 +362,6 @@ fn are_kept(outcomes: &[Outcome], tally: Tally) -> bool {
 fn a_refused_growth_loses_no_number(rt: HostRuntime) -> Result<(), Fail> {
     let mut run = opened(rt.alloc(), 0, 3, 2).ok_or("no ledger")?;
     let outcomes = sealed_again(&rt, rt.alloc(), &mut run).ok_or("no outcomes")?;
-    assert!(rt; are_kept(outcomes.as_slice(), run.tally(1)));
+    assert!(rt; are_kept(rt.alloc(), outcomes.as_slice(), run.tally(1)));
     Ok(())
 }

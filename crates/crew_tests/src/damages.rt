@@ -2,8 +2,7 @@
 //! which are of the format.
 ghost use Rattle.std.specs.Prelude.{◌<◌, ◌≤◌};
 
-use crate::COUNTING;
-use container_core::Key;
+use crate::counting_key;
 use container_tests::{CHUNK_COUNT, Case, SHAPES, chunk_cases, header_cases, header_count};
 use crew_core::{Free, MAX_WORKERS, open_whole};
 use std::alloc::Global;
@@ -14,7 +13,7 @@ use std::thread::Threads;
 fn is_answered_by<R: Threads + Sync>(rt: &R, alloc: Global, case: &Case, workers: u32) -> bool
     requires { (0 < workers) × (workers ≤ MAX_WORKERS) }
 {
-    let key = Key::new(COUNTING);
+    let key = counting_key();
     case.is_answered(&open_whole(rt, alloc, &key, case.bytes(), workers, &Free))
 }
 

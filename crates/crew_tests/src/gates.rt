@@ -1,10 +1,10 @@
 //! What a gate sees of the workers.
 ghost use Rattle.std.specs.Prelude.{◌<◌, ◌≤◌, length};
 
-use crate::sealed::{EIGHT, ZEROS, is_digest, opens_to, sealed};
-use crate::{COUNTING, Late, Meeting, Recorder, pattern, zeros};
-use container_core::{Key, MAX_PLAIN, Shape};
-use crew_core::{Gate, MAX_WORKERS, Shelf, Work};
+use crate::sealed::{opens_to, sealed};
+use crate::{EIGHT, Late, Meeting, Recorder, ZEROS, is_digest, pattern, zeros};
+use container_core::MAX_PLAIN;
+use crew_core::MAX_WORKERS;
 use std::alloc::Global;
 use std::test::Fail;
 use std::thread::Threads;
@@ -13,33 +13,6 @@ use std::thread::Threads;
 const TURNS: u64 = 1_000_000_000;
 
 const FEW_TURNS: u64 = 1000;
-
-// The whole of a work that a single thread makes: it passes the gate in the name of so many workers.
-fn alone<G: Gate>(alloc: Global, work: &Work, workers: u32, gate: &G) -> Option<Vec<u8>>
-    requires { 0 < workers }
-{
-    let mut shelf = Shelf::new(alloc, work).ok()?;
-    for number in 0..work.count() {
-        gate.pass(number % workers, number);
-        let piece = work.piece(alloc, number).ok()?;
-        if shelf.put(piece).is_err() {
-            return None;
-        }
-    }
-    shelf.finish(alloc).ok()
-}
-
-// The whole of a work of two pieces that a single thread makes, where it passes twice at a gate that two have to meet,
-// which gives up.
-fn meeting_nobody(alloc: Global, work: &Work) -> Option<Vec<u8>> {
-    let gate = Meeting::new(2, FEW_TURNS);
-    let bytes = alone(alloc, work, 2, &gate)?;
-    if gate.gave_up() && gate.passes() == 2 {
-        Some(bytes)
-    } else {
-        None
-    }
-}
 
 // A gate that so many passes have to meet, with few turns where it is to give up.
 fn meeting(wanted: u64, gives_up: bool) -> Meeting {
@@ -98,54 +71,61 @@ fn held<R: Threads + Sync>(
     }
 }
 
-#[test]
-fn two_workers_meet(rt: HostRuntime) -> Result<(), Fail> {
-    let plain = zeros(rt.alloc(), 65_537)?;
-    let bytes = held(&rt, rt.alloc(), plain.as_slice(), 2, 2, false).ok_or("not held")?;
-    assert!(rt; is_digest(bytes.as_slice(), 65_593, &ZEROS));
-    Ok(())
+// How many zero bytes are sealed and opened, and by how many workers; how many have to meet, and whether the gate gives
+// up.
+static MEETINGS: [(usize, u32, u64, bool); 4] = [
+    (65_537, 2, 2, false),
+    // That this can fail: by one worker the container is the same.
+    (65_537, 1, 2, true),
+    // A thread of its own for each worker: with fewer, four would not all be held at once.
+    (196_609, 4, 4, false),
+    // That this can fail: with three workers three pass at first.
+    (196_609, 3, 4, true),
+];
+
+// Whether so many workers meet so at a gate, or don't; where there are two chunks, their container is the known one.
+fn is_met<R: Threads + Sync>(
+    rt: &R,
+    alloc: Global,
+    bytes: usize,
+    workers: u32,
+    wanted: u64,
+    gives_up: bool,
+) -> Option<bool> {
+    if bytes > 1 << 24 || workers == 0 || workers > MAX_WORKERS {
+        return None;
+    }
+    let plain = zeros(alloc, bytes).ok()?;
+    let sealed = held(rt, alloc, plain.as_slice(), workers, wanted, gives_up)?;
+    Some(bytes != 65_537 || is_digest(sealed.as_slice(), 65_593, &ZEROS))
 }
 
-// That the test above can fail: by one worker the container is the same, and the gate gives up.
 #[test]
-fn one_worker_meets_nobody(rt: HostRuntime) -> Result<(), Fail> {
-    let plain = zeros(rt.alloc(), 65_537)?;
-    let bytes = held(&rt, rt.alloc(), plain.as_slice(), 1, 2, true).ok_or("not held")?;
-    assert!(rt; is_digest(bytes.as_slice(), 65_593, &ZEROS));
-    Ok(())
+fn as_many_workers_meet_as_are_asked_for(rt: HostRuntime) {
+    for (bytes, workers, wanted, gives_up) in &MEETINGS {
+        assert!(rt;
+            is_met(&rt, rt.alloc(), *bytes, *workers, *wanted, *gives_up) == Some(true),
+            "{workers} workers, {wanted} wanted"
+        );
+    }
 }
 
-// And that a body on the caller's thread alone fails, whatever number of workers it is told: the gate gives up.
-#[test]
-fn one_thread_meets_nobody(rt: HostRuntime) -> Result<(), Fail> {
-    let key = Key::new(COUNTING);
-    let plain = zeros(rt.alloc(), 65_537)?;
-    let work = Work::sealing(&key, &Shape::one(), [0, 0, 1, 0, 0, 0, 0], plain.as_slice());
-    let bytes = meeting_nobody(rt.alloc(), &work).ok_or("not made")?;
-    assert!(rt; is_digest(bytes.as_slice(), 65_593, &ZEROS));
-    let work = Work::opening(&key, bytes.as_slice())?;
-    let back = meeting_nobody(rt.alloc(), &work).ok_or("not made")?;
-    assert!(rt; back.as_slice() == plain.as_slice());
-    Ok(())
+// Whether each of so many pieces is passed once, as so many workers open a container to this plaintext.
+fn are_opened_once<R: Threads + Sync>(
+    rt: &R,
+    alloc: Global,
+    bytes: &[u8],
+    plain: &[u8],
+    chunks: u32,
+    workers: u32,
+) -> Option<bool>
+    requires { (0 < workers) × (workers ≤ MAX_WORKERS) }
+{
+    let gate = Recorder::new(alloc, chunks).ok()?;
+    Some(opens_to(rt, alloc, bytes, plain, workers, &gate) && gate.is_each_once(u64::from(workers)))
 }
 
-// A thread of its own for each worker: with fewer, four would not all be held at once.
-#[test]
-fn four_workers_meet(rt: HostRuntime) -> Result<(), Fail> {
-    let plain = zeros(rt.alloc(), 3 * 65_536 + 1)?;
-    assert!(rt; held(&rt, rt.alloc(), plain.as_slice(), 4, 4, false).is_some());
-    Ok(())
-}
-
-// That the test above can fail: with three workers three pass at first, and the gate gives up.
-#[test]
-fn three_workers_are_no_four(rt: HostRuntime) -> Result<(), Fail> {
-    let plain = zeros(rt.alloc(), 3 * 65_536 + 1)?;
-    assert!(rt; held(&rt, rt.alloc(), plain.as_slice(), 3, 4, true).is_some());
-    Ok(())
-}
-
-// Whether each piece is passed once, as so many workers seal so many chunks and open them.
+// The same as they seal this plaintext, and open its container.
 fn are_passed_once<R: Threads + Sync>(
     rt: &R,
     alloc: Global,
@@ -156,12 +136,10 @@ fn are_passed_once<R: Threads + Sync>(
     requires plain { length plain.now ≤ MAX_PLAIN }
     requires workers { (0 < workers) × (workers ≤ MAX_WORKERS) }
 {
-    let sealing = Recorder::new(alloc, chunks).ok()?;
-    let bytes = sealed(rt, alloc, 0, plain, workers, &sealing)?;
-    let opening = Recorder::new(alloc, chunks).ok()?;
-    let opens = opens_to(rt, alloc, bytes.as_slice(), plain, workers, &opening);
-    let workers = u64::from(workers);
-    Some(opens && sealing.is_each_once(workers) && opening.is_each_once(workers))
+    let gate = Recorder::new(alloc, chunks).ok()?;
+    let bytes = sealed(rt, alloc, 0, plain, workers, &gate)?;
+    let opened = are_opened_once(rt, alloc, bytes.as_slice(), plain, chunks, workers);
+    Some(opened == Some(true) && gate.is_each_once(u64::from(workers)))
 }
 
 #[test]

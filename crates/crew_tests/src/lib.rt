@@ -1,5 +1,5 @@
-//! The tests of `crew_core`, and what they share: grants, a plaintext, a gate that two workers must meet, one that
-//! holds a worker back, and one that keeps who passed with what.
+//! The tests of `crew_core`, and what they share: a key, grants, plaintexts and containers, a gate that two workers
+//! must meet, one that holds a worker back, and one that keeps who passed with what.
 #![tactic(auto)]
 
 #[cfg(test)]
@@ -9,6 +9,7 @@ mod damages;
 #[cfg(test)]
 mod gates;
 pub mod grants;
+pub mod known;
 pub mod late;
 pub mod meeting;
 pub mod plain;
@@ -25,7 +26,9 @@ mod shapes;
 mod shelves;
 
 pub use crate::grants::grant_of;
+pub use crate::known::{EIGHT, EIGHTEEN, ZERO_BYTES, ZEROS, ZEROS_SEALED, is_digest, zeros_sealed};
 pub use crate::late::Late;
 pub use crate::meeting::Meeting;
-pub use crate::plain::{COUNTING, flip, pattern, zeros};
+pub use crate::plain::{PREFIX, flip, pattern, zeros};
 pub use crate::recorder::Recorder;
+pub use container_tests::samples::counting_key;

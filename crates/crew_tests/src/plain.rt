@@ -1,13 +1,10 @@
-//! The key and the plaintexts of the tests, and damage to containers.
+//! The prefix and the plaintexts of the tests, and damage to containers.
 ghost use Rattle.std.specs.Prelude.{◌≡◌, length, IfOk};
 
 use std::alloc::{AllocError, Global};
 
-/// 00 01 .. 1f.
-pub const COUNTING: [u8; 32] = [
-    0, 1, 2, 3, 4, 5, 6, 7, 8, 9, 10, 11, 12, 13, 14, 15, 16, 17, 18, 19, 20, 21, 22, 23, 24, 25,
-    26, 27, 28, 29, 30, 31,
-];
+/// Device 1, file 0.
+pub const PREFIX: [u8; 7] = [0, 0, 1, 0, 0, 0, 0];
 
 /// So many zero bytes.
 pub fn zeros(alloc: Global, count: usize) -> Result<Vec<u8>, AllocError>

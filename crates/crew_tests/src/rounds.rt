@@ -2,8 +2,7 @@
 ghost use Rattle.std.specs.Prelude.{◌≡◌, ◌+◌, ◌*◌, ◌<◌, ◌≤◌, length};
 ghost use Rattle.container_core.specs.Container.{size_in};
 
-use crate::sealed::{EIGHTEEN, is_digest};
-use crate::{COUNTING, Meeting, Recorder, pattern};
+use crate::{EIGHTEEN, Meeting, PREFIX, Recorder, counting_key, is_digest, pattern};
 use container_core::laws::headers_name_their_shape;
 use container_core::{CHUNK, Header, Key, Shape};
 use crew_core::{Free, Gate, MAX_WORKERS, seal_round};
@@ -44,7 +43,7 @@ fn in_three_rounds<R: Threads + Sync, G: Gate + Sync>(
     requires plain { length plain.now ≡ 17 * CHUNK + 1 }
     requires workers { (0 < workers) × (workers ≤ MAX_WORKERS) }
 {
-    let key = Key::new(COUNTING);
+    let key = counting_key();
     let header = header_one(&key, [0, 0, 1, 0, 0, 1, 2]);
     let (front, rest) = plain.split_at(7 * CHUNK);
     let (middle, end) = rest.split_at(CHUNK);
@@ -92,8 +91,8 @@ fn gave_up<R: Threads + Sync>(
     requires plain { length plain.now ≡ CHUNK + 1 }
     requires workers { (0 < workers) × (workers ≤ MAX_WORKERS) }
 {
-    let key = Key::new(COUNTING);
-    let header = header_one(&key, [0, 0, 1, 0, 0, 0, 0]);
+    let key = counting_key();
+    let header = header_one(&key, PREFIX);
     let gate = Meeting::new(2, turns);
     match seal_round(rt, alloc, &key, &header, 3, true, plain, workers, &gate) {
         Ok(sealed) if sealed.len() == CHUNK + 33 => Some(gate.gave_up()),
@@ -113,8 +112,8 @@ fn two_workers_meet_in_a_round(rt: HostRuntime) -> Result<(), Fail> {
 // The last chunk that has a number: its nonce ends in ff ff ff ff 01.
 #[test]
 fn a_round_has_the_last_number(rt: HostRuntime) -> Result<(), Fail> {
-    let key = Key::new(COUNTING);
-    let header = header_one(&key, [0, 0, 1, 0, 0, 0, 0]);
+    let key = counting_key();
+    let header = header_one(&key, PREFIX);
     let text = b"a text";
     let sealed = seal_round(
         &rt,

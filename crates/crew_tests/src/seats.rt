@@ -1,9 +1,9 @@
 //! A seat over a sealing: the number that a refused growth makes void is gone, and the seat goes on with the next.
 ghost use Rattle.std.specs.Prelude.{◌≡◌};
 
-use crate::COUNTING;
-use crate::sealed::{ZERO_BYTES, ZEROS, is_digest, is_spent};
-use container_core::{Key, Shape};
+use crate::sealed::is_spent;
+use crate::{ZERO_BYTES, ZEROS, counting_key, is_digest};
+use container_core::Shape;
 use crew_core::{Free, seal_whole};
 use ledger_core::{Device, Grant, IssueFault, Ledger, Range, Seat, Way};
 use std::alloc::{AllocError, Global};
@@ -32,7 +32,7 @@ fn is_spent_by_its_result<R: Threads + Sync>(
     ensures { seat.new.ledger ≡ seat.old.ledger }
 {
     let grant = next_grant(ledger, seat)?;
-    let key = Key::new(COUNTING);
+    let key = counting_key();
     let (result, spent) = seal_whole(rt, alloc, &key, &Shape::one(), grant, &ZERO_BYTES, 2, &Free);
     match result {
         Ok(bytes) => {
@@ -43,7 +43,20 @@ fn is_spent_by_its_result<R: Threads + Sync>(
 }
 
 // Whether the seat of a ledger of two numbers spends number 0 on a sealing, whether or not that was refused memory, and
-// is granted number 1 next. Where memory is refused for the ledger it is opened again.
+// is granted number 1 next.
+fn goes_on_at<R: Threads + Sync>(
+    rt: &R,
+    alloc: Global,
+    ledger: &Ledger,
+    seat: &mut Seat,
+) -> Option<bool>
+    requires { seat.old.ledger ≡ ledger.now.ledger }
+{
+    let spent = is_spent_by_its_result(rt, alloc, ledger, seat)?;
+    Some(spent && next_grant(ledger, seat)?.number() == 1)
+}
+
+// Where memory is refused for the ledger it is opened again.
 fn goes_on<R: Threads + Sync>(rt: &R, alloc: Global) -> Option<bool> {
     let range = Range::new(Device::new(1)?, 0, 2).ok()?;
     let (ledger, mut seats) = match Ledger::open(alloc, range, 1) {
@@ -51,8 +64,7 @@ fn goes_on<R: Threads + Sync>(rt: &R, alloc: Global) -> Option<bool> {
         Ok(opened) => opened,
     };
     let seat = &mut seats[0];
-    let spent = is_spent_by_its_result(rt, alloc, &ledger, seat)?;
-    Some(spent && next_grant(&ledger, seat)?.number() == 1)
+    goes_on_at(rt, alloc, &ledger, seat)
 }
 
 #[test]

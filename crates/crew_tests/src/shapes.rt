@@ -1,20 +1,17 @@
 //! Containers of version 2, in chunks of 4 KiB and of 1 MiB, by several workers. What they must be is what one thread
 //! seals, and their digests are those of Python's `cryptography` and `hashlib`; a round has 1,024 of the small chunks,
-//! or 4 of the great ones. Cut and altered ones answer as the tables of `container_tests` say.
+//! or 4 of the great ones.
 ghost use Rattle.std.specs.Prelude.{◌<◌, ◌≤◌, length};
 
 use crate::damaged::is_refused_for;
-use crate::sealed::{is_digest, opens_to, sealed_in};
-use crate::{COUNTING, flip, pattern};
-use container_core::{Key, MAX_PLAIN, Shape, TAG, seal};
+use crate::sealed::{opens_to, sealed_in};
+use crate::{PREFIX, counting_key, flip, is_digest, pattern};
+use container_core::{MAX_PLAIN, Shape, TAG, seal};
 use container_tests::EMPTY_TWO;
 use crew_core::{Free, MAX_WORKERS};
 use std::alloc::Global;
 use std::test::Fail;
 use std::thread::Threads;
-
-// Device 1, file 0.
-const PREFIX: [u8; 7] = [0, 0, 1, 0, 0, 0, 0];
 
 // The label of all of them.
 const LABEL: &[u8] = b"db-dump";
@@ -71,7 +68,7 @@ fn made_by_all<R: Threads + Sync>(
     requires plain { length plain.now ≤ MAX_PLAIN }
 {
     let shape = Shape::two(exponent, LABEL).ok()?;
-    let whole = seal(alloc, &Key::new(COUNTING), &shape, PREFIX, plain).ok()?;
+    let whole = seal(alloc, &counting_key(), &shape, PREFIX, plain).ok()?;
     for workers in [1, 4, 16] {
         if !is_made_by(rt, alloc, &shape, plain, workers, whole.as_slice()) {
             return None;
@@ -103,21 +100,13 @@ fn five_small_chunks(rt: HostRuntime) -> Result<(), Fail> {
     Ok(())
 }
 
-// The empty plaintext with the label `ab`, whose 43 bytes `cryptography` made.
+// The empty plaintext, one empty chunk, with the label `ab`, whose 43 bytes `cryptography` made.
 #[test]
 fn no_byte_under_another_label(rt: HostRuntime) -> Result<(), Fail> {
     let shape = Shape::two(12, b"ab")?;
     for workers in [1, 4, 16] {
         assert!(rt; is_made_by(&rt, rt.alloc(), &shape, b"", workers, &EMPTY_TWO));
     }
-    Ok(())
-}
-
-// The empty plaintext is one empty chunk.
-#[test]
-fn no_byte_is_one_chunk(rt: HostRuntime) -> Result<(), Fail> {
-    let bytes = made_by_all(&rt, rt.alloc(), 12, b"").ok_or("another container")?;
-    assert!(rt; bytes.len() == FRONT + TAG);
     Ok(())
 }
 

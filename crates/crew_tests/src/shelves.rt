@@ -1,13 +1,13 @@
 //! What a shelf takes and refuses.
-use crate::{COUNTING, flip, pattern};
-use container_core::{Key, Shape, seal};
+ghost use Rattle.std.specs.Prelude.{◌≤◌, length};
+
+use crate::{PREFIX, counting_key, flip, pattern};
+use container_core::{Key, MAX_PLAIN, Shape, seal};
 use crew_core::{Kind, PutFault, Shelf, ShelfFault, Work};
 use std::alloc::Global;
 use std::test::Fail;
 
-// Device 1, files 0 and 1.
-const PREFIX: [u8; 7] = [0, 0, 1, 0, 0, 0, 0];
-
+// Device 1, file 1.
 const OTHER: [u8; 7] = [0, 0, 1, 0, 0, 0, 1];
 
 // Puts a piece of a work on a shelf. Answers why not, with what the piece that came back says of itself; `None` where
@@ -47,7 +47,7 @@ fn is_taken_once(alloc: Global, work: &Work) -> Option<bool> {
 
 #[test]
 fn a_place_is_taken_once(rt: HostRuntime) -> Result<(), Fail> {
-    let key = Key::new(COUNTING);
+    let key = counting_key();
     let plain = pattern(rt.alloc(), 65_537)?;
     let work = Work::sealing(&key, &Shape::one(), PREFIX, plain.as_slice());
     assert!(rt; work.count() == 2);
@@ -90,7 +90,7 @@ fn refuses_past(alloc: Global, small: &Work, work: &Work) -> bool {
 
 #[test]
 fn strangers_are_refused(rt: HostRuntime) -> Result<(), Fail> {
-    let key = Key::new(COUNTING);
+    let key = counting_key();
     let plain = pattern(rt.alloc(), 65_537)?;
     let bytes = seal(rt.alloc(), &key, &Shape::one(), PREFIX, plain.as_slice())?;
     let work = Work::sealing(&key, &Shape::one(), PREFIX, plain.as_slice());
@@ -110,21 +110,34 @@ fn refuses_other(alloc: Global, work: &Work, other: &Work) -> bool {
     }
 }
 
+// Whether a shelf for a work in one shape refuses piece 0 of the same plaintext in another.
+fn refuses_shape(alloc: Global, plain: &[u8], shape: &Shape, other: &Shape) -> bool
+    requires { length plain.now ≤ MAX_PLAIN }
+{
+    let key = counting_key();
+    let work = Work::sealing(&key, shape, PREFIX, plain);
+    let other = Work::sealing(&key, other, PREFIX, plain);
+    work.count() == 17 && refuses_other(alloc, &work, &other)
+}
+
+// Whether it refuses that of another label, of another size of the chunks, and of version 1.
+fn refuses_shapes(alloc: Global) -> Option<bool> {
+    let plain = pattern(alloc, 65_537).ok()?;
+    let plain = plain.as_slice();
+    let shape = Shape::two(12, b"db-dump").ok()?;
+    let label = Shape::two(12, b"db-dumb").ok()?;
+    let size = Shape::two(13, b"db-dump").ok()?;
+    Some(
+        refuses_shape(alloc, plain, &shape, &label)
+            && refuses_shape(alloc, plain, &shape, &size)
+            && refuses_shape(alloc, plain, &shape, &Shape::one()),
+    )
+}
+
 // In version 2 the label and the size of the chunks are of the header, so they tell pieces apart, as the version does.
 #[test]
-fn pieces_of_another_shape_are_strangers(rt: HostRuntime) -> Result<(), Fail> {
-    let key = Key::new(COUNTING);
-    let plain = pattern(rt.alloc(), 65_537)?;
-    let plain = plain.as_slice();
-    let work = Work::sealing(&key, &Shape::two(12, b"db-dump")?, PREFIX, plain);
-    let label = Work::sealing(&key, &Shape::two(12, b"db-dumb")?, PREFIX, plain);
-    let size = Work::sealing(&key, &Shape::two(13, b"db-dump")?, PREFIX, plain);
-    let one = Work::sealing(&key, &Shape::one(), PREFIX, plain);
-    assert!(rt; work.count() == 17);
-    assert!(rt; refuses_other(rt.alloc(), &work, &label));
-    assert!(rt; refuses_other(rt.alloc(), &work, &size));
-    assert!(rt; refuses_other(rt.alloc(), &work, &one));
-    Ok(())
+fn pieces_of_another_shape_are_strangers(rt: HostRuntime) {
+    assert!(rt; refuses_shapes(rt.alloc()) == Some(true));
 }
 
 // The whole of a work, whose pieces are put from the last to the first.
@@ -148,7 +161,7 @@ fn is_whole(alloc: Global, work: &Work, bytes: &[u8]) -> bool {
 
 #[test]
 fn pieces_in_any_order(rt: HostRuntime) -> Result<(), Fail> {
-    let key = Key::new(COUNTING);
+    let key = counting_key();
     let plain = pattern(rt.alloc(), 200_000)?;
     let one = seal(rt.alloc(), &key, &Shape::one(), PREFIX, plain.as_slice())?;
     let work = Work::sealing(&key, &Shape::one(), PREFIX, plain.as_slice());
@@ -158,24 +171,49 @@ fn pieces_in_any_order(rt: HostRuntime) -> Result<(), Fail> {
     Ok(())
 }
 
-// The length of the whole of one work's piece 0 and another's piece 1.
-fn length_of(alloc: Global, work: &Work, first: &Work, second: &Work) -> Option<usize> {
+// The whole of one work's piece 0 and another's piece 1.
+fn mixed(alloc: Global, work: &Work, first: &Work, second: &Work) -> Option<Vec<u8>> {
     let mut shelf = Shelf::new(alloc, work).ok()?;
     let taken = is_taken(alloc, &mut shelf, first, 0) && is_taken(alloc, &mut shelf, second, 1);
     match shelf.finish(alloc) {
-        Ok(bytes) if taken => Some(bytes.len()),
+        Ok(bytes) if taken => Some(bytes),
         _ => None,
+    }
+}
+
+// Whether these bytes are the container of 20 bytes, and the last chunk of another, of 4 bytes.
+fn are_joined(bytes: &[u8], twenty: &[u8], long: &[u8]) -> bool {
+    let begin = long.len().saturating_sub(4 + 16);
+    bytes.get(..24 + 20 + 16) == Some(twenty) && bytes.get(24 + 20 + 16..) == long.get(begin..)
+}
+
+// Whether that is the whole of the first piece of one work and the second of another.
+fn is_mixed(alloc: Global, work: &Work, other: &Work, twenty: &[u8], long: &[u8]) -> bool {
+    match mixed(alloc, work, other, work) {
+        Some(bytes) => are_joined(bytes.as_slice(), twenty, long),
+        None => false,
     }
 }
 
 // A piece of another plaintext, sealed under the same prefix, may have another length than its place.
 #[test]
 fn a_piece_of_another_length_is_joined_too(rt: HostRuntime) -> Result<(), Fail> {
-    let key = Key::new(COUNTING);
+    let key = counting_key();
     let plain = pattern(rt.alloc(), 65_540)?;
+    let text = b"twenty bytes of text";
+    let long = seal(rt.alloc(), &key, &Shape::one(), PREFIX, plain.as_slice())?;
+    let twenty = seal(rt.alloc(), &key, &Shape::one(), PREFIX, text)?;
     let work = Work::sealing(&key, &Shape::one(), PREFIX, plain.as_slice());
-    let other = Work::sealing(&key, &Shape::one(), PREFIX, b"twenty bytes of text");
-    assert!(rt; length_of(rt.alloc(), &work, &other, &work) == Some(24 + 20 + 16 + 4 + 16));
+    let other = Work::sealing(&key, &Shape::one(), PREFIX, text);
+    assert!(rt;
+        is_mixed(
+            rt.alloc(),
+            &work,
+            &other,
+            twenty.as_slice(),
+            long.as_slice()
+        )
+    );
     Ok(())
 }
 
@@ -206,7 +244,7 @@ fn is_forged(alloc: Global, work: &Work) -> Option<bool> {
 
 #[test]
 fn the_least_piece_that_does_not_check(rt: HostRuntime) -> Result<(), Fail> {
-    let key = Key::new(COUNTING);
+    let key = counting_key();
     let bytes = damaged(rt.alloc(), &key).ok_or("no container")?;
     let work = Work::opening(&key, bytes.as_slice())?;
     assert!(rt; is_forged(rt.alloc(), &work) == Some(true));

@@ -1,9 +1,8 @@
 //! Audits: journals and their verdicts by hand, from the rules in docs/FORMATS.md.
 use engine_core::run_audit;
 use io_memory::{FromMemory, Schedule, ToMemory};
-use ledger_core::{AuditFault, FromRead, ToWrite};
-use std::alloc::{AllocError, Global};
-use std::test::Fail;
+use ledger_core::AuditFault;
+use std::alloc::Global;
 
 const JOURNAL: &str = "range 1 7 2 2\n0 issue 7\n1 issue 8\n0 issue none\n1 sealed 8\n0 void 7\n";
 
@@ -110,49 +109,16 @@ fn is_audited(alloc: Global, journal: &str, line: &str, most: usize) -> Option<b
     Some(status == Ok(legal) && writer.bytes() == line.as_bytes())
 }
 
-// Whether all the journals above have their verdict.
-fn are_audited(alloc: Global, most: usize) -> bool {
+#[test]
+fn journals_have_their_verdict_also_by_a_byte_a_call(rt: HostRuntime) {
     for (journal, line) in &AUDITS {
-        if is_audited(alloc, journal, line, most) != Some(true) {
-            return false;
+        for most in [65_536, 1] {
+            assert!(rt;
+                is_audited(rt.alloc(), journal, line, most) == Some(true),
+                "{journal}"
+            );
         }
     }
-    true
-}
-
-#[test]
-fn journals_and_their_verdicts(rt: HostRuntime) {
-    assert!(rt; are_audited(rt.alloc(), 65_536));
-}
-
-#[test]
-fn a_byte_a_call_changes_no_verdict(rt: HostRuntime) {
-    assert!(rt; are_audited(rt.alloc(), 1));
-}
-
-// A journal with a number of a million digits.
-fn long_journal(alloc: Global) -> Result<String, AllocError> {
-    let mut journal = String::from_str(alloc, "range 1 7 2 2\n0 issue ")?;
-    for _ in 0..100_000 {
-        journal.push_str("7777777777")?;
-    }
-    journal.push_str("\n0 issue 7\n")?;
-    Ok(journal)
-}
-
-// Whether this journal is malformed in line 2.
-fn is_malformed(alloc: Global, journal: &str) -> bool {
-    let mut reader = FromRead(journal.as_bytes());
-    let mut writer = ToWrite(Vec::new(alloc));
-    let status = run_audit(alloc, &mut reader, &mut writer);
-    status == Ok(1) && writer.0.as_slice() == b"malformed line 2\n".as_slice()
-}
-
-#[test]
-fn a_line_of_a_million_digits_is_malformed(rt: HostRuntime) -> Result<(), Fail> {
-    let journal = long_journal(rt.alloc())?;
-    assert!(rt; is_malformed(rt.alloc(), journal.as_str()));
-    Ok(())
 }
 
 // Whether the audit by a reader that fails midway gives that fault and writes nothing.

@@ -4,10 +4,10 @@ ghost use Rattle.std.specs.Prelude.{◌<◌, ◌≤◌};
 
 use crate::shapes::{FRONT, container_of, size_of};
 use crate::windows::{LIMIT, fault_in};
-use container_core::{Key, OpenFault, TAG};
+use container_core::{OpenFault, TAG};
 use container_tests::{CHUNK_COUNT, Case, SHAPES, chunk_cases, header_cases, header_count};
 use crew_core::{Free, MAX_WORKERS};
-use crew_tests::{COUNTING, flip, pattern};
+use crew_tests::{counting_key, flip, pattern};
 use engine_core::{run_open, run_verify, verify_one};
 use io_memory::{FromMemory, Schedule, ToMemory};
 use std::alloc::Global;
@@ -25,7 +25,7 @@ fn refusal_by<R: Threads + Sync>(
 ) -> Option<OpenFault>
     requires workers { (0 < workers) × (workers ≤ MAX_WORKERS) }
 {
-    let key = Key::new(COUNTING);
+    let key = counting_key();
     let mut reader = FromMemory::new(bytes, 70_001, Schedule::Never);
     let verified = run_verify(rt, alloc, &key, &mut reader, LIMIT, workers, &Free);
     let mut reader = FromMemory::new(bytes, MOST, Schedule::Never);
@@ -50,51 +50,44 @@ fn refusal_by<R: Threads + Sync>(
 // Why one thread refuses them.
 fn refusal_by_one(alloc: Global, bytes: &[u8]) -> Option<OpenFault> {
     let mut reader = FromMemory::new(bytes, MOST, Schedule::Never);
-    verify_one(alloc, &Key::new(COUNTING), &mut reader, LIMIT).err()
+    verify_one(alloc, &counting_key(), &mut reader, LIMIT).err()
 }
 
 // Why all refuse them, where that is one fault: one thread, 1 and 4 workers, and 2 in windows of one chunk.
-fn refusal_of<R: Threads + Sync>(
-    rt: &R,
-    alloc: Global,
-    bytes: &[u8],
-) -> Result<Option<OpenFault>, Fail> {
+fn refusal_of<R: Threads + Sync>(rt: &R, alloc: Global, bytes: &[u8]) -> Option<OpenFault> {
     let fault = refusal_by_one(alloc, bytes);
-    let in_ones = Some(fault_in(rt, alloc, bytes, LIMIT, 2, 1)?);
-    let is_one = in_ones == fault
+    let is_one = fault_in(rt, alloc, bytes, LIMIT, 2, 1) == fault
         && refusal_by(rt, alloc, bytes, 1) == fault
         && refusal_by(rt, alloc, bytes, 4) == fault;
-    Ok(if is_one { fault } else { None })
+    if is_one { fault } else { None }
 }
 
 // Whether all engines refuse the bytes of a case as it says.
-fn is_refused<R: Threads + Sync>(rt: &R, alloc: Global, case: &Case) -> Result<bool, Fail> {
-    match refusal_of(rt, alloc, case.bytes())? {
-        Some(fault) => Ok(case.is_answered(&Err(fault))),
-        None => Ok(false),
+fn is_refused<R: Threads + Sync>(rt: &R, alloc: Global, case: &Case) -> bool {
+    match refusal_of(rt, alloc, case.bytes()) {
+        Some(fault) => case.is_answered(&Err(fault)),
+        None => false,
     }
 }
 
 // Whether there are so many cases, of which all but the first, a good container, are refused.
-fn are_refused<R: Threads + Sync>(
-    rt: &R,
-    alloc: Global,
-    cases: &[Case],
-    count: usize,
-) -> Result<bool, Fail> {
-    for case in cases.get(1..).ok_or("no case")? {
-        if !is_refused(rt, alloc, case)? {
-            return Ok(false);
+fn are_refused<R: Threads + Sync>(rt: &R, alloc: Global, cases: &[Case], count: usize) -> bool {
+    let Some(damaged) = cases.get(1..) else {
+        return false;
+    };
+    for case in damaged {
+        if !is_refused(rt, alloc, case) {
+            return false;
         }
     }
-    Ok(cases.len() == count)
+    cases.len() == count
 }
 
 #[test]
 fn damaged_headers_are_refused(rt: HostRuntime) -> Result<(), Fail> {
     for (exponent, label) in &SHAPES {
         let cases = header_cases(rt.alloc(), *exponent, *label)?;
-        assert!(rt; are_refused(&rt, rt.alloc(), cases.as_slice(), header_count(*label))?);
+        assert!(rt; are_refused(&rt, rt.alloc(), cases.as_slice(), header_count(*label)));
     }
     Ok(())
 }
@@ -104,7 +97,7 @@ fn damaged_headers_are_refused(rt: HostRuntime) -> Result<(), Fail> {
 fn damaged_chunks_are_refused(rt: HostRuntime) -> Result<(), Fail> {
     for (exponent, label) in &SHAPES {
         let cases = chunk_cases(rt.alloc(), *exponent, *label)?;
-        assert!(rt; are_refused(&rt, rt.alloc(), cases.as_slice(), CHUNK_COUNT)?);
+        assert!(rt; are_refused(&rt, rt.alloc(), cases.as_slice(), CHUNK_COUNT));
     }
     Ok(())
 }
@@ -129,7 +122,7 @@ fn are_seen<R: Threads + Sync>(
     bytes: &mut [u8],
     header: usize,
     sealed: usize,
-) -> Result<bool, Fail>
+) -> bool
     requires header { header ≤ 280 }
     requires sealed { sealed ≤ 1048592 }
 {
@@ -137,42 +130,57 @@ fn are_seen<R: Threads + Sync>(
         let most = header + usize::from(*chunks) * sealed + usize::from(*more);
         let place = most.saturating_sub(usize::from(*less));
         flip(bytes, place, 1);
-        if refusal_of(rt, alloc, bytes)? != Some(OpenFault::Forged { chunk: *chunk }) {
-            return Ok(false);
+        if refusal_of(rt, alloc, bytes) != Some(OpenFault::Forged { chunk: *chunk }) {
+            return false;
         }
         flip(bytes, place, 1);
     }
-    Ok(true)
+    true
 }
 
 // The container of two whole chunks of the pattern and a byte.
-fn three_chunks(alloc: Global, exponent: u32, label: usize) -> Result<Vec<u8>, Fail> {
+fn three_chunks(alloc: Global, exponent: u32, label: usize) -> Option<Vec<u8>> {
     let size = size_of(exponent);
-    let plain = pattern(alloc, 2 * size + 1)?;
-    let bytes = container_of(alloc, exponent, label, plain.as_slice()).ok_or("not sealed")?;
-    if bytes.len() != FRONT + label.min(255) + 2 * (size + TAG) + 1 + TAG {
-        return Err("another length".into());
+    let plain = pattern(alloc, 2 * size + 1).ok()?;
+    let bytes = container_of(alloc, exponent, label, plain.as_slice())?;
+    if bytes.len() == FRONT + label.min(255) + 2 * (size + TAG) + 1 + TAG {
+        Some(bytes)
+    } else {
+        None
     }
-    Ok(bytes)
+}
+
+// Whether they are seen in the container of this exponent, with a label of so many bytes.
+fn are_named<R: Threads + Sync>(
+    rt: &R,
+    alloc: Global,
+    exponent: u32,
+    label: usize,
+) -> Option<bool> {
+    let mut bytes = three_chunks(alloc, exponent, label)?;
+    let header = FRONT + label.min(255);
+    let sealed = size_of(exponent) + TAG;
+    Some(are_seen(rt, alloc, bytes.as_mut_slice(), header, sealed))
 }
 
 #[test]
-fn changed_chunks_are_named(rt: HostRuntime) -> Result<(), Fail> {
+fn changed_chunks_are_named(rt: HostRuntime) {
     for (exponent, label) in &SHAPES {
-        let mut bytes = three_chunks(rt.alloc(), *exponent, *label)?;
-        let header = FRONT + (*label).min(255);
-        let sealed = size_of(*exponent) + TAG;
-        assert!(rt; are_seen(&rt, rt.alloc(), bytes.as_mut_slice(), header, sealed)?);
+        assert!(rt;
+            are_named(&rt, rt.alloc(), *exponent, *label) == Some(true),
+            "{exponent} {label}"
+        );
     }
-    Ok(())
 }
 
 // A label that is a byte longer than it was leaves a last chunk without a byte of plaintext.
-#[test]
-fn a_longer_label_is_a_wrong_length(rt: HostRuntime) -> Result<(), Fail> {
-    let mut bytes = three_chunks(rt.alloc(), 12, 0)?;
+fn is_length_wrong<R: Threads + Sync>(rt: &R, alloc: Global) -> Option<bool> {
+    let mut bytes = three_chunks(alloc, 12, 0)?;
     flip(bytes.as_mut_slice(), FRONT - 1, 1);
-    let fault = refusal_of(&rt, rt.alloc(), bytes.as_slice())?;
-    assert!(rt; fault == Some(OpenFault::BadLength));
-    Ok(())
+    Some(refusal_of(rt, alloc, bytes.as_slice()) == Some(OpenFault::BadLength))
+}
+
+#[test]
+fn a_longer_label_is_a_wrong_length(rt: HostRuntime) {
+    assert!(rt; is_length_wrong(&rt, rt.alloc()) == Some(true));
 }

@@ -8,11 +8,11 @@ mod containers;
 #[cfg(test)]
 mod damages;
 #[cfg(test)]
-mod engines;
-#[cfg(test)]
 mod gates;
 #[cfg(test)]
 mod one_thread;
+#[cfg(test)]
+mod openings;
 #[cfg(test)]
 mod overlap;
 #[cfg(test)]
@@ -20,9 +20,9 @@ mod reads;
 #[cfg(test)]
 mod rounds;
 #[cfg(test)]
-mod shapes;
+mod sealed;
 #[cfg(test)]
-mod tables;
+mod shapes;
 #[cfg(test)]
 mod two_chunks;
 #[cfg(test)]

@@ -1,9 +1,9 @@
 //! A file is read while it is worked: a reader that goes on only once a second worker has begun isn't kept waiting.
 ghost use Rattle.std.specs.Prelude.{◌<◌, ◌≤◌};
 
-use container_core::{CHUNK, HEADER, Key, OpenFault, SEALED, SealFault, Shape, seal};
+use container_core::{CHUNK, HEADER, OpenFault, SEALED, SealFault, Shape, seal};
 use crew_core::{Gate, MAX_WORKERS};
-use crew_tests::{COUNTING, grant_of, pattern};
+use crew_tests::{PREFIX, counting_key, grant_of, pattern};
 use engine_core::{run_plain_by, run_seal_by, run_verify_by};
 use io_core::FromRead;
 use io_memory::{Schedule, ToMemory};
@@ -12,14 +12,12 @@ use std::io;
 use std::io::{ErrorKind, Read};
 use std::sync::Wait;
 use std::sync::atomic::{AtomicU64, Ordering};
-use std::test::Fail;
 use std::thread::Threads;
 
-// Device 1, file 0.
-const PREFIX: [u8; 7] = [0, 0, 1, 0, 0, 0, 0];
-
-// How often the reader looks for the second worker.
+// How often the reader looks for the second worker, where there is one, and where there isn't.
 const TURNS: u64 = 1_000_000_000;
+
+const FEW_TURNS: u64 = 1000;
 
 // A gate that counts the passes of all workers but the caller's thread.
 #[derive(Drop)]
@@ -78,29 +76,29 @@ impl Read for Held<'_> {
     }
 }
 
-// Seals five chunks in rounds of two, where all behind the first round and a byte is held.
-fn seal_held<T: Threads + Wait + Sync>(
+// Seals a plaintext in rounds of two chunks, where all behind the first round and a byte is held.
+fn seal_held_from<T: Threads + Wait + Sync>(
     rt: &T,
     alloc: Global,
+    plain: &[u8],
     workers: u32,
     turns: u64,
-) -> Result<Result<u64, SealFault>, Fail>
+) -> Option<Result<u64, SealFault>>
     requires workers { (0 < workers) × (workers ≤ MAX_WORKERS) }
 {
-    let plain = pattern(alloc, 5 * CHUNK)?;
+    let grant = grant_of(alloc, 0)?;
     let others = Others {
         passes: AtomicU64::new(0),
     };
     let mut reader = FromRead(Held {
-        bytes: plain.as_slice(),
+        bytes: plain,
         place: 0,
         from: 2 * CHUNK + 1,
         others: &others,
         turns,
     });
-    let mut writer = ToMemory::new(alloc, 1 << 20, usize::MAX, Schedule::Never)?;
-    let key = Key::new(COUNTING);
-    let grant = grant_of(alloc, 0).ok_or("no grant")?;
+    let mut writer = ToMemory::new(alloc, 1 << 20, usize::MAX, Schedule::Never).ok()?;
+    let key = counting_key();
     let (result, _) = run_seal_by(
         rt,
         alloc,
@@ -114,58 +112,87 @@ fn seal_held<T: Threads + Wait + Sync>(
         2,
         &others,
     );
-    Ok(result)
+    Some(result)
 }
 
-// Verifies the container of five chunks likewise, or opens it.
-fn verify_held<T: Threads + Sync>(
+// The same of five chunks of the pattern.
+fn seal_held<T: Threads + Wait + Sync>(
     rt: &T,
     alloc: Global,
+    workers: u32,
+    turns: u64,
+) -> Option<Result<u64, SealFault>>
+    requires workers { (0 < workers) × (workers ≤ MAX_WORKERS) }
+{
+    let plain = pattern(alloc, 5 * CHUNK).ok()?;
+    seal_held_from(rt, alloc, plain.as_slice(), workers, turns)
+}
+
+// Verifies a container likewise, or opens it.
+fn read_held_from<T: Threads + Sync>(
+    rt: &T,
+    alloc: Global,
+    bytes: &[u8],
     opens: bool,
     workers: u32,
     turns: u64,
-) -> Result<Result<u64, OpenFault>, Fail>
+) -> Result<u64, OpenFault>
     requires workers { (0 < workers) × (workers ≤ MAX_WORKERS) }
 {
-    let key = Key::new(COUNTING);
-    let plain = pattern(alloc, 5 * CHUNK)?;
-    let bytes = seal(alloc, &key, &Shape::one(), PREFIX, plain.as_slice())?;
+    let key = counting_key();
     let others = Others {
         passes: AtomicU64::new(0),
     };
     let mut reader = FromRead(Held {
-        bytes: bytes.as_slice(),
+        bytes,
         place: 0,
         from: HEADER + 2 * SEALED + 1,
         others: &others,
         turns,
     });
     if !opens {
-        return Ok(run_verify_by(rt, alloc, &key, &mut reader, 1 << 20, workers, 2, &others));
+        return run_verify_by(rt, alloc, &key, &mut reader, 1 << 20, workers, 2, &others);
     }
     match run_plain_by(rt, alloc, &key, &mut reader, 1 << 20, workers, 2, &others) {
-        Ok(plain) => Ok(Ok(plain.len() as u64)),
-        Err(fault) => Ok(Err(fault)),
+        Ok(plain) => Ok(plain.len() as u64),
+        Err(fault) => Err(fault),
     }
 }
 
+// The same of the container of five chunks of the pattern.
+fn read_held<T: Threads + Sync>(
+    rt: &T,
+    alloc: Global,
+    opens: bool,
+    workers: u32,
+    turns: u64,
+) -> Option<Result<u64, OpenFault>>
+    requires workers { (0 < workers) × (workers ≤ MAX_WORKERS) }
+{
+    let plain = pattern(alloc, 5 * CHUNK).ok()?;
+    let bytes = seal(
+        alloc,
+        &counting_key(),
+        &Shape::one(),
+        PREFIX,
+        plain.as_slice(),
+    )
+    .ok()?;
+    Some(read_held_from(rt, alloc, bytes.as_slice(), opens, workers, turns))
+}
+
 #[test]
-fn a_round_is_sealed_while_the_next_one_is_read(rt: HostRuntime) -> Result<(), Fail> {
-    let sealed = seal_held(&rt, rt.alloc(), 2, TURNS)?;
-    assert!(rt; sealed == Ok(327_680));
+fn a_round_is_sealed_while_the_next_one_is_read(rt: HostRuntime) {
+    assert!(rt; seal_held(&rt, rt.alloc(), 2, TURNS) == Some(Ok(327_680)));
     // That the test can fail: by one worker nothing is done beside the reading.
-    let alone = seal_held(&rt, rt.alloc(), 1, 1000)?;
-    assert!(rt; alone == Err(SealFault::Read));
-    Ok(())
+    assert!(rt; seal_held(&rt, rt.alloc(), 1, FEW_TURNS) == Some(Err(SealFault::Read)));
 }
 
 #[test]
-fn a_round_is_opened_while_the_next_one_is_read(rt: HostRuntime) -> Result<(), Fail> {
+fn a_round_is_opened_while_the_next_one_is_read(rt: HostRuntime) {
     for opens in [false, true] {
-        let done = verify_held(&rt, rt.alloc(), opens, 2, TURNS)?;
-        assert!(rt; done == Ok(327_680));
-        let alone = verify_held(&rt, rt.alloc(), opens, 1, 1000)?;
-        assert!(rt; alone == Err(OpenFault::Read));
+        assert!(rt; read_held(&rt, rt.alloc(), opens, 2, TURNS) == Some(Ok(327_680)));
+        let alone = read_held(&rt, rt.alloc(), opens, 1, FEW_TURNS);
+        assert!(rt; alone == Some(Err(OpenFault::Read)));
     }
-    Ok(())
 }

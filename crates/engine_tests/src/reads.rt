@@ -1,15 +1,16 @@
 //! Version 2: how much is read of an input without end, and what a reader that fails within a header gives.
 ghost use Rattle.std.specs.Prelude.{◌<◌, ◌≤◌};
 
-use crate::containers::EMPTY;
+use crate::openings::are_failures_seen;
 use crate::shapes::{FRONT, container_of};
 use crate::windows::LIMIT;
-use container_core::{Key, OpenFault};
+use container_core::OpenFault;
+use container_tests::EMPTY;
 use crew_core::{Free, MAX_WORKERS};
-use crew_tests::{COUNTING, flip};
+use crew_tests::{counting_key, flip};
 use engine_core::{run_open, run_verify};
 use io_core::FromRead;
-use io_memory::{FromMemory, Schedule, ToMemory};
+use io_memory::{Schedule, ToMemory};
 use std::alloc::Global;
 use std::io;
 use std::io::Read;
@@ -45,11 +46,11 @@ fn opening_reads<R: Threads + Sync>(
     max_bytes: u64,
     workers: u32,
     fault: OpenFault,
-) -> Option<u64>
-    requires max_bytes { max_bytes ≤ 1099511627776 }
-    requires workers { (0 < workers) × (workers ≤ MAX_WORKERS) }
-{
-    let key = Key::new(COUNTING);
+) -> Option<u64> {
+    if max_bytes > LIMIT || workers == 0 || workers > MAX_WORKERS {
+        return None;
+    }
+    let key = counting_key();
     let mut reader = FromRead(Endless { front, given: 0 });
     let mut writer = ToMemory::new(alloc, 64, MOST, Schedule::Never).ok()?;
     let opened = run_open(
@@ -77,11 +78,11 @@ fn verifying_reads<R: Threads + Sync>(
     max_bytes: u64,
     workers: u32,
     fault: OpenFault,
-) -> Option<u64>
-    requires max_bytes { max_bytes ≤ 1099511627776 }
-    requires workers { (0 < workers) × (workers ≤ MAX_WORKERS) }
-{
-    let key = Key::new(COUNTING);
+) -> Option<u64> {
+    if max_bytes > LIMIT || workers == 0 || workers > MAX_WORKERS {
+        return None;
+    }
+    let key = counting_key();
     let mut reader = FromRead(Endless { front, given: 0 });
     let verified = run_verify(rt, alloc, &key, &mut reader, max_bytes, workers, &Free);
     if verified == Err(fault) {
@@ -99,9 +100,7 @@ fn read_so_many<R: Threads + Sync>(
     max_bytes: u64,
     bytes: u64,
     fault: OpenFault,
-) -> bool
-    requires { max_bytes ≤ 1099511627776 }
-{
+) -> bool {
     let wanted = Some(bytes);
     opening_reads(rt, alloc, front, max_bytes, 1, fault) == wanted
         && opening_reads(rt, alloc, front, max_bytes, 4, fault) == wanted
@@ -186,55 +185,18 @@ fn an_endless_input_of_another_version_is_read_to_its_bound(rt: HostRuntime) -> 
     Ok(())
 }
 
-// Whether opening and verifying by a reader that fails behind so many bytes have the fault of a failed read, and
-// nothing is written.
-fn is_failure_seen<R: Threads + Sync>(
-    rt: &R,
-    alloc: Global,
-    bytes: &[u8],
-    after: u64,
-    workers: u32,
-) -> Option<bool>
-    requires workers { (0 < workers) × (workers ≤ MAX_WORKERS) }
-{
-    let key = Key::new(COUNTING);
-    let mut reader = FromMemory::new(bytes, MOST, Schedule::Bytes(after));
-    let mut writer = ToMemory::new(alloc, 64, MOST, Schedule::Never).ok()?;
-    let opened = run_open(
-        rt,
-        alloc,
-        &key,
-        &mut reader,
-        &mut writer,
-        LIMIT,
-        workers,
-        &Free,
-    );
-    let mut reader = FromMemory::new(bytes, MOST, Schedule::Bytes(after));
-    let verified = run_verify(rt, alloc, &key, &mut reader, LIMIT, workers, &Free);
-    let failed = Err(OpenFault::Read);
-    Some(opened == failed && verified == failed && writer.bytes().is_empty())
-}
-
-// Whether 1 and 4 workers see a reader that fails behind 24 bytes of a container, behind 25, and behind all of its
-// header but a byte.
-fn are_failures_seen<R: Threads + Sync>(rt: &R, alloc: Global, label: usize) -> Option<bool> {
+// Whether a reader is seen to fail that does so behind 24 bytes of a container with a label of so many bytes, behind
+// 25, and behind all of its header but a byte.
+fn is_end_no_failure<R: Threads + Sync>(rt: &R, alloc: Global, label: usize) -> Option<bool> {
     let bytes = container_of(alloc, 12, label, b"1")?;
     let header = (FRONT + label.min(255)) as u64;
-    for after in [24, 25, header - 1] {
-        for workers in [1, 4] {
-            if is_failure_seen(rt, alloc, bytes.as_slice(), after, workers) != Some(true) {
-                return Some(false);
-            }
-        }
-    }
-    Some(true)
+    Some(are_failures_seen(rt, alloc, bytes.as_slice(), &[24, 25, header - 1]))
 }
 
 // An input that ends there has a header that is too short.
 #[test]
 fn a_failed_read_within_a_header_is_no_end(rt: HostRuntime) {
-    assert!(rt; are_failures_seen(&rt, rt.alloc(), 0) == Some(true));
-    assert!(rt; are_failures_seen(&rt, rt.alloc(), 3) == Some(true));
-    assert!(rt; are_failures_seen(&rt, rt.alloc(), 255) == Some(true));
+    assert!(rt; is_end_no_failure(&rt, rt.alloc(), 0) == Some(true));
+    assert!(rt; is_end_no_failure(&rt, rt.alloc(), 3) == Some(true));
+    assert!(rt; is_end_no_failure(&rt, rt.alloc(), 255) == Some(true));
 }

@@ -1,10 +1,9 @@
 //! Sealing in rounds of 1, 2, 16 and 256 chunks: the same container, the round that is dropped, and what is written
 //! before what is read.
-ghost use Rattle.std.specs.Prelude.{◌≡◌, ◌<◌, ◌≤◌, length};
-
-use container_core::{CHUNK, HEADER, Key, SEALED, SealFault, Shape, seal};
+use crate::windows::LIMIT;
+use container_core::{CHUNK, HEADER, SEALED, SealFault, Shape, seal};
 use crew_core::{Free, MAX_WINDOW, MAX_WORKERS};
-use crew_tests::{COUNTING, grant_of, pattern, zeros};
+use crew_tests::{PREFIX, counting_key, grant_of, pattern, zeros};
 use engine_core::run_seal_by;
 use io_core::{FromRead, Sink, Source, ToWrite};
 use io_memory::{FromMemory, Schedule, ToMemory};
@@ -14,15 +13,12 @@ use std::io;
 use std::io::{ErrorKind, Read, Write};
 use std::sync::Wait;
 use std::sync::atomic::{AtomicU64, Ordering};
-use std::test::Fail;
 use std::thread::Threads;
-
-// Device 1, file 0.
-const PREFIX: [u8; 7] = [0, 0, 1, 0, 0, 0, 0];
 
 const MOST: usize = usize::MAX;
 
-// Seals under a grant of device 1 and file 0. Answers what the engine does, and how the grant ended.
+// Seals under a grant of device 1 and file 0. Answers what the engine does, and how the grant ended; or `None` where it
+// is asked for what it doesn't take.
 fn seal_by<T: Threads + Wait + Sync, R: Source, W: Sink>(
     rt: &T,
     alloc: Global,
@@ -31,13 +27,17 @@ fn seal_by<T: Threads + Wait + Sync, R: Source, W: Sink>(
     max_bytes: u64,
     workers: u32,
     window: u32,
-) -> Result<(Result<u64, SealFault>, Way), Fail>
-    requires max_bytes { max_bytes ≤ 1099511627776 }
-    requires workers { (0 < workers) × (workers ≤ MAX_WORKERS) }
-    requires window { (0 < window) × (window ≤ MAX_WINDOW) }
-{
-    let key = Key::new(COUNTING);
-    let grant = grant_of(alloc, 0).ok_or("no grant")?;
+) -> Option<(Result<u64, SealFault>, Way)> {
+    if max_bytes > LIMIT
+        || workers == 0
+        || workers > MAX_WORKERS
+        || window == 0
+        || window > MAX_WINDOW
+    {
+        return None;
+    }
+    let key = counting_key();
+    let grant = grant_of(alloc, 0)?;
     let (result, spent) = run_seal_by(
         rt,
         alloc,
@@ -51,7 +51,7 @@ fn seal_by<T: Threads + Wait + Sync, R: Source, W: Sink>(
         window,
         &Free,
     );
-    Ok((result, spent.way()))
+    Some((result, spent.way()))
 }
 
 // What is asked for: which calls of the reader and the writer fail, at most how many bytes are sealed, and by whom.
@@ -65,11 +65,7 @@ struct Asked {
 }
 
 // Asks for rounds of a window by so many workers, where nothing fails.
-fn steady(max_bytes: u64, workers: u32, window: u32) -> Asked
-    ensures bytes { result.max_bytes ≡ max_bytes }
-    ensures workers { result.workers ≡ workers }
-    ensures window { result.window ≡ window }
-{
+fn steady(max_bytes: u64, workers: u32, window: u32) -> Asked {
     Asked {
         reads: Schedule::Never,
         writes: Schedule::Never,
@@ -87,13 +83,9 @@ fn ends_as<T: Threads + Wait + Sync>(
     asked: Asked,
     answer: Result<u64, SealFault>,
     written: &[u8],
-) -> Result<bool, Fail>
-    requires max_bytes { asked.max_bytes ≤ 1099511627776 }
-    requires workers { (0 < asked.workers) × (asked.workers ≤ MAX_WORKERS) }
-    requires window { (0 < asked.window) × (asked.window ≤ MAX_WINDOW) }
-{
+) -> Option<bool> {
     let mut reader = FromMemory::new(plain, 70_001, asked.reads);
-    let mut writer = ToMemory::new(alloc, 64, MOST, asked.writes)?;
+    let mut writer = ToMemory::new(alloc, 64, MOST, asked.writes).ok()?;
     let (result, way) = seal_by(
         rt,
         alloc,
@@ -108,41 +100,47 @@ fn ends_as<T: Threads + Wait + Sync>(
     } else {
         Way::Void
     };
-    Ok(result == answer && way == wanted && writer.bytes() == written)
+    Some(result == answer && way == wanted && writer.bytes() == written)
 }
 
 // The container of these bytes under device 1 and file 0.
-fn container_of(alloc: Global, plain: &[u8]) -> Result<Vec<u8>, Fail> {
-    Ok(seal(alloc, &Key::new(COUNTING), &Shape::one(), PREFIX, plain)?)
+fn container_of(alloc: Global, plain: &[u8]) -> Option<Vec<u8>> {
+    seal(alloc, &counting_key(), &Shape::one(), PREFIX, plain).ok()
 }
 
-// Whether all windows give the container of so many bytes.
-fn gives_the_container<T: Threads + Wait + Sync>(
-    rt: &T,
-    alloc: Global,
-    plain: &[u8],
-) -> Result<bool, Fail>
-    requires { length plain.now ≤ 1099511627776 }
-{
-    let whole = container_of(alloc, plain)?;
+// Whether all windows give this container of a plaintext.
+fn all_give<T: Threads + Wait + Sync>(rt: &T, alloc: Global, plain: &[u8], whole: &[u8]) -> bool {
     let bytes = plain.len() as u64;
     for (window, workers) in [(1, 4), (2, 1), (2, 4), (16, 3), (256, 1), (256, 4)] {
         let asked = steady(bytes, workers, window);
-        if !ends_as(rt, alloc, plain, asked, Ok(bytes), whole.as_slice())? {
-            return Ok(false);
+        if ends_as(rt, alloc, plain, asked, Ok(bytes), whole) != Some(true) {
+            return false;
         }
     }
-    Ok(true)
+    true
 }
 
+// Whether they do of so many bytes of the pattern.
+fn gives_the_container<T: Threads + Wait + Sync>(
+    rt: &T,
+    alloc: Global,
+    length: usize,
+) -> Option<bool> {
+    let plain = pattern(alloc, length).ok()?;
+    let whole = container_of(alloc, plain.as_slice())?;
+    Some(all_give(rt, alloc, plain.as_slice(), whole.as_slice()))
+}
+
+static LENGTHS: [usize; 6] = [0, 1, CHUNK, 2 * CHUNK, 2 * CHUNK + 1, 17 * CHUNK + 1];
+
 #[test]
-fn any_window_gives_the_container(rt: HostRuntime) -> Result<(), Fail> {
-    for length in [0, 1, CHUNK, 2 * CHUNK, 2 * CHUNK + 1, 17 * CHUNK + 1] {
-        let plain = pattern(rt.alloc(), length)?;
-        let given = gives_the_container(&rt, rt.alloc(), plain.as_slice())?;
-        assert!(rt; given);
+fn any_window_gives_the_container(rt: HostRuntime) {
+    for length in &LENGTHS {
+        assert!(rt;
+            gives_the_container(&rt, rt.alloc(), *length) == Some(true),
+            "{length}"
+        );
     }
-    Ok(())
 }
 
 // Of two chunks and a byte, which is one too many, so much of the container of the two is written.
@@ -152,71 +150,99 @@ fn drops_the_rest<T: Threads + Wait + Sync>(
     workers: u32,
     window: u32,
     written: usize,
-) -> Result<bool, Fail>
-    requires workers { (0 < workers) × (workers ≤ MAX_WORKERS) }
-    requires window { (0 < window) × (window ≤ MAX_WINDOW) }
-{
-    let plain = zeros(alloc, 2 * CHUNK + 1)?;
-    let two = zeros(alloc, 2 * CHUNK)?;
-    let whole = container_of(alloc, two.as_slice())?;
-    let Some(front) = whole.as_slice().get(..written) else {
-        return Err("it is shorter".into());
-    };
+) -> Option<bool> {
+    let plain = zeros(alloc, 2 * CHUNK + 1).ok()?;
+    let plain = plain.as_slice();
+    let whole = container_of(alloc, plain.get(..2 * CHUNK)?)?;
+    let front = whole.as_slice().get(..written)?;
     let asked = steady(131_072, workers, window);
-    ends_as(
-        rt,
-        alloc,
-        plain.as_slice(),
-        asked,
-        Err(SealFault::TooLong),
-        front,
-    )
+    ends_as(rt, alloc, plain, asked, Err(SealFault::TooLong), front)
 }
 
-// The byte too many stands behind chunk 1: by rounds of one chunk 0 was written, and chunk 1 is dropped.
+// How many workers seal, in rounds of how many chunks, and what is written then. The byte too many stands behind chunk
+// 1: by rounds of one chunk 0 was written, and chunk 1 is dropped.
+static DROPPED: [(u32, u32, usize); 4] = [
+    (1, 1, HEADER + SEALED),
+    (1, 2, 0),
+    (4, 2, 0),
+    (4, 256, 0),
+];
+
 #[test]
-fn a_byte_too_many_drops_the_round_in_hand(rt: HostRuntime) -> Result<(), Fail> {
-    for (workers, window, written) in [(1, 1, HEADER + SEALED), (1, 2, 0), (4, 2, 0), (4, 256, 0)] {
-        let dropped = drops_the_rest(&rt, rt.alloc(), workers, window, written)?;
-        assert!(rt; dropped);
+fn a_byte_too_many_drops_the_round_in_hand(rt: HostRuntime) {
+    for (workers, window, written) in &DROPPED {
+        assert!(rt;
+            drops_the_rest(&rt, rt.alloc(), *workers, *window, *written) == Some(true),
+            "{workers} {window}"
+        );
     }
-    Ok(())
 }
 
-// Of four chunks and five bytes so much of the container is written, and this is the fault.
+// Of four chunks and five bytes so much of the container is written, and this is the answer.
 fn leaves<T: Threads + Wait + Sync>(
     rt: &T,
     alloc: Global,
     asked: Asked,
-    fault: SealFault,
+    answer: Result<u64, SealFault>,
     written: usize,
-) -> Result<bool, Fail>
-    requires max_bytes { asked.max_bytes ≤ 1099511627776 }
-    requires workers { (0 < asked.workers) × (asked.workers ≤ MAX_WORKERS) }
-    requires window { (0 < asked.window) × (asked.window ≤ MAX_WINDOW) }
-{
-    let plain = pattern(alloc, 4 * CHUNK + 5)?;
+) -> Option<bool> {
+    let plain = pattern(alloc, 4 * CHUNK + 5).ok()?;
     let whole = container_of(alloc, plain.as_slice())?;
-    let Some(front) = whole.as_slice().get(..written) else {
-        return Err("it is shorter".into());
+    let front = whole.as_slice().get(..written)?;
+    ends_as(rt, alloc, plain.as_slice(), asked, answer, front)
+}
+
+// In the header, at its end and behind it; before the end of chunk 0's ciphertext, in its tag, at its end and behind
+// it; behind chunk 3; and before the last byte, and all of the container.
+static ROOMS: [usize; 12] = [
+    0, 1, 23, 24, 25, 65_535, 65_575, 65_576, 65_592, 262_232, 262_252, 262_253,
+];
+
+// Whether a writer with this room gets just so much, and fails unless it is room for all.
+fn ends_in_room<T: Threads + Wait + Sync>(
+    rt: &T,
+    alloc: Global,
+    workers: u32,
+    window: u32,
+    room: usize,
+) -> Option<bool> {
+    let mut asked = steady(1 << 20, workers, window);
+    asked.writes = Schedule::Bytes(room as u64);
+    let answer = if room < 262_253 {
+        Err(SealFault::Write)
+    } else {
+        Ok(262_149)
     };
-    ends_as(rt, alloc, plain.as_slice(), asked, Err(fault), front)
+    leaves(rt, alloc, asked, answer, room)
 }
 
 #[test]
-fn a_failed_write_leaves_a_beginning(rt: HostRuntime) -> Result<(), Fail> {
-    for (window, workers) in [(1, 1), (2, 2), (3, 4)] {
-        for taken in [0, 23, 24, 25, 65_575, 65_576, 65_592, 262_232] {
-            let mut asked = steady(1 << 20, workers, window);
-            asked.writes = Schedule::Bytes(taken as u64);
-            let left = leaves(&rt, rt.alloc(), asked, SealFault::Write, taken)?;
-            assert!(rt; left);
+fn a_failed_write_leaves_a_beginning(rt: HostRuntime) {
+    for (window, workers) in [(1, 1), (2, 2), (3, 4), (16, 16)] {
+        for room in &ROOMS {
+            assert!(rt;
+                ends_in_room(&rt, rt.alloc(), workers, window, *room) == Some(true),
+                "{workers} {window} {room}"
+            );
         }
     }
-    Ok(())
 }
 
-// The same where the reader fails behind so many bytes.
+// How many workers seal, in rounds of how many chunks; behind how many bytes the reader fails, and what is written
+// then: the rounds before the one that was being sealed.
+static FAILED_READS: [(u32, u32, usize, usize); 10] = [
+    (1, 1, 0, 0),
+    (1, 1, CHUNK, 0),
+    (1, 1, CHUNK + 1, 0),
+    (1, 1, 2 * CHUNK + 1, HEADER + SEALED),
+    (1, 1, 4 * CHUNK + 5, HEADER + 3 * SEALED),
+    (2, 2, CHUNK + 1, 0),
+    (2, 2, 2 * CHUNK + 1, 0),
+    (2, 2, 4 * CHUNK + 1, HEADER + 2 * SEALED),
+    (2, 2, 4 * CHUNK + 5, HEADER + 2 * SEALED),
+    (4, 4, 4 * CHUNK + 5, 0),
+];
+
 fn leaves_at_read<T: Threads + Wait + Sync>(
     rt: &T,
     alloc: Global,
@@ -224,45 +250,20 @@ fn leaves_at_read<T: Threads + Wait + Sync>(
     window: u32,
     read: usize,
     written: usize,
-) -> Result<bool, Fail>
-    requires workers { (0 < workers) × (workers ≤ MAX_WORKERS) }
-    requires window { (0 < window) × (window ≤ MAX_WINDOW) }
-{
+) -> Option<bool> {
     let mut asked = steady(1 << 20, workers, window);
     asked.reads = Schedule::Bytes(read as u64);
-    leaves(rt, alloc, asked, SealFault::Read, written)
-}
-
-// The rounds before the one that was being sealed were written by then.
-#[test]
-fn a_failed_read_leaves_whole_rounds(rt: HostRuntime) -> Result<(), Fail> {
-    for (read, written) in [
-        (0, 0),
-        (CHUNK, 0),
-        (CHUNK + 1, 0),
-        (2 * CHUNK + 1, HEADER + SEALED),
-        (4 * CHUNK + 5, HEADER + 3 * SEALED),
-    ] {
-        let left = leaves_at_read(&rt, rt.alloc(), 1, 1, read, written)?;
-        assert!(rt; left);
-    }
-    Ok(())
+    leaves(rt, alloc, asked, Err(SealFault::Read), written)
 }
 
 #[test]
-fn a_failed_read_leaves_whole_rounds_of_several_workers(rt: HostRuntime) -> Result<(), Fail> {
-    for (read, written) in [
-        (CHUNK + 1, 0),
-        (2 * CHUNK + 1, 0),
-        (4 * CHUNK + 1, HEADER + 2 * SEALED),
-        (4 * CHUNK + 5, HEADER + 2 * SEALED),
-    ] {
-        let left = leaves_at_read(&rt, rt.alloc(), 2, 2, read, written)?;
-        assert!(rt; left);
+fn a_failed_read_leaves_whole_rounds(rt: HostRuntime) {
+    for (workers, window, read, written) in &FAILED_READS {
+        assert!(rt;
+            leaves_at_read(&rt, rt.alloc(), *workers, *window, *read, *written) == Some(true),
+            "{workers} {window} {read}"
+        );
     }
-    let left = leaves_at_read(&rt, rt.alloc(), 4, 4, 4 * CHUNK + 5, 0)?;
-    assert!(rt; left);
-    Ok(())
 }
 
 // A reader of zeros that fails where the bytes from `from` on are asked for and fewer than `wanted` were written.
@@ -310,17 +311,14 @@ impl Write for Counting<'_> {
 }
 
 // Seals five chunks of zeros, where what stands behind so many bytes is given once so much was written.
-fn seal_waiting_by<T: Threads + Wait + Sync>(
+fn seal_waiting<T: Threads + Wait + Sync>(
     rt: &T,
     alloc: Global,
     from: u64,
     wanted: u64,
     workers: u32,
     window: u32,
-) -> Result<Result<u64, SealFault>, Fail>
-    requires workers { (0 < workers) × (workers ≤ MAX_WORKERS) }
-    requires window { (0 < window) × (window ≤ MAX_WINDOW) }
-{
+) -> Option<Result<u64, SealFault>> {
     let written = AtomicU64::new(0);
     let mut reader = FromRead(Waiting {
         given: 0,
@@ -339,40 +337,29 @@ fn seal_waiting_by<T: Threads + Wait + Sync>(
         workers,
         window,
     )?;
-    Ok(result)
+    Some(result)
 }
 
-// Seals them in rounds of one, where that is what stands behind the first byte of chunk 3.
-fn seal_waiting<T: Threads + Wait + Sync>(
-    rt: &T,
-    alloc: Global,
-    wanted: u64,
-) -> Result<Result<u64, SealFault>, Fail> {
-    seal_waiting_by(rt, alloc, 196_609, wanted, 1, 1)
-}
+// Behind how many bytes the reader waits until how much was written; how many workers seal, in rounds of how many
+// chunks; and the answer. The first byte of chunk 3 is number 196,608, that of chunk 4 262,144.
+static WAITING: [(u64, u64, u32, u32, Result<u64, SealFault>); 5] = [
+    // Rounds 0 and 1 are written before round 3 is asked for, so a reader that waits for that is not kept waiting for
+    // ever. Round 2 is not: that this can fail.
+    (196_609, 131_128, 1, 1, Ok(327_680)),
+    (196_609, 196_680, 1, 1, Err(SealFault::Read)),
+    // By several workers: rounds 0 and 1 of one chunk before round 3, and round 0 of two chunks before round 2; but not
+    // chunk 2, which is of the round before.
+    (196_609, 131_128, 4, 1, Ok(327_680)),
+    (262_145, 131_128, 4, 2, Ok(327_680)),
+    (262_145, 131_129, 4, 2, Err(SealFault::Read)),
+];
 
-// Rounds 0 and 1 are written before round 3 is asked for, so a reader that waits for that is not kept waiting for ever.
-// Round 2 is not: that the test can fail.
 #[test]
-fn a_round_is_written_before_the_second_behind_it_is_read(rt: HostRuntime) -> Result<(), Fail> {
-    let two = seal_waiting(&rt, rt.alloc(), 131_128)?;
-    assert!(rt; two == Ok(327_680));
-    let three = seal_waiting(&rt, rt.alloc(), 196_680)?;
-    assert!(rt; three == Err(SealFault::Read));
-    Ok(())
-}
-
-// The same by several workers: rounds 0 and 1 of one chunk before round 3, and round 0 of two chunks before round 2;
-// but not chunk 2, which is of the round before.
-#[test]
-fn several_workers_write_a_round_before_the_second_behind_it_is_read(
-    rt: HostRuntime,
-) -> Result<(), Fail> {
-    let two = seal_waiting_by(&rt, rt.alloc(), 196_609, 131_128, 4, 1)?;
-    assert!(rt; two == Ok(327_680));
-    let one = seal_waiting_by(&rt, rt.alloc(), 262_145, 131_128, 4, 2)?;
-    assert!(rt; one == Ok(327_680));
-    let more = seal_waiting_by(&rt, rt.alloc(), 262_145, 131_129, 4, 2)?;
-    assert!(rt; more == Err(SealFault::Read));
-    Ok(())
+fn a_round_is_written_before_the_second_behind_it_is_read(rt: HostRuntime) {
+    for (from, wanted, workers, window, answer) in &WAITING {
+        assert!(rt;
+            seal_waiting(&rt, rt.alloc(), *from, *wanted, *workers, *window) == Some(*answer),
+            "{from} {wanted} {workers}"
+        );
+    }
 }

@@ -3,21 +3,17 @@
 ghost use Rattle.std.specs.Prelude.{◌<◌, ◌≤◌};
 
 use crate::containers::SHAPED;
-use crate::windows::{LIMIT, opens_in};
-use container_core::{Key, Shape, seal};
+use crate::openings::opens_in;
+use crate::windows::LIMIT;
+use container_core::{Shape, seal};
 use crew_core::{Free, MAX_WINDOW, MAX_WORKERS};
-use crew_tests::{COUNTING, grant_of, pattern};
+use crew_tests::{PREFIX, counting_key, grant_of, is_digest, pattern};
 use engine_core::{open_one, run_open_by, run_seal_by, verify_one};
 use io_memory::{FromMemory, Schedule, ToMemory};
 use ledger_core::Way;
-use sha2::{Digest, Sha256};
 use std::alloc::Global;
 use std::sync::Wait;
-use std::test::Fail;
 use std::thread::Threads;
-
-// Device 1, file 0.
-const PREFIX: [u8; 7] = [0, 0, 1, 0, 0, 0, 0];
 
 const MOST: usize = usize::MAX;
 
@@ -25,9 +21,6 @@ const MOST: usize = usize::MAX;
 pub(crate) const FRONT: usize = 25;
 
 static LABEL: [u8; 255] = [0x61; 255];
-
-// The bytes of the labels.
-static LABELS: [usize; 3] = [0, 1, 255];
 
 // Version 2 with a label of so many bytes.
 fn shape_of(exponent: u32, label: usize) -> Option<Shape> {
@@ -53,7 +46,7 @@ pub(crate) fn container_of(
     plain: &[u8],
 ) -> Option<Vec<u8>> {
     let shape = shape_of(exponent, label)?;
-    seal(alloc, &Key::new(COUNTING), &shape, PREFIX, plain).ok()
+    seal(alloc, &counting_key(), &shape, PREFIX, plain).ok()
 }
 
 // Whether a plaintext is sealed to these bytes.
@@ -69,7 +62,7 @@ fn seals_to<R: Threads + Wait + Sync>(
     requires workers { (0 < workers) × (workers ≤ MAX_WORKERS) }
     requires window { (0 < window) × (window ≤ MAX_WINDOW) }
 {
-    let key = Key::new(COUNTING);
+    let key = counting_key();
     let mut reader = FromMemory::new(plain, 70_001, Schedule::Never);
     let mut writer = ToMemory::new(alloc, 64, MOST, Schedule::Never).ok()?;
     let grant = grant_of(alloc, 0)?;
@@ -102,7 +95,7 @@ fn opens_to<R: Threads + Sync>(
     requires workers { (0 < workers) × (workers ≤ MAX_WORKERS) }
     requires window { (0 < window) × (window ≤ MAX_WINDOW) }
 {
-    let key = Key::new(COUNTING);
+    let key = counting_key();
     let mut reader = FromMemory::new(bytes, 70_001, Schedule::Never);
     let mut writer = ToMemory::new(alloc, 64, MOST, Schedule::Never).ok()?;
     let result = run_open_by(
@@ -121,7 +114,7 @@ fn opens_to<R: Threads + Sync>(
 
 // The same of the engines of one thread.
 fn opens_by_one(alloc: Global, bytes: &[u8], plain: &[u8]) -> Option<bool> {
-    let key = Key::new(COUNTING);
+    let key = counting_key();
     let mut reader = FromMemory::new(bytes, 1001, Schedule::Never);
     let mut writer = ToMemory::new(alloc, 64, MOST, Schedule::Never).ok()?;
     let opened = open_one(alloc, &key, &mut reader, &mut writer, LIMIT);
@@ -138,18 +131,16 @@ fn goes_round<R: Threads + Wait + Sync>(
     shape: &Shape,
     plain: &[u8],
     bytes: &[u8],
-) -> Result<bool, Fail> {
+) -> bool {
     for (workers, window) in [(1, 1), (4, 1), (1, 3), (4, 3)] {
-        let sealed = seals_to(rt, alloc, shape, plain, bytes, workers, window);
-        let opened = opens_to(rt, alloc, bytes, plain, workers, window);
-        if sealed != Some(true) || opened != Some(true) {
-            return Ok(false);
-        }
-        if !opens_in(rt, alloc, bytes, plain, workers, window)? {
-            return Ok(false);
+        if seals_to(rt, alloc, shape, plain, bytes, workers, window) != Some(true)
+            || opens_to(rt, alloc, bytes, plain, workers, window) != Some(true)
+            || opens_in(rt, alloc, bytes, plain, workers, window) != Some(true)
+        {
+            return false;
         }
     }
-    Ok(opens_by_one(alloc, bytes, plain) == Some(true))
+    opens_by_one(alloc, bytes, plain) == Some(true)
 }
 
 // The container of so many bytes of the pattern, which all engines make and open.
@@ -159,51 +150,41 @@ fn made_by_all<R: Threads + Wait + Sync>(
     exponent: u32,
     label: usize,
     length: usize,
-) -> Result<Vec<u8>, Fail> {
-    let plain = pattern(alloc, length)?;
-    let bytes = container_of(alloc, exponent, label, plain.as_slice()).ok_or("not sealed")?;
-    let shape = shape_of(exponent, label).ok_or("no shape")?;
-    if goes_round(rt, alloc, &shape, plain.as_slice(), bytes.as_slice())? {
-        Ok(bytes)
+) -> Option<Vec<u8>> {
+    let plain = pattern(alloc, length).ok()?;
+    let bytes = container_of(alloc, exponent, label, plain.as_slice())?;
+    let shape = shape_of(exponent, label)?;
+    if goes_round(rt, alloc, &shape, plain.as_slice(), bytes.as_slice()) {
+        Some(bytes)
     } else {
-        Err("an engine does something else".into())
+        None
     }
 }
 
-// Whether the bytes are so many and have this digest.
-fn is_digest(bytes: &[u8], length: usize, digest: &[u8; 32]) -> bool {
-    bytes.len() == length && Sha256::digest(bytes) == *digest
-}
-
-// Whether all engines make and open the containers of this exponent whose digests are known.
-fn are_known<R: Threads + Wait + Sync>(rt: &R, alloc: Global, exponent: u32) -> Result<bool, Fail> {
-    for (known, label, count, length, digest) in &SHAPED {
-        if *known == exponent {
-            let bytes = made_by_all(rt, alloc, exponent, *label, *count)?;
-            if !is_digest(bytes.as_slice(), *length, digest) {
-                return Ok(false);
-            }
-        }
+// Whether all engines make and open the container of so many bytes, which has this length and digest.
+fn is_known<R: Threads + Wait + Sync>(
+    rt: &R,
+    alloc: Global,
+    exponent: u32,
+    label: usize,
+    count: usize,
+    length: usize,
+    digest: &[u8; 32],
+) -> bool {
+    match made_by_all(rt, alloc, exponent, label, count) {
+        Some(bytes) => is_digest(bytes.as_slice(), length, digest),
+        None => false,
     }
-    Ok(true)
 }
 
 #[test]
-fn small_chunks_are_known(rt: HostRuntime) -> Result<(), Fail> {
-    assert!(rt; are_known(&rt, rt.alloc(), 12)?);
-    Ok(())
-}
-
-#[test]
-fn middle_chunks_are_known(rt: HostRuntime) -> Result<(), Fail> {
-    assert!(rt; are_known(&rt, rt.alloc(), 16)?);
-    Ok(())
-}
-
-#[test]
-fn great_chunks_are_known(rt: HostRuntime) -> Result<(), Fail> {
-    assert!(rt; are_known(&rt, rt.alloc(), 20)?);
-    Ok(())
+fn containers_made_elsewhere(rt: HostRuntime) {
+    for (exponent, label, count, length, digest) in &SHAPED {
+        assert!(rt;
+            is_known(&rt, rt.alloc(), *exponent, *label, *count, *length, digest),
+            "{exponent} {label}"
+        );
+    }
 }
 
 // Whether all engines make and open the containers of no byte, one, a full chunk, and one byte more.
@@ -212,27 +193,35 @@ fn all_lengths_go_round<R: Threads + Wait + Sync>(
     alloc: Global,
     exponent: u32,
     label: usize,
-) -> Result<(), Fail> {
+) -> bool {
     let size = size_of(exponent);
     for length in [0, 1, size, size + 1] {
-        made_by_all(rt, alloc, exponent, label, length)?;
+        if made_by_all(rt, alloc, exponent, label, length).is_none() {
+            return false;
+        }
     }
-    Ok(())
+    true
 }
 
+// Exponents, and bytes of labels.
+static ASKED: [(u32, usize); 7] = [
+    (12, 0),
+    (12, 1),
+    (12, 255),
+    (16, 0),
+    (16, 1),
+    (16, 255),
+    (20, 1),
+];
+
 #[test]
-fn lengths_of_small_and_middle_chunks(rt: HostRuntime) -> Result<(), Fail> {
-    for label in &LABELS {
-        all_lengths_go_round(&rt, rt.alloc(), 12, *label)?;
-        all_lengths_go_round(&rt, rt.alloc(), 16, *label)?;
+fn all_lengths_are_made_and_opened(rt: HostRuntime) {
+    for (exponent, label) in &ASKED {
+        assert!(rt;
+            all_lengths_go_round(&rt, rt.alloc(), *exponent, *label),
+            "{exponent} {label}"
+        );
     }
     // More rounds than one, in each window.
-    made_by_all(&rt, rt.alloc(), 12, 1, 81_921)?;
-    Ok(())
-}
-
-#[test]
-fn lengths_of_great_chunks(rt: HostRuntime) -> Result<(), Fail> {
-    all_lengths_go_round(&rt, rt.alloc(), 20, 1)?;
-    Ok(())
+    assert!(rt; made_by_all(&rt, rt.alloc(), 12, 1, 81_921).is_some());
 }

@@ -1,61 +1,34 @@
 //! 65,537 zero bytes, two chunks, by two workers in windows of one chunk: readers and writers that move a byte a call,
 //! writers that fail after so many bytes, and a growth that is refused. The container's digest is that of Python's
 //! `cryptography` and `hashlib`.
-use container_core::{Key, OpenFault, SealFault, Shape, seal};
+use container_core::{OpenFault, SealFault, Shape};
 use crew_core::Free;
-use crew_tests::{COUNTING, grant_of};
+use crew_tests::{
+    ZERO_BYTES, ZEROS, ZEROS_SEALED, counting_key, grant_of, is_digest, zeros_sealed,
+};
 use engine_core::{run_open_by, run_seal_by, run_verify_by};
 use io_memory::{FromMemory, Schedule, ToMemory};
 use ledger_core::Way;
-use sha2::{Digest, Sha256};
 use std::alloc::{AllocError, Global};
 use std::sync::Wait;
 use std::thread::Threads;
 
-static ZEROS: [u8; 65_537] = [0; 65_537];
-
 const BYTES: u64 = 65_537;
-
-// Bytes of the container.
-const SEALED_BYTES: usize = 65_593;
-
-static DIGEST: [u8; 32] = [
-    0x09, 0x45, 0xc8, 0xfb, 0xab, 0xf2, 0x3b, 0x7b, 0xdb, 0x61, 0xd4, 0x5d, 0x8e, 0x2b, 0x69, 0x57,
-    0x92, 0x3e, 0x22, 0x49, 0x9b, 0xda, 0x51, 0xae, 0x09, 0xa1, 0xfa, 0x7c, 0xb8, 0x36, 0xbf, 0x66,
-];
 
 // The window, in chunks.
 const WINDOW: u32 = 1;
 
 const MOST: usize = usize::MAX;
 
-// A refusal that was asked for is met once, so the same call finds memory at once.
-
-fn sealed_once(alloc: Global) -> Option<Vec<u8>> {
-    let prefix = [0, 0, 1, 0, 0, 0, 0];
-    seal(alloc, &Key::new(COUNTING), &Shape::one(), prefix, &ZEROS).ok()
-}
-
-fn container(alloc: Global) -> Option<Vec<u8>> {
-    let bytes = match sealed_once(alloc) {
-        None => sealed_once(alloc)?,
-        Some(bytes) => bytes,
-    };
-    if is_container(bytes.as_slice()) {
-        Some(bytes)
-    } else {
-        None
-    }
-}
-
 fn is_container(bytes: &[u8]) -> bool {
-    bytes.len() == SEALED_BYTES && Sha256::digest(bytes) == DIGEST
+    is_digest(bytes, ZEROS_SEALED, &ZEROS)
 }
 
-// A writer with room for all, which takes so many bytes a call and fails by a schedule.
+// A writer with room for all, which takes so many bytes a call and fails by a schedule. A refusal that was asked for is
+// met once, so the same call finds memory at once.
 fn writer_of(alloc: Global, step: usize, schedule: Schedule) -> Option<ToMemory> {
-    match ToMemory::new(alloc, SEALED_BYTES, step, schedule) {
-        Err(AllocError) => ToMemory::new(alloc, SEALED_BYTES, step, schedule).ok(),
+    match ToMemory::new(alloc, ZEROS_SEALED, step, schedule) {
+        Err(AllocError) => ToMemory::new(alloc, ZEROS_SEALED, step, schedule).ok(),
         writer => writer.ok(),
     }
 }
@@ -69,8 +42,8 @@ fn seal_zeros<R: Threads + Wait + Sync>(
     writer: &mut ToMemory,
 ) -> Option<(Result<u64, SealFault>, Way)> {
     let grant = grant_of(alloc, 0)?;
-    let mut reader = FromMemory::new(&ZEROS, step, Schedule::Never);
-    let (key, shape) = (Key::new(COUNTING), Shape::one());
+    let mut reader = FromMemory::new(&ZERO_BYTES, step, Schedule::Never);
+    let (key, shape) = (counting_key(), Shape::one());
     let (result, spent) = run_seal_by(
         rt,
         alloc,
@@ -94,7 +67,7 @@ fn open_bytes<R: Threads + Sync>(
     step: usize,
     writer: &mut ToMemory,
 ) -> Result<u64, OpenFault> {
-    let key = Key::new(COUNTING);
+    let key = counting_key();
     let mut reader = FromMemory::new(bytes, step, Schedule::Never);
     run_open_by(
         rt,
@@ -115,7 +88,7 @@ fn verify_bytes<R: Threads + Sync>(
     bytes: &[u8],
     step: usize,
 ) -> Result<u64, OpenFault> {
-    let key = Key::new(COUNTING);
+    let key = counting_key();
     let mut reader = FromMemory::new(bytes, step, Schedule::Never);
     run_verify_by(rt, alloc, &key, &mut reader, BYTES, 2, WINDOW, &Free)
 }
@@ -133,11 +106,11 @@ fn is_sealed_by_steps<R: Threads + Wait + Sync>(
 }
 
 fn is_opened_by_steps<R: Threads + Sync>(rt: &R, alloc: Global, step: usize) -> Option<bool> {
-    let bytes = container(alloc)?;
+    let bytes = zeros_sealed(alloc)?;
     let mut writer = writer_of(alloc, step, Schedule::Never)?;
     let opened = open_bytes(rt, alloc, bytes.as_slice(), step, &mut writer);
     let verified = verify_bytes(rt, alloc, bytes.as_slice(), step);
-    Some(opened == Ok(BYTES) && verified == Ok(BYTES) && writer.bytes() == ZEROS.as_slice())
+    Some(opened == Ok(BYTES) && verified == Ok(BYTES) && writer.bytes() == ZERO_BYTES.as_slice())
 }
 
 #[test]
@@ -148,45 +121,10 @@ fn a_byte_a_call_changes_no_answer(rt: HostRuntime) {
 
 // ---- writers that fail after so many bytes
 
-// In the header, at its end and behind it; before the last byte of the plaintext, and all of it; in the tag of chunk 0,
-// at its end and behind it; and before the last byte, and all of the container.
-static ROOMS: [usize; 11] = [
-    0, 1, 23, 24, 25, 65_535, 65_537, 65_575, 65_576, 65_592, 65_593,
-];
+// No room, and some; behind chunk 0, of which 65,536 bytes are, and a byte before; and room for all, and more.
+static ROOMS: [usize; 9] = [0, 1, 23, 24, 25, 65_535, 65_536, 65_537, 65_593];
 
-// Whether a sealing into this room ends with `Write`, unless it is room for all, and has written just so much.
-fn is_sealed_into<R: Threads + Wait + Sync>(
-    rt: &R,
-    alloc: Global,
-    whole: &[u8],
-    room: usize,
-) -> Option<bool> {
-    let mut writer = writer_of(alloc, MOST, Schedule::Bytes(room as u64))?;
-    let answer = seal_zeros(rt, alloc, MOST, &mut writer)?;
-    let wanted = if room < whole.len() {
-        (Err(SealFault::Write), Way::Void)
-    } else {
-        (Ok(BYTES), Way::Sealed)
-    };
-    Some(answer == wanted && writer.bytes() == whole.get(..room)?)
-}
-
-fn are_sealed_into<R: Threads + Wait + Sync>(rt: &R, alloc: Global) -> Option<bool> {
-    let whole = container(alloc)?;
-    for room in &ROOMS {
-        if is_sealed_into(rt, alloc, whole.as_slice(), *room) != Some(true) {
-            return None;
-        }
-    }
-    Some(true)
-}
-
-#[test]
-fn a_sealing_writes_what_there_is_room_for(rt: HostRuntime) {
-    assert!(rt; are_sealed_into(&rt, rt.alloc()) == Some(true));
-}
-
-// The same of an opening, which writes fewer bytes.
+// Whether an opening into this room ends with `Write`, unless it is room for all, and has written just so much.
 fn is_opened_into<R: Threads + Sync>(
     rt: &R,
     alloc: Global,
@@ -195,17 +133,17 @@ fn is_opened_into<R: Threads + Sync>(
 ) -> Option<bool> {
     let mut writer = writer_of(alloc, MOST, Schedule::Bytes(room as u64))?;
     let answer = open_bytes(rt, alloc, whole, MOST, &mut writer);
-    let taken = room.min(ZEROS.len());
-    let wanted = if taken < ZEROS.len() {
+    let taken = room.min(ZERO_BYTES.len());
+    let wanted = if taken < ZERO_BYTES.len() {
         Err(OpenFault::Write)
     } else {
         Ok(BYTES)
     };
-    Some(answer == wanted && writer.bytes() == ZEROS.get(..taken)?)
+    Some(answer == wanted && writer.bytes() == ZERO_BYTES.get(..taken)?)
 }
 
 fn are_opened_into<R: Threads + Sync>(rt: &R, alloc: Global) -> Option<bool> {
-    let whole = container(alloc)?;
+    let whole = zeros_sealed(alloc)?;
     for room in &ROOMS {
         if is_opened_into(rt, alloc, whole.as_slice(), *room) != Some(true) {
             return None;
@@ -257,12 +195,12 @@ fn is_opened_or_refused<R: Threads + Sync>(
     let mut writer = writer_of(alloc, MOST, Schedule::Never)?;
     Some(match open_bytes(rt, alloc, bytes, MOST, &mut writer) {
         Err(OpenFault::OutOfMemory) if writer.bytes().is_empty() => None,
-        answer => Some(answer == Ok(BYTES) && writer.bytes() == ZEROS.as_slice()),
+        answer => Some(answer == Ok(BYTES) && writer.bytes() == ZERO_BYTES.as_slice()),
     })
 }
 
 fn opens_again<R: Threads + Wait + Sync>(rt: &R, alloc: Global) -> Option<bool> {
-    let bytes = container(alloc)?;
+    let bytes = zeros_sealed(alloc)?;
     match is_opened_or_refused(rt, alloc, bytes.as_slice())? {
         None => is_opened_or_refused(rt, alloc, bytes.as_slice())?,
         opened => opened,
@@ -275,7 +213,7 @@ fn a_refused_growth_opens_nothing_or_all(rt: HostRuntime) {
 }
 
 fn verifies_again<R: Threads + Sync>(rt: &R, alloc: Global) -> Option<bool> {
-    let bytes = container(alloc)?;
+    let bytes = zeros_sealed(alloc)?;
     let verified = match verify_bytes(rt, alloc, bytes.as_slice(), MOST) {
         Err(OpenFault::OutOfMemory) => verify_bytes(rt, alloc, bytes.as_slice(), MOST),
         verified => verified,

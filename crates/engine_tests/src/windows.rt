@@ -1,41 +1,44 @@
-//! Containers of several windows, which are read one at a time: damaged, cut, and longer than allowed.
-ghost use Rattle.std.specs.Prelude.{◌<◌, ◌≤◌};
-
-use container_core::{CHUNK, HEADER, Key, OpenFault, SEALED, Shape, seal};
+//! A container of several windows, which are read one at a time: damaged, cut, and longer than allowed. Nothing of it
+//! is written.
+use container_core::{CHUNK, HEADER, OpenFault, SEALED, Shape, seal};
 use crew_core::{Free, MAX_WINDOW, MAX_WORKERS};
-use crew_tests::{COUNTING, flip, pattern};
-use engine_core::{run_open_by, run_plain, run_plain_by, run_verify, run_verify_by};
+use crew_tests::{PREFIX, counting_key, flip, pattern};
+use engine_core::{run_open_by, run_plain_by, run_verify_by};
 use io_memory::{FromMemory, Schedule, ToMemory};
 use std::alloc::Global;
 use std::test::Fail;
 use std::thread::Threads;
-
-// Device 1, file 0.
-const PREFIX: [u8; 7] = [0, 0, 1, 0, 0, 0, 0];
 
 const MOST: usize = usize::MAX;
 
 // The greatest number of plaintext bytes that the engines are asked for.
 pub(crate) const LIMIT: u64 = 1 << 24;
 
-// The container of 39 full chunks and one of a byte: of two full windows and eight chunks.
-fn forty_chunks(alloc: Global) -> Result<Vec<u8>, Fail> {
-    let plain = pattern(alloc, 39 * CHUNK + 1)?;
+// Bytes of a container of 39 full chunks and one of a byte: of two full windows and eight chunks.
+const FORTY: usize = HEADER + 39 * SEALED + 17;
+
+// Its plaintext bytes.
+const PLAIN: u64 = 39 * (CHUNK as u64) + 1;
+
+pub(crate) fn forty_chunks(alloc: Global) -> Option<Vec<u8>> {
+    let plain = pattern(alloc, 39 * CHUNK + 1).ok()?;
     let bytes = seal(
         alloc,
-        &Key::new(COUNTING),
+        &counting_key(),
         &Shape::one(),
         PREFIX,
         plain.as_slice(),
-    )?;
-    if bytes.len() != HEADER + 39 * SEALED + 17 {
-        return Err("another length".into());
+    )
+    .ok()?;
+    if bytes.len() == FORTY {
+        Some(bytes)
+    } else {
+        None
     }
-    Ok(bytes)
 }
 
 // Why these bytes don't verify, by so many workers in windows of so many chunks, where opening them says the same and
-// writes nothing.
+// writes nothing, and what answers the plaintext says it too.
 pub(crate) fn fault_in<R: Threads + Sync>(
     rt: &R,
     alloc: Global,
@@ -43,12 +46,16 @@ pub(crate) fn fault_in<R: Threads + Sync>(
     max_bytes: u64,
     workers: u32,
     window: u32,
-) -> Result<OpenFault, Fail>
-    requires max_bytes { max_bytes ≤ 1099511627776 }
-    requires workers { (0 < workers) × (workers ≤ MAX_WORKERS) }
-    requires window { (0 < window) × (window ≤ MAX_WINDOW) }
-{
-    let key = Key::new(COUNTING);
+) -> Option<OpenFault> {
+    if max_bytes > LIMIT
+        || workers == 0
+        || workers > MAX_WORKERS
+        || window == 0
+        || window > MAX_WINDOW
+    {
+        return None;
+    }
+    let key = counting_key();
     let mut reader = FromMemory::new(bytes, 100_000, Schedule::Never);
     let verified = run_verify_by(
         rt,
@@ -61,7 +68,7 @@ pub(crate) fn fault_in<R: Threads + Sync>(
         &Free,
     );
     let mut reader = FromMemory::new(bytes, MOST, Schedule::Never);
-    let mut writer = ToMemory::new(alloc, 64, MOST, Schedule::Never)?;
+    let mut writer = ToMemory::new(alloc, 64, MOST, Schedule::Never).ok()?;
     let opened = run_open_by(
         rt,
         alloc,
@@ -73,9 +80,6 @@ pub(crate) fn fault_in<R: Threads + Sync>(
         window,
         &Free,
     );
-    if verified != opened {
-        return Err("opening says something else".into());
-    }
     let mut reader = FromMemory::new(bytes, MOST, Schedule::Never);
     let plain = run_plain_by(
         rt,
@@ -86,16 +90,12 @@ pub(crate) fn fault_in<R: Threads + Sync>(
         workers,
         window,
         &Free,
-    );
-    if plain.err() != verified.err() {
-        return Err("what answers the plaintext says something else".into());
-    }
-    if !writer.bytes().is_empty() {
-        return Err("something was written".into());
-    }
-    match verified {
-        Ok(_) => Err("it verifies".into()),
-        Err(fault) => Ok(fault),
+    )
+    .err();
+    if verified == opened && plain == verified.err() && writer.bytes().is_empty() {
+        plain
+    } else {
+        None
     }
 }
 
@@ -106,161 +106,197 @@ pub(crate) fn fault_of<R: Threads + Sync>(
     bytes: &[u8],
     max_bytes: u64,
     workers: u32,
-) -> Result<OpenFault, Fail>
-    requires max_bytes { max_bytes ≤ 1099511627776 }
-    requires workers { (0 < workers) × (workers ≤ MAX_WORKERS) }
-{
+) -> Option<OpenFault> {
     let fault = fault_in(rt, alloc, bytes, max_bytes, workers, 16)?;
-    if fault_in(rt, alloc, bytes, max_bytes, workers, 1)? != fault {
-        return Err("another window says something else".into());
+    if fault_in(rt, alloc, bytes, max_bytes, workers, 1) == Some(fault) {
+        Some(fault)
+    } else {
+        None
     }
-    Ok(fault)
 }
 
-#[test]
-fn a_bad_chunk_of_any_window_is_named(rt: HostRuntime) -> Result<(), Fail> {
-    let mut bytes = forty_chunks(rt.alloc())?;
-    for chunk in [0, 15, 16, 31, 39] {
-        let place = HEADER + chunk as usize * SEALED;
-        flip(bytes.as_mut_slice(), place, 1);
-        let workers = if chunk % 2 == 0 { 4 } else { 1 };
-        let fault = fault_of(&rt, rt.alloc(), bytes.as_slice(), LIMIT, workers)?;
-        assert!(rt; fault == OpenFault::Forged { chunk });
-        flip(bytes.as_mut_slice(), place, 1);
-    }
-    Ok(())
-}
-
-// With two bad chunks in two windows, and two in one.
-#[test]
-fn the_least_bad_chunk_is_named(rt: HostRuntime) -> Result<(), Fail> {
-    for (least, other) in [(3, 20), (17, 30), (33, 38)] {
-        let mut bytes = forty_chunks(rt.alloc())?;
-        flip(bytes.as_mut_slice(), HEADER + least as usize * SEALED, 1);
-        flip(bytes.as_mut_slice(), HEADER + other * SEALED, 1);
-        let fault = fault_of(&rt, rt.alloc(), bytes.as_slice(), LIMIT, 4)?;
-        assert!(rt; fault == OpenFault::Forged { chunk: least });
-    }
-    Ok(())
-}
-
-// A container that ends with a window has a last chunk that was sealed as one before the last.
-#[test]
-fn a_cut_at_a_window_is_seen(rt: HostRuntime) -> Result<(), Fail> {
-    let bytes = forty_chunks(rt.alloc())?;
-    for chunks in [1, 15, 16, 17, 32, 39] {
-        let end = HEADER + chunks as usize * SEALED;
-        let Some(front) = bytes.as_slice().get(..end) else {
-            return Err("it is shorter".into());
-        };
-        let fault = fault_of(&rt, rt.alloc(), front, LIMIT, 2)?;
-        let last: u32 = chunks - 1;
-        assert!(rt; fault == OpenFault::Forged { chunk: last });
-    }
-    Ok(())
-}
-
-// Reading goes on behind a bad chunk, since a length that is wrong, or too great, comes before it.
-#[test]
-fn a_wrong_length_comes_before_a_bad_chunk(rt: HostRuntime) -> Result<(), Fail> {
-    let mut bytes = forty_chunks(rt.alloc())?;
-    flip(bytes.as_mut_slice(), HEADER, 1);
-    for end in [
-        HEADER + 16 * SEALED + 1,
-        HEADER + 16 * SEALED + 16,
-        HEADER + 20 * SEALED + 5,
-        HEADER + 39 * SEALED + 16,
-    ] {
-        let Some(front) = bytes.as_slice().get(..end) else {
-            return Err("it is shorter".into());
-        };
-        for workers in [1, 4] {
-            let fault = fault_of(&rt, rt.alloc(), front, LIMIT, workers)?;
-            assert!(rt; fault == OpenFault::BadLength);
-        }
-    }
-    let most = 39 * CHUNK as u64;
-    let fault = fault_of(&rt, rt.alloc(), bytes.as_slice(), most, 2)?;
-    assert!(rt; fault == OpenFault::TooLong);
-    let fault = fault_of(&rt, rt.alloc(), bytes.as_slice(), most + 1, 2)?;
-    assert!(rt; fault == OpenFault::Forged { chunk: 0 });
-    Ok(())
-}
-
-// A header with a fault is named only once it is known that the container isn't too long.
-#[test]
-fn a_container_that_is_too_long_comes_before_its_header(rt: HostRuntime) -> Result<(), Fail> {
-    let mut bytes = forty_chunks(rt.alloc())?;
-    flip(bytes.as_mut_slice(), 8, 8);
-    let most = 39 * CHUNK as u64;
-    let fault = fault_of(&rt, rt.alloc(), bytes.as_slice(), most, 1)?;
-    assert!(rt; fault == OpenFault::TooLong);
-    let fault = fault_of(&rt, rt.alloc(), bytes.as_slice(), most + 1, 1)?;
-    assert!(rt; fault == OpenFault::BadVersion);
-    Ok(())
-}
-
-// Whether a container opens to this plaintext and verifies, by so many workers in windows of so many chunks.
-pub(crate) fn opens_in<R: Threads + Sync>(
+// Whether so many bytes of a container are refused so, by so many workers where so many plaintext bytes are allowed.
+fn is_refused_so<R: Threads + Sync>(
     rt: &R,
     alloc: Global,
     bytes: &[u8],
-    plain: &[u8],
+    kept: usize,
+    max_bytes: u64,
     workers: u32,
-    window: u32,
-) -> Result<bool, Fail>
-    requires workers { (0 < workers) × (workers ≤ MAX_WORKERS) }
-    requires window { (0 < window) × (window ≤ MAX_WINDOW) }
-{
-    let key = Key::new(COUNTING);
-    let mut reader = FromMemory::new(bytes, 70_001, Schedule::Never);
-    let opened = run_plain_by(rt, alloc, &key, &mut reader, LIMIT, workers, window, &Free)?;
-    let mut reader = FromMemory::new(bytes, MOST, Schedule::Never);
-    let verified = run_verify_by(rt, alloc, &key, &mut reader, LIMIT, workers, window, &Free)?;
-    Ok(opened.as_slice() == plain && verified == plain.len() as u64)
+    fault: OpenFault,
+) -> bool {
+    match bytes.get(..kept) {
+        Some(front) => fault_of(rt, alloc, front, max_bytes, workers) == Some(fault),
+        None => false,
+    }
+}
+
+// Changes a bit of each of these chunks.
+fn flip_chunks(bytes: &mut [u8], chunks: &[u8]) {
+    for chunk in chunks {
+        flip(bytes, HEADER + usize::from(*chunk) * SEALED, 1);
+    }
+}
+
+// Chunks that are changed, how many workers open the container, and the chunk that is named.
+static BAD_CHUNKS: [(&[u8], u32, u32); 11] = [
+    // One of any window.
+    (&[0], 4, 0),
+    (&[15], 1, 15),
+    (&[16], 4, 16),
+    (&[31], 1, 31),
+    (&[39], 1, 39),
+    // Two of two windows, and of one.
+    (&[3, 20], 4, 3),
+    (&[17, 30], 4, 17),
+    (&[33, 38], 4, 33),
+    (&[5, 2], 1, 2),
+    (&[5, 2], 4, 2),
+    (&[5, 2], 16, 2),
+];
+
+// Whether so many workers name this chunk of the container where these are changed. It is whole again then.
+fn is_least_named<R: Threads + Sync>(
+    rt: &R,
+    alloc: Global,
+    bytes: &mut [u8],
+    chunks: &[u8],
+    workers: u32,
+    least: u32,
+) -> bool {
+    flip_chunks(bytes, chunks);
+    let named = fault_of(rt, alloc, bytes, LIMIT, workers);
+    flip_chunks(bytes, chunks);
+    named == Some(OpenFault::Forged { chunk: least })
 }
 
 #[test]
-fn whole_windows_open(rt: HostRuntime) -> Result<(), Fail> {
-    let key = Key::new(COUNTING);
-    for length in [16 * CHUNK - 1, 16 * CHUNK, 16 * CHUNK + 1, 32 * CHUNK] {
-        let plain = pattern(rt.alloc(), length)?;
-        let bytes = seal(rt.alloc(), &key, &Shape::one(), PREFIX, plain.as_slice())?;
-        for (workers, window) in [(1, 16), (3, 16), (2, 1), (4, 5), (3, 256)] {
-            let opens = opens_in(
+fn the_least_bad_chunk_of_any_window_is_named(rt: HostRuntime) -> Result<(), Fail> {
+    let mut bytes = forty_chunks(rt.alloc()).ok_or("no container")?;
+    for (chunks, workers, least) in &BAD_CHUNKS {
+        assert!(rt;
+            is_least_named(
                 &rt,
                 rt.alloc(),
-                bytes.as_slice(),
-                plain.as_slice(),
-                workers,
-                window,
-            )?;
-            assert!(rt; opens);
+                bytes.as_mut_slice(),
+                chunks,
+                *workers,
+                *least
+            ),
+            "{least} by {workers}"
+        );
+    }
+    Ok(())
+}
+
+// How many bytes are left of the container, and the fault.
+static CUTS: [(usize, OpenFault); 15] = [
+    // A container that ends with a window, or a chunk, has a last chunk that was sealed as one before the last.
+    (HEADER + SEALED, OpenFault::Forged { chunk: 0 }),
+    (HEADER + 15 * SEALED, OpenFault::Forged { chunk: 14 }),
+    (HEADER + 16 * SEALED, OpenFault::Forged { chunk: 15 }),
+    (HEADER + 17 * SEALED, OpenFault::Forged { chunk: 16 }),
+    (HEADER + 32 * SEALED, OpenFault::Forged { chunk: 31 }),
+    (HEADER + 39 * SEALED, OpenFault::Forged { chunk: 38 }),
+    // Nothing, a header cut short, and all of it.
+    (0, OpenFault::ShortHeader),
+    (HEADER - 1, OpenFault::ShortHeader),
+    (HEADER, OpenFault::BadLength),
+    // Of chunk 0 less than a tag, as much, and all but a byte.
+    (HEADER + 15, OpenFault::BadLength),
+    (HEADER + 16, OpenFault::Forged { chunk: 0 }),
+    (HEADER + SEALED - 1, OpenFault::Forged { chunk: 0 }),
+    // Of chunk 1 a byte, a tag, and both.
+    (HEADER + SEALED + 1, OpenFault::BadLength),
+    (HEADER + SEALED + 16, OpenFault::BadLength),
+    (HEADER + SEALED + 17, OpenFault::Forged { chunk: 1 }),
+];
+
+#[test]
+fn a_cut_is_seen_at_a_window_and_elsewhere(rt: HostRuntime) -> Result<(), Fail> {
+    let bytes = forty_chunks(rt.alloc()).ok_or("no container")?;
+    for (kept, fault) in &CUTS {
+        assert!(rt;
+            is_refused_so(&rt, rt.alloc(), bytes.as_slice(), *kept, LIMIT, 2, *fault),
+            "{kept}"
+        );
+    }
+    Ok(())
+}
+
+// How many bytes are left of the container whose chunk 0 doesn't check, how many plaintext bytes are allowed, and the
+// fault. Reading goes on behind a bad chunk, since a length that is wrong, or too great, comes before it.
+static LENGTHS: [(usize, u64, OpenFault); 6] = [
+    (HEADER + 16 * SEALED + 1, LIMIT, OpenFault::BadLength),
+    (HEADER + 16 * SEALED + 16, LIMIT, OpenFault::BadLength),
+    (HEADER + 20 * SEALED + 5, LIMIT, OpenFault::BadLength),
+    (FORTY - 1, LIMIT, OpenFault::BadLength),
+    (FORTY, PLAIN - 1, OpenFault::TooLong),
+    (FORTY, PLAIN, OpenFault::Forged { chunk: 0 }),
+];
+
+#[test]
+fn a_wrong_length_comes_before_a_bad_chunk(rt: HostRuntime) -> Result<(), Fail> {
+    let mut bytes = forty_chunks(rt.alloc()).ok_or("no container")?;
+    flip(bytes.as_mut_slice(), HEADER, 1);
+    for (kept, most, fault) in &LENGTHS {
+        for workers in [1, 4] {
+            assert!(rt;
+                is_refused_so(
+                    &rt,
+                    rt.alloc(),
+                    bytes.as_slice(),
+                    *kept,
+                    *most,
+                    workers,
+                    *fault
+                ),
+                "{kept} {most} by {workers}"
+            );
         }
     }
     Ok(())
 }
 
-// A reader that fails in any window is Read, and nothing else.
+// A byte of the header that is changed, how many plaintext bytes are allowed, and the fault. A header with a fault is
+// named only once it is known that the container isn't too long.
+static HEADERS: [(usize, u64, OpenFault); 9] = [
+    (8, PLAIN - 1, OpenFault::TooLong),
+    (8, PLAIN, OpenFault::BadVersion),
+    // The magic's first and last, the exponent, the prefix's first and last, and the hint's.
+    (0, PLAIN, OpenFault::BadMagic),
+    (7, PLAIN, OpenFault::BadMagic),
+    (9, PLAIN, OpenFault::BadExponent),
+    (10, PLAIN, OpenFault::Forged { chunk: 0 }),
+    (16, PLAIN, OpenFault::Forged { chunk: 0 }),
+    (17, PLAIN, OpenFault::KeyMismatch),
+    (23, PLAIN, OpenFault::KeyMismatch),
+];
+
+// Whether the container is refused so by 1 and 4 workers where this byte is changed. It is whole again then.
+fn is_header_refused<R: Threads + Sync>(
+    rt: &R,
+    alloc: Global,
+    bytes: &mut [u8],
+    place: usize,
+    max_bytes: u64,
+    fault: OpenFault,
+) -> bool {
+    flip(bytes, place, 1);
+    let refused = is_refused_so(rt, alloc, bytes, FORTY, max_bytes, 1, fault)
+        && is_refused_so(rt, alloc, bytes, FORTY, max_bytes, 4, fault);
+    flip(bytes, place, 1);
+    refused
+}
+
 #[test]
-fn a_failed_read_in_any_window_is_read_failed(rt: HostRuntime) -> Result<(), Fail> {
-    let key = Key::new(COUNTING);
-    let bytes = forty_chunks(rt.alloc())?;
-    for after in [
-        0,
-        23,
-        24,
-        HEADER + 5,
-        HEADER + 16 * SEALED,
-        HEADER + 16 * SEALED + 1,
-        HEADER + 35 * SEALED,
-    ] {
-        let mut reader = FromMemory::new(bytes.as_slice(), MOST, Schedule::Bytes(after as u64));
-        let verified = run_verify(&rt, rt.alloc(), &key, &mut reader, LIMIT, 2, &Free);
-        assert!(rt; verified == Err(OpenFault::Read));
-        let mut reader = FromMemory::new(bytes.as_slice(), MOST, Schedule::Bytes(after as u64));
-        let opened = run_plain(&rt, rt.alloc(), &key, &mut reader, LIMIT, 2, &Free).err();
-        assert!(rt; opened == Some(OpenFault::Read));
+fn a_container_that_is_too_long_comes_before_its_header(rt: HostRuntime) -> Result<(), Fail> {
+    let mut bytes = forty_chunks(rt.alloc()).ok_or("no container")?;
+    for (place, most, fault) in &HEADERS {
+        assert!(rt;
+            is_header_refused(&rt, rt.alloc(), bytes.as_mut_slice(), *place, *most, *fault),
+            "byte {place}, {most}"
+        );
     }
     Ok(())
 }

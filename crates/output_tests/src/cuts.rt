@@ -1,7 +1,6 @@
 //! A container is taken in parts, wherever it is cut.
 use crate::holds_both;
 use container_core::{Key, Shape};
-use crew_tests::COUNTING;
 use std::alloc::Global;
 
 // Of three chunks of 4 KiB, the last one of a byte.
@@ -15,7 +14,7 @@ static ENDS: [usize; 12] = [
 
 // Whether an output holds the container of version 1, and that of version 2, wherever it is cut.
 fn all_hold(alloc: Global) -> Option<bool> {
-    let key = Key::new(COUNTING);
+    let key = Key::new([7; 32]);
     let prefix = [1, 2, 3, 4, 5, 6, 7];
     let one = Shape::one();
     let two = Shape::two(12, b"home").ok()?;

@@ -7,8 +7,6 @@ pub mod bounded;
 #[cfg(test)]
 mod cuts;
 pub mod parts;
-#[cfg(test)]
-mod sealed;
 
 pub use crate::bounded::Bounded;
 pub use crate::parts::holds_both;

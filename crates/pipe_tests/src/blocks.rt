@@ -3,8 +3,9 @@
 //! middle.
 use crate::containers::{MANY_CHUNKS, MANY_ROUNDS, ONE_ROUND};
 use crate::gates::Passes;
-use crate::pipes::{container, in_rounds, known, pattern, small};
+use crate::pipes::{container, in_rounds, known, small};
 use container_core::{SealFault, Shape};
+use crew_tests::pattern;
 use io_memory::{FromMemory, Schedule, ToMemory};
 use std::alloc::Global;
 use std::sync::Wait;
@@ -317,7 +318,29 @@ fn limits_and_faults_inside_a_block(rt: HostRuntime) {
     }
 }
 
-// Whether each of 64 chunks is passed once, under its own number, and so many workers meet, and nobody else comes.
+// Whether each of the 64 chunks of a plaintext is passed once, under its own number, and so many workers meet, and
+// nobody else comes.
+fn pass_all<T: Threads + Wait + Sync>(
+    rt: &T,
+    alloc: Global,
+    shape: &Shape,
+    plain: &[u8],
+    whole: &[u8],
+    workers: u32,
+    window: u32,
+) -> Option<bool> {
+    let gate = Passes::new(alloc, u64::from(workers), TURNS).ok()?;
+    let asked = Asked {
+        workers,
+        window,
+        step: 70_001,
+    };
+    let right = writes(rt, alloc, shape, plain, asked, End::Input, &gate, whole) == Some(true);
+    let all = gate.is_each_once() && gate.is_by_all_of(workers as usize);
+    Some(right && all && !gate.gave_up())
+}
+
+// The same of 64 chunks of the pattern.
 fn all_pass<T: Threads + Wait + Sync>(
     rt: &T,
     alloc: Global,
@@ -326,18 +349,16 @@ fn all_pass<T: Threads + Wait + Sync>(
 ) -> Option<bool> {
     let shape = small()?;
     let plain = pattern(alloc, 262_144).ok()?;
-    let plain = plain.as_slice();
-    let whole = known(alloc, &shape, plain, &MANY_CHUNKS)?;
-    let whole = whole.as_slice();
-    let gate = Passes::new(alloc, u64::from(workers), TURNS).ok()?;
-    let asked = Asked {
+    let whole = known(alloc, &shape, plain.as_slice(), &MANY_CHUNKS)?;
+    pass_all(
+        rt,
+        alloc,
+        &shape,
+        plain.as_slice(),
+        whole.as_slice(),
         workers,
         window,
-        step: 70_001,
-    };
-    let right = writes(rt, alloc, &shape, plain, asked, End::Input, &gate, whole)?;
-    let all = gate.is_each_once() && gate.is_by_all_of(workers as usize);
-    Some(right && all && !gate.gave_up())
+    )
 }
 
 #[test]

@@ -1,7 +1,8 @@
 //! Readers and writers that fail: the fault is theirs, and what was written begins the container.
 use crate::containers::{LENGTHS, TWO_CHUNKS};
-use crate::pipes::{Asked, known, pattern, piped, small, zeros};
+use crate::pipes::{Asked, known, piped, small};
 use container_core::{SealFault, Shape};
+use crew_tests::{pattern, zeros};
 use io_memory::{FromMemory, Schedule, ToMemory};
 use std::alloc::Global;
 use std::sync::Wait;

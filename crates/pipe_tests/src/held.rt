@@ -2,7 +2,9 @@
 //! is, keeps nobody waiting.
 use crate::containers::TWO_CHUNKS;
 use crate::gates::Crossing;
-use crate::pipes::{Asked, known, piped, small, zeros};
+use crate::pipes::{Asked, known, piped, small};
+use container_core::Shape;
+use crew_tests::zeros;
 use io_core::FromRead;
 use io_memory::{Schedule, ToMemory};
 use std::alloc::Global;
@@ -43,19 +45,19 @@ impl Read for Held<'_> {
     }
 }
 
-// Whether the reader and the gate give up where so many workers seal two small chunks to their container.
-fn give_up<T: Threads + Wait + Sync>(
+// Whether the reader and the gate give up where so many workers seal a plaintext to its container.
+fn give_up_over<T: Threads + Wait + Sync>(
     rt: &T,
     alloc: Global,
+    shape: &Shape,
+    plain: &[u8],
+    container: &[u8],
     workers: u32,
     turns: u64,
 ) -> Option<(bool, bool)> {
-    let shape = small()?;
-    let plain = zeros(alloc, 8_192).ok()?;
-    let container = known(alloc, &shape, plain.as_slice(), &TWO_CHUNKS)?;
     let gate = Crossing::new(turns);
     let mut reader = FromRead(Held {
-        rest: plain.as_slice(),
+        rest: plain,
         given: 0,
         gate: &gate,
         gave_up: false,
@@ -66,21 +68,48 @@ fn give_up<T: Threads + Wait + Sync>(
         workers,
         depth: 4,
     };
-    let answer = piped(rt, alloc, &shape, &mut reader, &mut writer, asked, &gate)?;
-    if answer == Ok(8_192) && writer.bytes() == container.as_slice() {
+    let answer = piped(rt, alloc, shape, &mut reader, &mut writer, asked, &gate)?;
+    if answer == Ok(8_192) && writer.bytes() == container {
         Some((reader.0.gave_up, gate.gave_up()))
     } else {
         None
     }
 }
 
-#[test]
-fn two_workers_meet_a_held_reader(rt: HostRuntime) {
-    assert!(rt; give_up(&rt, rt.alloc(), 2, TURNS) == Some((false, false)));
+// The same of two small chunks.
+fn give_up<T: Threads + Wait + Sync>(
+    rt: &T,
+    alloc: Global,
+    workers: u32,
+    turns: u64,
+) -> Option<(bool, bool)> {
+    let shape = small()?;
+    let plain = zeros(alloc, 8_192).ok()?;
+    let container = known(alloc, &shape, plain.as_slice(), &TWO_CHUNKS)?;
+    give_up_over(
+        rt,
+        alloc,
+        &shape,
+        plain.as_slice(),
+        container.as_slice(),
+        workers,
+        turns,
+    )
 }
 
-// That the test above can fail: one worker seals nothing beside the reading, and one chunk after the other.
+// How many workers seal, how often reader and gate look, and whether both give up.
+static MEETINGS: [(u32, u64, bool); 2] = [
+    (2, TURNS, false),
+    // That this can fail: one worker seals nothing beside the reading, and one chunk after the other.
+    (1, FEW_TURNS, true),
+];
+
 #[test]
-fn one_worker_meets_nobody(rt: HostRuntime) {
-    assert!(rt; give_up(&rt, rt.alloc(), 1, FEW_TURNS) == Some((true, true)));
+fn two_workers_meet_a_held_reader(rt: HostRuntime) {
+    for (workers, turns, both) in &MEETINGS {
+        assert!(rt;
+            give_up(&rt, rt.alloc(), *workers, *turns) == Some((*both, *both)),
+            "{workers}"
+        );
+    }
 }

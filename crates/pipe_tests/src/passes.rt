@@ -1,7 +1,8 @@
 //! Who passes the gate with which chunk: each of 64 chunks once, and all workers.
 use crate::containers::MANY_CHUNKS;
 use crate::gates::Passes;
-use crate::pipes::{Asked, known, pattern, seals_to, small};
+use crate::pipes::{Asked, known, seals_to, small};
+use crew_tests::pattern;
 use std::alloc::Global;
 use std::sync::Wait;
 use std::thread::Threads;
@@ -10,39 +11,25 @@ const TURNS: u64 = 1_000_000_000;
 
 const FEW_TURNS: u64 = 1_000;
 
-// The gate at which so many workers have sealed 64 small chunks to their container, where so many passes meet.
-fn passed<T: Threads + Wait + Sync>(
+// Whether so many workers seal 64 small chunks to their container, and pass a gate.
+fn are_passed<T: Threads + Wait + Sync>(
     rt: &T,
     alloc: Global,
     workers: u32,
     depth: u32,
-    wanted: u64,
-    turns: u64,
-) -> Option<Passes> {
+    gate: &Passes,
+) -> Option<bool> {
     let shape = small()?;
     let plain = pattern(alloc, 262_144).ok()?;
     let plain = plain.as_slice();
     let container = known(alloc, &shape, plain, &MANY_CHUNKS)?;
-    let gate = Passes::new(alloc, wanted, turns).ok()?;
+    let container = container.as_slice();
     let asked = Asked {
         max_chunks: 64,
         workers,
         depth,
     };
-    if seals_to(
-        rt,
-        alloc,
-        &shape,
-        plain,
-        70_001,
-        asked,
-        &gate,
-        container.as_slice(),
-    ) {
-        Some(gate)
-    } else {
-        None
-    }
+    Some(seals_to(rt, alloc, &shape, plain, 70_001, asked, gate, container))
 }
 
 // Whether so many workers meet, each chunk is passed once, and by nobody else.
@@ -52,8 +39,10 @@ fn all_pass<T: Threads + Wait + Sync>(
     workers: u32,
     depth: u32,
 ) -> Option<bool> {
-    let gate = passed(rt, alloc, workers, depth, u64::from(workers), TURNS)?;
-    Some(gate.is_each_once() && gate.is_by_all_of(workers as usize) && !gate.gave_up())
+    let gate = Passes::new(alloc, u64::from(workers), TURNS).ok()?;
+    let sealed = are_passed(rt, alloc, workers, depth, &gate) == Some(true);
+    let all = gate.is_each_once() && gate.is_by_all_of(workers as usize);
+    Some(sealed && all && !gate.gave_up())
 }
 
 #[test]
@@ -77,8 +66,9 @@ fn all_workers_pass_with_each_chunk_once(rt: HostRuntime) {
 
 // Whether the gate that five are wanted at gives up by four workers.
 fn four_miss_a_fifth<T: Threads + Wait + Sync>(rt: &T, alloc: Global) -> Option<bool> {
-    let gate = passed(rt, alloc, 4, 4, 5, FEW_TURNS)?;
-    Some(gate.is_each_once() && gate.gave_up())
+    let gate = Passes::new(alloc, 5, FEW_TURNS).ok()?;
+    let sealed = are_passed(rt, alloc, 4, 4, &gate) == Some(true);
+    Some(sealed && gate.is_each_once() && gate.gave_up())
 }
 
 // That the test above can fail.

@@ -3,23 +3,15 @@ ghost use Rattle.std.specs.Prelude.{◌≡◌, drop, take, true};
 ghost use Rattle.container_core.specs.Container.{hint_of};
 
 use container_core::{Header, Key, MAX_PLAIN, SealFault, Shape, seal};
+use crew_tests::{PREFIX, counting_key};
 use io_core::{Sink, Source};
 use io_memory::{FromMemory, Schedule, ToMemory};
 use pipe_core::{MAX_DEPTH, pipe, pipe_rounds};
 use sha2::{Digest, Sha256};
-use std::alloc::{AllocError, Global};
+use std::alloc::Global;
 use std::sync::Wait;
 use std::thread::Threads;
 use worker_core::{Free, Gate, MAX_WINDOW, MAX_WORKERS};
-
-/// 00 01 .. 1f.
-const COUNTING: [u8; 32] = [
-    0, 1, 2, 3, 4, 5, 6, 7, 8, 9, 10, 11, 12, 13, 14, 15, 16, 17, 18, 19, 20, 21, 22, 23, 24, 25,
-    26, 27, 28, 29, 30, 31,
-];
-
-/// Device 1, file 0.
-const PREFIX: [u8; 7] = [0, 0, 1, 0, 0, 0, 0];
 
 /// How a stream is sealed: at most so many chunks, by so many workers, with so many chunks read and not written.
 #[derive(Clone, Copy)]
@@ -34,27 +26,14 @@ pub fn small() -> Option<Shape> {
     Shape::two(12, b"").ok()
 }
 
-fn fill_pattern(bytes: &mut [u8]) {
-    for (i, byte) in bytes.iter_mut().enumerate() {
-        *byte = (i % 251) as u8;
-    }
+/// The container of a plaintext.
+pub fn container(alloc: Global, shape: &Shape, plain: &[u8]) -> Option<Vec<u8>> {
+    seal(alloc, &counting_key(), shape, PREFIX, plain).ok()
 }
 
-/// So many bytes that don't repeat at a chunk's length: byte i is i modulo 251.
-pub fn pattern(alloc: Global, count: usize) -> Result<Vec<u8>, AllocError> {
-    let mut bytes = vec![in alloc; 0; count]?;
-    fill_pattern(bytes.as_mut_slice());
-    Ok(bytes)
-}
-
-/// So many zero bytes.
-pub fn zeros(alloc: Global, count: usize) -> Result<Vec<u8>, AllocError> {
-    vec![in alloc; 0; count]
-}
-
-/// The container of a plaintext, where its SHA-256 is this one.
+/// The same, where its SHA-256 is this one.
 pub fn known(alloc: Global, shape: &Shape, plain: &[u8], digest: &[u8; 32]) -> Option<Vec<u8>> {
-    let bytes = seal(alloc, &Key::new(COUNTING), shape, PREFIX, plain).ok()?;
+    let bytes = container(alloc, shape, plain)?;
     if Sha256::digest(bytes.as_slice()) == *digest {
         Some(bytes)
     } else {
@@ -80,7 +59,7 @@ pub fn piped<T: Threads + Wait + Sync, R: Source, W: Sink, G: Gate + Sync>(
     asked: Asked,
     gate: &G,
 ) -> Option<Result<u64, SealFault>> {
-    let key = Key::new(COUNTING);
+    let key = counting_key();
     let header = Header::of(&key, shape, PREFIX);
     let Asked {
         max_chunks,
@@ -113,7 +92,7 @@ pub fn in_rounds<T: Threads + Wait + Sync, R: Source, W: Sink, G: Gate + Sync>(
     window: u32,
     gate: &G,
 ) -> Option<Result<u64, SealFault>> {
-    let key = Key::new(COUNTING);
+    let key = counting_key();
     let header = Header::of(&key, shape, PREFIX);
     if max_bytes > MAX_PLAIN
         || workers == 0
@@ -127,11 +106,6 @@ pub fn in_rounds<T: Threads + Wait + Sync, R: Source, W: Sink, G: Gate + Sync>(
     Some(pipe_rounds(
         rt, alloc, &key, &header, reader, writer, max_bytes, workers, window, gate,
     ))
-}
-
-/// The container of a plaintext.
-pub fn container(alloc: Global, shape: &Shape, plain: &[u8]) -> Option<Vec<u8>> {
-    seal(alloc, &Key::new(COUNTING), shape, PREFIX, plain).ok()
 }
 
 /// The answer over memory where nothing fails, and what was written, where so many bytes are read and written a call.

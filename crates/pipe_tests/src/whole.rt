@@ -1,45 +1,15 @@
 //! Whole streams, with the most chunks and one byte more, of all lengths beside a chunk's, and a byte a call. What they
 //! have to give is of Python's `cryptography`, in `containers`.
-use crate::containers::{A_BYTE_MORE, A_PART_MORE, EMPTY, LENGTHS, TWO_CHUNKS};
-use crate::pipes::{Asked, known, pattern, piped, seals_freely, seals_to, small, zeros};
-use container_core::{Key, SealFault, Shape, seal};
+use crate::containers::{A_BYTE_MORE, A_PART_MORE, LENGTHS};
+use crate::pipes::{Asked, known, piped, seals_freely, seals_to, small};
+use container_core::{SealFault, Shape};
+use crew_tests::{pattern, zeros};
 use io_core::{Failed, fill};
 use io_memory::{FromMemory, Schedule, ToMemory};
 use std::alloc::Global;
 use std::sync::Wait;
-use std::test::Fail;
 use std::thread::Threads;
 use worker_core::Free;
-
-// Two workers that seal at most two chunks, of which four may be read and not written.
-const TWO: Asked = Asked {
-    max_chunks: 2,
-    workers: 2,
-    depth: 4,
-};
-
-fn seals_two_chunks<T: Threads + Wait + Sync>(rt: &T, alloc: Global) -> Option<bool> {
-    let shape = small()?;
-    let plain = zeros(alloc, 8_192).ok()?;
-    let plain = plain.as_slice();
-    let container = known(alloc, &shape, plain, &TWO_CHUNKS)?;
-    let container = container.as_slice();
-    Some(container.len() == 8_249 && seals_freely(rt, alloc, &shape, plain, TWO, container))
-}
-
-#[test]
-fn two_chunks_of_two(rt: HostRuntime) {
-    assert!(rt; seals_two_chunks(&rt, rt.alloc()) == Some(true));
-}
-
-fn seals_no_byte<T: Threads + Wait + Sync>(rt: &T, alloc: Global) -> Option<bool> {
-    Some(seals_freely(rt, alloc, &small()?, b"", TWO, &EMPTY))
-}
-
-#[test]
-fn no_byte(rt: HostRuntime) {
-    assert!(rt; seals_no_byte(&rt, rt.alloc()) == Some(true));
-}
 
 // How many bytes a reader has left, of 4,096 at most.
 fn left_of(reader: &mut FromMemory<'_>) -> Option<usize> {
@@ -50,8 +20,34 @@ fn left_of(reader: &mut FromMemory<'_>) -> Option<usize> {
     }
 }
 
-// How many bytes of so many zeros are left unread where two chunks are allowed, and more are there. What was written
-// begins their container.
+// How many bytes of a plaintext are left unread where two chunks are allowed, and more are there. What was written
+// begins its container.
+fn left_behind<T: Threads + Wait + Sync>(
+    rt: &T,
+    alloc: Global,
+    shape: &Shape,
+    plain: &[u8],
+    container: &[u8],
+    workers: u32,
+    depth: u32,
+) -> Option<usize> {
+    let mut reader = FromMemory::new(plain, 1_000, Schedule::Never);
+    let mut writer = ToMemory::new(alloc, plain.len(), usize::MAX, Schedule::Never).ok()?;
+    let asked = Asked {
+        max_chunks: 2,
+        workers,
+        depth,
+    };
+    let answer = piped(rt, alloc, shape, &mut reader, &mut writer, asked, &Free)?;
+    let begun = container.starts_with(writer.bytes()) && writer.bytes().len() >= 25;
+    if answer == Err(SealFault::TooManyChunks) && begun {
+        left_of(&mut reader)
+    } else {
+        None
+    }
+}
+
+// The same of so many zeros, whose container has this SHA-256.
 fn leaves<T: Threads + Wait + Sync>(
     rt: &T,
     alloc: Global,
@@ -63,20 +59,15 @@ fn leaves<T: Threads + Wait + Sync>(
     let shape = small()?;
     let plain = zeros(alloc, count).ok()?;
     let container = known(alloc, &shape, plain.as_slice(), digest)?;
-    let mut reader = FromMemory::new(plain.as_slice(), 1_000, Schedule::Never);
-    let mut writer = ToMemory::new(alloc, count, usize::MAX, Schedule::Never).ok()?;
-    let asked = Asked {
-        max_chunks: 2,
+    left_behind(
+        rt,
+        alloc,
+        &shape,
+        plain.as_slice(),
+        container.as_slice(),
         workers,
         depth,
-    };
-    let answer = piped(rt, alloc, &shape, &mut reader, &mut writer, asked, &Free)?;
-    let begun = container.as_slice().starts_with(writer.bytes()) && writer.bytes().len() >= 25;
-    if answer == Err(SealFault::TooManyChunks) && begun {
-        left_of(&mut reader)
-    } else {
-        None
-    }
+    )
 }
 
 #[test]

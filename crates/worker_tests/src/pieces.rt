@@ -3,15 +3,12 @@ ghost use Rattle.std.specs.Prelude.{◌≡◌, ◌^◌, ◌<◌, ◌≤◌, IfSo
 ghost use Rattle.container_core.specs.Chunks.{chunk_count};
 ghost use Rattle.container_core.specs.Container.{size_in};
 
-use container_core::{Cut, Header, Key, Shape};
-use crew_tests::COUNTING;
+use container_core::{Cut, Header, Shape};
+use crew_tests::{PREFIX, counting_key};
 use round_core::{Places, Round, Task};
 use std::alloc::{AllocError, Global};
 use std::thread::Threads;
 use worker_core::{Crew, Gate, MAX_WORKERS};
-
-// Device 1, file 0.
-pub const PREFIX: [u8; 7] = [0, 0, 1, 0, 0, 0, 0];
 
 // The pieces of a round, made by a new crew beside a chore, which has to be done once.
 pub fn pieces_of<R: Threads + Sync, G: Gate + Sync>(
@@ -90,7 +87,7 @@ pub fn seals_to<R: Threads + Sync, G: Gate + Sync>(
     requires first { first ≤ 32 }
     requires workers { (0 < workers) × (workers ≤ MAX_WORKERS) }
 {
-    let key = Key::new(COUNTING);
+    let key = counting_key();
     let header = Header::of(&key, shape, PREFIX);
     let cut = cut_of(&header, plain.len())?;
     let round = Round::new(Task::Sealing, &key, &header, first, last, cut, plain);

@@ -1,12 +1,12 @@
-//! A plaintext is sealed into an output that knows what it may hold.
+//! A plaintext is sealed into an output that knows what it may hold, in which any other write has no proof.
 ghost use Rattle.std.specs.Prelude.{◌≤◌, ◌<◌};
 
-use crate::Bounded;
-use container_core::{Key, Shape, seal};
+use container_core::{Shape, seal};
 use crew_core::{Free, MAX_WORKERS};
-use crew_tests::{COUNTING, grant_of, pattern};
+use crew_tests::{counting_key, grant_of, pattern};
 use engine_core::run_seal_by;
 use io_memory::{FromMemory, Schedule};
+use output_tests::Bounded;
 use std::alloc::Global;
 use std::sync::Wait;
 use std::thread::Threads;
@@ -27,7 +27,7 @@ fn holds_sealed<T: Threads + Wait + Sync>(
 ) -> Option<bool>
     requires workers { (0 < workers) × (workers ≤ MAX_WORKERS) }
 {
-    let key = Key::new(COUNTING);
+    let key = counting_key();
     let grant = grant_of(alloc, 5)?;
     let prefix = grant.prefix();
     let whole = seal(alloc, &key, shape, prefix, plain).ok()?;

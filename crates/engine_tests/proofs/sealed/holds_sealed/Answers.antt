@@ -2,7 +2,7 @@ use Rattle.std.proofs.Common.{◌≡◌, ◌∙◌, List, ℕ, [], ◌++◌, Som
 use Rattle.container_core.specs.Container.{container}
 use Rattle.container_core.specs.Shape.{ShapeView}
 use Rattle.output_core.specs.Bounds.{Admits, Container}
-use Rattle.output_tests.proofs.sealed.holds_sealed.Goals as goal
+use Rattle.engine_tests.proofs.sealed.holds_sealed.Goals as goal
 
 -- an output that took nothing may take the container of any plaintext
 admits_whole : (key key' prefix prefix' taken plain : List ℕ) (shape shape' : ShapeView) → taken ≡ []
