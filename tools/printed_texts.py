@@ -38,13 +38,13 @@ NEVER = (
 UNPRINTED = {
     "Failed": "a stream's: read failed, or write failed",
     "FolderFault": "an output's: output exists, or cannot create",
-    "BookFault": "of one lane's ledger: IssueFault",
-    "OpenLedgerFault": "ledger: out of memory",
-    "IssueFault": "no file number, or out of memory",
+    "BookFault": "a Book's, which the program doesn't have",
+    "OpenLedgerFault": "ledger: out of memory, of RunFault",
+    "IssueFault": "no file number, or out of memory, of FileFault",
     "SettleFault": "it can't come of a number that was granted",
     "BadRange": "it can't come of a range that was reserved",
-    "PutFault": "it can't come of a container's own pieces",
-    "ShelfFault": "of a container's pieces: OpenFault",
+    "PutFault": "a Shelf's, which the program doesn't have",
+    "ShelfFault": "the same",
 }
 # Of each command what its lines on standard output, those of pipe on standard error, tell.
 LINES = {
