@@ -3,8 +3,8 @@
 
 Compared of each command: that all three have it, its options with the word for their value, which of them are required,
 the ranges and the defaults that --help gives; of the two documents the synopsis too, which is held against the options.
-The texts of faults are the same in the tables of the manual, in its section on faults and under DIAGNOSTICS of the page,
-and their parts, between colons and numbers, are in the code.
+The texts of faults, and the lines of files, journals and ledgers, are those that the program can print by its sources
+(printed_texts.py): none else, and all of them, of each command in the manual's tables, and in its section on faults and the page.
 README.md is short, and no link between the documents leads nowhere. Prints what differs, with status 1, or how much was compared.
 """
 import re
@@ -12,10 +12,33 @@ import subprocess
 import sys
 from pathlib import Path
 
+sys.dont_write_bytecode = True
+import printed_texts
+
 TOP = Path(__file__).resolve().parent.parent
 PROGRAM = TOP / "crates/sealer/out/sealer"
 # What --help has in every command; the documents tell of it once.
 HELP = "help"
+# The commands that a section of the manual tells of.
+SECTIONS = {
+    "Sealing": ["seal"],
+    "Sealing a stream": ["pipe"],
+    "Opening and verifying": ["open", "verify"],
+    "Auditing": ["audit"],
+    "What a ledger holds": ["ledger"],
+}
+# What isn't of the sources: the parser's text where memory is refused; its others and the loader's, which only the section on faults has.
+OF_PARSER = "error: out of memory"
+IN_SECTION_ALONE = {"error: ..", "this machine lacks a feature of x86-64-v3"}
+# The headings of the tables of texts, and which texts these are.
+HEADINGS = {
+    "FAULT": "failed",
+    "on standard error": "errors",
+    "text, on standard error": "errors",
+    "line on standard output": "lines",
+    "line on standard error": "lines",
+    "it prints on standard output": "lines",
+}
 
 
 class Option:
@@ -102,9 +125,9 @@ def rows_below(text):
 
 def from_manual(text):
     """The commands of docs/MANUAL.md, and of each its synopsis."""
-    sections = dict(re.findall(r"^## (.*?)\n(.*?)(?=^## |\Z)", text, re.M | re.S))
+    sections = sections_of(text)
     commands, lines = {}, {}
-    for section in ("Sealing", "Sealing a stream", "Opening and verifying", "Auditing", "What a ledger holds"):
+    for section in SECTIONS:
         body = sections[section]
         block = re.search(r"```text\n(.*?)```", body, re.S).group(1)
         for name, words in re.findall(r"^sealer (\w+)((?:.|\n )*)", block, re.M):
@@ -159,28 +182,108 @@ def from_page(text):
     return commands, lines
 
 
-def faults_of_manual(text):
-    """The texts in the tables of the manual, and those of its section on faults."""
-    tables, section = set(), set()
-    for where, body in re.findall(r"^## (.*?)\n(.*?)(?=^## |\Z)", text, re.M | re.S):
-        heading = None
-        for cells in rows_below(body):
-            if set(cells[0]) <= {"-"}:
-                continue
-            if cells[0] in ("FAULT", "on standard error", "text"):
-                heading = cells[0]
-            elif not re.match(r"`", cells[0]):
-                heading = None
-            elif heading:
-                texts = re.findall(r"`([^`]*)`", cells[0])
-                (section if where == "What to do at a fault" else tables).update(texts)
-    return tables, section
+def sections_of(text):
+    """The sections of the manual, by their headings."""
+    return dict(re.findall(r"^## (.*?)\n(.*?)(?=^## |\Z)", text, re.M | re.S))
 
 
-def code():
-    """The code of the crates, less its comments."""
-    sources = "".join(it.read_text(encoding="utf-8") for it in sorted((TOP / "crates").glob("*/src/**/*.rt")))
-    return re.sub(r"^\s*//.*$", "", sources, flags=re.M)
+def tables_of(body):
+    """The tables of a text of Markdown: the cells of the heading, and those of the rows."""
+    for table in re.findall(r"(?:^\|.*\n)+", body, re.M):
+        heading, _, *rows = rows_below(table)
+        yield heading, rows
+
+
+def texts_of(rows):
+    """The texts in the first cells."""
+    return [text for cells in rows for text in re.findall(r"`([^`]*)`", cells[0])]
+
+
+def shape(line):
+    """A line with X for what varies."""
+    return re.sub(r'"X"', "X", re.sub(r"\b[A-Z]+\b", "X", line)).strip()
+
+
+def differences(where, told, printed, needed=None):
+    """What a document tells and nobody prints; and what is printed, or of that what is needed, and it doesn't tell."""
+    for it in sorted(set(told) - set(printed)):
+        yield f"'{it}': in {where}, and it can't be printed there"
+    for it in sorted(set(printed if needed is None else needed) - set(told)):
+        yield f"'{it}': it can be printed, and isn't in {where}"
+    for it in sorted({it for it in told if told.count(it) > 1}):
+        yield f"'{it}': more than once in {where}"
+
+
+def commands_by_text():
+    """The texts behind `failed NAME: `, each with the commands that print it."""
+    commands = {}
+    for command in printed_texts.FAULTS:
+        for it in printed_texts.faults(command)[0]:
+            commands.setdefault(it, set()).add(command)
+    return commands
+
+
+def all_errors():
+    """The texts on standard error that stand alone, of all commands."""
+    return {OF_PARSER}.union(*(printed_texts.faults(command)[1] for command in printed_texts.FAULTS))
+
+
+def wrong_tables(sections):
+    """What is wrong with the texts in the tables of the manual's sections, but for that on faults."""
+    everywhere, shared = printed_texts.everywhere(), []
+    for section, body in sections.items():
+        told = {kind: [] for kind in HEADINGS.values()}
+        for heading, rows in tables_of(body):
+            if heading[0] in HEADINGS:
+                told[HEADINGS[heading[0]]] += texts_of(rows)
+        failed, errors, lines, needed = set(), set(), set(), set()
+        for command in SECTIONS.get(section, []):
+            failed |= printed_texts.faults(command)[0]
+            errors |= printed_texts.faults(command)[1]
+            lines |= set(printed_texts.lines(command))
+            needed = errors - everywhere
+        if section not in SECTIONS:
+            errors = all_errors()
+            shared += told["errors"]
+        where = f"the manual's section '{section}'"
+        yield from differences(where, told["failed"], failed)
+        yield from differences(where, told["errors"], errors, needed)
+        yield from differences(where, [shape(it) for it in told["lines"]], lines)
+    yield from differences("the manual's sections on all commands", shared, all_errors(), everywhere | {OF_PARSER})
+
+
+def wrong_section(body):
+    """What is wrong with the manual's section on faults."""
+    where, printed_by, told = "the manual's section on faults", commands_by_text(), []
+    for heading, rows in tables_of(body):
+        if heading[1] != "command":
+            told += texts_of(rows)
+            continue
+        yield from differences(where, texts_of(rows), printed_by)
+        everyone = set().union(*printed_by.values())
+        for cells in rows:
+            named = everyone if cells[1] == "all" else set(re.findall(r"`(\w+)`", cells[1]))
+            for it in texts_of([cells]):
+                if named != printed_by.get(it, named):
+                    yield f"'{it}': {where} has it of {', '.join(sorted(named))}, and it is of {', '.join(sorted(printed_by[it]))}"
+    yield from differences(where, told, all_errors() | IN_SECTION_ALONE)
+
+
+def items(text):
+    """The texts of the items of a list of mdoc."""
+    found = [it.replace("\\&", "").replace(" Ns ", "") for it in re.findall(r"^\.It Li (.*)$", text, re.M)]
+    return [re.sub(r"\b(Li|Ar|Qq) ", "", it) for it in found]
+
+
+def wrong_page(page):
+    """What is wrong with the texts of the page."""
+    part = dict(re.findall(r"^\.Sh (.*?)\n(.*?)(?=^\.Sh |\Z)", page, re.M | re.S))
+    failed, errors = part["DIAGNOSTICS"].split("\n.El\n", 1)
+    yield from differences("DIAGNOSTICS of man/sealer.1", items(failed), commands_by_text())
+    yield from differences("DIAGNOSTICS of man/sealer.1", items(errors), all_errors())
+    # its lines of a stream are those of a FILE that is '-'
+    lines = {it for command in printed_texts.LINES if command != "pipe" for it in printed_texts.lines(command)}
+    yield from differences("OUTPUT of man/sealer.1", [shape(it) for it in items(part["OUTPUT"])], lines)
 
 
 def anchors(text):
@@ -229,20 +332,11 @@ def main():
         for word in words:
             if not re.search(rf"(?<![\w-]){re.escape(word)}\b", told):
                 wrong.append(f"{word}: not in {where}")
-    tables, section = faults_of_manual(manual)
-    under = re.search(r"^\.Sh DIAGNOSTICS\n(.*?)(?=^\.Sh )", page, re.M | re.S).group(1)
-    diagnostics = {it.replace("\\&", "") for it in re.findall(r"^\.It Li (.*)$", under, re.M)}
-    # in the section on faults alone: texts of the parser and of the loader
-    section = {it for it in section if it != "error: .." and not it.startswith("this machine")}
-    for name, texts in (("the manual's section on faults", section), ("DIAGNOSTICS of man/sealer.1", diagnostics)):
-        wrong += [f"'{it}': not in {name}" for it in sorted(tables - texts)]
-        wrong += [f"'{it}': in {name}, and in no table of the manual" for it in sorted(texts - tables)]
-    sources = code()
-    for it in sorted(tables):
-        if not all(part in sources for part in re.split(r": |\bN ", it)):
-            wrong.append(f"'{it}': not in the code")
-    if compared < 30 or len(tables) < 30:
-        wrong.append(f"only {compared} options and {len(tables)} texts were found")
+    sections = sections_of(manual)
+    wrong += [*printed_texts.unlisted(), *wrong_tables(sections), *wrong_section(sections["What to do at a fault"]), *wrong_page(page)]
+    texts = commands_by_text().keys() | all_errors()
+    if compared < 30 or len(texts) < 30:
+        wrong.append(f"only {compared} options and {len(texts)} texts were found")
     wrong += broken_links()
     lines = (TOP / "README.md").read_text(encoding="utf-8").splitlines()
     if len(lines) > 120 or max(map(len, lines)) > 140:
@@ -250,7 +344,7 @@ def main():
     for line in wrong:
         print(line)
     if not wrong:
-        print(f"{len(wanted)} commands, {compared} options and {len(tables)} texts: --help, page and manual agree")
+        print(f"{len(wanted)} commands, {compared} options and {len(texts)} texts: --help, page and manual agree")
     return 1 if wrong else 0
 
 

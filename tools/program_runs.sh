@@ -67,10 +67,19 @@ status=$(cat "$room/status"); : > "$room/out"
 wants nobody-reads 2 '' 'audit: write failed'
 "$sealer" audit --help > /dev/full 2> "$room/err"; status=$?; : > "$room/out"
 wants full-help 2 '' ''
-for help in --help help -h; do
-    run $help < /dev/null
-    wants "$help" 0 'begins Seals, opens and verifies many files' ''
+# Each help is the whole text of tools/help/NAME.txt, by whatever words it is asked for; no line of these has over 100 columns.
+helps() { # NAME ARGS..
+    runs=$((runs + 1))
+    run "${@:2}" < /dev/null
+    diff "tools/help/$1.txt" "$room/out" && [ "$status" = 0 ] && [ ! -s "$room/err" ] && return
+    bad=1
+    echo "sealer ${*:2}: it isn't tools/help/$1.txt as above, or status $status, or this on standard error: $(cat "$room/err")"
+}
+for words in --help help -h; do helps sealer $words; done
+for command in $(sed -n '/^Commands:/,/^$/s/^  \([a-z]*\) .*/\1/p' tools/help/sealer.txt | grep -vx help); do
+    for words in "$command --help" "$command -h" "help $command"; do helps "$command" $words; done
 done
+grep -nE '^.{101}' tools/help/*.txt && { bad=1; echo 'these lines have over 100 columns'; }
 # The version names the toolchain that is here.
 version=$(sed -n 's/^pub const VERSION: &str = "\(.*\)";$/\1/p' crates/command_line/src/version.rt)
 for option in --version -V; do
@@ -86,10 +95,6 @@ run seal --version < /dev/null
 wants no-version-of-a-command 2 '' "begins error: unexpected argument '--version' found"
 "$sealer" --version > /dev/full 2> "$room/err"; status=$?; : > "$room/out"
 wants full-version 2 '' ''
-run audit --help < /dev/null
-wants audit-help 0 'begins Audits the journal on standard input' ''
-run pipe --help < /dev/null
-wants pipe-help 0 'begins Seals standard input to standard output' ''
 run < /dev/null
 wants nothing 2 '' "begins error: 'sealer' requires a subcommand"
 run pack < /dev/null
@@ -386,10 +391,6 @@ run open --key /proc/self/mem files/numbers.stm
 wants key-unread 2 '' 'key: read failed'
 
 # Usage.
-run open --help
-wants open-help 0 'begins Checks each FILE whole, then writes its plaintext' ''
-run verify --help
-wants verify-help 0 'begins Checks each FILE whole and writes no file' ''
 run open files/numbers.stm
 wants no-key 2 '' 'begins error: the following required arguments were not provided:
   --key <F>'
@@ -987,8 +988,6 @@ rm life/slow
 run ledger
 wants ledger-of-none 2 '' 'begins error: the following required arguments were not provided:
   --ledger <F>'
-run ledger --help
-wants ledger-help 0 'begins Tells what a ledger file holds' ''
 
 # Keys and usage of seal.
 run seal --key none --ledger life/new --device 1 life/waits
@@ -1011,10 +1010,6 @@ done
 is no-ledger-of-a-fault-of-usage no test -e life/new
 seals --workers 1 --lanes 17 life/waits
 wants more-lanes-than-16 2 '' "begins error: invalid value '17' for '--lanes <N>'"
-run seal --help
-wants seal-help 0 'begins Seals each FILE to FILE.stm' ''
-is help-of-lanes grep -q 'above 1 only with one worker' out
-is help-of-window grep -q 'of no effect with several lanes' out
 run seal --key "$key" --device 1 life/waits
 wants no-ledger 2 '' 'begins error: the following required arguments were not provided:
   --ledger <F>'

@@ -9,40 +9,45 @@ use std::alloc::Global;
 
 /// What stands at the end of the program's help.
 const SEALER_HELP: &str =
-    "Exit status: 0 where all is well, 1 where some FILE failed or the journal is not legal, 2 at any other fault.
+    "Exit status: 0 where all is well, 1 where some FILE failed or the journal is not legal,
+2 at any other fault.
 Behind a command, --help tells its options and what it prints.";
 
 /// What stands at the end of the help of `open` and `verify`.
 const FILES_HELP: &str =
-    "A line on standard output tells of each FILE. Exit status: 0 where none failed, 1 where some did, 2 where
-nothing was done, or a line could not be written. open holds a FILE's plaintext in memory, verify some megabytes of it.";
+    "A line on standard output tells of each FILE. Exit status: 0 where none failed, 1 where some
+did, 2 where nothing was done, or a line could not be written. open holds a FILE's plaintext in
+memory, verify some megabytes of it.";
 
 /// What stands at the end of the help of `seal`.
 const SEAL_HELP: &str =
-    "A line on standard output tells of each FILE. Exit status: 0 where none failed, 1 where some did, 2 where
-standard error tells why, or a line could not be written. By several lanes FILEs are held in memory whole; at most
-65535 a run.
+    "A line on standard output tells of each FILE. Exit status: 0 where none failed, 1 where some
+did, 2 where standard error tells why, or a line could not be written. By several lanes FILEs are
+held in memory whole; at most 65535 a run.
 
-A key is made by `openssl rand -hex 32`. Back up the key and the sealed files. Keep one ledger file for each key and
-device number, and never use a copy of it, nor one that was restored: where it was lost or put back take a new device number,
-or a new key. Else two files can get one number, and then neither is safe.";
+A key is made by `openssl rand -hex 32`. Back up the key and the sealed files. Keep one ledger file
+for each key and device number, and never use a copy of it, nor one that was restored: where it was
+lost or put back take a new device number, or a new key. Else two files can get one number, and then
+neither is safe.";
 
 /// What stands at the end of the help of `pipe`.
 const PIPE_HELP: &str =
-    "What stands on standard input is sealed as it comes, in the memory of --depth chunks, and its container written to
-standard output. One line on standard error tells of it. Exit status: 0 where the stream was sealed, 1 where that failed,
-and then the output is cut short, 2 where standard error tells why. The container is opened by open, like a FILE.stm.
+    "What stands on standard input is sealed as it comes, in the memory of --depth chunks, and its
+container written to standard output. One line on standard error tells of it. Exit status: 0 where
+the stream was sealed, 1 where that failed, and then the output is cut short, 2 where standard error
+tells why. The container is opened by open, like a FILE.stm.
 
 As for seal: never use a copy of a ledger file, nor one that was restored.";
 
 /// What stands at the end of the help of `audit`.
 const AUDIT_HELP: &str =
-    "Exit status: 0 where the journal is legal, 1 where it is not, 2 where it could not be read or the verdict not be
-written.";
+    "Exit status: 0 where the journal is legal, 1 where it is not, 2 where it could not be read or
+the verdict not be written.";
 
 /// What stands at the end of the help of `ledger`.
 const LEDGER_HELP: &str =
-    "A line on standard output tells of each key, by the beginning of its SHA-256, and device: ranges, numbers given, numbers left.
+    "A line on standard output tells of each key, by the beginning of its SHA-256, and device:
+ranges, numbers given, numbers left.
 Exit status: 0 where all were told, 2 where standard error tells why not.";
 
 /// The program's command: `seal`, `pipe`, `open`, `verify`, `audit` and `ledger`.
@@ -123,7 +128,8 @@ fn pipe_command<'a>(alloc: Global) -> Result<Command<'a>, Error> {
     let command = key_command(
         alloc,
         "pipe",
-        "Seals standard input to standard output, a stream of any length, under a number of its own",
+        "Seals standard input to standard output, a stream of any length, \
+            under a number of its own",
     )?;
     let command = with_rows(alloc, command.after_help(PIPE_HELP), &LEDGER_ROWS)?;
     let command = with_rows(alloc, command, &PIPE_ROWS)?;

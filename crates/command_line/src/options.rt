@@ -85,12 +85,14 @@ pub(crate) static FILE_ROWS: [Row; 4] = [
     Row {
         name: "files-from",
         takes: Takes::Path { is_required: false },
-        help: "A list of further FILEs, one a line, behind those of the command line; - is standard input",
+        help: "A list of further FILEs, one a line, behind those of the command line;\n\
+            - is standard input",
     },
     Row {
         name: "null",
         takes: Takes::NothingWithout("files-from"),
-        help: "In the list of --files-from a NUL byte stands behind each FILE, not a line feed",
+        help: "In the list of --files-from a NUL byte stands behind each FILE,\n\
+            not a line feed",
     },
     Row {
         name: "progress",
@@ -98,7 +100,8 @@ pub(crate) static FILE_ROWS: [Row; 4] = [
             words: &["terminal", "always"],
             absent: "terminal",
         },
-        help: "Tell on standard error how far the run is, where that is a terminal, or always",
+        help: "Tell on standard error how far the run is, where that is a terminal,\n\
+            or always",
     },
 ];
 
@@ -107,12 +110,14 @@ pub(crate) static OUTPUT_ROWS: [Row; 2] = [
     Row {
         name: "into",
         takes: Takes::Folder,
-        help: "Put the outputs into this folder, each under the last name of its FILE; no two may be the same",
+        help: "Put the outputs into this folder, each under the last name of its FILE;\n\
+            no two may be the same",
     },
     Row {
         name: "sync",
         takes: Takes::Nothing,
-        help: "Tell the line of a FILE only once its output and the name of that are on the disk",
+        help: "Tell the line of a FILE only once its output and the name of that\n\
+            are on the disk",
     },
 ];
 
@@ -124,12 +129,14 @@ pub(crate) static OPEN_ROWS: [Row; 2] = [
             most: MAX_OPENED as i64,
             default: "1073741824",
         },
-        help: "A FILE of more plaintext bytes is refused, 0 to 4503599626321920",
+        help: "A FILE of more plaintext bytes is refused,\n\
+            0 to 4503599626321920",
     },
     Row {
         name: "label",
         takes: Takes::Text,
-        help: "Only FILEs with this label pass, 0 to 255 bytes of UTF-8; without it no label is looked at",
+        help: "Only FILEs with this label pass, 0 to 255 bytes of UTF-8;\n\
+            without it no label is looked at",
     },
 ];
 
@@ -137,7 +144,8 @@ pub(crate) static OPEN_ROWS: [Row; 2] = [
 pub(crate) static SHOW_ROWS: [Row; 1] = [Row {
     name: "show",
     takes: Takes::Nothing,
-    help: "Behind the line of a good FILE print its version, bytes of a chunk, device, number and label",
+    help: "Behind the line of a good FILE print its version, bytes of a chunk,\n\
+        device, number and label",
 }];
 
 /// What the command takes that tells what a ledger file holds.
@@ -166,7 +174,8 @@ pub(crate) static LEDGER_ROWS: [Row; 3] = [
             most: Device::MAX,
             absent: Absent::Fault,
         },
-        help: "The number of this ledger under this key, 0 to 16777215: no two ledgers share one",
+        help: "The number of this ledger under this key, 0 to 16777215:\n\
+            no two ledgers share one",
     },
 ];
 
@@ -178,7 +187,8 @@ pub(crate) static SEAL_ROWS: [Row; 3] = [
             most: MAX_PLAIN as i64,
             default: "1073741824",
         },
-        help: "A FILE of more plaintext bytes is refused, 0 to 1099511627776",
+        help: "A FILE of more plaintext bytes is refused,\n\
+            0 to 1099511627776",
     },
     Row {
         name: "lanes",
@@ -187,7 +197,8 @@ pub(crate) static SEAL_ROWS: [Row; 3] = [
             most: MAX_LANES,
             absent: Absent::Default("1"),
         },
-        help: "Files sealed side by side at most, 1 to 16; above 1 only with one worker",
+        help: "Files sealed side by side at most, 1 to 16;\n\
+            above 1 only with one worker",
     },
     Row {
         name: "window",
@@ -196,7 +207,8 @@ pub(crate) static SEAL_ROWS: [Row; 3] = [
             most: MAX_WINDOW,
             absent: Absent::Nothing,
         },
-        help: "Chunks sealed at a time, 1 to 256; without it 1 MiB, by one worker at most 16; of no effect with several lanes",
+        help: "Chunks sealed at a time, 1 to 256; without it 1 MiB,\n\
+            by one worker at most 16; of no effect with several lanes",
     },
 ];
 
@@ -218,7 +230,8 @@ pub(crate) static PIPE_ROWS: [Row; 3] = [
             most: u32::MAX,
             absent: Absent::Default("16384"),
         },
-        help: "A stream of more chunks is refused where the next one begins, 1 to 4294967295",
+        help: "A stream of more chunks is refused where the next one begins,\n\
+            1 to 4294967295",
     },
     Row {
         name: "force-terminal",
@@ -241,7 +254,8 @@ pub(crate) static SHAPE_ROWS: [Row; 3] = [
     Row {
         name: "label",
         takes: Takes::Text,
-        help: "Version 2, with this label, which is not secret: 0 to 255 bytes of UTF-8; with --exponent alone empty",
+        help: "Version 2, with this label, which is not secret: 0 to 255 bytes of UTF-8;\n\
+            with --exponent alone empty",
     },
     Row {
         name: "journal",

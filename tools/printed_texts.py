@@ -1,0 +1,173 @@
+"""What the program can print of itself, by its sources: the faults of each command, and its lines.
+
+A fault stands behind `failed NAME: `, or behind a subject on standard error. Its texts are those of the types in FAULTS, which are read
+from the sources, less what NEVER says; a number in a text is N. The parser's own texts, of usage and of help, aren't among them.
+"""
+import functools
+import re
+from pathlib import Path
+
+TOP = Path(__file__).resolve().parent.parent
+# Of each command the types of the faults behind each subject. Those of RunFault begin with their subject.
+RUN = {"key": ["KeyFault"], "ledger": ["LedgerFault"], "journal": ["JournalFault"], "": ["RunFault"]}
+FAULTS = {
+    "seal": {**RUN, "failed": ["FileFault"], "usage": ["UsageFault", "PlaceFault"]},
+    "pipe": {**RUN, "failed": ["FileFault"], "usage": ["UsageFault"]},
+    "open": {"failed": ["FileFault"], "key": ["KeyFault"], "usage": ["UsageFault", "PlaceFault"]},
+    "verify": {"failed": ["FileFault"], "key": ["KeyFault"], "usage": ["UsageFault"]},
+    "audit": {"audit": ["AuditFault"]},
+    "ledger": {"ledger": ["LedgerFault", "TellFault"]},
+}
+# The faults that can't come at these commands, and why.
+NEVER = (
+    ("seal", "FileFault", "NoSuffix AnotherLabel Unopened", "IsOfSealing leaves them out"),
+    ("seal", "SealFault", "TooManyChunks", "IsOfSealing leaves it out"),
+    ("pipe", "FileFault", "CannotOpen NoSuffix OutputExists CannotCreate OutOfMemory AnotherLabel Unopened", "WorksStream leaves them out"),
+    ("pipe", "SealFault", "TooLong", "the length of a stream is bounded by chunks: answer_of_stream"),
+    ("open", "FileFault", "OutOfMemory NoNumber Unsealed", "IsOfOpening leaves them out"),
+    ("verify", "FileFault", "NoSuffix OutputExists CannotCreate OutOfMemory NoNumber Unsealed", "IsOfVerifying leaves them out"),
+    ("verify", "OpenFault", "Write", "IsOfVerifying leaves it out"),
+    ("seal pipe open verify", "UsageFault", "Missing", "the parser takes no words without these arguments"),
+    ("pipe open verify", "UsageFault", "LanesAndWorkers", "there is no --lanes"),
+    ("seal open verify", "UsageFault", "Terminal", "no container goes to standard output"),
+    ("pipe", "UsageFault", "NoFiles EmptyName ListNoText CannotReadList", "there are no FILEs"),
+    ("seal pipe", "ReserveFault", "ZeroCount", "a run without FILEs ended before"),
+    ("pipe", "ReserveFault", "TooMany", "it reserves one number"),
+)
+# The types of faults that are never printed themselves, and what becomes of them.
+UNPRINTED = {
+    "Failed": "a stream's: read failed, or write failed",
+    "FolderFault": "an output's: output exists, or cannot create",
+    "BookFault": "a Book's, which the program doesn't have",
+    "OpenLedgerFault": "ledger: out of memory, of RunFault",
+    "IssueFault": "no file number, or out of memory, of FileFault",
+    "SettleFault": "it can't come of a number that was granted",
+    "BadRange": "it can't come of a range that was reserved",
+    "PutFault": "a Shelf's, which the program doesn't have",
+    "ShelfFault": "the same",
+}
+# Of each command what its lines on standard output, those of pipe on standard error, tell.
+LINES = {
+    "seal": ["FileOutcome::Sealed", "FileOutcome::Failed"],
+    "pipe": ["FileOutcome::Sealed", "FileOutcome::Failed"],
+    "open": ["FileOutcome::Opened", "FileOutcome::Failed"],
+    "verify": ["FileOutcome::Good", "FileOutcome::Shown", "FileOutcome::Failed"],
+    "audit": ["Verdict::Legal", "Verdict::Malformed", "Verdict::Illegal"],
+    "ledger": ["Holding::"],
+}
+# The types that are written by the code of another one.
+WRITTEN_BY = {"FileOutcome": "Line"}
+ARM = r"\b[A-Z]\w*::([A-Z]\w*)(?: \{[^}]*\}|\([^=]*?\))? =>"
+
+
+def read_sources():
+    """The code of the crates that the program is made of, less its comments."""
+    files = [it for it in sorted((TOP / "crates").glob("*/src/**/*.rt")) if not re.search(r"_(tests|bench)/", str(it))]
+    return re.sub(r"^\s*//.*\n", "", "".join(it.read_text(encoding="utf-8") for it in files), flags=re.M)
+
+
+SOURCES = read_sources()
+
+
+def only(pattern, what):
+    """The one place of the sources that a pattern fits."""
+    found = re.findall(pattern, SOURCES, re.M | re.S)
+    if len(found) != 1:
+        raise SystemExit(f"the sources have {len(found)} of {what}, and not one")
+    return found[0]
+
+
+def written(code):
+    """The text that a piece of code writes, with its holes."""
+    return "".join(re.findall(r'write(?:!\(\s*f,|_str\()\s*"((?:[^"\\]|\\.)*)"', code))
+
+
+@functools.cache
+def texts_by_variant(name):
+    """The text of each variant of a type, with its holes; without variants it is that of the empty name."""
+    if name not in WRITTEN_BY and re.search(rf"\benum {name} \{{\n[^}}]*#\[error\(", SOURCES):
+        body = only(rf"\benum {name} \{{\n(.*?)^\}}", f"enum {name}")
+        return dict((variant, text) for text, variant in re.findall(r'#\[error\("([^"]*)"\)\]\s*(\w+)', body))
+    writer = WRITTEN_BY.get(name, name)
+    code = only(rf"^impl (?:fmt::)?Display for {writer}(?:<'_>)? \{{\n(.*?)^\}}", f"Display for {writer}")
+    parts = re.split(ARM, code)
+    return dict(zip(parts[1::2], map(written, parts[2::2]))) or {"": written(code)}
+
+
+@functools.cache
+def variants(name):
+    """The variants of a type, each with what it holds."""
+    body = only(rf"\benum {name} \{{\n(.*?)^\}}", f"enum {name}")
+    return dict(re.findall(r"^    (\w+)\b(.*?),$", body, re.M | re.S))
+
+
+def texts(name, never):
+    """The texts of a type of faults, but for those of the variants that never come."""
+    by_variant, held = texts_by_variant(name), variants(name)
+    if by_variant.keys() != held.keys():
+        raise SystemExit(f"{name}: which of {', '.join(sorted(held))} has which text?")
+    for variant, text in by_variant.items():
+        if (name, variant) in never:
+            continue
+        if re.search(r"\{(0|fault)\}", text):
+            for further in texts(re.search(r"\w+Fault", held[variant]).group(0), never):
+                yield re.sub(r"\{(0|fault)\}", further, text)
+        else:
+            yield re.sub(r"\{\w+\}", "N", text)
+
+
+@functools.cache
+def everywhere():
+    """The texts that the program prints itself, before it knows its command."""
+    printed = re.findall(r'\beprintln!\(\s*\w+;\s*"([^"]*)"', SOURCES)
+    if "{subject}: {fault}" not in printed:
+        raise SystemExit("where are faults printed?")
+    return frozenset(it for it in printed if it != "{subject}: {fault}")
+
+
+def faults(command):
+    """The texts of a command's faults: those behind `failed NAME: `, and those on standard error, with their subjects."""
+    never = {(name, it) for commands, name, several, _ in NEVER for it in several.split() if command in commands.split()}
+    failed, errors = set(), set(everywhere())
+    for subject, names in FAULTS[command].items():
+        for name in names:
+            for text in texts(name, never):
+                if subject == "failed":
+                    failed.add(text)
+                else:
+                    errors.add(f"{subject}: {text}" if subject else text)
+    return failed, errors
+
+
+def lines(command):
+    """The lines of a command, with X for what varies."""
+    for it in LINES[command]:
+        name, variant = it.split("::")
+        for line in texts_by_variant(name)[variant].split("\\n"):
+            line = texts_by_variant("Facts")[""] if line == "{facts}" else line
+            line = line.replace("{name}", "-") if command == "pipe" else line
+            yield re.sub(r"\{[\w:]+\}", "X", line).strip()
+
+
+def unlisted():
+    """What the sources print, or could, that the tables above don't know, and what these have that the sources don't."""
+    reached = {name for subjects in FAULTS.values() for names in subjects.values() for name in names}
+    for name in sorted(reached):
+        reached.update(re.findall(r"\w+Fault", " ".join(variants(name).values())))
+    derived = r"#\[derive\([^)]*Error\)\]\s*(?:#\[error\([^)]*\)\]\s*)?(?:pub(?:\(crate\))? )?(?:enum|struct) (\w+)"
+    types = set(re.findall(derived, SOURCES)) | set(re.findall(r"^impl Error for (\w+)", SOURCES, re.M)) | {"FileFault"}
+    for name in sorted(types ^ (reached | UNPRINTED.keys())):
+        yield f"{name}: {'nobody knows who prints it' if name in types else 'there is no such type'}"
+    for name in sorted(reached & UNPRINTED.keys()):
+        yield f"{name}: it is printed"
+    for _, name, several, _ in NEVER:
+        for variant in several.split():
+            if variant not in variants(name):
+                yield f"{name}::{variant}: there is none"
+    subjects = set(re.findall(r'\bcomplain\(\s*rt,\s*"(\w*)"', SOURCES))
+    for it in sorted(subjects ^ ({it for table in FAULTS.values() for it in table} - {"failed", ""})):
+        yield f"a fault of '{it}': {'nobody knows its types' if it in subjects else 'it is printed nowhere'}"
+    told = {tuple(it.split("::")) for several in LINES.values() for it in several}
+    for name in sorted({name for name, _ in told}):
+        for variant in sorted(texts_by_variant(name).keys() ^ {it for other, it in told if other == name}):
+            yield f"{name}::{variant}: {'nobody knows who prints it' if (name, variant) not in told else 'there is none'}"
