@@ -185,12 +185,12 @@ fn an_endless_input_of_another_version_is_read_to_its_bound(rt: HostRuntime) -> 
     Ok(())
 }
 
-// Whether a reader is seen to fail that does so behind 24 bytes of a container with a label of so many bytes, behind
-// 25, and behind all of its header but a byte.
+// Whether 1 and 4 workers see a reader fail that does so behind 24 bytes of a container with a label of so many bytes,
+// behind 25, and behind all of its header but a byte.
 fn is_end_no_failure<R: Threads + Sync>(rt: &R, alloc: Global, label: usize) -> Option<bool> {
     let bytes = container_of(alloc, 12, label, b"1")?;
     let header = (FRONT + label.min(255)) as u64;
-    Some(are_failures_seen(rt, alloc, bytes.as_slice(), &[24, 25, header - 1]))
+    Some(are_failures_seen(rt, alloc, bytes.as_slice(), &[24, 25, header - 1], &[1, 4]))
 }
 
 // An input that ends there has a header that is too short.

@@ -13,6 +13,7 @@ use std::io;
 use std::io::{ErrorKind, Read, Write};
 use std::sync::Wait;
 use std::sync::atomic::{AtomicU64, Ordering};
+use std::test::Fail;
 use std::thread::Threads;
 
 const MOST: usize = usize::MAX;
@@ -178,30 +179,19 @@ fn a_byte_too_many_drops_the_round_in_hand(rt: HostRuntime) {
     }
 }
 
-// Of four chunks and five bytes so much of the container is written, and this is the answer.
-fn leaves<T: Threads + Wait + Sync>(
-    rt: &T,
-    alloc: Global,
-    asked: Asked,
-    answer: Result<u64, SealFault>,
-    written: usize,
-) -> Option<bool> {
-    let plain = pattern(alloc, 4 * CHUNK + 5).ok()?;
-    let whole = container_of(alloc, plain.as_slice())?;
-    let front = whole.as_slice().get(..written)?;
-    ends_as(rt, alloc, plain.as_slice(), asked, answer, front)
-}
-
 // In the header, at its end and behind it; before the end of chunk 0's ciphertext, in its tag, at its end and behind
 // it; behind chunk 3; and before the last byte, and all of the container.
 static ROOMS: [usize; 12] = [
     0, 1, 23, 24, 25, 65_535, 65_575, 65_576, 65_592, 262_232, 262_252, 262_253,
 ];
 
-// Whether a writer with this room gets just so much, and fails unless it is room for all.
+// Whether a writer with this room gets just so much of the container of four chunks and five bytes, and fails unless it
+// is room for all.
 fn ends_in_room<T: Threads + Wait + Sync>(
     rt: &T,
     alloc: Global,
+    plain: &[u8],
+    whole: &[u8],
     workers: u32,
     window: u32,
     room: usize,
@@ -213,19 +203,24 @@ fn ends_in_room<T: Threads + Wait + Sync>(
     } else {
         Ok(262_149)
     };
-    leaves(rt, alloc, asked, answer, room)
+    ends_as(rt, alloc, plain, asked, answer, whole.get(..room)?)
 }
 
 #[test]
-fn a_failed_write_leaves_a_beginning(rt: HostRuntime) {
+fn a_failed_write_leaves_a_beginning(rt: HostRuntime) -> Result<(), Fail> {
+    let plain = pattern(rt.alloc(), 4 * CHUNK + 5)?;
+    let plain = plain.as_slice();
+    let whole = container_of(rt.alloc(), plain).ok_or("no container")?;
+    let whole = whole.as_slice();
     for (window, workers) in [(1, 1), (2, 2), (3, 4), (16, 16)] {
         for room in &ROOMS {
             assert!(rt;
-                ends_in_room(&rt, rt.alloc(), workers, window, *room) == Some(true),
+                ends_in_room(&rt, rt.alloc(), plain, whole, workers, window, *room) == Some(true),
                 "{workers} {window} {room}"
             );
         }
     }
+    Ok(())
 }
 
 // How many workers seal, in rounds of how many chunks; behind how many bytes the reader fails, and what is written
@@ -242,6 +237,20 @@ static FAILED_READS: [(u32, u32, usize, usize); 10] = [
     (2, 2, 4 * CHUNK + 5, HEADER + 2 * SEALED),
     (4, 4, 4 * CHUNK + 5, 0),
 ];
+
+// Of four chunks and five bytes so much of the container is written, and this is the answer.
+fn leaves<T: Threads + Wait + Sync>(
+    rt: &T,
+    alloc: Global,
+    asked: Asked,
+    answer: Result<u64, SealFault>,
+    written: usize,
+) -> Option<bool> {
+    let plain = pattern(alloc, 4 * CHUNK + 5).ok()?;
+    let whole = container_of(alloc, plain.as_slice())?;
+    let front = whole.as_slice().get(..written)?;
+    ends_as(rt, alloc, plain.as_slice(), asked, answer, front)
+}
 
 fn leaves_at_read<T: Threads + Wait + Sync>(
     rt: &T,
