@@ -171,10 +171,10 @@ fn pieces_in_any_order(rt: HostRuntime) -> Result<(), Fail> {
     Ok(())
 }
 
-// The whole of one work's piece 0 and another's piece 1.
-fn mixed(alloc: Global, work: &Work, first: &Work, second: &Work) -> Option<Vec<u8>> {
+// The whole of another work's piece 0 and this one's piece 1.
+fn mixed(alloc: Global, work: &Work, other: &Work) -> Option<Vec<u8>> {
     let mut shelf = Shelf::new(alloc, work).ok()?;
-    let taken = is_taken(alloc, &mut shelf, first, 0) && is_taken(alloc, &mut shelf, second, 1);
+    let taken = is_taken(alloc, &mut shelf, other, 0) && is_taken(alloc, &mut shelf, work, 1);
     match shelf.finish(alloc) {
         Ok(bytes) if taken => Some(bytes),
         _ => None,
@@ -187,9 +187,9 @@ fn are_joined(bytes: &[u8], twenty: &[u8], long: &[u8]) -> bool {
     bytes.get(..24 + 20 + 16) == Some(twenty) && bytes.get(24 + 20 + 16..) == long.get(begin..)
 }
 
-// Whether that is the whole of the first piece of one work and the second of another.
+// Whether that whole is these bytes joined.
 fn is_mixed(alloc: Global, work: &Work, other: &Work, twenty: &[u8], long: &[u8]) -> bool {
-    match mixed(alloc, work, other, work) {
+    match mixed(alloc, work, other) {
         Some(bytes) => are_joined(bytes.as_slice(), twenty, long),
         None => false,
     }
