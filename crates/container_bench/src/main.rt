@@ -6,29 +6,14 @@
 #![tactic(auto)]
 
 mod speed;
+mod table;
 
 use anyhow::{Result, bail};
-use container_core::{Key, OpenFault, Shape, open, seal};
-use container_tests::{COUNTING, LENGTH, Opener, prefix_of, print_table};
+use container_core::{Key, Shape, seal};
+use container_tests::{COUNTING, prefix_of};
 use std::alloc::{AllocError, Global};
-use std::io::Print;
 use std::rt::{Env, Files};
 use std::{env, fs};
-
-// Opening in the caller's thread.
-#[derive(Drop)]
-struct OneThread {
-    alloc: Global,
-}
-
-impl Opener for OneThread {
-    fn fault_of(&self, key: &Key, bytes: &[u8]) -> Option<OpenFault> {
-        match open(self.alloc, key, bytes) {
-            Ok(_plain) => None,
-            Err(fault) => Some(fault),
-        }
-    }
-}
 
 // So many bytes that don't repeat at a chunk's length.
 fn pattern(alloc: Global, count: usize) -> Result<Vec<u8>, AllocError> {
@@ -59,8 +44,7 @@ fn make<R: Files + AllocGlobal>(rt: &R, folder: &str) -> Result<()> {
 fn main(rt: HostRuntime) -> Result<()> {
     let words: Vec<String> = env::args(&rt)?.collect(rt.alloc())?;
     if words.len() < 2 {
-        let opener = OneThread { alloc: rt.alloc() };
-        return print_table(&rt, rt.alloc(), &opener, &[(0, LENGTH - 1)]);
+        return table::print_table(&rt, rt.alloc());
     }
     if words.len() == 2 && words[1].as_str() == "measure" {
         return speed::measure(&rt, rt.alloc());

@@ -2,7 +2,7 @@
 //! each, which is of the format. Whoever opens containers in a way of his own goes over the same cases.
 ghost use Rattle.std.specs.Prelude.{◌≤◌, ◌+◌, ◌*◌, length};
 
-use crate::alterations::{MOVES, moved};
+use crate::moves::{MOVES, moved};
 use crate::samples::{counting_key, label_of, zeros_sealed};
 #[cfg(test)]
 use container_core::open;
@@ -259,19 +259,16 @@ fn are_answered(alloc: Global, cases: &[Case], count: usize) -> bool {
 }
 
 #[test]
-fn damaged_headers_are_refused(rt: HostRuntime) -> Result<(), Fail> {
+fn damaged_headers_and_chunks_are_refused(rt: HostRuntime) -> Result<(), Fail> {
+    let alloc = rt.alloc();
     for (exponent, label) in &SHAPES {
-        let cases = header_cases(rt.alloc(), *exponent, *label)?;
-        assert!(rt; are_answered(rt.alloc(), cases.as_slice(), header_count(*label)));
-    }
-    Ok(())
-}
-
-#[test]
-fn damaged_chunks_are_refused(rt: HostRuntime) -> Result<(), Fail> {
-    for (exponent, label) in &SHAPES {
-        let cases = chunk_cases(rt.alloc(), *exponent, *label)?;
-        assert!(rt; are_answered(rt.alloc(), cases.as_slice(), CHUNK_COUNT));
+        let cases = header_cases(alloc, *exponent, *label)?;
+        let headers = are_answered(alloc, cases.as_slice(), header_count(*label));
+        drop(cases);
+        let cases = chunk_cases(alloc, *exponent, *label)?;
+        let chunks = are_answered(alloc, cases.as_slice(), CHUNK_COUNT);
+        drop(cases);
+        assert!(rt; headers && chunks, "{exponent} {label}: {headers} {chunks}");
     }
     Ok(())
 }

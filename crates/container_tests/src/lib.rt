@@ -1,9 +1,9 @@
-//! The tests of `container_core`, and what they share with the measurements: a key, and a table of what opening
-//! answers over cut and altered containers.
+//! The tests of `container_core`, and what the tests and the measurements of other crates share with them: a key, what
+//! is sealed under it, and cut and altered containers with what opening answers.
 #![tactic(auto)]
 
-pub mod alterations;
 pub mod damages;
+pub mod moves;
 #[cfg(test)]
 mod parts;
 pub mod samples;
@@ -12,6 +12,6 @@ mod version_two;
 #[cfg(test)]
 mod whole;
 
-pub use crate::alterations::{LENGTH, Opener, print_table};
 pub use crate::damages::{CHUNK_COUNT, Case, SHAPES, chunk_cases, header_cases, header_count};
-pub use crate::samples::{COUNTING, EMPTY, EMPTY_TWO, prefix_of};
+pub use crate::moves::{MOVES, moved};
+pub use crate::samples::{COUNTING, EMPTY, EMPTY_TWO, counting_key, prefix_of, zeros_sealed};

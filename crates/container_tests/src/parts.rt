@@ -169,28 +169,20 @@ static NO_BODIES: [(Option<u32>, u64, OpenFault); 19] = [
     (Some(20), 4_503_668_345_798_641, OpenFault::TooLong),
 ];
 
-fn have_chunks() -> bool {
-    for (exponent, body, count) in &BODIES {
-        if !has_chunks(*exponent, *body, *count) {
-            return false;
-        }
-    }
-    true
-}
-
-fn have_no_cut() -> bool {
-    for (exponent, body, fault) in &NO_BODIES {
-        if !has_no_cut(*exponent, *body, *fault) {
-            return false;
-        }
-    }
-    true
-}
-
 #[test]
 fn cuts_by_quotient_and_remainder(rt: HostRuntime) -> Result<(), Fail> {
-    assert!(rt; have_chunks());
-    assert!(rt; have_no_cut());
+    for (exponent, body, count) in &BODIES {
+        assert!(rt;
+            has_chunks(*exponent, *body, *count),
+            "{body} bytes, {count} chunks"
+        );
+    }
+    for (exponent, body, fault) in &NO_BODIES {
+        assert!(rt;
+            has_no_cut(*exponent, *body, *fault),
+            "{body} bytes: {fault}"
+        );
+    }
     assert!(rt; has_two_places(cut_of(None, 65_569)?));
     Ok(())
 }
@@ -224,27 +216,15 @@ fn has_text(alloc: Global, fault: impl Display + Drop, text: &str) -> Result<boo
     Ok(fault.to_string(alloc)?.as_str() == text)
 }
 
-fn open_faults_are_told(alloc: Global) -> Result<bool, AllocError> {
-    for (fault, number, text) in &OPEN_FAULTS {
-        if fault.number() != *number || !has_text(alloc, *fault, text)? {
-            return Ok(false);
-        }
-    }
-    Ok(true)
-}
-
-fn seal_faults_are_told(alloc: Global) -> Result<bool, AllocError> {
-    for (fault, number, text) in &SEAL_FAULTS {
-        if fault.number() != *number || !has_text(alloc, *fault, text)? {
-            return Ok(false);
-        }
-    }
-    Ok(true)
-}
-
 #[test]
 fn texts_and_numbers_of_faults(rt: HostRuntime) -> Result<(), AllocError> {
-    assert!(rt; open_faults_are_told(rt.alloc())?);
-    assert!(rt; seal_faults_are_told(rt.alloc())?);
+    for (fault, number, text) in &OPEN_FAULTS {
+        let told = has_text(rt.alloc(), *fault, text)?;
+        assert!(rt; told && fault.number() == *number, "{text}");
+    }
+    for (fault, number, text) in &SEAL_FAULTS {
+        let told = has_text(rt.alloc(), *fault, text)?;
+        assert!(rt; told && fault.number() == *number, "{text}");
+    }
     Ok(())
 }

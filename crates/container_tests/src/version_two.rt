@@ -1,7 +1,5 @@
 //! Containers of version 2: chunks of 2^12 to 2^20 bytes, and a label. The expected bytes and digests are those of
 //! Python's `cryptography` and `hashlib`.
-ghost use Rattle.std.specs.Prelude.{◌^◌, ◌≤◌};
-
 use crate::samples::{EMPTY, EMPTY_TWO, counting_key, label_of, prefix_of, zeros_sealed};
 use crate::whole::{has_fault, is_cut_and_digested, opens_to_zeros};
 use container_core::{
@@ -36,15 +34,6 @@ fn is_noticed(alloc: Global, key: &Key, place: usize, value: u8, fault: OpenFaul
     has_fault(alloc, key, &bytes, fault)
 }
 
-fn are_noticed(alloc: Global, key: &Key) -> bool {
-    for (place, value, fault) in &CHANGES {
-        if !is_noticed(alloc, key, *place, *value, *fault) {
-            return false;
-        }
-    }
-    true
-}
-
 // Whether the plaintext of no bytes has the container that it should have.
 fn seals_nothing(alloc: Global, key: &Key) -> Result<bool, Fail> {
     let Ok(shape) = Shape::two(12, b"ab") else {
@@ -59,7 +48,10 @@ fn empty_plaintext_under_a_label(rt: HostRuntime) -> Result<(), Fail> {
     let key = counting_key();
     assert!(rt; seals_nothing(rt.alloc(), &key)?);
     assert!(rt; opens_to_zeros(rt.alloc(), &key, &EMPTY_TWO, 0));
-    assert!(rt; are_noticed(rt.alloc(), &key));
+    for (place, value, fault) in &CHANGES {
+        let noticed = is_noticed(rt.alloc(), &key, *place, *value, *fault);
+        assert!(rt; noticed, "{value} at {place}");
+    }
     Ok(())
 }
 
@@ -160,7 +152,10 @@ fn seals_and_opens(
 fn containers_of_zeros_under_labels(rt: HostRuntime) -> Result<(), Fail> {
     for (exponent, label, count, length, chunks, digest) in &CONTAINERS {
         let (text, want) = ((*exponent, *label, *count), (*length, *chunks, digest));
-        assert!(rt; seals_and_opens(rt.alloc(), text, want)?);
+        assert!(rt;
+            seals_and_opens(rt.alloc(), text, want)?,
+            "{exponent}, {label}, {count}"
+        );
     }
     Ok(())
 }
@@ -177,6 +172,11 @@ static NO_SHAPES: [(u32, usize); 6] = [(11, 0), (21, 0), (0, 2), (268, 2), (12, 
 
 static LONG_LABEL: [u8; 256] = [0x61; 256];
 
+// A label of so many bytes, up to 256.
+fn long_label(bytes: usize) -> &'static [u8] {
+    &LONG_LABEL[..bytes.min(256)]
+}
+
 fn has_shape(exponent: u32, label: &[u8], header: usize, chunk: usize) -> bool {
     match Shape::two(exponent, label) {
         Ok(shape) => shape.header_bytes() == header && shape.chunk() == chunk,
@@ -191,28 +191,18 @@ fn has_no_shape(exponent: u32, label: &[u8]) -> bool {
     }
 }
 
-fn have_shapes() -> bool {
-    for (exponent, label, header, chunk) in &SHAPES {
-        if !has_shape(*exponent, &LONG_LABEL[..(*label).min(256)], *header, *chunk) {
-            return false;
-        }
-    }
-    true
-}
-
-fn have_no_shapes() -> bool {
-    for (exponent, label) in &NO_SHAPES {
-        if !has_no_shape(*exponent, &LONG_LABEL[..(*label).min(256)]) {
-            return false;
-        }
-    }
-    true
-}
-
 #[test]
 fn shapes_have_bounds(rt: HostRuntime) {
-    assert!(rt; have_shapes());
-    assert!(rt; have_no_shapes());
+    for (exponent, label, header, chunk) in &SHAPES {
+        let shaped = has_shape(*exponent, long_label(*label), *header, *chunk);
+        assert!(rt; shaped, "{exponent}, {label}");
+    }
+    for (exponent, label) in &NO_SHAPES {
+        assert!(rt;
+            has_no_shape(*exponent, long_label(*label)),
+            "{exponent}, {label}"
+        );
+    }
 }
 
 // What beginning to open a container of so many bytes answers, by its header alone, where its plaintext may have `most`
@@ -228,23 +218,6 @@ fn plain_of(key: &Key, front: &[u8], bytes: u64, most: u64) -> Result<u64, OpenF
     }
 }
 
-// Whether a container of so many plaintext bytes has so many bytes, and is the longest with which this beginning goes
-// where the plaintext may have `most`.
-fn is_longest_of(front: &[u8], most: u64, plain: u64, bytes: u64) -> bool
-    requires { bytes ≤ 2 ^ 53 }
-{
-    let key = counting_key();
-    plain_of(&key, front, bytes, most) == Ok(plain)
-        && plain_of(&key, front, bytes + 1, most) == Err(OpenFault::TooLong)
-}
-
-// The same of `most` plaintext bytes.
-fn is_longest(front: &[u8], most: u64, bytes: u64) -> bool
-    requires { bytes ≤ 2 ^ 53 }
-{
-    is_longest_of(front, most, most, bytes)
-}
-
 // The first bytes of version 2 with this exponent, and the label `ab`.
 fn front_of(exponent: u8) -> [u8; 27] {
     let mut front = [0; 27];
@@ -253,44 +226,66 @@ fn front_of(exponent: u8) -> [u8; 27] {
     front
 }
 
-// Exponents, and the greatest plaintext that is opened of each: 2^32 - 1 chunks; and the bytes of its container under a
-// header of 27.
-static LONGEST: [(u8, u64, u64); 3] = [
-    (12, 17_592_186_040_320, 17_660_905_517_067),
-    (16, 281_474_976_645_120, 281_543_696_121_867),
-    (20, 4_503_599_626_321_920, 4_503_668_345_798_667),
+// What `plain_of` answers to the first bytes of version 1, or of version 2 with an exponent of its own.
+fn plain_by(key: &Key, exponent: Option<u8>, bytes: u64, most: u64) -> Result<u64, OpenFault> {
+    match exponent {
+        None => plain_of(key, &EMPTY[..24], bytes, most),
+        Some(exponent) => plain_of(key, &front_of(exponent), bytes, most),
+    }
+}
+
+// Of version 1, or of version 2 with an exponent of its own and a header of 27: the most bytes that a plaintext may
+// have, those of the longest that then has a container, and of that container. Where all may be opened the longest has
+// 2^32 - 1 chunks.
+static LONGEST: [(Option<u8>, u64, u64, u64); 8] = [
+    (None, 65_537, 65_537, 65_593),
+    (None, 1 << 40, 1 << 40, 1_099_780_063_256),
+    (None, MAX_OPENED, 281_474_976_645_120, 281_543_696_121_864),
+    (Some(12), 8_192, 8_192, 8_251),
+    (Some(12), 1 << 40, 1 << 40, 1_103_806_595_099),
+    (Some(12), MAX_OPENED, 17_592_186_040_320, 17_660_905_517_067),
+    (
+        Some(16),
+        MAX_OPENED,
+        281_474_976_645_120,
+        281_543_696_121_867,
+    ),
+    (
+        Some(20),
+        MAX_OPENED,
+        4_503_599_626_321_920,
+        4_503_668_345_798_667,
+    ),
 ];
 
-fn have_longest() -> bool {
-    for (exponent, plain, bytes) in &LONGEST {
-        if *bytes > 1 << 53 || !is_longest_of(&front_of(*exponent), MAX_OPENED, *plain, *bytes) {
-            return false;
-        }
-    }
-    true
+// Whether a container of so many plaintext bytes has so many bytes, and is the longest with which this beginning goes
+// where the plaintext may have `most`.
+fn is_longest(exponent: Option<u8>, most: u64, plain: u64, bytes: u64) -> bool {
+    let key = counting_key();
+    plain_by(&key, exponent, bytes, most) == Ok(plain)
+        && plain_by(&key, exponent, bytes.saturating_add(1), most) == Err(OpenFault::TooLong)
 }
 
 // Of version 2 the header's faults come before the length's, else the length's.
-fn names_another_key(front: &[u8], bytes: u64, fault: OpenFault) -> bool {
-    plain_of(&Key::new([0; 32]), front, bytes, 0) == Err(fault)
+fn name_another_key() -> bool {
+    let key = Key::new([0; 32]);
+    plain_by(&key, None, 41, 0) == Err(OpenFault::TooLong)
+        && plain_by(&key, Some(12), 44, 0) == Err(OpenFault::KeyMismatch)
+}
+
+// Whether the first bytes tell the versions apart.
+fn are_told_apart() -> bool {
+    !begins_as_two(&EMPTY[..24]) && begins_as_two(&EMPTY_TWO[..27])
 }
 
 #[test]
-fn longest_containers(rt: HostRuntime) {
-    assert!(rt; !begins_as_two(&EMPTY[..24]) && begins_as_two(&EMPTY_TWO[..27]));
-    assert!(rt; is_longest(&EMPTY[..24], 65_537, 65_593));
-    assert!(rt; is_longest(&EMPTY[..24], 1 << 40, 1_099_780_063_256));
-    assert!(rt; is_longest(&EMPTY_TWO[..27], 8_192, 8_251));
-    assert!(rt; is_longest(&EMPTY_TWO[..27], 1 << 40, 1_103_806_595_099));
-    assert!(rt;
-        is_longest_of(
-            &EMPTY[..24],
-            MAX_OPENED,
-            281_474_976_645_120,
-            281_543_696_121_864
-        )
-    );
-    assert!(rt; have_longest());
-    assert!(rt; names_another_key(&EMPTY[..24], 41, OpenFault::TooLong));
-    assert!(rt; names_another_key(&EMPTY_TWO[..27], 44, OpenFault::KeyMismatch));
+fn containers_open_up_to_the_longest(rt: HostRuntime) {
+    for (exponent, most, plain, bytes) in &LONGEST {
+        assert!(rt;
+            is_longest(*exponent, *most, *plain, *bytes),
+            "{bytes} bytes"
+        );
+    }
+    assert!(rt; name_another_key());
+    assert!(rt; are_told_apart());
 }

@@ -92,8 +92,9 @@ fn containers_of_zeros(rt: HostRuntime) -> Result<(), Fail> {
     let key = counting_key();
     for (count, length, chunks, digest) in &CONTAINERS {
         let bytes = zeros_sealed(rt.alloc(), &key, &Shape::one(), 0, *count)?;
-        assert!(rt; is_cut_and_digested(&key, bytes.as_slice(), *length, *chunks, digest));
-        assert!(rt; opens_to_zeros(rt.alloc(), &key, bytes.as_slice(), *count));
+        let sealed = is_cut_and_digested(&key, bytes.as_slice(), *length, *chunks, digest);
+        let opened = opens_to_zeros(rt.alloc(), &key, bytes.as_slice(), *count);
+        assert!(rt; sealed && opened, "{count}");
     }
     Ok(())
 }
@@ -146,27 +147,6 @@ fn empty_chunk_behind_a_full_one_is_a_bad_length(rt: HostRuntime) -> Result<(), 
     let header = Header::of(&key, &Shape::one(), prefix_of(0));
     assert!(rt; header.chunk() == 65536);
     assert!(rt; are_refused(rt.alloc(), &key, &header, &mut [0; 65536])?);
-    Ok(())
-}
-
-// Whether the container cut to this length has this fault.
-fn is_refused_at(alloc: Global, key: &Key, bytes: &[u8], length: usize, fault: OpenFault) -> bool {
-    length <= bytes.len() && has_fault(alloc, key, &bytes[..length], fault)
-}
-
-// Whether each cut of the container of two chunks has its fault.
-fn names_faults_of_cuts(alloc: Global, key: &Key, bytes: &[u8]) -> bool {
-    is_refused_at(alloc, key, bytes, 65_576, OpenFault::Forged { chunk: 0 })
-        && is_refused_at(alloc, key, bytes, 24, OpenFault::BadLength)
-        && is_refused_at(alloc, key, bytes, 23, OpenFault::ShortHeader)
-        && is_refused_at(alloc, key, bytes, 0, OpenFault::ShortHeader)
-}
-
-#[test]
-fn truncated_container_names_the_fault(rt: HostRuntime) -> Result<(), Fail> {
-    let key = counting_key();
-    let bytes = zeros_sealed(rt.alloc(), &key, &Shape::one(), 0, 65_537)?;
-    assert!(rt; names_faults_of_cuts(rt.alloc(), &key, bytes.as_slice()));
     Ok(())
 }
 

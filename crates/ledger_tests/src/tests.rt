@@ -1,3 +1,6 @@
+//! Runs of the shared ledger: what seats are answered, what they count, and the text and the audit of their journal.
+//!
+//! What a test does stands in functions over a borrowed ledger, which tell whether all was as it is to be.
 ghost use Rattle.std.specs.Prelude.{◌≡◌, ◌<◌};
 
 use crate::calls::{
@@ -6,13 +9,12 @@ use crate::calls::{
 };
 use crate::run::Run;
 use ledger_core::{
-    Device, Grant, IssueFault, OpenLedgerFault, Range, SettleFault, Spent, Tally, Way, laws,
+    Device, Grant, IssueFault, OpenLedgerFault, Range, SettleFault, Spent, Tally, Way,
 };
 use std::alloc::{AllocError, Global};
 use std::fmt::Display;
 use std::test::*;
-
-// What each test does stands in functions over a borrowed ledger, which tell whether all was as it is to be.
+use std::thread::Threads;
 
 // Seat 0 issues 7, and seat 1 issues 8.
 fn issue_7_and_8(run: &mut Run) -> Option<(Grant, Grant)>
@@ -38,23 +40,24 @@ fn has_no_more(run: &mut Run) -> bool
     end && closed
 }
 
-// Whether each settles its own number, and seat 1 cannot settle what seat 0 issued.
+// Whether each settles its own number, and seat 1 cannot settle what seat 0 issued. Seat 1 counts what seat 0 did, also
+// where it did nothing itself since it counted last.
 fn settles_7_and_8(run: &mut Run, seven: Spent, eight: Spent) -> bool
     requires { 1 < run.old.terms.seats }
     ensures { run.new ≡ run.old }
 {
-    let three = Tally {
+    let counted = Tally {
         granted: 2,
         refused: 1,
         sealed: 1,
         void: 0,
     };
-    let sealed = settles(run, 1, eight) && run.tally(1) == three;
+    let sealed = settles(run, 1, eight) && run.tally(1) == counted;
     let Some(seven) = refused(run, 1, seven) else {
         return false;
     };
-    let same = seven.number() == 7 && run.tally(1) == three;
-    let void = settles(run, 0, seven) && run.tally(1) == Tally { void: 1, ..three };
+    let same = seven.number() == 7 && run.tally(1) == counted;
+    let void = settles(run, 0, seven) && run.tally(1) == Tally { void: 1, ..counted };
     sealed && same && void
 }
 
@@ -71,7 +74,7 @@ fn shares_7_and_8(run: &mut Run) -> bool
     told && settled
 }
 
-// Run it with each allocation refused in turn: the six lines are the same.
+// The six lines are the same whichever allocation is refused (tools/refused_tests.py).
 #[test]
 fn two_seats_share_a_range(rt: HostRuntime) {
     let mut run = open_twice(rt.alloc(), 7, 2, 2).expect(&rt, "a ledger");
@@ -110,7 +113,7 @@ fn settles_behind_four(run: &mut Run) -> bool
     settles(run, 0, zero.used()) && run.tally(0) == counted
 }
 
-// Run it with each allocation refused in turn: none of them is the settlement's.
+// Whichever allocation is refused (tools/refused_tests.py), none is the settlement's.
 #[test]
 fn a_settlement_takes_no_memory(rt: HostRuntime) {
     let mut run = open_twice(rt.alloc(), 0, 4, 1).expect(&rt, "a ledger");
@@ -119,49 +122,101 @@ fn a_settlement_takes_no_memory(rt: HostRuntime) {
     assert!(rt; closes_as(rt.alloc(), run, lines));
 }
 
-#[test]
-fn four_threads_spend_a_range(rt: HostRuntime) {
-    let mut run = open(rt.alloc(), 4_294_966_296, 1_000, 4).expect(&rt, "a ledger");
-    run.spend(&rt, 4);
-    run.meet(0, 3);
-    let all = Tally {
-        granted: 1_000,
-        refused: 4,
-        sealed: 500,
-        void: 500,
-    };
-    let line = b"legal: 1000 granted, 500 sealed, 500 void, 0 open, 4 refused\n";
-    assert!(rt; ends_with(rt.alloc(), run, 2, all, line));
+// A range that seats in threads spend. Two of them then meet, if they are two, and a third counts all.
+#[derive(Clone, Copy)]
+struct Spending {
+    lo: u32,
+    size: u32,
+    seats: u32,
+    threads: u32,
+    meet: (usize, usize),
+    counts: usize,
+    tally: Tally,
+    // What the audit writes.
+    line: &'static [u8],
 }
 
-// All three counts of the word at their greatest.
-#[test]
-fn sixty_four_seats_spend_the_greatest_range(rt: HostRuntime) {
-    let mut run = open(rt.alloc(), 0, 65_535, 64).expect(&rt, "a ledger");
-    run.spend(&rt, 4);
-    let all = Tally {
-        granted: 65_535,
-        refused: 64,
-        sealed: 32_768,
-        void: 32_767,
-    };
-    let line = b"legal: 65535 granted, 32768 sealed, 32767 void, 0 open, 64 refused\n";
-    assert!(rt; ends_with(rt.alloc(), run, 63, all, line));
+// The first ends at the last number of all. Of the second all three counts of the word are at their greatest, and of
+// the third one seat's log is at its longest: a grant and a settlement of each number, and a refusal.
+static SPENDINGS: [Spending; 3] = [
+    Spending {
+        lo: 4_294_966_296,
+        size: 1_000,
+        seats: 4,
+        threads: 4,
+        meet: (0, 3),
+        counts: 2,
+        tally: Tally {
+            granted: 1_000,
+            refused: 4,
+            sealed: 500,
+            void: 500,
+        },
+        line: b"legal: 1000 granted, 500 sealed, 500 void, 0 open, 4 refused\n",
+    },
+    Spending {
+        lo: 0,
+        size: 65_535,
+        seats: 64,
+        threads: 4,
+        meet: (0, 0),
+        counts: 63,
+        tally: Tally {
+            granted: 65_535,
+            refused: 64,
+            sealed: 32_768,
+            void: 32_767,
+        },
+        line: b"legal: 65535 granted, 32768 sealed, 32767 void, 0 open, 64 refused\n",
+    },
+    Spending {
+        lo: 0,
+        size: 65_535,
+        seats: 1,
+        threads: 1,
+        meet: (0, 0),
+        counts: 0,
+        tally: Tally {
+            granted: 65_535,
+            refused: 1,
+            sealed: 32_768,
+            void: 32_767,
+        },
+        line: b"legal: 65535 granted, 32768 sealed, 32767 void, 0 open, 1 refused\n",
+    },
+];
+
+fn meet(run: &mut Run, first: usize, second: usize)
+    requires { second < run.old.terms.seats }
+    ensures { run.new ≡ run.old }
+{
+    if first >= second {
+        return;
+    }
+    run.meet(first, second);
 }
 
-// One seat's log at its longest: a grant and a settlement of each number, and a refusal.
+// Whether the range is spent, counted and audited so.
+fn is_spent<R: Threads + Sync>(rt: &R, alloc: Global, spending: Spending) -> Option<bool> {
+    let seats = spending.seats;
+    let (first, second) = spending.meet;
+    let counts = spending.counts;
+    // For the contracts of `meet` and `ends_with`.
+    if second >= seats as usize || counts >= seats as usize {
+        return None;
+    }
+    let mut run = open(alloc, spending.lo, spending.size, seats)?;
+    run.spend(rt, spending.threads);
+    meet(&mut run, first, second);
+    Some(ends_with(alloc, run, counts, spending.tally, spending.line))
+}
+
 #[test]
-fn one_seat_spends_the_greatest_range(rt: HostRuntime) {
-    let mut run = open(rt.alloc(), 0, 65_535, 1).expect(&rt, "a ledger");
-    run.spend(&rt, 1);
-    let all = Tally {
-        granted: 65_535,
-        refused: 1,
-        sealed: 32_768,
-        void: 32_767,
-    };
-    let line = b"legal: 65535 granted, 32768 sealed, 32767 void, 0 open, 1 refused\n";
-    assert!(rt; ends_with(rt.alloc(), run, 0, all, line));
+fn seats_in_threads_spend_a_range(rt: HostRuntime) {
+    for spending in &SPENDINGS {
+        let spent = is_spent(&rt, rt.alloc(), *spending);
+        assert!(rt; spent == Some(true), "{} seats", spending.seats);
+    }
 }
 
 // Whether seat 2 counts what seat 0 told it, and issues the next number, the last.
@@ -231,12 +286,28 @@ fn spoils_1(run: &mut Run) -> bool
     dropped && settles(run, 0, spoiled) && told && run.tally(0) == counted
 }
 
+// The next number of seat 0, used.
+fn used(run: &mut Run) -> Option<Spent>
+    requires { 0 < run.old.terms.seats }
+    ensures { run.new ≡ run.old }
+{
+    let grant = run.issue(0).ok()?;
+    Some(grant.used())
+}
+
+fn two_used(run: &mut Run) -> Option<(Spent, Spent)>
+    requires { 0 < run.old.terms.seats }
+    ensures { run.new ≡ run.old }
+{
+    let zero = used(run)?;
+    let one = used(run)?;
+    Some((zero, one))
+}
+
 // The same two numbers from another ledger.
 fn use_0_and_1(alloc: Global) -> Option<(Spent, Spent)> {
     let mut other = open(alloc, 0, 3, 1)?;
-    let zero = other.issue(0).ok()?.used();
-    let one = other.issue(0).ok()?.used();
-    Some((zero, one))
+    two_used(&mut other)
 }
 
 // Whether 1 is handed back, since it was settled, and 0 is settled.
@@ -248,13 +319,22 @@ fn settles_0_alone(run: &mut Run, zero: Spent, one: Spent) -> bool
     settles(run, 0, zero) && handed_back
 }
 
+fn settles_each_once(alloc: Global, run: &mut Run) -> bool
+    requires { 0 < run.old.terms.seats }
+    ensures { run.new ≡ run.old }
+{
+    let Some((zero, one)) = use_0_and_1(alloc) else {
+        return false;
+    };
+    let spoiled = spoils_1(run);
+    settles_0_alone(run, zero, one) && spoiled
+}
+
 // A grant that is dropped leaves its number granted and open, and a number is settled once.
 #[test]
 fn a_number_is_settled_once(rt: HostRuntime) {
     let mut run = open(rt.alloc(), 0, 3, 1).expect(&rt, "a ledger");
-    assert!(rt; spoils_1(&mut run));
-    let (zero, one) = use_0_and_1(rt.alloc()).expect(&rt, "two numbers");
-    assert!(rt; settles_0_alone(&mut run, zero, one));
+    assert!(rt; settles_each_once(rt.alloc(), &mut run));
     let lines = "range 1 0 3 1\n0 issue 0\n0 issue 1\n0 void 1\n0 sealed 0\n";
     assert!(rt; closes_as(rt.alloc(), run, lines));
 }
@@ -293,32 +373,23 @@ fn settles_and_meets(run: &mut Run, seven: Spent, eight: Spent) -> bool
     end && sealed && counted && void
 }
 
+fn meets_between(run: &mut Run) -> bool
+    requires { 1 < run.old.terms.seats }
+    ensures { run.new ≡ run.old }
+{
+    let Some((seven, eight)) = issue_and_meet(run) else {
+        return false;
+    };
+    settles_and_meets(run, seven.waste(), eight.used())
+}
+
 // Meetings between any two operations leave the lines as they are, and what two seats count after one is the same.
 #[test]
 fn meetings_change_no_history(rt: HostRuntime) {
     let mut run = open(rt.alloc(), 7, 2, 2).expect(&rt, "a ledger");
-    let (seven, eight) = issue_and_meet(&mut run).expect(&rt, "two numbers");
-    assert!(rt; settles_and_meets(&mut run, seven.waste(), eight.used()));
+    assert!(rt; meets_between(&mut run));
     let lines = "range 1 7 2 2\n0 issue 7\n1 issue 8\n0 issue none\n1 sealed 8\n0 void 7\n";
     assert!(rt; closes_as(rt.alloc(), run, lines));
-}
-
-fn tells_number_and_end(run: &mut Run) -> bool
-    requires { 1 < run.old.terms.seats }
-    ensures { run.new ≡ run.old }
-{
-    let numbered = run.seat(0).number() == 0 && run.seat(1).number() == 1;
-    let issued = run.issue(0).is_ok();
-    let open = !run.seat(0).closed();
-    let refused = run.issue(0).is_err();
-    let closed = run.seat(0).closed() && !run.seat(1).closed();
-    numbered && issued && open && refused && closed
-}
-
-#[test]
-fn seats_tell_their_number_and_end(rt: HostRuntime) {
-    let mut run = open(rt.alloc(), 7, 1, 2).expect(&rt, "a ledger");
-    assert!(rt; tells_number_and_end(&mut run));
 }
 
 fn is_7_until_spent(seven: Grant) -> bool {
@@ -329,24 +400,37 @@ fn is_7_until_spent(seven: Grant) -> bool {
     granted && used && way == Way::Sealed && sealed.spoil().way() == Way::Void
 }
 
-fn tells_what_grants_are(run: &mut Run) -> bool
+// Whether seat 0's next number is void where it is wasted.
+fn wastes_one(run: &mut Run) -> bool
     requires { 0 < run.old.terms.seats }
+    ensures { run.new ≡ run.old }
+{
+    match run.issue(0) {
+        Ok(grant) => grant.waste().way() == Way::Void,
+        Err(_) => false,
+    }
+}
+
+// Whether seats tell their number, and their end once no number is left, and grants and spent numbers what they are.
+fn tell_what_they_are(run: &mut Run) -> bool
+    requires { 1 < run.old.terms.seats }
     ensures { run.new ≡ run.old }
 {
     let Ok(seven) = run.issue(0) else {
         return false;
     };
-    let told = is_7_until_spent(seven);
-    match run.issue(0) {
-        Ok(eight) => eight.waste().way() == Way::Void && told,
-        Err(_) => false,
-    }
+    let told = is_7_until_spent(seven) && wastes_one(run);
+    let numbered = run.seat(0).number() == 0 && run.seat(1).number() == 1;
+    let open = !run.seat(0).closed();
+    let refused = run.issue(0).is_err();
+    let closed = run.seat(0).closed() && !run.seat(1).closed();
+    told && numbered && open && refused && closed
 }
 
 #[test]
-fn grants_and_spent_numbers_tell_what_they_are(rt: HostRuntime) {
-    let mut run = open(rt.alloc(), 7, 2, 1).expect(&rt, "a ledger");
-    assert!(rt; tells_what_grants_are(&mut run));
+fn seats_grants_and_spent_numbers_tell_what_they_are(rt: HostRuntime) {
+    let mut run = open(rt.alloc(), 7, 2, 2).expect(&rt, "a ledger");
+    assert!(rt; tell_what_they_are(&mut run));
 }
 
 // The number, and whether only the seat that issued it holds it.
@@ -354,7 +438,7 @@ fn use_7(run: &mut Run) -> Option<(Spent, bool)>
     requires { 1 < run.old.terms.seats }
     ensures { run.new ≡ run.old }
 {
-    let seven = run.issue(0).ok()?.used();
+    let seven = used(run)?;
     let held = run.seat(0).holds(&seven) && !run.seat(1).holds(&seven);
     Some((seven, held))
 }
@@ -362,8 +446,7 @@ fn use_7(run: &mut Run) -> Option<(Spent, bool)>
 // The same number of another device.
 fn use_7_of_device_2(alloc: Global) -> Option<Spent> {
     let mut other = open_of(alloc, 2, 7, 2, 1)?;
-    let seven = other.issue(0).ok()?;
-    Some(seven.used())
+    used(&mut other)
 }
 
 // Whether this seat neither holds nor settles the stranger.
@@ -375,36 +458,25 @@ fn refuses_stranger(run: &mut Run, stranger: Spent) -> bool
     refused(run, 0, stranger).is_some() && strange
 }
 
-// The stranger has the number of a grant of this seat, but another device.
-#[test]
-fn seats_hold_their_own_open_numbers(rt: HostRuntime) {
-    let stranger = use_7_of_device_2(rt.alloc()).expect(&rt, "a stranger");
-    let mut run = open(rt.alloc(), 7, 2, 2).expect(&rt, "a ledger");
-    let (seven, held) = use_7(&mut run).expect(&rt, "a number");
-    assert!(rt; held);
-    assert!(rt; refuses_stranger(&mut run, stranger));
-    assert!(rt; settles(&mut run, 0, seven));
-}
-
-fn counts_what_others_did(run: &mut Run) -> bool
+fn holds_its_own(alloc: Global, run: &mut Run) -> bool
     requires { 1 < run.old.terms.seats }
     ensures { run.new ≡ run.old }
 {
-    let Ok(seven) = run.issue(1) else {
+    let Some(stranger) = use_7_of_device_2(alloc) else {
         return false;
     };
-    let before = run.tally(0);
-    let settled = run.settle(1, seven.used()).is_ok();
-    let after = run.tally(0);
-    let granted = before.granted == 1 && after.granted == 1;
-    granted && settled && before.sealed == 0 && after.sealed == 1
+    let Some((seven, held)) = use_7(run) else {
+        return false;
+    };
+    let refused = refuses_stranger(run, stranger);
+    settles(run, 0, seven) && held && refused
 }
 
-// What another seat did is counted by a seat that did nothing since it counted last.
+// The stranger has the number of a grant of this seat, but another device.
 #[test]
-fn a_seat_counts_what_others_did_since(rt: HostRuntime) {
+fn seats_hold_their_own_open_numbers(rt: HostRuntime) {
     let mut run = open(rt.alloc(), 7, 2, 2).expect(&rt, "a ledger");
-    assert!(rt; counts_what_others_did(&mut run));
+    assert!(rt; holds_its_own(rt.alloc(), &mut run));
 }
 
 #[test]
@@ -412,21 +484,6 @@ fn device_0_has_a_ledger_as_any(rt: HostRuntime) {
     let mut run = open_of(rt.alloc(), 0, 0, 1, 1).expect(&rt, "a ledger");
     let grant = run.issue(0).expect(&rt, "a number");
     assert!(rt; grant.prefix() == [0; 7]);
-}
-
-// The laws are called like any function.
-#[test]
-fn laws_are_called(rt: HostRuntime) {
-    let mut run = open(rt.alloc(), 7, 2, 1).expect(&rt, "a ledger");
-    assert!(rt; run.issue(0).is_ok());
-    laws::grants_seen(run.seat(0));
-    laws::seats_agree();
-    laws::one_reply_fits();
-    laws::heard_stands_before();
-    laws::counts_stay_small();
-    let journal = run.close().ok().expect(&rt, "a journal");
-    laws::grants_of_journal(&journal);
-    assert!(rt; journal.entries().len() == 1);
 }
 
 static ISSUE_FAULTS: [(IssueFault, u32, &str); 3] = [
@@ -449,37 +506,19 @@ fn has_text(alloc: Global, fault: impl Display + Drop, text: &str) -> Result<boo
     Ok(format!(in alloc; "{fault}")?.as_str() == text)
 }
 
-fn issue_faults_are_told(alloc: Global) -> Result<bool, AllocError> {
-    for (fault, number, text) in &ISSUE_FAULTS {
-        if fault.number() != *number || !has_text(alloc, *fault, text)? {
-            return Ok(false);
-        }
-    }
-    Ok(true)
-}
-
-fn settle_faults_are_told(alloc: Global) -> Result<bool, AllocError> {
-    for (fault, number, text) in &SETTLE_FAULTS {
-        if fault.number() != *number || !has_text(alloc, *fault, text)? {
-            return Ok(false);
-        }
-    }
-    Ok(true)
-}
-
-fn open_faults_are_told(alloc: Global) -> Result<bool, AllocError> {
-    for (fault, number, text) in &OPEN_FAULTS {
-        if fault.number() != *number || !has_text(alloc, *fault, text)? {
-            return Ok(false);
-        }
-    }
-    Ok(true)
-}
-
 #[test]
 fn faults_have_their_numbers_and_texts(rt: HostRuntime) -> Result<(), AllocError> {
-    assert!(rt; issue_faults_are_told(rt.alloc())?);
-    assert!(rt; settle_faults_are_told(rt.alloc())?);
-    assert!(rt; open_faults_are_told(rt.alloc())?);
+    for (fault, number, text) in &ISSUE_FAULTS {
+        let told = has_text(rt.alloc(), *fault, text)?;
+        assert!(rt; told && fault.number() == *number, "{text}");
+    }
+    for (fault, number, text) in &SETTLE_FAULTS {
+        let told = has_text(rt.alloc(), *fault, text)?;
+        assert!(rt; told && fault.number() == *number, "{text}");
+    }
+    for (fault, number, text) in &OPEN_FAULTS {
+        let told = has_text(rt.alloc(), *fault, text)?;
+        assert!(rt; told && fault.number() == *number, "{text}");
+    }
     Ok(())
 }

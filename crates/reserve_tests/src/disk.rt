@@ -31,6 +31,11 @@ pub static ALL_LEFT: [Left; 4] = [
     Left::DatabaseSynced,
 ];
 
+/// A file that doesn't stop.
+pub fn lasting(memory: Memory) -> Stopping {
+    Fuse::new(memory, u64::MAX)
+}
+
 /// New files, of which one fails each call after so many.
 pub fn fused(alloc: Global, which: Which, calls: u64) -> Files<Stopping> {
     let (log_calls, db_calls) = match which {
@@ -116,24 +121,31 @@ fn files_of<D: Disk + Drop>(rest: Rest<FileStore<D>>) -> Option<Files<D>> {
 }
 
 /// What the next run finds of these files.
-pub fn found(alloc: Global, files: Files<Stopping>, left: Left) -> Option<Files<Memory>> {
-    let Files { mut log, mut db } = files;
+pub fn found(alloc: Global, mut files: Files<Stopping>, left: Left) -> Option<Files<Stopping>> {
     if matches!(left, Left::Synced | Left::LogSynced) {
-        log.crash();
+        files.log.crash();
     }
     if matches!(left, Left::Synced | Left::DatabaseSynced) {
-        db.crash();
+        files.db.crash();
     }
-    let log = copy(alloc, &log)?;
-    let db = copy(alloc, &db)?;
-    Some(Files { log, db })
+    copies(alloc, &files.log, &files.db)
+}
+
+fn copies(alloc: Global, log: &Stopping, db: &Stopping) -> Option<Files<Stopping>> {
+    let log = copy(alloc, log)?;
+    match copy(alloc, db) {
+        Some(db) => Some(Files { log, db }),
+        None => None,
+    }
 }
 
 /// A file of the same bytes that doesn't stop.
-pub fn copy(alloc: Global, file: &Stopping) -> Option<Memory> {
+pub fn copy(alloc: Global, file: &Stopping) -> Option<Stopping> {
     let mut memory = Memory::new(alloc);
-    memory.write_at(0, file.inner().bytes()).ok()?;
-    Some(memory)
+    match memory.write_at(0, file.inner().bytes()) {
+        Ok(()) => Some(lasting(memory)),
+        Err(_) => None,
+    }
 }
 
 /// Whether both tables are there; `None` where one is.

@@ -1,160 +1,178 @@
 //! Databases that are no ledger file, and some that are.
-use crate::store::{Mark, TABLES, Taken, opening_after, opening_of};
+use crate::store::{Mark, PLAIN_MARK, PLAIN_TAKEN, TABLES, Taken, opening_after, opening_of};
 use reserve_core::ReserveFault;
 use reserve_core::ReserveFault::{BadStore, Store};
-use std::process::Abort;
 
-/// A ledger of these rows is refused.
-fn is_bad<R: AllocGlobal + Abort>(rt: &R, marks: &[Mark], taken: &[Taken]) {
-    assert_eq!(rt; opening_of(rt.alloc(), marks, taken), Some(Err(BadStore)));
+/// Whether a database was opened as a ledger, or refused by this fault.
+fn is_opened(opening: Option<Result<(), ReserveFault>>, fault: Option<ReserveFault>) -> bool {
+    match opening {
+        Some(opening) => opening.err() == fault,
+        None => false,
+    }
 }
 
-/// A ledger of these rows opens.
-fn is_lawful<R: AllocGlobal + Abort>(rt: &R, marks: &[Mark], taken: &[Taken]) {
-    assert_eq!(rt; opening_of(rt.alloc(), marks, taken), Some(Ok(())));
-}
-
-/// A database after these statements opens, or is refused, as told.
-fn opens_as<R: AllocGlobal + Abort>(rt: &R, sql: &[&str], told: Result<(), ReserveFault>) {
-    assert_eq!(rt; opening_after(rt.alloc(), sql), Some(told));
-}
+/// Rows of `mark` and of `taken`, in the order in which they are put in, and the fault, where they are no ledger.
+static ROWS: [(&str, &[Mark], &[Taken], Option<ReserveFault>); 12] = [
+    (
+        "a gap between ranges",
+        &[(1, 5)],
+        &[(1, 0, 2), (1, 3, 2)],
+        Some(BadStore),
+    ),
+    (
+        "ranges that overlap",
+        &[(1, 5)],
+        &[(1, 0, 3), (1, 2, 3)],
+        Some(BadStore),
+    ),
+    (
+        "a range that does not begin at 0",
+        &[(1, 3)],
+        &[(1, 1, 2)],
+        Some(BadStore),
+    ),
+    (
+        "a mark below the last end",
+        &[(1, 4)],
+        &[(1, 0, 5)],
+        Some(BadStore),
+    ),
+    ("a mark without ranges", &[(1, 1)], &[], Some(BadStore)),
+    (
+        "a range from 1 without a mark",
+        &[],
+        &[(1, 1, 2)],
+        Some(BadStore),
+    ),
+    (
+        "a second device without a mark",
+        &[(1, 2)],
+        &[(1, 0, 2), (2, 0, 1)],
+        Some(BadStore),
+    ),
+    (
+        "a lower device without a mark",
+        &[(2, 2)],
+        &[(2, 0, 2), (1, 0, 1)],
+        Some(BadStore),
+    ),
+    (
+        "a device of 25 bits",
+        &[(16_777_216, 0)],
+        &[],
+        Some(BadStore),
+    ),
+    ("a device below 0", &[(-1, 0)], &[], Some(BadStore)),
+    ("a mark at 0", &[(1, 0)], &[], None),
+    (
+        "ranges put in from the last on",
+        &[(1, 5)],
+        &[(1, 3, 2), (1, 0, 3)],
+        None,
+    ),
+];
 
 #[test]
-fn a_gap_between_ranges(rt: HostRuntime) {
-    is_bad(&rt, &[(1, 5)], &[(1, 0, 2), (1, 3, 2)]);
+fn rows_are_a_ledger_where_ranges_are_adjacent_up_to_their_mark(rt: HostRuntime) {
+    for (what, marks, taken, fault) in &ROWS {
+        assert!(rt;
+            is_opened(opening_of(rt.alloc(), marks, taken), *fault),
+            "{what}"
+        );
+    }
 }
 
-#[test]
-fn a_mark_below_the_last_end(rt: HostRuntime) {
-    is_bad(&rt, &[(1, 4)], &[(1, 0, 5)]);
-}
+/// Statements that make a database, and the fault, where it is no ledger.
+static STATEMENTS: [(&str, &[&str], Option<ReserveFault>); 13] = [
+    (
+        "a mark of a key id of 31 bytes",
+        &[
+            TABLES,
+            "INSERT INTO mark VALUES
+               (X'00000000000000000000000000000000000000000000000000000000000000', 1, 0);",
+        ],
+        Some(BadStore),
+    ),
+    (
+        "a range of a key id of 31 bytes",
+        &[
+            TABLES,
+            "INSERT INTO taken VALUES
+               (X'00000000000000000000000000000000000000000000000000000000000000', 1, 0, 1);",
+        ],
+        Some(BadStore),
+    ),
+    (
+        "a text for a key id",
+        &[
+            TABLES,
+            "INSERT INTO mark VALUES ('630dcd2966c4336691125448bbb25b4f', 1, 0);",
+        ],
+        Some(BadStore),
+    ),
+    (
+        "a text for a number",
+        &[
+            PLAIN_MARK,
+            PLAIN_TAKEN,
+            "INSERT INTO mark VALUES
+               (X'630dcd2966c4336691125448bbb25b4ff412a49c732db2c8abc1b8581bd710dd', 1, 'many')",
+        ],
+        Some(BadStore),
+    ),
+    (
+        "a mark over the field",
+        &[
+            PLAIN_MARK,
+            PLAIN_TAKEN,
+            "INSERT INTO mark VALUES
+               (X'630dcd2966c4336691125448bbb25b4ff412a49c732db2c8abc1b8581bd710dd', 1, 4294967297);
+             INSERT INTO taken VALUES
+               (X'630dcd2966c4336691125448bbb25b4ff412a49c732db2c8abc1b8581bd710dd', 1, 0, 4294967297)",
+        ],
+        Some(BadStore),
+    ),
+    (
+        "the two tables without their checks, which open",
+        &[PLAIN_MARK, PLAIN_TAKEN],
+        None,
+    ),
+    ("the first table alone", &[PLAIN_MARK], Some(BadStore)),
+    ("the second table alone", &[PLAIN_TAKEN], Some(BadStore)),
+    (
+        "a table with other columns",
+        &[
+            PLAIN_MARK,
+            "CREATE TABLE taken (key_id BLOB NOT NULL, device INTEGER NOT NULL,
+               low INTEGER NOT NULL, size INTEGER NOT NULL)",
+        ],
+        Some(BadStore),
+    ),
+    (
+        "another table beside the two",
+        &[TABLES, "CREATE TABLE note (title TEXT)"],
+        Some(Store),
+    ),
+    (
+        "another table alone",
+        &["CREATE TABLE note (title TEXT)"],
+        Some(BadStore),
+    ),
+    (
+        "a view alone",
+        &["CREATE VIEW one AS SELECT 1"],
+        Some(BadStore),
+    ),
+    (
+        "a connection in a transaction",
+        &[TABLES, "BEGIN"],
+        Some(Store),
+    ),
+];
 
 #[test]
-fn a_range_without_a_mark(rt: HostRuntime) {
-    is_bad(&rt, &[], &[(1, 0, 1)]);
-    is_bad(&rt, &[], &[(1, 1, 2)]);
-}
-
-#[test]
-fn ranges_that_do_not_begin_at_0(rt: HostRuntime) {
-    is_bad(&rt, &[(1, 3)], &[(1, 1, 2)]);
-}
-
-#[test]
-fn ranges_that_overlap(rt: HostRuntime) {
-    is_bad(&rt, &[(1, 5)], &[(1, 0, 3), (1, 2, 3)]);
-}
-
-#[test]
-fn a_mark_without_ranges(rt: HostRuntime) {
-    is_bad(&rt, &[(1, 1)], &[]);
-}
-
-#[test]
-fn a_key_id_of_31_bytes(rt: HostRuntime) {
-    let rows =
-        "INSERT INTO mark VALUES (X'00000000000000000000000000000000000000000000000000000000000000', 1, 0);";
-    opens_as(&rt, &[TABLES, rows], Err(BadStore));
-}
-
-#[test]
-fn a_range_of_a_key_id_of_31_bytes(rt: HostRuntime) {
-    let rows =
-        "INSERT INTO taken VALUES (X'00000000000000000000000000000000000000000000000000000000000000', 1, 0, 1);";
-    opens_as(&rt, &[TABLES, rows], Err(BadStore));
-}
-
-#[test]
-fn a_device_of_25_bits(rt: HostRuntime) {
-    is_bad(&rt, &[(16_777_216, 0)], &[]);
-}
-
-#[test]
-fn a_device_below_0(rt: HostRuntime) {
-    is_bad(&rt, &[(-1, 0)], &[]);
-}
-
-#[test]
-fn a_text_for_a_key_id(rt: HostRuntime) {
-    let rows = "INSERT INTO mark VALUES ('630dcd2966c4336691125448bbb25b4f', 1, 0);";
-    opens_as(&rt, &[TABLES, rows], Err(BadStore));
-}
-
-#[test]
-fn a_range_of_a_second_device_without_a_mark(rt: HostRuntime) {
-    is_bad(&rt, &[(1, 2)], &[(1, 0, 2), (2, 0, 1)]);
-}
-
-#[test]
-fn a_range_of_a_lower_device_without_a_mark(rt: HostRuntime) {
-    is_bad(&rt, &[(2, 2)], &[(2, 0, 2), (1, 0, 1)]);
-}
-
-#[test]
-fn a_range_of_70000_numbers_is_lawful(rt: HostRuntime) {
-    is_lawful(&rt, &[(1, 70_000)], &[(1, 0, 70_000)]);
-}
-
-#[test]
-fn a_mark_at_0_is_lawful(rt: HostRuntime) {
-    is_lawful(&rt, &[(1, 0)], &[]);
-}
-
-#[test]
-fn rows_in_another_order_are_lawful(rt: HostRuntime) {
-    is_lawful(&rt, &[(1, 5)], &[(1, 3, 2), (1, 0, 3)]);
-}
-
-const MARK: &str =
-    "CREATE TABLE mark (key_id BLOB NOT NULL, device INTEGER NOT NULL, next INTEGER NOT NULL, PRIMARY KEY (key_id, device))";
-
-const TAKEN: &str =
-    "CREATE TABLE taken (key_id BLOB NOT NULL, device INTEGER NOT NULL, lo INTEGER NOT NULL, size INTEGER NOT NULL, PRIMARY KEY (key_id, device, lo))";
-
-#[test]
-fn one_table_of_the_two(rt: HostRuntime) {
-    opens_as(&rt, &[MARK], Err(BadStore));
-    opens_as(&rt, &[TAKEN], Err(BadStore));
-}
-
-#[test]
-fn a_table_with_other_columns(rt: HostRuntime) {
-    let other =
-        "CREATE TABLE taken (key_id BLOB NOT NULL, device INTEGER NOT NULL, low INTEGER NOT NULL, size INTEGER NOT NULL)";
-    opens_as(&rt, &[MARK, other], Err(BadStore));
-}
-
-#[test]
-fn a_text_for_a_number(rt: HostRuntime) {
-    let rows =
-        "INSERT INTO mark VALUES (X'630dcd2966c4336691125448bbb25b4ff412a49c732db2c8abc1b8581bd710dd', 1, 'many')";
-    opens_as(&rt, &[MARK, TAKEN, rows], Err(BadStore));
-}
-
-#[test]
-fn tables_without_checks_are_a_ledger(rt: HostRuntime) {
-    opens_as(&rt, &[MARK, TAKEN], Ok(()));
-}
-
-#[test]
-fn a_mark_over_the_field(rt: HostRuntime) {
-    let rows =
-        "INSERT INTO mark VALUES (X'630dcd2966c4336691125448bbb25b4ff412a49c732db2c8abc1b8581bd710dd', 1, 4294967297); INSERT INTO taken VALUES (X'630dcd2966c4336691125448bbb25b4ff412a49c732db2c8abc1b8581bd710dd', 1, 0, 4294967297)";
-    opens_as(&rt, &[MARK, TAKEN, rows], Err(BadStore));
-}
-
-#[test]
-fn another_table_beside_the_two(rt: HostRuntime) {
-    opens_as(&rt, &[TABLES, "CREATE TABLE note (title TEXT)"], Err(Store));
-}
-
-#[test]
-fn a_database_of_something_else(rt: HostRuntime) {
-    opens_as(&rt, &["CREATE TABLE note (title TEXT)"], Err(BadStore));
-    opens_as(&rt, &["CREATE VIEW one AS SELECT 1"], Err(BadStore));
-}
-
-#[test]
-fn a_connection_in_a_transaction(rt: HostRuntime) {
-    opens_as(&rt, &[TABLES, "BEGIN"], Err(Store));
+fn databases_of_other_tables_or_values_are_refused(rt: HostRuntime) {
+    for (what, sql, fault) in &STATEMENTS {
+        assert!(rt; is_opened(opening_after(rt.alloc(), sql), *fault), "{what}");
+    }
 }

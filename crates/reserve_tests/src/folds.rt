@@ -2,7 +2,7 @@
 //! files have them.
 use crate::disk::{
     ALL_LEFT, Left, Rest, Run, Stopping, Which, answer_over, begins_with, copy, found, fused,
-    run_over,
+    lasting, run_over,
 };
 use crate::store::{ID, keeper, reserve};
 use reserve_core::{Fold, LedgerFile, ReserveFault};
@@ -88,7 +88,12 @@ fn gives_next<S: Alter + Drop>(
 }
 
 /// The same of a keeper of these files.
-fn goes_on(alloc: Global, files: Files<Memory>, ranges: &[(u32, u64)], next: u32) -> Option<bool> {
+fn goes_on(
+    alloc: Global,
+    files: Files<Stopping>,
+    ranges: &[(u32, u64)],
+    next: u32,
+) -> Option<bool> {
     answer_over(alloc, files, GoesOn { ranges, next })?
 }
 
@@ -100,7 +105,7 @@ fn goes_on_alone(
     next: u32,
 ) -> Option<bool> {
     let db = copy(alloc, &files.db)?;
-    let log = Memory::new(alloc);
+    let log = lasting(Memory::new(alloc));
     goes_on(alloc, Files { log, db }, ranges, next)
 }
 
@@ -181,7 +186,8 @@ fn stop_each_fold(alloc: Global, which: Which, left: Left) -> Option<u32> {
     None
 }
 
-/// Whether some folds are stopped, whatever is left, and each keeps the ranges.
+/// Whether some folds are stopped, whatever is left, and each keeps the ranges; and so does the one that is done, also
+/// without its log.
 fn folds_keep_ranges(alloc: Global, which: Which) -> bool {
     for left in &ALL_LEFT {
         match stop_each_fold(alloc, which, *left) {
@@ -190,20 +196,6 @@ fn folds_keep_ranges(alloc: Global, which: Which) -> bool {
         }
     }
     true
-}
-
-/// Whether a ledger that is folded goes on without its log.
-fn outlasts_its_log(alloc: Global) -> Option<bool> {
-    let (folded, files) = after_folds(alloc, Which::Log, u64::MAX, 1);
-    match end_of(folded) {
-        End::Done => goes_on_alone(alloc, &files?, &[(0, 3)], 3),
-        _ => None,
-    }
-}
-
-#[test]
-fn a_folded_file_has_the_ranges_without_its_log(rt: HostRuntime) {
-    assert!(rt; outlasts_its_log(rt.alloc()) == Some(true));
 }
 
 /// Whether a ledger that isn't folded goes on with its log, and begins at 0 without.

@@ -125,24 +125,24 @@ fn next_after(ranges: usize) -> u32 {
 /// What a run told whose disk stops after so many calls. `None` where what it leaves lacks a range, or has another.
 fn told_before(alloc: Global, which: Which, left: Left, calls: u64) -> Option<Told> {
     let (told, files) = run_over(alloc, fused(alloc, which, calls), Reserves);
-    let told = told.unwrap_or(Some(NOTHING));
-    if is_shown(alloc, files, left, told) == Some(true) {
-        told
-    } else {
-        None
+    match (told.unwrap_or(Some(NOTHING)), files) {
+        (Some(told), Some(files)) => {
+            if is_shown(alloc, files, left, told) {
+                Some(told)
+            } else {
+                None
+            }
+        }
+        _ => None,
     }
 }
 
 /// Whether these files show to the next run what was told.
-fn is_shown(
-    alloc: Global,
-    files: Option<Files<Stopping>>,
-    left: Left,
-    told: Option<Told>,
-) -> Option<bool> {
-    let files = found(alloc, files?, left)?;
-    let told = told?;
-    answer_over(alloc, files, Shows { told })?
+fn is_shown(alloc: Global, files: Files<Stopping>, left: Left, told: Told) -> bool {
+    match found(alloc, files, left) {
+        Some(files) => answer_over(alloc, files, Shows { told }) == Some(Some(true)),
+        None => false,
+    }
 }
 
 /// Stops after 0 calls, 1 call and so on until a run is given all three ranges, and looks at what each leaves. It tells

@@ -19,6 +19,17 @@ pub const TABLES: &str = "CREATE TABLE mark (key_id BLOB NOT NULL, device INTEGE
       PRIMARY KEY (key_id, device, lo),
       CHECK (lo >= 0 AND size >= 1 AND lo + size <= 4294967296));";
 
+static BOTH_TABLES: [&str; 1] = [TABLES];
+
+static TABLES_IN_A_TRANSACTION: [&str; 2] = [TABLES, "BEGIN"];
+
+/// Each of the two without its checks.
+pub const PLAIN_MARK: &str = "CREATE TABLE mark (key_id BLOB NOT NULL, device INTEGER NOT NULL,
+      next INTEGER NOT NULL, PRIMARY KEY (key_id, device))";
+
+pub const PLAIN_TAKEN: &str = "CREATE TABLE taken (key_id BLOB NOT NULL, device INTEGER NOT NULL,
+      lo INTEGER NOT NULL, size INTEGER NOT NULL, PRIMARY KEY (key_id, device, lo))";
+
 /// A database in memory after these statements.
 pub fn database(alloc: Global, sql: &[&str]) -> Option<Connection<MemStore>> {
     let mut conn = Connection::open_in_memory(alloc).ok()?;
@@ -72,9 +83,14 @@ fn has_put_rows<S: Alter>(conn: &mut Connection<S>, marks: &[Mark], taken: &[Tak
     true
 }
 
-/// A database in memory with both tables and these rows.
-pub fn ledger(alloc: Global, marks: &[Mark], taken: &[Taken]) -> Option<Connection<MemStore>> {
-    let mut conn = database(alloc, &[TABLES])?;
+/// A database in memory after these statements, with these rows.
+pub fn database_of(
+    alloc: Global,
+    sql: &[&str],
+    marks: &[Mark],
+    taken: &[Taken],
+) -> Option<Connection<MemStore>> {
+    let mut conn = database(alloc, sql)?;
     if has_put_rows(&mut conn, marks, taken) {
         Some(conn)
     } else {
@@ -82,9 +98,14 @@ pub fn ledger(alloc: Global, marks: &[Mark], taken: &[Taken]) -> Option<Connecti
     }
 }
 
+/// A database in memory with both tables and these rows.
+pub fn ledger(alloc: Global, marks: &[Mark], taken: &[Taken]) -> Option<Connection<MemStore>> {
+    database_of(alloc, &BOTH_TABLES, marks, taken)
+}
+
 /// A ledger in memory in which device 1 has so many ranges, each of one number.
 pub fn ledger_of_many(alloc: Global, ranges: u32) -> Option<Connection<MemStore>> {
-    let mut conn = database(alloc, &[TABLES, "BEGIN"])?;
+    let mut conn = database(alloc, &TABLES_IN_A_TRANSACTION)?;
     if has_put_many(&mut conn, ranges) {
         Some(conn)
     } else {
@@ -103,7 +124,7 @@ fn has_put_many<S: Alter>(conn: &mut Connection<S>, ranges: u32) -> bool {
 
 /// A ledger in memory in which the devices from 0 have a range of one number each.
 pub fn ledger_of_devices(alloc: Global, devices: u32) -> Option<Connection<MemStore>> {
-    let mut conn = database(alloc, &[TABLES, "BEGIN"])?;
+    let mut conn = database(alloc, &TABLES_IN_A_TRANSACTION)?;
     if has_put_devices(&mut conn, devices) {
         Some(conn)
     } else {

@@ -1,13 +1,14 @@
 //! Reservations, one after the other.
 use crate::store::{
-    ID, database, has_taken, keeper, ledger, ledger_of_devices, ledger_of_many, reserve,
+    ID, Mark, PLAIN_MARK, TABLES, Taken, database, database_of, has_taken, keeper, ledger,
+    ledger_of_devices, ledger_of_many, reserve,
 };
 use crate::tests::Step::{Gives, Has, Refuses};
 use crate::tests::Whose::{Other, Own};
 use journal_core::Device;
 use reserve_core::{Keeper, ReserveFault};
-use sqlite::{Alter, Connection, MemStore};
-use std::test::*;
+use sqlite::{Alter, Connection};
+use std::alloc::{AllocError, Global};
 
 static OTHER_ID: [u8; 32] = [7; 32];
 
@@ -40,121 +41,131 @@ fn takes_step<S: Alter>(keeper: &mut Keeper<S>, step: &Step) -> bool {
     }
 }
 
-/// Whether a keeper takes each of these steps, one after the other.
-fn takes<S: Alter>(keeper: &mut Keeper<S>, steps: &[Step]) -> bool {
-    for step in steps {
+/// How many of these steps a keeper takes, one after the other.
+fn taken_by<S: Alter>(keeper: &mut Keeper<S>, steps: &[Step]) -> usize {
+    for (at, step) in steps.iter().enumerate() {
         if !takes_step(keeper, step) {
-            return false;
+            return at;
         }
     }
-    true
+    steps.len()
 }
 
-/// Whether the keeper of a database takes these steps.
-fn is_kept<S: Alter + Drop>(conn: Option<Connection<S>>, steps: &[Step]) -> bool {
-    match after(conn, steps) {
-        Some(_) => true,
-        None => false,
+/// How many of them the keeper of a database takes: none where it has no keeper.
+fn steps_taken<S: Alter + Drop>(conn: Option<Connection<S>>, steps: &[Step]) -> usize {
+    match opened(conn) {
+        Some(mut keeper) => taken_by(&mut keeper, steps),
+        None => 0,
     }
+}
+
+fn opened<S: Alter + Drop>(conn: Option<Connection<S>>) -> Option<Keeper<S>> {
+    keeper(conn?).ok()
 }
 
 /// The connection of a keeper that took these steps.
 fn after<S: Alter + Drop>(conn: Option<Connection<S>>, steps: &[Step]) -> Option<Connection<S>> {
-    let mut keeper = keeper(conn?).ok()?;
-    if takes(&mut keeper, steps) {
+    let mut keeper = opened(conn)?;
+    if taken_by(&mut keeper, steps) == steps.len() {
         Some(keeper.release())
     } else {
         None
     }
 }
 
-static ADJACENT: [Step; 5] = [
-    Has(Own(1), &[]),
+/// The statements and the rows of a database, and the steps that its keeper takes.
+static KEPT: [(&str, &[&str], &[Mark], &[Taken], &[Step]); 4] = [
+    (
+        "ranges of each device and key id are adjacent from 0, and a refusal changes nothing",
+        &[],
+        &[],
+        &[],
+        &[
+            Has(Own(1), &[]),
+            Gives(Own(1), (0, 3)),
+            Gives(Own(2), (0, 4)),
+            Gives(Other(1), (0, 5)),
+            Gives(Other(16_777_215), (0, 6)),
+            Refuses(0, ReserveFault::ZeroCount),
+            Refuses(65_536, ReserveFault::TooMany),
+            Has(Own(1), &[(0, 3)]),
+            Gives(Own(1), (3, 1)),
+            Gives(Own(1), (4, 65_535)),
+            Has(Own(1), &[(0, 3), (3, 1), (4, 65_535)]),
+            Has(Own(2), &[(0, 4)]),
+            Has(Other(1), &[(0, 5)]),
+            Has(Other(16_777_215), &[(0, 6)]),
+            Has(Other(2), &[]),
+        ],
+    ),
+    (
+        "the field is spent at its end",
+        &[TABLES],
+        &[(1, 4_294_967_295)],
+        &[(1, 0, 4_294_967_295)],
+        &[
+            Refuses(0, ReserveFault::ZeroCount),
+            Refuses(65_536, ReserveFault::TooMany),
+            Refuses(2, ReserveFault::FieldSpent { left: 1 }),
+            Gives(Own(1), (4_294_967_295, 1)),
+            Refuses(1, ReserveFault::FieldSpent { left: 0 }),
+        ],
+    ),
+    (
+        "a range longer than any that is given goes on",
+        &[TABLES],
+        &[(1, 70_000)],
+        &[(1, 0, 70_000)],
+        &[
+            Gives(Own(1), (70_000, 2)),
+            Has(Own(1), &[(0, 70_000), (70_000, 2)]),
+        ],
+    ),
+    (
+        "a refused second write leaves the mark: no range of more than two numbers can be put in",
+        &[
+            PLAIN_MARK,
+            "CREATE TABLE taken (key_id BLOB NOT NULL, device INTEGER NOT NULL,
+               lo INTEGER NOT NULL, size INTEGER NOT NULL,
+               PRIMARY KEY (key_id, device, lo), CHECK (size <= 2))",
+        ],
+        &[],
+        &[],
+        &[
+            Gives(Own(1), (0, 1)),
+            Refuses(3, ReserveFault::Store),
+            Gives(Own(1), (1, 1)),
+            Has(Own(1), &[(0, 1), (1, 1)]),
+        ],
+    ),
+];
+
+#[test]
+fn ranges_are_adjacent_and_a_refusal_changes_nothing(rt: HostRuntime) {
+    for (what, sql, marks, taken, steps) in &KEPT {
+        let at = steps_taken(database_of(rt.alloc(), sql, marks, taken), steps);
+        assert!(rt; at == steps.len(), "{what}: step {at}");
+    }
+}
+
+static FIRST_RUN: [Step; 3] = [
+    Gives(Own(0), (0, 3)),
     Gives(Own(1), (0, 3)),
-    Gives(Own(1), (3, 1)),
-    Gives(Own(1), (4, 65_535)),
-    Has(Own(1), &[(0, 3), (3, 1), (4, 65_535)]),
+    Gives(Own(2), (0, 1)),
 ];
 
-#[test]
-fn ranges_are_adjacent_from_0(rt: HostRuntime) {
-    assert!(rt; is_kept(database(rt.alloc(), &[]), &ADJACENT));
-}
-
-static SPENT: [Step; 5] = [
-    Refuses(0, ReserveFault::ZeroCount),
-    Refuses(65_536, ReserveFault::TooMany),
-    Refuses(2, ReserveFault::FieldSpent { left: 1 }),
-    Gives(Own(1), (4_294_967_295, 1)),
-    Refuses(1, ReserveFault::FieldSpent { left: 0 }),
-];
-
-#[test]
-fn field_is_spent_at_its_end(rt: HostRuntime) {
-    let conn = ledger(rt.alloc(), &[(1, 4_294_967_295)], &[(1, 0, 4_294_967_295)]);
-    assert!(rt; is_kept(conn, &SPENT));
-}
-
-static REFUSED: [Step; 5] = [
-    Gives(Own(1), (0, 2)),
-    Refuses(0, ReserveFault::ZeroCount),
-    Refuses(65_536, ReserveFault::TooMany),
-    Has(Own(1), &[(0, 2)]),
-    Gives(Own(1), (2, 1)),
-];
-
-#[test]
-fn a_refusal_changes_nothing(rt: HostRuntime) {
-    assert!(rt; is_kept(database(rt.alloc(), &[]), &REFUSED));
-}
-
-static APART: [Step; 10] = [
-    Gives(Own(1), (0, 3)),
-    Gives(Own(2), (0, 4)),
-    Gives(Other(1), (0, 5)),
-    Gives(Other(16_777_215), (0, 6)),
+static SECOND_RUN: [Step; 4] = [
+    Gives(Own(0), (3, 1)),
+    Has(Own(0), &[(0, 3), (3, 1)]),
     Gives(Own(1), (3, 1)),
     Has(Own(1), &[(0, 3), (3, 1)]),
-    Has(Own(2), &[(0, 4)]),
-    Has(Other(1), &[(0, 5)]),
-    Has(Other(16_777_215), &[(0, 6)]),
-    Has(Other(2), &[]),
 ];
 
 #[test]
-fn devices_and_key_ids_each_begin_at_0(rt: HostRuntime) {
-    assert!(rt; is_kept(database(rt.alloc(), &[]), &APART));
-}
-
-static FIRST_RUN: [Step; 2] = [Gives(Own(1), (0, 3)), Gives(Own(2), (0, 1))];
-
-static SECOND_RUN: [Step; 2] = [Gives(Own(1), (3, 1)), Has(Own(1), &[(0, 3), (3, 1)])];
-
-#[test]
-fn second_run_continues_the_numbers(rt: HostRuntime) {
+fn a_second_run_continues_the_numbers_of_device_0_as_of_any(rt: HostRuntime) {
     let conn = after(database(rt.alloc(), &[]), &FIRST_RUN);
-    assert!(rt; is_kept(conn, &SECOND_RUN));
-}
-
-static BEHIND_A_LONG_RANGE: [Step; 2] = [
-    Gives(Own(1), (70_000, 2)),
-    Has(Own(1), &[(0, 70_000), (70_000, 2)]),
-];
-
-#[test]
-fn a_long_range_goes_on(rt: HostRuntime) {
-    let conn = ledger(rt.alloc(), &[(1, 70_000)], &[(1, 0, 70_000)]);
-    assert!(rt; is_kept(conn, &BEHIND_A_LONG_RANGE));
-}
-
-static FIRST_OF_DEVICE_0: [Step; 1] = [Gives(Own(0), (0, 3))];
-
-static SECOND_OF_DEVICE_0: [Step; 2] = [Gives(Own(0), (3, 1)), Has(Own(0), &[(0, 3), (3, 1)])];
-
-#[test]
-fn device_0_has_ranges_as_any(rt: HostRuntime) {
-    let conn = after(database(rt.alloc(), &[]), &FIRST_OF_DEVICE_0);
-    assert!(rt; is_kept(conn, &SECOND_OF_DEVICE_0));
+    let at = steps_taken(conn, &SECOND_RUN);
+    assert!(rt; at == SECOND_RUN.len(), "step {at}");
 }
 
 fn count_of<S: Alter>(keeper: &mut Keeper<S>) -> Option<usize> {
@@ -164,7 +175,7 @@ fn count_of<S: Alter>(keeper: &mut Keeper<S>) -> Option<usize> {
 
 /// Whether a ledger of 25,000 ranges goes on, and then has one more.
 fn goes_on_behind_many<S: Alter + Drop>(conn: Option<Connection<S>>) -> Option<bool> {
-    let mut keeper = keeper(conn?).ok()?;
+    let mut keeper = opened(conn)?;
     Some(
         takes_step(&mut keeper, &Gives(Own(1), (25_000, 2)))
             && count_of(&mut keeper) == Some(25_001),
@@ -186,31 +197,8 @@ static AMONG_DEVICES: [Step; 5] = [
 
 #[test]
 fn one_of_4000_devices_and_a_new_one(rt: HostRuntime) {
-    assert!(rt; is_kept(ledger_of_devices(rt.alloc(), 4_000), &AMONG_DEVICES));
-}
-
-const PLAIN_MARK: &str =
-    "CREATE TABLE mark (key_id BLOB NOT NULL, device INTEGER NOT NULL, next INTEGER NOT NULL, PRIMARY KEY (key_id, device))";
-
-/// No range of more than two numbers can be put in.
-const SHORT_TAKEN: &str =
-    "CREATE TABLE taken (key_id BLOB NOT NULL, device INTEGER NOT NULL, lo INTEGER NOT NULL, size INTEGER NOT NULL, PRIMARY KEY (key_id, device, lo), CHECK (size <= 2))";
-
-static SHORT_RANGES: [Step; 4] = [
-    Gives(Own(1), (0, 1)),
-    Refuses(3, ReserveFault::Store),
-    Gives(Own(1), (1, 1)),
-    Has(Own(1), &[(0, 1), (1, 1)]),
-];
-
-#[test]
-fn a_refused_second_write_leaves_the_mark(rt: HostRuntime) {
-    assert!(rt;
-        is_kept(
-            database(rt.alloc(), &[PLAIN_MARK, SHORT_TAKEN]),
-            &SHORT_RANGES
-        )
-    );
+    let at = steps_taken(ledger_of_devices(rt.alloc(), 4_000), &AMONG_DEVICES);
+    assert!(rt; at == AMONG_DEVICES.len(), "step {at}");
 }
 
 /// How many rows the connection that a refusal hands back has in `taken`, and the refusal.
@@ -232,19 +220,23 @@ fn a_refused_database_is_handed_back(rt: HostRuntime) {
     assert!(rt; found == Some((ReserveFault::BadStore, 1)));
 }
 
-static TEXTS: [(ReserveFault, &str); 5] = [
-    (ReserveFault::ZeroCount, "no files"),
-    (ReserveFault::TooMany, "too many files"),
-    (ReserveFault::FieldSpent { left: 7 }, "7 numbers left"),
-    (ReserveFault::Store, "store failed"),
-    (ReserveFault::BadStore, "not a ledger"),
+static FAULTS: [(ReserveFault, u32, &str); 5] = [
+    (ReserveFault::ZeroCount, 30, "no files"),
+    (ReserveFault::TooMany, 31, "too many files"),
+    (ReserveFault::FieldSpent { left: 7 }, 32, "7 numbers left"),
+    (ReserveFault::Store, 33, "store failed"),
+    (ReserveFault::BadStore, 34, "not a ledger"),
 ];
 
+fn has_text(alloc: Global, fault: ReserveFault, text: &str) -> Result<bool, AllocError> {
+    Ok(format!(in alloc; "{fault}")?.as_str() == text)
+}
+
 #[test]
-fn faults_have_texts(rt: HostRuntime) -> Result<(), Fail> {
-    for (fault, text) in &TEXTS {
-        assert!(rt; format!(in rt.alloc(); "{fault}")?.as_str() == *text);
+fn faults_have_their_numbers_and_texts(rt: HostRuntime) -> Result<(), AllocError> {
+    for (fault, number, text) in &FAULTS {
+        let told = has_text(rt.alloc(), *fault, text)?;
+        assert!(rt; told && fault.number() == *number, "{text}");
     }
-    assert!(rt; ReserveFault::FieldSpent { left: 7 }.number() == 32);
     Ok(())
 }
