@@ -129,10 +129,10 @@ static MEETINGS: [(u8, u32, u32, bool); 3] = [
     (2, 2, 1, true),
 ];
 
-// Whether two outcomes have the numbers 0 and 1, in either order, and where they met each of so many seats drew one.
-fn are_met(outcomes: &[Outcome], seats: u32, gives_up: bool) -> bool {
+// Whether two outcomes have the numbers 0 and 1, in either order, and where they met so many seats drew one each.
+fn are_met(outcomes: &[Outcome], jobs: u32, gives_up: bool) -> bool {
     let numbered = are_numbered(outcomes, 0, 1) || are_numbered(outcomes, 1, 0);
-    (gives_up || draw_one_each(outcomes, seats)) && (outcomes.len() != 2 || numbered)
+    (gives_up || draw_one_each(outcomes, jobs)) && (outcomes.len() != 2 || numbered)
 }
 
 // Whether so many jobs meet so, or don't, and each is sealed.

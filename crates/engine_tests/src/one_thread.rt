@@ -69,6 +69,37 @@ fn has_room(alloc: Global, plain: &[u8], sealed: &[u8]) -> Option<bool> {
     Some(is_sealed && is_opened && verify_from(alloc, sealed, bytes) == Ok(bytes))
 }
 
+// Whether sealing tells of a byte too many, with nothing written, and of a writer with room for ten bytes.
+fn sealing_tells(alloc: Global) -> Option<bool> {
+    let mut writer = ToMemory::new(alloc, 64, 7, Schedule::Never).ok()?;
+    let result = seal_from(alloc, b"plain", &mut writer, 4);
+    let is_long = result == Err(SealFault::TooLong) && writer.bytes().is_empty();
+    let mut writer = ToMemory::new(alloc, 64, 7, Schedule::Bytes(10)).ok()?;
+    let result = seal_from(alloc, b"plain", &mut writer, 5);
+    let is_begun = writer.bytes() == PLAIN.as_slice().get(..10)?;
+    Some(is_long && result == Err(SealFault::Write) && is_begun)
+}
+
+// Whether opening and verifying so many bytes of the container of `plain` tell this fault, with nothing written.
+fn opening_tells(alloc: Global, taken: usize, max_bytes: u64, fault: OpenFault) -> Option<bool> {
+    if max_bytes > 9 {
+        return None;
+    }
+    let bytes = PLAIN.as_slice().get(..taken)?;
+    let mut writer = ToMemory::new(alloc, 64, 3, Schedule::Never).ok()?;
+    let opened = open_from(alloc, bytes, &mut writer, max_bytes);
+    let is_told = opened == Err(fault) && writer.bytes().is_empty();
+    Some(is_told && verify_from(alloc, bytes, max_bytes) == Err(fault))
+}
+
+#[test]
+fn faults_of_one_thread_are_told(rt: HostRuntime) {
+    assert!(rt; sealing_tells(rt.alloc()) == Some(true));
+    assert!(rt; opening_tells(rt.alloc(), 45, 4, OpenFault::TooLong) == Some(true));
+    assert!(rt; opening_tells(rt.alloc(), 44, 5, OpenFault::Forged { chunk: 0 }) == Some(true));
+    assert!(rt; opening_tells(rt.alloc(), 39, 5, OpenFault::BadLength) == Some(true));
+}
+
 // A writer that takes all and fails at the next call, which nobody makes.
 #[test]
 fn room_for_all_and_no_more(rt: HostRuntime) {

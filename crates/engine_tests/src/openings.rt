@@ -1,4 +1,5 @@
-//! Containers of several windows that open, of no byte where none is allowed, and by readers that fail in any window.
+//! Containers of several windows that open, containers of no byte where none is allowed, and readers that fail in any
+//! window.
 use crate::containers::{ONE, ONE_OF_TWO};
 use crate::windows::{LIMIT, fault_of, forty_chunks};
 use container_core::{CHUNK, HEADER, OpenFault, SEALED, Shape, seal};

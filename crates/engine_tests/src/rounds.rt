@@ -1,10 +1,12 @@
 //! Sealing in rounds of 1, 2, 16 and 256 chunks: the same container, the round that is dropped, and what is written
 //! before what is read.
+use crate::containers::PLAIN;
 use crate::windows::LIMIT;
 use container_core::{CHUNK, HEADER, SEALED, SealFault, Shape, seal};
-use crew_core::{Free, MAX_WINDOW, MAX_WORKERS};
+use container_tests::EMPTY;
+use crew_core::{DEFAULT_WINDOW, Free, MAX_WINDOW, MAX_WORKERS};
 use crew_tests::{PREFIX, counting_key, grant_of, pattern, zeros};
-use engine_core::run_seal_by;
+use engine_core::{run_seal, run_seal_by};
 use io_core::{FromRead, Sink, Source, ToWrite};
 use io_memory::{FromMemory, Schedule, ToMemory};
 use ledger_core::Way;
@@ -18,8 +20,8 @@ use std::thread::Threads;
 
 const MOST: usize = usize::MAX;
 
-// Seals under a grant of device 1 and file 0. Answers what the engine does, and how the grant ended; or `None` where it
-// is asked for what it doesn't take.
+// Seals under a grant of device 1 and file 0, by `run_seal` in rounds of 16 chunks. Answers what the engine does, and how
+// the grant ended; or `None` where it is asked for what it doesn't take.
 fn seal_by<T: Threads + Wait + Sync, R: Source, W: Sink>(
     rt: &T,
     alloc: Global,
@@ -38,20 +40,17 @@ fn seal_by<T: Threads + Wait + Sync, R: Source, W: Sink>(
         return None;
     }
     let key = counting_key();
+    let shape = Shape::one();
     let grant = grant_of(alloc, 0)?;
-    let (result, spent) = run_seal_by(
-        rt,
-        alloc,
-        &key,
-        &Shape::one(),
-        grant,
-        reader,
-        writer,
-        max_bytes,
-        workers,
-        window,
-        &Free,
-    );
+    let (result, spent) = if window == DEFAULT_WINDOW {
+        run_seal(
+            rt, alloc, &key, &shape, grant, reader, writer, max_bytes, workers, &Free,
+        )
+    } else {
+        run_seal_by(
+            rt, alloc, &key, &shape, grant, reader, writer, max_bytes, workers, window, &Free,
+        )
+    };
     Some((result, spent.way()))
 }
 
@@ -136,6 +135,8 @@ static LENGTHS: [usize; 6] = [0, 1, CHUNK, 2 * CHUNK, 2 * CHUNK + 1, 17 * CHUNK 
 
 #[test]
 fn any_window_gives_the_container(rt: HostRuntime) {
+    assert!(rt; all_give(&rt, rt.alloc(), b"", &EMPTY));
+    assert!(rt; all_give(&rt, rt.alloc(), b"plain", &PLAIN));
     for length in &LENGTHS {
         assert!(rt;
             gives_the_container(&rt, rt.alloc(), *length) == Some(true),
@@ -162,10 +163,11 @@ fn drops_the_rest<T: Threads + Wait + Sync>(
 
 // How many workers seal, in rounds of how many chunks, and what is written then. The byte too many stands behind chunk
 // 1: by rounds of one chunk 0 was written, and chunk 1 is dropped.
-static DROPPED: [(u32, u32, usize); 4] = [
+static DROPPED: [(u32, u32, usize); 5] = [
     (1, 1, HEADER + SEALED),
     (1, 2, 0),
     (4, 2, 0),
+    (4, 16, 0),
     (4, 256, 0),
 ];
 

@@ -290,7 +290,7 @@ fn is_header_refused<R: Threads + Sync>(
 }
 
 #[test]
-fn a_container_that_is_too_long_comes_before_its_header(rt: HostRuntime) -> Result<(), Fail> {
+fn a_changed_header_has_its_fault_behind_too_long(rt: HostRuntime) -> Result<(), Fail> {
     let mut bytes = forty_chunks(rt.alloc()).ok_or("no container")?;
     for (place, most, fault) in &HEADERS {
         assert!(rt;

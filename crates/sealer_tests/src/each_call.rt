@@ -4,7 +4,7 @@
 //! legal with nothing open, and as many numbers sealed and void as the lines tell.
 use crate::failing::{Calls, Failing};
 use crate::runs::{
-    CUT, EMPTY, MemoryOuts, SECRET, folder_of, has_bytes, holds, is_legal, journal_of,
+    CUT, EMPTY, MemoryOuts, SECRET, folder_of, has_bytes, has_counts, holds, journal_of,
     ledger_after, open_over, seal_over, steady_outs,
 };
 use folder_memory::{MemoryFolder, Pace};
@@ -225,23 +225,11 @@ fn failures_in(alloc: Global, run: &Run, ended: &Ended, text: &str) -> Option<Fa
     }
 }
 
-// Whether the journal is legal, and so many numbers are sealed, so many void, and none open.
-fn is_closed(alloc: Global, journal: &[u8], sealed: usize, void: usize) -> bool {
-    let granted = sealed.saturating_add(void);
-    let text = format!(in alloc;
-        "legal: {granted} granted, {sealed} sealed, {void} void, 0 open, 0 refused\n"
-    );
-    match text {
-        Ok(text) => is_legal(alloc, journal, text.as_bytes()),
-        Err(AllocError) => false,
-    }
-}
-
 fn is_journal(alloc: Global, run: &Run, journal: &[u8], failed: Failures) -> bool {
     match run.work {
         Work::Seal { lanes: _ } => {
             let sealed = run.files.len().saturating_sub(failed.all);
-            is_closed(alloc, journal, sealed, failed.void)
+            has_counts(alloc, journal, sealed, failed.void)
         }
         _ => journal.is_empty(),
     }

@@ -29,7 +29,7 @@ const SEALED_TWICE: [u8; 88] = [
 ];
 
 // What a row shows, and its case.
-static CASES: [(&str, Case); 9] = [
+static CASES: [(&str, Case); 10] = [
     (
         "a file is opened, and another name is refused",
         Case {
@@ -121,6 +121,21 @@ static CASES: [(&str, Case); 9] = [
             faults: b"",
             journal: b"",
             left: &[("empty", Left::Absent)],
+        },
+    ),
+    (
+        "a byte too many is too long",
+        Case {
+            folder: &[("long", &SECRET)],
+            trouble: Trouble::Nothing,
+            work: Work::Verify,
+            files: &["long"],
+            max_bytes: 7,
+            status: 1,
+            lines: b"failed long: too long\n",
+            faults: b"",
+            journal: b"",
+            left: &[],
         },
     ),
     (

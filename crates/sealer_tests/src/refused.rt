@@ -1,11 +1,11 @@
 //! `seal_all` of three files by one lane where one growth is refused. Run it with each allocation refused in turn
 //! (`tools/refused_tests.py`).
 use crate::runs::{
-    MemoryLedger, MemoryOuts, folder_of, holds, is_legal, journal_of, ledger_after, seal_over,
+    MemoryLedger, MemoryOuts, folder_of, has_counts, holds, journal_of, ledger_after, seal_over,
     steady_outs,
 };
 use folder_memory::MemoryFolder;
-use std::alloc::{AllocError, Global};
+use std::alloc::Global;
 use std::sync::Wait;
 use std::thread::Threads;
 
@@ -33,18 +33,6 @@ fn outs_again(alloc: Global) -> Option<MemoryOuts> {
     match steady_outs(alloc) {
         None => steady_outs(alloc),
         out => out,
-    }
-}
-
-// Whether the journal is legal and has these counts.
-fn counts(alloc: Global, journal: &[u8], sealed: usize, void: usize) -> bool {
-    let granted = sealed.saturating_add(void);
-    let text = format!(in alloc;
-        "legal: {granted} granted, {sealed} sealed, {void} void, 0 open, 0 refused\n"
-    );
-    match text {
-        Ok(text) => is_legal(alloc, journal, text.as_bytes()),
-        Err(AllocError) => false,
     }
 }
 
@@ -125,7 +113,7 @@ fn is_of(line: &str, word: &str, name: &str) -> bool {
 // Whether a journal that was written whole is legal, with nothing open: the number of each file that is sealed is so,
 // and a file that failed has a void one or none.
 fn is_closed(alloc: Global, journal: &[u8], there: usize) -> bool {
-    (there < 3 && counts(alloc, journal, there, 1)) || counts(alloc, journal, there, 0)
+    (there < 3 && has_counts(alloc, journal, there, 1)) || has_counts(alloc, journal, there, 0)
 }
 
 // Whether a run left and told what it has to, where at most one growth was refused.
@@ -140,7 +128,7 @@ fn is_kept(alloc: Global, folder: &MemoryFolder, out: &MemoryOuts, status: u8) -
         (0, "") => sealed == 3 && whole,
         (1, "") => (sealed, failed, there) == (2, 1, 2) && whole,
         // A line found no memory.
-        (2, "") => { sealed < 3 && failed == 0 && there == 3 && counts(alloc, journal, 3, 0) }
+        (2, "") => { sealed < 3 && failed == 0 && there == 3 && has_counts(alloc, journal, 3, 0) }
         (2, "journal: out of memory\n") => sealed == 3 && journal.is_empty(),
         (2, "ledger: out of memory\n" | "ledger: store failed\n") => {
             (sealed, failed, there) == (0, 0, 0) && journal.is_empty()

@@ -12,7 +12,7 @@ use sealer_core::{
     verify_all,
 };
 use sqlite::{Connection, MemStore};
-use std::alloc::Global;
+use std::alloc::{AllocError, Global};
 use std::sync::Wait;
 use std::thread::Threads;
 
@@ -139,6 +139,18 @@ pub(crate) fn is_legal(alloc: Global, journal: &[u8], line: &[u8]) -> bool {
     };
     let status = run_audit(alloc, &mut reader, &mut verdict);
     status == Ok(0) && verdict.bytes() == line
+}
+
+// Whether the journal is legal, and so many numbers are sealed, so many void, and none open.
+pub(crate) fn has_counts(alloc: Global, journal: &[u8], sealed: usize, void: usize) -> bool {
+    let granted = sealed.saturating_add(void);
+    let text = format!(in alloc;
+        "legal: {granted} granted, {sealed} sealed, {void} void, 0 open, 0 refused\n"
+    );
+    match text {
+        Ok(text) => is_legal(alloc, journal, text.as_bytes()),
+        Err(AllocError) => false,
+    }
 }
 
 // A folder with these files.

@@ -165,11 +165,11 @@ static WRITE_FAILED: Run = Run {
     left: Left::Begun(4_130, 4_130, &FIRST),
 };
 
-// Behind 4,097 bytes chunk 0 may be sealed, and chunk 1 isn't.
+// Where a read failed chunk 0 may be sealed, and chunk 1 isn't.
 static READ_FAILED: Run = Run {
     count: 8_192,
     step: 1_000,
-    reads: Schedule::Bytes(8_191),
+    reads: Schedule::Never,
     writes: Schedule::Never,
     lines: Schedule::Never,
     journals: Some(Schedule::Never),
@@ -184,7 +184,6 @@ fn failed_before<R: AllocGlobal + Threads + Wait + Sync>(rt: &R, of_reader: bool
     for call in 0..100u64 {
         let mut sealed = TWO_CHUNKS;
         let mut failed = READ_FAILED;
-        failed.reads = Schedule::Never;
         if of_reader {
             sealed.reads = Schedule::Call(call);
         } else {
@@ -263,8 +262,9 @@ fn the_next_run_has_the_next_number(rt: HostRuntime) {
     assert!(rt; is_followed(&rt, &WRITE_FAILED));
 }
 
+// Those against which the journals of the runs above are held.
 #[test]
-fn the_journal_of_a_stream_is_legal_whether_it_is_sealed_or_not(rt: HostRuntime) {
+fn the_journals_of_a_sealed_and_of_a_failed_stream_are_legal(rt: HostRuntime) {
     let sealed = b"legal: 1 granted, 1 sealed, 0 void, 0 open, 0 refused\n";
     assert!(rt; is_legal(rt.alloc(), TWO_CHUNKS.journal, sealed));
     let failed = b"legal: 1 granted, 0 sealed, 1 void, 0 open, 0 refused\n";
