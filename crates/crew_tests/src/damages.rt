@@ -31,7 +31,10 @@ fn are_answered<R: Threads + Sync>(rt: &R, alloc: Global, cases: &[Case], count:
 fn damaged_headers_are_refused(rt: HostRuntime) -> Result<(), Fail> {
     for (exponent, label) in &SHAPES {
         let cases = header_cases(rt.alloc(), *exponent, *label)?;
-        assert!(rt; are_answered(&rt, rt.alloc(), cases.as_slice(), header_count(*label)));
+        assert!(rt;
+            are_answered(&rt, rt.alloc(), cases.as_slice(), header_count(*label)),
+            "{exponent} {label}"
+        );
     }
     Ok(())
 }
@@ -40,7 +43,10 @@ fn damaged_headers_are_refused(rt: HostRuntime) -> Result<(), Fail> {
 fn damaged_chunks_are_refused(rt: HostRuntime) -> Result<(), Fail> {
     for (exponent, label) in &SHAPES {
         let cases = chunk_cases(rt.alloc(), *exponent, *label)?;
-        assert!(rt; are_answered(&rt, rt.alloc(), cases.as_slice(), CHUNK_COUNT));
+        assert!(rt;
+            are_answered(&rt, rt.alloc(), cases.as_slice(), CHUNK_COUNT),
+            "{exponent} {label}"
+        );
     }
     Ok(())
 }

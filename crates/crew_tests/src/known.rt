@@ -39,7 +39,7 @@ fn zeros_once(alloc: Global) -> Option<Vec<u8>> {
 }
 
 /// The container of `ZERO_BYTES`. A refusal that was asked for is met once, so the same call finds memory at once.
-pub fn zeros_sealed(alloc: Global) -> Option<Vec<u8>> {
+pub fn sealed_zeros(alloc: Global) -> Option<Vec<u8>> {
     let bytes = match zeros_once(alloc) {
         None => zeros_once(alloc)?,
         Some(bytes) => bytes,

@@ -26,7 +26,7 @@ mod shapes;
 mod shelves;
 
 pub use crate::grants::grant_of;
-pub use crate::known::{EIGHT, EIGHTEEN, ZERO_BYTES, ZEROS, ZEROS_SEALED, is_digest, zeros_sealed};
+pub use crate::known::{EIGHT, EIGHTEEN, ZERO_BYTES, ZEROS, ZEROS_SEALED, is_digest, sealed_zeros};
 pub use crate::late::Late;
 pub use crate::meeting::Meeting;
 pub use crate::plain::{PREFIX, flip, pattern, zeros};

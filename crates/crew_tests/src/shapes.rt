@@ -13,7 +13,7 @@ use std::alloc::Global;
 use std::test::Fail;
 use std::thread::Threads;
 
-// The label of all of them.
+// The label of all of them but the empty one.
 const LABEL: &[u8] = b"db-dump";
 
 // Bytes of their headers.

@@ -4,7 +4,7 @@
 use container_core::{OpenFault, SealFault, Shape};
 use crew_core::Free;
 use crew_tests::{
-    ZERO_BYTES, ZEROS, ZEROS_SEALED, counting_key, grant_of, is_digest, zeros_sealed,
+    ZERO_BYTES, ZEROS, ZEROS_SEALED, counting_key, grant_of, is_digest, sealed_zeros,
 };
 use engine_core::{run_open_by, run_seal_by, run_verify_by};
 use io_memory::{FromMemory, Schedule, ToMemory};
@@ -106,7 +106,7 @@ fn is_sealed_by_steps<R: Threads + Wait + Sync>(
 }
 
 fn is_opened_by_steps<R: Threads + Sync>(rt: &R, alloc: Global, step: usize) -> Option<bool> {
-    let bytes = zeros_sealed(alloc)?;
+    let bytes = sealed_zeros(alloc)?;
     let mut writer = writer_of(alloc, step, Schedule::Never)?;
     let opened = open_bytes(rt, alloc, bytes.as_slice(), step, &mut writer);
     let verified = verify_bytes(rt, alloc, bytes.as_slice(), step);
@@ -143,7 +143,7 @@ fn is_opened_into<R: Threads + Sync>(
 }
 
 fn are_opened_into<R: Threads + Sync>(rt: &R, alloc: Global) -> Option<bool> {
-    let whole = zeros_sealed(alloc)?;
+    let whole = sealed_zeros(alloc)?;
     for room in &ROOMS {
         if is_opened_into(rt, alloc, whole.as_slice(), *room) != Some(true) {
             return None;
@@ -200,7 +200,7 @@ fn is_opened_or_refused<R: Threads + Sync>(
 }
 
 fn opens_again<R: Threads + Wait + Sync>(rt: &R, alloc: Global) -> Option<bool> {
-    let bytes = zeros_sealed(alloc)?;
+    let bytes = sealed_zeros(alloc)?;
     match is_opened_or_refused(rt, alloc, bytes.as_slice())? {
         None => is_opened_or_refused(rt, alloc, bytes.as_slice())?,
         opened => opened,
@@ -213,7 +213,7 @@ fn a_refused_growth_opens_nothing_or_all(rt: HostRuntime) {
 }
 
 fn verifies_again<R: Threads + Sync>(rt: &R, alloc: Global) -> Option<bool> {
-    let bytes = zeros_sealed(alloc)?;
+    let bytes = sealed_zeros(alloc)?;
     let verified = match verify_bytes(rt, alloc, bytes.as_slice(), MOST) {
         Err(OpenFault::OutOfMemory) => verify_bytes(rt, alloc, bytes.as_slice(), MOST),
         verified => verified,
