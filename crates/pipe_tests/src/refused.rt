@@ -2,7 +2,7 @@
 //! (`tools/refused_tests.py`).
 use crate::engine::pipe_from;
 use container_core::{SealFault, Shape};
-use crew_tests::{ZERO_BYTES, ZEROS_SEALED, zeros_sealed};
+use crew_tests::{ZERO_BYTES, ZEROS_SEALED, sealed_zeros};
 use io_memory::{FromMemory, Schedule, ToMemory};
 use ledger_core::Way;
 use std::alloc::{AllocError, Global};
@@ -41,7 +41,7 @@ fn is_sealed_or_refused<T: Threads + Wait + Sync>(
 }
 
 fn seals_again<T: Threads + Wait + Sync>(rt: &T, alloc: Global) -> Option<bool> {
-    let whole = zeros_sealed(alloc)?;
+    let whole = sealed_zeros(alloc)?;
     match is_sealed_or_refused(rt, alloc, whole.as_slice())? {
         None => is_sealed_or_refused(rt, alloc, whole.as_slice())?,
         sealed => sealed,
