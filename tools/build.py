@@ -1,11 +1,10 @@
 #!/usr/bin/env python3
 """build.py [-j N] [CPU]: proves and builds the program, which is then crates/sealer/out/sealer.
 
-Each crate that it stands on is proved once those below it are, several side by side: the one with the longest chain of
-crates above it by up to N processes of its own (of four at most), and beside it others by N that are nice to it. N is
-the number of processors where it isn't given; where memory is short there are fewer. With x86-64-v3 as CPU the program
-is built for processors with AVX2, and is crates/sealer/out/sealer-x86-64-v3 too; on any other processor it says so, and
-ends with status 127.
+Each crate that it stands on is proved once those below it are, several side by side, those with the longest chain of
+crates above them first. N is how many processes prove at a time, in place of one for each processor; where memory is
+short there are fewer. With x86-64-v3 as CPU the program is built for processors with AVX2, and is
+crates/sealer/out/sealer-x86-64-v3 too; on any other processor it says so, and ends with status 127.
 
 `cd crates/sealer && rt run` does the same with one crate at a time. `rt lib` keeps the folders of all crates below its
 own to itself, so here each crate is proved in a room of its own among the system's temporary files: a copy of it and of
@@ -13,6 +12,7 @@ those below, with the libraries that were built before. What was proved goes bac
 a run that was ended goes on where it was.
 """
 import argparse
+import contextlib
 import fcntl
 import os
 import shutil
@@ -82,12 +82,12 @@ class Runs:
         self.ended, self.running, self.alone = False, [], threading.Lock()
 
     def run(self, folder, *words):
-        """Runs a command in a crate's folder, and returns its status and log."""
+        """Runs rt in a crate's folder, and returns its status and log."""
         how = {"stdin": subprocess.DEVNULL, "stdout": subprocess.PIPE, "stderr": subprocess.STDOUT, "cwd": folder}
         with self.alone:
             if self.ended:
                 return 1, ""
-            ran = subprocess.Popen(words, text=True, errors="replace", **how)
+            ran = subprocess.Popen(["rt", *words], text=True, errors="replace", **how)
             self.running.append(ran)
         log, _ = ran.communicate()
         with self.alone:
@@ -101,9 +101,8 @@ class Runs:
                 ran.terminate()
 
 
-def prove(runs, crate, processes, first):
-    """Proves a library in a room, and puts what rt made into the crate's folder. Returns the log of a failure. All but
-    the first one are nice."""
+def prove(runs, crate, processes):
+    """Proves a library in a room, and puts what rt made into the crate's folder. Returns the log of a failure."""
     room = Path(tempfile.mkdtemp(prefix="sealer-build-"))
     try:
         for it in [*crate.below, crate]:
@@ -111,13 +110,13 @@ def prove(runs, crate, processes, first):
             for part in [part for part in SOURCES if (it.folder / part).is_dir()]:
                 shutil.copytree(it.folder / part, there / part)
             # of this crate too, where it was built before: then rt has nothing to do
-            if (it.folder / "out" / "rlib").is_dir():
-                shutil.copytree(it.folder / "out" / "rlib", there / "out" / "rlib", copy_function=linked)
+            with locked(it.folder, fcntl.LOCK_SH):
+                if (it.folder / "out" / "rlib").is_dir():
+                    shutil.copytree(it.folder / "out" / "rlib", there / "out" / "rlib", copy_function=linked)
         rows = [f"{it.row}\n" for it in [*crate.below, crate]]
         (room / "crates.txt").write_text("".join(rows), encoding="utf-8")
         folder = room / "crates" / crate.name
-        nice = [] if first else ["nice"]
-        status, log = runs.run(folder, *nice, "rt", "lib", "--jobs", str(processes))
+        status, log = runs.run(folder, "lib", "--jobs", str(processes))
         if status == 0:
             keep(folder / "out", crate.folder)
             return None
@@ -127,14 +126,20 @@ def prove(runs, crate, processes, first):
 
 
 def keep(made, folder):
-    """Puts what rt made into a crate's folder, while no rt works there."""
-    held = os.open(folder, os.O_RDONLY)
-    try:
-        fcntl.flock(held, fcntl.LOCK_EX)
+    """Puts what rt made into a crate's folder, while no rt and no other run of this program works there."""
+    with locked(folder, fcntl.LOCK_EX):
         for part in [part for part in MADE if (made / part).is_dir()]:
             shutil.rmtree(folder / "out" / part, ignore_errors=True)
             (folder / "out").mkdir(exist_ok=True)
             shutil.move(str(made / part), str(folder / "out" / part))
+
+
+@contextlib.contextmanager
+def locked(folder, how):
+    held = os.open(folder, os.O_RDONLY)
+    try:
+        fcntl.flock(held, how)
+        yield
     finally:
         os.close(held)
 
@@ -149,16 +154,14 @@ def linked(one, other):
 def prove_all(runs, crates, most):
     """Proves libraries, each once those below it are. Returns the log of the first that fails."""
     left, running, memory = sorted(crates, key=lambda it: -it.chain), {}, free_memory()
-    # one more than there are processes, for the one that the others are nice to
-    with ThreadPoolExecutor(most + 1) as pool:
+    with ThreadPoolExecutor(most) as pool:
         try:
             while left or running:
                 unproved = [*left, *(crate for crate, _ in running.values())]
                 ready = [it for it in left if not any(below in unproved for below in it.below)]
-                longest = max(it.chain for it in unproved)
-                for crate, share in fitting(ready, longest, [it for _, it in running.values()], most, memory):
+                for crate, processes in fitting(ready, [it for _, it in running.values()], most, memory):
                     left.remove(crate)
-                    running[pool.submit(prove, runs, crate, *share)] = crate, share
+                    running[pool.submit(prove, runs, crate, processes)] = crate, processes
                 for it in wait(running, return_when=FIRST_COMPLETED).done:
                     crate, _ = running.pop(it)
                     if it.result():
@@ -173,26 +176,22 @@ def prove_all(runs, crates, most):
                 runs.end()
 
 
-def fitting(ready, longest, shares, most, memory):
-    """Gives the crates to begin with now, each with its share: its number of processes, and whether it is the one with
-    the longest chain, which has processes of its own. `shares` are those of the crates that are proved now."""
+def fitting(ready, taken, most, memory):
+    """Gives the crates to begin with now, each with its number of processes, beside checks with so many processes."""
     for behind, crate in zip(reversed(range(len(ready))), ready):
-        first = crate.chain == longest
-        idle = most - sum(processes for processes, was_first in shares if was_first == first)
-        spare = memory - sum(OF_CHECK + OF_PROCESS * (processes - 1) for processes, _ in shares)
+        idle = most - sum(taken)
+        spare = memory - sum(OF_CHECK + OF_PROCESS * (it - 1) for it in taken)
         room = 1 + (spare - OF_CHECK) // OF_PROCESS
-        if shares and room < 1:
+        if idle < 1 or taken and room < 1:
             return
-        if idle >= 1:
-            share = max(1, min(MOST, idle if first else idle - behind, room)), first
-            shares.append(share)
-            yield crate, share
+        taken.append(max(1, min(MOST, idle - behind, room)))
+        yield crate, taken[-1]
 
 
 def main():
     parser = argparse.ArgumentParser(description=__doc__, formatter_class=argparse.RawDescriptionHelpFormatter)
     parser.add_argument("-j", metavar="N", type=int, default=len(os.sched_getaffinity(0)))
-    parser.add_argument("cpu", nargs="?", metavar="CPU", choices=["x86-64-v2", "x86-64-v3"])
+    parser.add_argument("cpu", nargs="?", metavar="CPU", choices=["x86-64-v3"])
     given = parser.parse_args()
     for it in (signal.SIGTERM, signal.SIGHUP):
         signal.signal(it, lambda *_: sys.exit("stopped"))
@@ -204,8 +203,8 @@ def main():
         if log:
             sys.exit(log)
         cpu = ["--cpu", given.cpu] if given.cpu else []
-        [(_, (processes, _))] = fitting([program], program.chain, [], most, free_memory())
-        status, log = runs.run(program.folder, "rt", "run", "--jobs", str(processes), *cpu, "--", "--help")
+        [(_, processes)] = fitting([program], [], most, free_memory())
+        status, log = runs.run(program.folder, "run", "--jobs", str(processes), *cpu, "--", "--help")
         if status and not (cpu and status == OTHER_CPU):
             sys.exit(log or "ended")
         if given.cpu:
