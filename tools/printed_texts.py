@@ -57,12 +57,14 @@ LINES = {
 }
 # The types that are written by the code of another one.
 WRITTEN_BY = {"FileOutcome": "Line"}
+# What prints, but for `eprintln!(RUNTIME; TEXT)` with a name alone for the runtime.
+PRINT = r'\b(?:e?print|println)!\([^;]*;\s*"[^"]*|\beprintln!\((?!\s*\w+;)[^;]*'
 ARM = r"\b[A-Z]\w*::([A-Z]\w*)(?: \{[^}]*\}|\([^=]*?\))? =>"
 
 
 def read_sources():
     """The code of the crates that the program is made of, less its comments."""
-    files = [it for it in sorted((TOP / "crates").glob("*/src/**/*.rt")) if not re.search(r"_(tests|bench)/", str(it))]
+    files = [it for it in sorted((TOP / "crates").glob("*/src/**/*.rt")) if not re.search(r"_(tests|bench|memory)/", str(it))]
     return re.sub(r"^\s*//.*\n", "", "".join(it.read_text(encoding="utf-8") for it in files), flags=re.M)
 
 
@@ -164,6 +166,9 @@ def unlisted():
         for variant in several.split():
             if variant not in variants(name):
                 yield f"{name}::{variant}: there is none"
+    for it in re.findall(PRINT, SOURCES):
+        if " of {all} files, " not in it and '"\\r\\x1b[K' not in it:
+            yield f"{' '.join(it.split())}: is it a text of a fault, or a line?"
     subjects = set(re.findall(r'\bcomplain\(\s*rt,\s*"(\w*)"', SOURCES))
     for it in sorted(subjects ^ ({it for table in FAULTS.values() for it in table} - {"failed", ""})):
         yield f"a fault of '{it}': {'nobody knows its types' if it in subjects else 'it is printed nowhere'}"

@@ -119,7 +119,7 @@ pub(crate) fn outs_of<'p, 'r, R: Files + Clock + Eprint, O: Write + Drop, E: Wri
 /// Takes away what was told of how far the run is.
 pub(crate) fn clear<R: Clock + Eprint>(progress: Option<&Progress<'_, R>>) {
     if let Some(progress) = progress {
-        progress.clear();
+        let _ = progress.clear();
     }
 }
 

@@ -1,8 +1,9 @@
 //! The line on standard error that tells how far a run is: files done of all, bytes done, bytes a second, and the time
 //! left where the sizes of all files are known.
 //!
-//! It is redrawn at most five times a second, as bytes are read, and taken away before a line of the run is told and at
-//! the end. The time begins with the first bytes. It changes nothing else, and where the clock fails there is none.
+//! It is redrawn at most five times a second, as bytes are read, taken away before a line of the run is told, drawn again
+//! behind it, and taken away at the end. The time begins with the first bytes, which its speed doesn't count. It changes
+//! nothing else, and where the clock fails there is none.
 ghost use Rattle.std.specs.Prelude.{◌≡◌};
 
 use std::cell::Cell;
@@ -22,8 +23,8 @@ const MIB: u64 = 1 << 20;
 struct Done {
     files: u64,
     bytes: u64,
-    // When the first bytes were read.
-    begun: Instant,
+    // When the first bytes were read, and how many they were.
+    begun: Option<(Instant, u64)>,
     // Since when the line may be drawn again.
     last: Instant,
     is_drawn: bool,
@@ -45,7 +46,7 @@ impl<'r, R: Clock + Eprint> Progress<'r, R> {
     where
         R: Files,
     {
-        let begun = Instant::now(rt).ok()?;
+        let last = Instant::now(rt).ok()?;
         Some(Progress {
             rt,
             files: names.len(),
@@ -53,8 +54,8 @@ impl<'r, R: Clock + Eprint> Progress<'r, R> {
             done: Cell::new(Done {
                 files: 0,
                 bytes: 0,
-                begun,
-                last: begun,
+                begun: None,
+                last,
                 is_drawn: false,
             }),
         })
@@ -63,18 +64,17 @@ impl<'r, R: Clock + Eprint> Progress<'r, R> {
     /// So many bytes more were read. The line is drawn where it is time.
     pub fn add(&self, bytes: usize) {
         let mut done = self.done.get();
-        let is_first = done.bytes == 0;
         done.bytes = done.bytes.saturating_add(bytes as u64);
         if let Ok(now) = Instant::now(self.rt) {
             // What the run did before, as to open the ledger file, says nothing of its speed.
-            if is_first {
-                done.begun = now;
+            if done.begun.is_none() {
+                done.begun = Some((now, done.bytes));
                 done.last = now;
             }
             if now.saturating_duration_since(done.last).as_millis() >= BETWEEN {
                 done.last = now;
                 done.is_drawn = true;
-                self.draw(&done, now.saturating_duration_since(done.begun));
+                self.draw(&done, now);
             }
         }
         self.done.set(done);
@@ -87,21 +87,35 @@ impl<'r, R: Clock + Eprint> Progress<'r, R> {
         self.done.set(done);
     }
 
-    /// Takes the line away, where it is drawn.
-    pub fn clear(&self) {
+    /// Takes the line away: whether it was drawn.
+    pub fn clear(&self) -> bool {
         let mut done = self.done.get();
-        if done.is_drawn {
-            let _ = eprint!(self.rt; "\r\x1b[K");
-            done.is_drawn = false;
+        if !done.is_drawn {
+            return false;
+        }
+        let _ = eprint!(self.rt; "\r\x1b[K");
+        done.is_drawn = false;
+        self.done.set(done);
+        true
+    }
+
+    // Draws the line again.
+    fn show(&self) {
+        let mut done = self.done.get();
+        if let Ok(now) = Instant::now(self.rt) {
+            done.is_drawn = true;
+            self.draw(&done, now);
             self.done.set(done);
         }
     }
 
-    // Draws the line, after so long a time.
-    fn draw(&self, done: &Done, time: Duration) {
+    // Draws the line, as it is now.
+    fn draw(&self, done: &Done, now: Instant) {
+        let (begun, first) = done.begun.unwrap_or((now, 0));
+        let time = now.saturating_duration_since(begun);
         let (files, all) = (done.files, self.files);
         let mib = done.bytes / MIB;
-        let each = per_second(done.bytes, time);
+        let each = per_second(done.bytes.saturating_sub(first), time);
         let tenths = each.saturating_mul(10) / MIB;
         let (rate, tenth) = (tenths / 10, tenths % 10);
         let _ = match self.bytes {
@@ -169,7 +183,7 @@ impl<R: Clock + Eprint, F: Read + Drop> Read for Counted<'_, '_, R, F> {
     }
 }
 
-/// A stream on which a run tells lines: the line that tells how far it is is taken away first.
+/// A stream on which a run tells lines: the line that tells how far it is is taken away first, and drawn again behind it.
 #[derive(Drop)]
 pub struct Told<'p, 'r, R: Clock + Eprint, W: Write + Drop> {
     /// The stream.
@@ -185,11 +199,16 @@ impl<R: Clock + Eprint, W: Write + Drop> Write for Told<'_, '_, R, W> {
         let Some(progress) = self.progress else {
             return self.writer.write(buf);
         };
-        progress.clear();
+        let was_drawn = progress.clear();
         let put = self.writer.write(buf);
         // A line is written by one call, and by further ones the rest of it.
-        if self.of_files && matches!(put, Ok(bytes) if bytes == buf.len()) {
-            progress.told();
+        if matches!(put, Ok(bytes) if bytes == buf.len()) {
+            if self.of_files {
+                progress.told();
+            }
+            if was_drawn {
+                progress.show();
+            }
         }
         put
     }
