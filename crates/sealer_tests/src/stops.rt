@@ -92,7 +92,7 @@ fn database_after<R: AllocGlobal + Threads + Wait + Sync>(
     let log = steady(rt.alloc());
     match connect(rt.alloc(), Files { log, db }) {
         Ok(conn) => database_of(left_after(rt, conn, folder, next)),
-        Err(_) => None,
+        Err(_files) => None,
     }
 }
 
@@ -231,7 +231,7 @@ fn end_after<R: AllocGlobal + Threads + Wait + Sync>(
     let db = Fuse::new(Memory::new(rt.alloc()), db_calls);
     match connect(rt.alloc(), Files { log, db }) {
         Ok(conn) => end_of_run(rt, conn, pipes),
-        Err(_) => Some(End::Unopened),
+        Err(_files) => Some(End::Unopened),
     }
 }
 

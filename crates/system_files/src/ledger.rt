@@ -111,9 +111,13 @@ pub fn open_ledger<S: Start>(
         × (HasCleanDisk (file_state keeper) → (it : IsFound over_files (image_at S.Start) keeper)
         × (ledger.now.may_make ≡ false → (file_state it.connection).now.schema.tables ≢ []))) }
 {
-    let connection = connect(rt, ledger.path, start)?;
-    let keeper = keeper_over(connection, ledger.may_make)?;
-    Ok(LedgerFile::Kept(keeper))
+    match connect(rt, ledger.path, start) {
+        Ok(connection) => match keeper_over(connection, ledger.may_make) {
+            Ok(keeper) => Ok(LedgerFile::Kept(keeper)),
+            Err(fault) => Err(fault),
+        },
+        Err(fault) => Err(fault),
+    }
 }
 
 // The database at a path, as `Connection::open_from` has it, but that it keeps few pages in memory.
@@ -128,15 +132,16 @@ fn connect<S: Start>(
     if path == ":memory:" || path.starts_with("file:") {
         return Err(LedgerFault::CannotOpen);
     }
-    let Ok(files) = sqlite_std_file::open(rt, path, start) else {
-        return Err(LedgerFault::CannotOpen);
-    };
     let Some(options) = few_pages(rt) else {
         return Err(LedgerFault::CannotOpen);
     };
+    let files = match sqlite_std_file::open(rt, path, start) {
+        Ok(files) => files,
+        Err(_error) => return Err(LedgerFault::CannotOpen),
+    };
     match Connection::open_files_with(rt.alloc(), files, options, false) {
         Ok(connection) => Ok(connection),
-        Err(_) => Err(LedgerFault::CannotOpen),
+        Err(_left) => Err(LedgerFault::CannotOpen),
     }
 }
 

@@ -1,17 +1,17 @@
 use Rattle.std.proofs.Common.{refl, arith}
 use Rattle.system_files.proofs.ledger.open_ledger.Goals as goal
 
-pub returns : goal.returns
-returns g c =
-    let opening = c.in_ok-connection.ensures in
-    let keeper = c.in_ok-keeper.ensures in
+pub returns-in-Ok-keeper_over : goal.returns-in-Ok-keeper_over
+returns-in-Ok-keeper_over g c =
+    let opening = c.in-Ok.ensures in
+    let keeper = c.in-Ok-keeper_over.ensures in
     record {
       found = (
-        c.in_ok-keeper.keeper,
+        c.in-Ok-keeper_over.keeper,
         refl,
         λ clean. (
           record {
-            connection = c.in_ok-connection.connection;
+            connection = c.in-Ok.connection;
             finds = opening.found (omega (arith, keeper.crash.clean, clean));
             opens = (opening.opened (omega (arith, keeper.crash.clean, clean))).0;
             live = (opening.opened (omega (arith, keeper.crash.clean, clean))).1;
