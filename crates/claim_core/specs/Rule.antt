@@ -1,6 +1,6 @@
 -- Inside: the rule of the claim word. The numbers below some `given` were drawn, each once, and no other; the word is
 -- that many more than how often workers met the end; and where one met it, all numbers were given.
-use Rattle.std.specs.Prelude.{◌≡◌, ℕ, ◌+◌, ◌-◌, ◌<◌, ◌≤◌, List, [], ◌∷◌, ◌++◌, length, nat_lt, MatchBool}
+use Rattle.std.specs.Prelude.{◌≡◌, ℕ, ◌+◌, ◌-◌, ◌<◌, ◌≤◌, List, [], ◌∷◌, ◌++◌, length, nat_lt, MatchBool, ◌^◌}
 use mathlib.Core.Option.{some}
 use lib.ListN.{get_elem?}
 use Rattle.atomic_table.specs.Table.{State, Me, Step}
@@ -25,7 +25,7 @@ pub record Fits (terms : Terms) (v : Hand) : Type 0 where
 
 -- so many numbers were given
 pub record HasGiven (terms : Terms) (given : ℕ) (table : State (Unit {0}) Hand) : Type 0 where
-  pub small : terms.count < 4294967296
+  pub small : terms.count < 2 ^ 32
   pub few : terms.workers ≤ 16
   pub word : table.words ≡ (given + total (λ v. v.ends) table.views) ∷ []
   pub below : given ≤ terms.count

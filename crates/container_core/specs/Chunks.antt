@@ -14,6 +14,13 @@ max_plain = 2 ^ 40
 abbrev pub max_opened : ℕ
 max_opened = 2 ^ 52 - 2 ^ 20
 
+-- how many bytes a chunk of version 1 has, and the greatest chunk of all
+abbrev pub chunk_of_one : ℕ
+chunk_of_one = 2 ^ 16
+
+abbrev pub most_chunk : ℕ
+most_chunk = 2 ^ 20
+
 -- how many chunks a container may have: their numbers have 32 bits, and so does how many there are
 abbrev pub max_chunks : ℕ
 max_chunks = 2 ^ 32 - 1

@@ -5,7 +5,7 @@ use Rattle.std.specs.Str.{bytes_eq}
 use Rattle.container_core.specs.declared.fault.OpenFault.{OpenFault}
 use Rattle.container_core.specs.declared.fault.OpenFault.TheVariants.{TooLong, ShortHeader, BadMagic, BadVersion}
 use Rattle.container_core.specs.declared.fault.OpenFault.TheVariants.{BadExponent, KeyMismatch, BadLength, Forged}
-use Rattle.container_core.specs.Chunks.{container_limit, has_plaintext, most_of, sealed_chunks}
+use Rattle.container_core.specs.Chunks.{container_limit, has_plaintext, most_of, sealed_chunks, chunk_of_one}
 use Rattle.container_core.specs.Stream.{is_nil, opened_chunk}
 use Rattle.container_core.specs.Container.{magic, hint_of, is_two, header_length, size_in}
 
@@ -57,8 +57,8 @@ early_fault_two key most bytes =
 -- the same of all bytes that don't begin as version 2: the length is tested before the header
 unfoldable pub early_fault_one : List ℕ → ℕ → List ℕ → Option OpenFault
 early_fault_one key most bytes =
-    first_fault (too_long 24 65536 most (length bytes))
-    (first_fault (header_fault_one key bytes) (bad_length 24 65536 most (length bytes)))
+    first_fault (too_long 24 chunk_of_one most (length bytes))
+    (first_fault (header_fault_one key bytes) (bad_length 24 chunk_of_one most (length bytes)))
 
 unfoldable pub early_fault : List ℕ → ℕ → List ℕ → Option OpenFault
 early_fault key most bytes =
@@ -68,7 +68,7 @@ early_fault key most bytes =
 unfoldable pub longest : ℕ → List ℕ → ℕ
 longest most bytes =
     if is_two bytes then container_limit (header_length bytes) (size_in bytes) most
-    else container_limit 24 65536 most
+    else container_limit 24 chunk_of_one most
 
 -- the plaintext of a chunk goes before that of the rest, unless one of them doesn't check
 abbrev pub joined : OpenFault → Option (List ℕ) → Result (List ℕ) OpenFault → Result (List ℕ) OpenFault

@@ -1,6 +1,6 @@
 -- Cuts, as contracts see them; and what a header always holds.
 use Rattle.std.specs.Prelude.{ℕ, ◌*◌, ◌≤◌, List, length, slice_index}
-use Rattle.container_core.specs.Chunks.{max_chunks}
+use Rattle.container_core.specs.Chunks.{max_chunks, most_chunk}
 
 -- a cut is a size of chunks, and how many bytes the plaintext has
 pub record CutView : Type 0 where
@@ -9,7 +9,7 @@ pub record CutView : Type 0 where
 
 pub record IsCut (cut : CutView) : Type 0 where
   pub least : 4096 ≤ cut.size
-  pub most : cut.size ≤ 1048576
+  pub most : cut.size ≤ most_chunk
   pub few : cut.plain ≤ max_chunks * cut.size
 
 -- what a header's bytes always are

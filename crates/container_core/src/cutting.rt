@@ -7,7 +7,7 @@ ghost use Rattle.std.specs.Prelude.{◌≡◌, ℕ, ◌+◌, ◌-◌, ◌*◌, �
 ghost use Rattle.std.specs.Prelude.{length, take, drop, min, slice_index_or};
 ghost use Rattle.std.specs.Prelude.{◌≢◌, IfOk, IfErr, IfSome, IfNone};
 ghost use Rattle.container_core.specs.Chunks.{chunks, chunk_count, body_length, container_length, container_limit};
-ghost use Rattle.container_core.specs.Chunks.{most_of, sealed_chunks};
+ghost use Rattle.container_core.specs.Chunks.{most_of, sealed_chunks, most_chunk};
 ghost use Rattle.container_core.specs.Container.{label_bytes, size_in};
 ghost use Rattle.container_core.specs.Shape.{size_of};
 ghost use Rattle.container_core.specs.Cutting.{RefusesCut};
@@ -44,7 +44,7 @@ pub(crate) fn container_of(header: u64, size: u64, plain: u64) -> u64
 
 // The greatest plaintext in chunks of a size: a chunk's number has 32 bits.
 fn greatest(size: u64) -> u64
-    requires { size ≤ 1048576 }
+    requires { size ≤ most_chunk }
     ensures value { result ≡ MAX_CHUNKS * size }
     ensures few { result ≤ MAX_OPENED }
 {
@@ -56,7 +56,7 @@ fn greatest(size: u64) -> u64
 #[tactic(auto, unfolding(crate::specs::Chunks::most_of))]
 pub(crate) fn longest_of(header: u64, size: u64, most: u64) -> u64
     requires header { header ≤ 280 }
-    requires size { (0 < size) × (size ≤ 1048576) }
+    requires size { (0 < size) × (size ≤ most_chunk) }
     requires most { most ≤ MAX_OPENED }
     ensures { result ≡ container_limit header size most }
 {
@@ -198,7 +198,7 @@ impl Cut {
 
 // The number of plaintext bytes of a container with so many bytes behind its header, if there is one.
 fn plain_of(size: u64, body: u64) -> Option<u64>
-    requires size { (4096 ≤ size) × (size ≤ 1048576) }
+    requires size { (4096 ≤ size) × (size ≤ most_chunk) }
     requires body { body ≤ body_length size (MAX_CHUNKS * size) }
     ensures some { IfSome result (λ plain. body ≡ body_length size plain) }
     ensures within { IfSome result (λ plain. plain ≤ MAX_CHUNKS * size) }

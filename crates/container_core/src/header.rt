@@ -10,7 +10,7 @@
 //! | 24 | version 2: the label's length |
 //! | from 25 | version 2: the label |
 ghost use Rattle.std.specs.Prelude.{◌≡◌, ◌≤◌, ◌+◌, length, take, drop, slice_index, None, Some, IfOk, IfErr, OnOk};
-ghost use Rattle.container_core.specs.Chunks.{container_length, container_limit};
+ghost use Rattle.container_core.specs.Chunks.{container_length, container_limit, most_chunk};
 ghost use Rattle.container_core.specs.Container.{front_of, header_of, header_length, is_two};
 ghost use Rattle.container_core.specs.Container.{size_in, label_bytes, version_of};
 ghost use Rattle.container_core.specs.Opening.{header_fault, header_fault_one, header_fault_two};
@@ -104,7 +104,7 @@ impl Header {
         ensures most { length result.now ≤ 280 }
         ensures least { 24 ≤ length result.now }
         ensures exponent { (12 ≤ slice_index self.now 9) × (slice_index self.now 9 ≤ 20) }
-        ensures size { (4096 ≤ size_in self.now) × (size_in self.now ≤ 1048576) }
+        ensures size { (4096 ≤ size_in self.now) × (size_in self.now ≤ most_chunk) }
     {
         self.image.as_slice()
     }
@@ -122,7 +122,7 @@ impl Header {
     pub fn chunk(&self) -> usize
         ensures value { result ≡ size_in self.now }
         ensures least { 4096 ≤ result }
-        ensures most { result ≤ 1048576 }
+        ensures most { result ≤ most_chunk }
     {
         power(self.bytes()[9])
     }

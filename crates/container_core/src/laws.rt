@@ -2,7 +2,8 @@
 ghost use Rattle.std.specs.Prelude.{◌≡◌, ℕ, ◌+◌, ◌-◌, ◌*◌, ◌^◌, ◌<◌, ◌≤◌, ◌↔◌, Bool, true, false, List, [], ◌∷◌, ◌++◌};
 ghost use Rattle.std.specs.Prelude.{length, take, drop, slice_index_or, None, Ok, Err};
 ghost use Rattle.container_core.specs.Chunks.{chunks, chunk_count, sealed_chunks};
-ghost use Rattle.container_core.specs.Chunks.{body_length, container_length, container_limit, has_plaintext, most_of};
+ghost use Rattle.container_core.specs.Chunks.{body_length, container_length, container_limit};
+ghost use Rattle.container_core.specs.Chunks.{has_plaintext, most_of, chunk_of_one};
 ghost use Rattle.container_core.specs.Shape.{ShapeView, IsShape, size_of, two};
 ghost use Rattle.container_core.specs.Stream.{nonce_of, prefix_in, stream, stream_by};
 ghost use Rattle.container_core.specs.Container.{container, header_of, header_length, is_two};
@@ -92,7 +93,7 @@ pub fn limits_agree()
 /// How long a container may be that begins as some bytes do: what does not begin as version 2 is held to version 1.
 pub fn longest_containers()
     ensures one { (bytes : List ℕ) (most : ℕ) → is_two bytes ≡ false
-        → longest most bytes ≡ container_limit 24 65536 most }
+        → longest most bytes ≡ container_limit 24 chunk_of_one most }
     ensures two { (bytes : List ℕ) (most : ℕ) → is_two bytes ≡ true
         → longest most bytes ≡ container_limit (header_length bytes) (size_in bytes) most }
     ensures good { (key bytes : List ℕ) (most : ℕ) → header_fault key bytes ≡ None

@@ -2,6 +2,7 @@
 ghost use Rattle.std.specs.Prelude.{◌≡◌, ◌≤◌, ◌⊎◌, ◌+◌, ◌^◌, ◌<◌, length, option_map, IfOk, OnOk, OnErr, IfSome};
 ghost use Rattle.container_core.specs.Shape.{one, two, size_of, IsShape, IsShort};
 ghost use Rattle.container_core.specs.Container.{label_bytes};
+ghost use Rattle.container_core.specs.Chunks.{most_chunk};
 
 use crate::image::Image;
 use crate::{EXPONENT, HEADER, MAX_EXPONENT, MAX_LABEL, MIN_EXPONENT};
@@ -102,7 +103,7 @@ impl Shape {
     pub fn chunk(&self) -> usize
         ensures value { result ≡ size_of self.now }
         ensures least { 4096 ≤ result }
-        ensures most { result ≤ 1048576 }
+        ensures most { result ≤ most_chunk }
     {
         power(self.exponent())
     }
@@ -113,7 +114,7 @@ pub(crate) fn power(exponent: u8) -> usize
     requires { (12 ≤ exponent) × (exponent ≤ 20) }
     ensures value { result ≡ 2 ^ exponent }
     ensures least { 4096 ≤ result }
-    ensures most { result ≤ 1048576 }
+    ensures most { result ≤ most_chunk }
 {
     1 << exponent
 }

@@ -8,7 +8,8 @@ ghost use Rattle.std.specs.Prelude.{◌≡◌, ℕ, ◌+◌, ◌<◌, ◌≤◌,
 ghost use Rattle.std.specs.Bool.{OnTrue, OnFalse};
 ghost use Rattle.std.specs.Prelude.{false, vec_capacity, Ok, Err, Some, None, IfOk, IfErr, OnOk, OnErr, MatchResult};
 ghost use Rattle.container_core.specs.Container.{container, header_length, is_two, label_bytes, shape_in, size_in};
-ghost use Rattle.container_core.specs.Chunks.{body_length, container_length, container_limit, most_of, sealed_chunks};
+ghost use Rattle.container_core.specs.Chunks.{body_length, container_length, container_limit};
+ghost use Rattle.container_core.specs.Chunks.{most_of, sealed_chunks, chunk_of_one};
 ghost use Rattle.container_core.specs.Opening.{early_fault, opening, unsealed};
 ghost use Rattle.container_core.specs.Shape.{size_of, IsShape};
 ghost use Rattle.container_core.specs.Stream.{prefix_in};
@@ -26,8 +27,8 @@ use std::alloc::Global;
 // have `most`.
 fn is_long_one(front: &[u8], bytes: u64, most: u64) -> bool
     requires { most ≤ MAX_OPENED }
-    ensures long { OnTrue result ((is_two front.now ≡ false) × (container_limit 24 65536 most < bytes)) }
-    ensures within { OnFalse result (is_two front.now ≡ false → bytes ≤ container_limit 24 65536 most) }
+    ensures long { OnTrue result ((is_two front.now ≡ false) × (container_limit 24 chunk_of_one most < bytes)) }
+    ensures within { OnFalse result (is_two front.now ≡ false → bytes ≤ container_limit 24 chunk_of_one most) }
 {
     !begins_as_two(front) && bytes > longest_bytes(&Shape::one(), most)
 }

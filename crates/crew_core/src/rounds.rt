@@ -6,7 +6,7 @@
 ghost use Rattle.std.specs.Prelude.{◌≡◌, ◌+◌, ◌-◌, ◌*◌, ◌^◌, ◌<◌, ◌≤◌, ◌++◌, ℕ, [], length, min, false, true, Ok, Err};
 ghost use Rattle.std.specs.Prelude.{vec_len, vec_capacity, IfOk, IfErr, OnOk};
 ghost use Rattle.container_core.specs.declared.fault.OpenFault.TheVariants.{Forged};
-ghost use Rattle.container_core.specs.Chunks.{body_length, chunk_count, chunks, sealed_chunks};
+ghost use Rattle.container_core.specs.Chunks.{body_length, chunk_count, chunks, sealed_chunks, most_chunk};
 ghost use Rattle.container_core.specs.Opening.{unsealed_by};
 ghost use Rattle.container_core.specs.Stream.{stream_by};
 ghost use Rattle.round_core.specs.Answer.{answer, joined, named};
@@ -31,7 +31,7 @@ const ROUND: usize = 1 << 22;
 // How many chunks of this size a round has that isn't the last.
 #[tactic(auto, unfolding(crate::specs::Rounds::round_count))]
 fn chunks_of_round(size: usize) -> u32
-    requires { (4096 ≤ size) × (size ≤ 1048576) }
+    requires { (4096 ≤ size) × (size ≤ most_chunk) }
     ensures value { result ≡ round_count size }
     ensures some { 0 < result }
     ensures few { result ≤ 1024 }
@@ -109,7 +109,7 @@ impl Rooms {
         chunks: u32,
         workers: u32,
     ) -> Result<Rooms, AllocError>
-        requires size { (4096 ≤ size) × (size ≤ 1048576) }
+        requires size { (4096 ≤ size) × (size ≤ most_chunk) }
         requires chunks { 0 < chunks }
         requires workers { (0 < workers) × (workers ≤ MAX_WORKERS) }
         ensures crew { IfOk result (λ rooms. rooms.crew

@@ -3,7 +3,7 @@ use Rattle.std.specs.Prelude.{◌≡◌, ◌≢◌, ℕ, ◌+◌, ◌*◌, ◌<�
 use Rattle.std.specs.Prelude.{false, List, [], ◌∷◌, length, take, Option}
 use Rattle.std.specs.Prelude.{Result, Ok, Err}
 use Rattle.std.specs.Prelude.{IfOk, IfErr, OnOk, OnErr, IfSome}
-use Rattle.container_core.specs.Chunks.{chunks, container_length, container_limit}
+use Rattle.container_core.specs.Chunks.{chunks, container_length, container_limit, chunk_of_one}
 use Rattle.container_core.specs.Container.{container, header_length, header_of, is_two}
 use Rattle.container_core.specs.Shape.{ShapeView, size_of}
 use Rattle.container_core.specs.declared.fault.OpenFault.{OpenFault}
@@ -140,7 +140,8 @@ pub record HasReadContainer {A : Type 0} (key : List ℕ) (most : ℕ) (left lef
   -- 1's where the input doesn't begin as version 2
   pub bound : ConsumesUpTo left left' (container_length 280 4096 most + 1)
   pub front : IfSome left (λ input. ConsumesUpTo left left' (longest most input + 1))
-  pub one : IfSome left (λ input. is_two input ≡ false → ConsumesUpTo left left' (container_limit 24 65536 most + 1))
+  pub one : IfSome left (λ input. is_two input ≡ false
+      → ConsumesUpTo left left' (container_limit 24 chunk_of_one most + 1))
   -- a failed read is Read, and no other fault is
   pub read : failures' ≡ counted (open_read_failed result) failures
 

@@ -2,6 +2,7 @@
 ghost use Rattle.std.specs.Prelude.{◌≡◌, ◌<◌, ◌≤◌, [], length, min, slice_index, IfOk};
 ghost use Rattle.round_core.specs.Parts.{room_of};
 ghost use Rattle.worker_core.specs.Crew.{idle};
+ghost use Rattle.container_core.specs.Chunks.{most_chunk};
 
 use round_core::{Places, Task};
 use std::alloc::{AllocError, Global};
@@ -28,7 +29,7 @@ impl Rooms {
         pieces: u32,
         workers: u32,
     ) -> Result<Rooms, AllocError>
-        requires size { (4096 ≤ size) × (size ≤ 1048576) }
+        requires size { (4096 ≤ size) × (size ≤ most_chunk) }
         requires pieces { 0 < pieces }
         requires workers { (0 < workers) × (workers ≤ MAX_WORKERS) }
         ensures current { IfOk result (λ rooms. rooms.current ≡ current) }

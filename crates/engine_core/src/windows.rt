@@ -6,7 +6,7 @@
 //! first.
 ghost use Rattle.std.specs.Prelude.{◌≡◌, ◌≢◌, ◌⊎◌, ℕ, ◌+◌, ◌-◌, ◌*◌, ◌^◌, ◌<◌, ◌≤◌, ◌++◌, Bool, true, false, List};
 ghost use Rattle.std.specs.Prelude.{[], length, take, min, slice_index, Ok, Err, IfOk, IfErr, OnOk, OnErr, IfSome};
-ghost use Rattle.container_core.specs.Chunks.{body_length, chunk_count, container_limit, sealed_chunks};
+ghost use Rattle.container_core.specs.Chunks.{body_length, chunk_count, container_limit, most_chunk, sealed_chunks};
 ghost use Rattle.container_core.specs.Container.{size_in};
 ghost use Rattle.container_core.specs.Faults.{IsOfBytes};
 ghost use Rattle.container_core.specs.Opening.{longest, opening, unsealed_by};
@@ -36,7 +36,7 @@ use worker_core::{Gate, MAX_WINDOW, MAX_WORKERS, usual_opening};
 fn sealed_bytes(chunks: u32, header: &Header) -> usize
     requires { chunks ≤ MAX_WINDOW }
     ensures value { result ≡ chunks * (size_in header.now + TAG) }
-    ensures most { result ≤ 268439552 }
+    ensures most { result ≤ MAX_WINDOW * (most_chunk + TAG) }
 {
     chunks as usize * (header.chunk() + TAG)
 }
@@ -45,7 +45,7 @@ fn sealed_bytes(chunks: u32, header: &Header) -> usize
 fn plain_bytes(chunks: u32, header: &Header) -> u64
     requires { chunks ≤ MAX_WINDOW }
     ensures value { result ≡ chunks * size_in header.now }
-    ensures most { result ≤ 268435456 }
+    ensures most { result ≤ MAX_WINDOW * most_chunk }
 {
     u64::from(chunks) * header.chunk() as u64
 }

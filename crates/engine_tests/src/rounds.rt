@@ -20,8 +20,8 @@ use std::thread::Threads;
 
 const MOST: usize = usize::MAX;
 
-// Seals under a grant of device 1 and file 0, by `run_seal` in rounds of 16 chunks. Answers what the engine does, and how
-// the grant ended; or `None` where it is asked for what it doesn't take.
+// Seals under a grant of device 1 and file 0, by `run_seal` in rounds of 16 chunks. Answers what the engine does, and
+// how the grant ended; or `None` where it is asked for what it doesn't take.
 fn seal_by<T: Threads + Wait + Sync, R: Source, W: Sink>(
     rt: &T,
     alloc: Global,

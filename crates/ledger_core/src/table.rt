@@ -5,6 +5,7 @@
 //! that seat.
 ghost use Rattle.std.specs.Prelude.{◌≡◌, ◌+◌, ◌≤◌, length, vec_len, vec_capacity};
 ghost use Rattle.std.specs.List.{count_by};
+ghost use Rattle.journal_core.specs.Range.{most_size};
 
 use atomic_table::{Join, Play, Seat, Split, Table, TableRule};
 use journal_core::{Entry, Terms};
@@ -32,7 +33,7 @@ pub struct Own {
     pub owing: u32,
     ghost counted: { owing ≡ count_by (λ mark. mark) held.items },
     ghost room: { vec_len log + owing ≤ vec_capacity log },
-    ghost few: { length held.items ≤ 65535 },
+    ghost few: { length held.items ≤ most_size },
 }
 
 /// The fields of a seat. Between a step and its record they are no seat, so they have no invariant of their own.

@@ -6,6 +6,8 @@ mod calls;
 pub mod order;
 pub mod run;
 #[cfg(test)]
+mod spending;
+#[cfg(test)]
 mod tests;
 
 pub use crate::run::Run;

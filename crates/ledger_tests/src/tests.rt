@@ -4,8 +4,7 @@
 ghost use Rattle.std.specs.Prelude.{◌≡◌, ◌<◌};
 
 use crate::calls::{
-    audits_as, closes_as, ends_with, issue, open, open_of, open_twice, refused, settles,
-    text_when_closed,
+    audits_as, closes_as, issue, open, open_of, open_twice, refused, settles, text_when_closed,
 };
 use crate::run::Run;
 use ledger_core::{
@@ -14,7 +13,6 @@ use ledger_core::{
 use std::alloc::{AllocError, Global};
 use std::fmt::Display;
 use std::test::*;
-use std::thread::Threads;
 
 // Seat 0 issues 7, and seat 1 issues 8.
 fn issue_7_and_8(run: &mut Run) -> Option<(Grant, Grant)>
@@ -120,103 +118,6 @@ fn a_settlement_takes_no_memory(rt: HostRuntime) {
     assert!(rt; settles_behind_four(&mut run));
     let lines = "range 1 0 4 1\n0 issue 0\n0 issue 1\n0 issue 2\n0 issue 3\n0 sealed 0\n";
     assert!(rt; closes_as(rt.alloc(), run, lines));
-}
-
-// A range that seats in threads spend. Two of them then meet, if they are two, and a third counts all.
-#[derive(Clone, Copy)]
-struct Spending {
-    lo: u32,
-    size: u32,
-    seats: u32,
-    threads: u32,
-    meet: (usize, usize),
-    counts: usize,
-    tally: Tally,
-    // What the audit writes.
-    line: &'static [u8],
-}
-
-// The first ends at the last number of all. Of the second all three counts of the word are at their greatest, and of
-// the third one seat's log is at its longest: a grant and a settlement of each number, and a refusal.
-static SPENDINGS: [Spending; 3] = [
-    Spending {
-        lo: 4_294_966_296,
-        size: 1_000,
-        seats: 4,
-        threads: 4,
-        meet: (0, 3),
-        counts: 2,
-        tally: Tally {
-            granted: 1_000,
-            refused: 4,
-            sealed: 500,
-            void: 500,
-        },
-        line: b"legal: 1000 granted, 500 sealed, 500 void, 0 open, 4 refused\n",
-    },
-    Spending {
-        lo: 0,
-        size: 65_535,
-        seats: 64,
-        threads: 4,
-        meet: (0, 0),
-        counts: 63,
-        tally: Tally {
-            granted: 65_535,
-            refused: 64,
-            sealed: 32_768,
-            void: 32_767,
-        },
-        line: b"legal: 65535 granted, 32768 sealed, 32767 void, 0 open, 64 refused\n",
-    },
-    Spending {
-        lo: 0,
-        size: 65_535,
-        seats: 1,
-        threads: 1,
-        meet: (0, 0),
-        counts: 0,
-        tally: Tally {
-            granted: 65_535,
-            refused: 1,
-            sealed: 32_768,
-            void: 32_767,
-        },
-        line: b"legal: 65535 granted, 32768 sealed, 32767 void, 0 open, 1 refused\n",
-    },
-];
-
-fn meet(run: &mut Run, first: usize, second: usize)
-    requires { second < run.old.terms.seats }
-    ensures { run.new ≡ run.old }
-{
-    if first >= second {
-        return;
-    }
-    run.meet(first, second);
-}
-
-// Whether the range is spent, counted and audited so.
-fn is_spent<R: Threads + Sync>(rt: &R, alloc: Global, spending: Spending) -> Option<bool> {
-    let seats = spending.seats;
-    let (first, second) = spending.meet;
-    let counts = spending.counts;
-    // For the contracts of `meet` and `ends_with`.
-    if second >= seats as usize || counts >= seats as usize {
-        return None;
-    }
-    let mut run = open(alloc, spending.lo, spending.size, seats)?;
-    run.spend(rt, spending.threads);
-    meet(&mut run, first, second);
-    Some(ends_with(alloc, run, counts, spending.tally, spending.line))
-}
-
-#[test]
-fn seats_in_threads_spend_a_range(rt: HostRuntime) {
-    for spending in &SPENDINGS {
-        let spent = is_spent(&rt, rt.alloc(), *spending);
-        assert!(rt; spent == Some(true), "{} seats", spending.seats);
-    }
 }
 
 // Whether seat 2 counts what seat 0 told it, and issues the next number, the last.

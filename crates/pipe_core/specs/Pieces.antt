@@ -2,7 +2,7 @@
 -- other, of which only the input's last block has fewer.
 use Rattle.std.specs.Prelude.{◌≡◌, ℕ, ◌+◌, ◌*◌, ◌^◌, ◌<◌, ◌≤◌, Bool, true, false, List, [], ◌∷◌, ◌++◌, length, take}
 use Rattle.std.specs.Prelude.{Option, IfSome, ⊤}
-use Rattle.container_core.specs.Chunks.{chunks}
+use Rattle.container_core.specs.Chunks.{chunks, max_chunks}
 use Rattle.container_core.specs.Container.{size_in}
 use Rattle.container_core.specs.Stream.{stream_by}
 use Rattle.pipe_core.specs.declared.piece.Task.{Task}
@@ -50,7 +50,7 @@ pub record IsPart (each : ℕ) (key header : List ℕ) (told : Option (List ℕ)
 abbrev pub IsTask : ℕ → List ℕ → Option (List ℕ) → Task → Type 0
 IsTask each header told (Job number buffer) = (length buffer.items ≡ room each header)
     × IsChunk (block each header) told number false (take (block each header) buffer.items)
-    × (each * (number + 1) ≤ 4294967295)
+    × (each * (number + 1) ≤ max_chunks)
 IsTask each header told Stop = ⊤
 
 -- a piece is a number and that block's sealed bytes

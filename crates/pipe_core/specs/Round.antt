@@ -11,6 +11,7 @@ use Rattle.pipe_core.specs.declared.line.Hand.{Hand}
 use Rattle.pipe_core.specs.Intake.{HasRead}
 use Rattle.pipe_core.specs.Order.{IsOrdered}
 use Rattle.pipe_core.specs.Pieces.{block, room, IsBlock, IsChunk, IsPart, IsTask, task_numbers}
+use Rattle.container_core.specs.Chunks.{max_chunks}
 
 -- something may be read, no round is empty or larger than what may be held, and the chunks have numbers of 32 bits:
 -- also those that a block behind the limit's last byte would have
@@ -20,7 +21,7 @@ pub record IsPlan (each : ℕ) (header : List ℕ) (plan : Plan) : Type 0 where
   pub depth : plan.group ≤ plan.depth
   pub same : plan.each ≡ each
   pub fits : IsBlock each header
-  pub numbers : plan.limit + block each header ≤ 4294967296 * size_in header + 1
+  pub numbers : plan.limit + block each header ≤ 2 ^ 32 * size_in header + 1
 
 -- what stands before the first block and is written with it
 abbrev pub front_of : List ℕ → Plan → List ℕ
@@ -44,7 +45,7 @@ pub record IsLast (each : ℕ) (key header : List ℕ) (told : Option (List ℕ)
 -- what the input ended with is in its buffer, and its chunks have numbers of 32 bits
 pub record MayEnd (each : ℕ) (header : List ℕ) (round : Round) : Type 0 where
   pub some : 0 < round.intake.blocks
-  pub numbers : each * round.intake.blocks ≤ 4294967295
+  pub numbers : each * round.intake.blocks ≤ max_chunks
   pub long : length round.last.items ≡ room each header
   pub filled : round.is_sealed ≡ false → round.filled ≤ block each header
   pub within : round.filled ≤ room each header
@@ -55,8 +56,8 @@ pub record IsInHand (each : ℕ) (key header : List ℕ) (told left : Option (Li
   pub read : HasRead (block each header) limit told left round.intake
   pub jobs : AreJobs each header told put round.held.items
   pub count : round.intake.blocks ≡ put + length round.held.items + (if round.intake.ended then 1 else 0)
-  pub few : round.intake.blocks ≤ 4294967295
-  pub numbers : each * round.intake.blocks ≤ 4294967295
+  pub few : round.intake.blocks ≤ max_chunks
+  pub numbers : each * round.intake.blocks ≤ max_chunks
   pub unsealed : round.intake.ended ≡ false → round.is_sealed ≡ false
   pub last : round.intake.ended ≡ true → IsLast each key header told (put + length round.held.items) round
 

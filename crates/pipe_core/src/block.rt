@@ -114,7 +114,7 @@ pub(crate) fn seal_block<G: Gate>(
 ) -> usize
     requires filled { filled ≤ 2 ^ 20 }
     requires text { body_length (size_in header.now) filled ≤ length text.old }
-    requires numbers { first + chunk_count (size_in header.now) filled ≤ 4294967296 }
+    requires numbers { first + chunk_count (size_in header.now) filled ≤ 2 ^ 32 }
     ensures length { length text.new ≡ length text.old }
     ensures bytes { result ≡ body_length (size_in header.now) filled }
     ensures sealed { take result text.new

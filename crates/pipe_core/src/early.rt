@@ -2,6 +2,7 @@
 ghost use Rattle.std.specs.Prelude.{◌≡◌, ◌+◌, ◌^◌, ◌<◌, ◌≤◌, ◌++◌, [], ◌∷◌, Some, None, IfOk, IfSome, IfNone, length};
 ghost use Rattle.std.specs.VecDeque.{deque_len, deque_capacity};
 ghost use Rattle.pipe_core.specs.Order.{placed};
+ghost use Rattle.container_core.specs.Chunks.{max_chunks};
 
 use crate::piece::Piece;
 use std::alloc::{AllocError, Global};
@@ -76,7 +77,7 @@ impl Early {
 
     // The piece whose turn it is, where it is there and may be written.
     pub(crate) fn next(&mut self) -> Option<Piece>
-        requires { self.old.written + length self.old.places.items ≤ 4294967295 }
+        requires { self.old.written + length self.old.places.items ≤ max_chunks }
         ensures some { IfSome result (λ p. (self.old.places.items ≡ Some p ∷ self.new.places.items)
             × (self.new.written ≡ self.old.written + 1)
             × (deque_capacity self.new.places ≡ deque_capacity self.old.places)) }

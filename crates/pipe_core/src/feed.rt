@@ -16,6 +16,7 @@ ghost use Rattle.pipe_core.specs.Round.{IsUnderWay, MayEnd};
 ghost use Rattle.pipe_core.specs.Rounds.{HasSealedRounds};
 ghost use Rattle.pipe_core.specs.declared.line.Hand.{Hand};
 ghost use Rattle.pipe_core.specs.declared.round.Plan.{Plan};
+ghost use Rattle.container_core.specs.Chunks.{max_chunks};
 
 use crate::block::{block_bytes, room_bytes};
 use crate::early::Early;
@@ -70,7 +71,7 @@ fn turn<N: Naming, W: Output>(
     from: &mut Pass<Piece, Hand>,
 ) -> Result<bool, Failed>
     requires from { IsPassOf pieces.now from.old × (0 < (view from.old).parts) }
-    requires few { early.old.written + length early.old.places.items ≤ 4294967295 }
+    requires few { early.old.written + length early.old.places.items ≤ max_chunks }
     requires each { 0 < N.each }
     requires size { size ≡ room N.each N.header }
     requires kept { AreKept N.each N.key N.header N.told early.old.written early.old.places.items }

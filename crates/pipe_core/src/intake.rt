@@ -7,6 +7,7 @@ ghost use Rattle.io_core.specs.Reads.{ConsumesUpTo};
 ghost use Rattle.io_core.specs.Streams.{Consumes, IsAtEnd, counted};
 ghost use Rattle.pipe_core.specs.Intake.{HasRead, seen};
 ghost use Rattle.pipe_core.specs.Pieces.{IsChunk};
+ghost use Rattle.container_core.specs.Chunks.{max_chunks};
 
 use io_core::{Failed, Source, fill};
 
@@ -79,7 +80,7 @@ impl Intake {
         requires size { (0 < size) × (size ≤ 2 ^ 20) × (n ≤ length text.now) × (n ≤ size + 1) }
         requires room { n ≤ room }
         requires going { (self.old.ended ≡ false) × (self.old.over ≡ false) }
-        requires few { (self.old.blocks < 4294967295) × (self.old.total ≤ 2 ^ 53) }
+        requires few { (self.old.blocks < max_chunks) × (self.old.total ≤ 2 ^ 53) }
         ensures within { result ≤ size }
         ensures over { (self.new.over ≡ true → n ≡ room) × (self.new.over ≡ false → n < room) }
         ensures kept { self.new.over ≡ true → (self.new.ended ≡ false) × (self.new.blocks ≡ self.old.blocks)
@@ -117,7 +118,7 @@ impl Intake {
     ) -> Result<usize, Failed>
         requires size { (0 < size) × (size ≤ 2 ^ 20) × (size < length buffer.old) }
         requires going { (self.old.ended ≡ false) × (self.old.over ≡ false) }
-        requires few { (self.old.blocks < 4294967295) × (limit ≤ 2 ^ 53) }
+        requires few { (self.old.blocks < max_chunks) × (limit ≤ 2 ^ 53) }
         requires sum { (self.old.total < limit) × (self.old.total ≡ self.old.blocks * size) }
         ensures within { IfOk result (λ n. n ≤ size) }
         ensures length { length buffer.new ≡ length buffer.old }

@@ -2,6 +2,7 @@
 //! block is none of them: the caller's thread seals it.
 ghost use Rattle.std.specs.Prelude.{◌≡◌, ◌+◌, ◌*◌, ◌≤◌, false, length, take};
 ghost use Rattle.pipe_core.specs.Pieces.{block, room, IsBlock, IsChunk, IsPiece};
+ghost use Rattle.container_core.specs.Chunks.{max_chunks};
 
 use crate::block::{block_bytes, seal_block};
 use crate::line::Naming;
@@ -41,7 +42,7 @@ pub(crate) fn make_piece<N: Naming, G: Gate>(
     requires each { IsBlock N.each N.header }
     requires buffer { length buffer.items ≡ room N.each N.header }
     requires text { IsChunk (block N.each N.header) N.told number false (take (block N.each N.header) buffer.items) }
-    requires numbers { N.each * (number + 1) ≤ 4294967295 }
+    requires numbers { N.each * (number + 1) ≤ max_chunks }
     ensures number { result.number ≡ number }
     ensures piece { IsPiece N.each N.key N.header N.told result }
 {

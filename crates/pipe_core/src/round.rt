@@ -97,7 +97,7 @@ impl Round {
     ) -> Result<(), Failed>
         requires size { (size ≡ block N.each N.header) × (0 < size) × (size ≤ 2 ^ 20) }
         requires each { 0 < N.each }
-        requires limit { (limit ≤ 2 ^ 53) × (limit + size ≤ 4294967296 * size_in N.header + 1) }
+        requires limit { (limit ≤ 2 ^ 53) × (limit + size ≤ 2 ^ 32 * size_in N.header + 1) }
         requires buffer { length buffer.items ≡ room N.each N.header }
         requires going { (self.old.intake.ended ≡ false) × (self.old.intake.over ≡ false) }
         requires room { deque_len self.old.held < deque_capacity self.old.held }

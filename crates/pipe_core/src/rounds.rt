@@ -150,7 +150,7 @@ fn rounds_named<
     requires named { (key.now ≡ N.key) × (header.now ≡ N.header) × (each ≡ N.each) × (R.left reader.old ≡ N.told) }
     requires each { IsBlock each header.now }
     requires max_bytes { max_bytes ≤ MAX_PLAIN }
-    requires numbers { max_bytes + block each header.now ≤ 4294967296 * size_in header.now }
+    requires numbers { max_bytes + block each header.now ≤ 2 ^ 32 * size_in header.now }
     requires workers { (0 < workers) × (workers ≤ MAX_WORKERS) }
     requires group { (0 < group) × (group ≤ MAX_WINDOW) }
     requires may { (plain : List ℕ)

@@ -6,6 +6,7 @@ ghost use Rattle.output_core.specs.Bounds.{Admits};
 ghost use Rattle.pipe_core.specs.Order.{front_at, AreKept, AreWritten, HasBegun, IsOrdered, MayGoOn};
 ghost use Rattle.pipe_core.specs.Pieces.{room};
 ghost use Rattle.pipe_core.specs.declared.line.Hand.{Hand};
+ghost use Rattle.container_core.specs.Chunks.{max_chunks};
 
 use crate::early::Early;
 use crate::line::{Hand, Naming};
@@ -45,7 +46,7 @@ pub(crate) fn write_next<N: Naming, W: Output>(
     spare: &mut Vec<Vec<u8>>,
     size: usize,
 ) -> Result<bool, Failed>
-    requires few { early.old.written + length early.old.places.items ≤ 4294967295 }
+    requires few { early.old.written + length early.old.places.items ≤ max_chunks }
     requires each { 0 < N.each }
     requires size { size ≡ room N.each N.header }
     requires kept { AreKept N.each N.key N.header N.told early.old.written early.old.places.items }

@@ -6,7 +6,7 @@
 ghost use Rattle.std.specs.Prelude.{◌≡◌, ◌+◌, ◌^◌, ◌==◌, ◌&&◌, ◌<◌, ◌≤◌, [], length, slice_index_or, None, Some};
 ghost use Rattle.std.specs.Prelude.{vec_capacity};
 ghost use Rattle.std.specs.Bool.{OnTrue, OnFalse};
-ghost use Rattle.container_core.specs.Chunks.{chunk_count};
+ghost use Rattle.container_core.specs.Chunks.{chunk_count, most_chunk};
 ghost use Rattle.container_core.specs.Container.{size_in};
 ghost use Rattle.round_core.specs.Values.{parts_of, value_at, round_of};
 ghost use Rattle.round_core.specs.Parts.{body_bytes, room_of, part_size, least_part};
@@ -28,7 +28,7 @@ pub enum Task {
 impl Task {
     /// Bytes of room that a piece needs, of a chunk of at most so many bytes (2^20 at most).
     pub fn room(self, size: usize) -> usize
-        requires { size ≤ 1048576 }
+        requires { size ≤ most_chunk }
         ensures { result ≡ room_of self size }
     {
         match self {
@@ -159,7 +159,7 @@ impl<'a> Round<'a> {
     /// Plaintext bytes of each chunk but the last of all.
     pub fn size(&self) -> usize
         ensures value { result ≡ self.now.size }
-        ensures most { result ≤ 1048576 }
+        ensures most { result ≤ most_chunk }
     {
         self.header.chunk()
     }

@@ -1,5 +1,5 @@
 -- The chunks of a round of a file where no number of them is asked for, of chunks of so many plaintext bytes.
-use Rattle.std.specs.Prelude.{ℕ, ◌/◌, ◌==◌, min, max, if◌then◌else◌}
+use Rattle.std.specs.Prelude.{ℕ, ◌/◌, ◌==◌, min, max, if◌then◌else◌, ◌^◌}
 
 -- as many as so many bytes have: one worker takes 16 of them at most and one at least; several take 256 at most, and
 -- one each at least
@@ -9,7 +9,7 @@ chunks_in bytes chunk workers = if workers == 1 then max (min (bytes / chunk) 16
 
 -- where they are sealed: as many as 1 MiB has
 abbrev pub usual : ℕ → ℕ → ℕ
-usual chunk workers = chunks_in 1048576 chunk workers
+usual chunk workers = chunks_in (2 ^ 20) chunk workers
 
 -- where they are opened or checked: as many as 256 KiB has by one worker, and 2 MiB by several
 abbrev pub usual_opening : ℕ → ℕ → ℕ
