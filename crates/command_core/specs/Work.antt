@@ -5,7 +5,7 @@ use Rattle.container_core.specs.declared.fault.OpenFault.TheVariants.{Write}
 use Rattle.container_core.specs.Container.{header_length}
 use Rattle.container_core.specs.Faults.{IsOfBytes}
 use Rattle.container_core.specs.Opening.{opening}
-use Rattle.engine_core.specs.Engine.{OpensTo, open_read_failed}
+use Rattle.opening_core.specs.Engine.{OpensTo, open_read_failed}
 use Rattle.io_core.specs.Streams.{Appends, AppendsFront, IsFront, counted}
 use Rattle.command_core.specs.declared.commands.OpenOptions.{OpenOptions}
 use Rattle.command_core.specs.declared.commands.TheConstants.{MAX_OPENED_BYTES}

@@ -5,7 +5,7 @@
 ghost use Rattle.std.specs.Prelude.{◌≡◌, ℕ, ◌<◌, ◌≤◌, List, [], ◌∷◌, ◌++◌, length, map, take, Option, Ok, Err, IfSome};
 ghost use Rattle.std.specs.Prelude.{Bool, if◌then◌else◌, option_map, IfOk, IfErr, MatchOption};
 ghost use Rattle.container_core.specs.Container.{header_length};
-ghost use Rattle.engine_core.specs.Engine.{OpensTo};
+ghost use Rattle.opening_core.specs.Engine.{OpensTo};
 ghost use Rattle.io_core.specs.Streams.{counted};
 ghost use Rattle.command_core.specs.Facts.{IsOfHeader};
 ghost use Rattle.command_core.specs.Labels.{IsLabelled};
@@ -19,9 +19,9 @@ use crate::folder::{Folder, FolderFault, OpeningFolder, write_or_discard};
 use crate::label::is_labelled;
 use crate::line::{FileFault, FileOutcome, Line};
 use container_core::{Key, MAX_OPENED, MAX_PLAIN, OpenFault};
-use crew_core::{Free, MAX_WORKERS};
-use engine_core::{Plaintext, run_check, run_read};
+use gate_core::{Free, MAX_WORKERS};
 use ledger_core::{Failed, Sink, Source, write_all};
+use opening_core::{Plaintext, run_check, run_read};
 use std::alloc::Global;
 use std::thread::Threads;
 

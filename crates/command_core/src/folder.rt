@@ -7,8 +7,8 @@ ghost use Rattle.command_core.specs.Trace.{Event, Creates, Discards, Does, Fails
 ghost use Rattle.command_core.specs.Trace.{IsOpenedBy, Refuses};
 
 use container_core::Key;
-use engine_core::Plaintext;
 use ledger_core::{Failed, Source};
+use opening_core::Plaintext;
 use output_core::Output;
 use thiserror::Error;
 

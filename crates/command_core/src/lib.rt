@@ -18,5 +18,5 @@ pub use crate::facts::Facts;
 pub use crate::folder::{Folder, FolderFault, OpeningFolder};
 pub use crate::key_file::{KeyFault, read_key};
 pub use crate::line::{FileFault, FileOutcome, Line};
-pub use crew_core::MAX_WORKERS;
-pub use engine_core::Plaintext;
+pub use gate_core::MAX_WORKERS;
+pub use opening_core::Plaintext;

@@ -2,7 +2,7 @@
 
 use clap::{Arg, ArgAction, Command, Error, value_parser};
 use container_core::{MAX_EXPONENT, MAX_OPENED, MAX_PLAIN, MIN_EXPONENT};
-use crew_core::{MAX_DEPTH, MAX_LANES, MAX_WINDOW, MAX_WORKERS};
+use gate_core::{MAX_DEPTH, MAX_LANES, MAX_WINDOW, MAX_WORKERS};
 use ledger_core::Device;
 use std::alloc::Global;
 

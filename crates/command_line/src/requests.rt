@@ -7,7 +7,7 @@ ghost use Rattle.command_line.specs.Asked.{shape_asked};
 
 use clap::ArgMatches;
 use container_core::{MAX_EXPONENT, MAX_LABEL, MAX_OPENED, MAX_PLAIN, MIN_EXPONENT, Shape};
-use crew_core::{MAX_DEPTH, MAX_LANES, MAX_WINDOW, MAX_WORKERS, usual_window};
+use gate_core::{MAX_DEPTH, MAX_LANES, MAX_WINDOW, MAX_WORKERS, usual_window};
 use ledger_core::Device;
 use thiserror::Error as ThisError;
 

@@ -3,15 +3,15 @@ ghost use Rattle.std.specs.Prelude.{◌≡◌, ℕ, ◌<◌, ◌≤◌, length, 
 ghost use Rattle.crew_core.specs.Batch.{AreOutcomes, AreAmong, AreIssued, GoOn};
 ghost use Rattle.ledger_core.specs.Shared.{SeatView};
 
+use crate::MAX_JOBS;
 use crate::lanes::{Batch, work_lanes};
 use crate::outcome::Outcome;
 use crate::places::{all_places, put_in_order};
-use crate::{MAX_JOBS, MAX_LANES};
 use container_core::{Key, MAX_PLAIN, Shape};
+use gate_core::{Gate, MAX_LANES};
 use ledger_core::{Ledger, Seat};
 use std::alloc::{AllocError, Global};
 use std::thread::Threads;
-use worker_core::Gate;
 
 /// Seals at most 65,535 jobs, each of at most 2^40 bytes, in one shape, by 1 to 16 lanes. Lane i uses the seat at place
 /// i. The lanes draw the jobs in the order of their numbers, each its next when it is done with the last, till none is

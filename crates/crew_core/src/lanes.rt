@@ -11,16 +11,16 @@ ghost use Rattle.crew_core.specs.Spending.{spent_as};
 ghost use Rattle.crew_core.specs.Lanes.{ended, AreFree, AreLanes, AreReady, IsStep, IsWorked};
 ghost use Rattle.crew_core.specs.Places.{all_jobs, jobs_of};
 
+use crate::MAX_JOBS;
 use crate::outcome::Outcome;
 use crate::places::{Done, Places};
-use crate::{MAX_JOBS, MAX_LANES};
 use claim_core::{Claimant, Claims};
 use container_core::{Key, MAX_PLAIN, Shape, seal};
+use gate_core::{Gate, MAX_LANES};
 use ledger_core::{Grant, Ledger, Seat, Spent};
 use std::alloc::{AllocError, Global};
 use std::marker::Model;
 use std::thread::{Threads, join_mut};
-use worker_core::Gate;
 
 /// What all lanes of a batch share.
 #[derive(Drop)]

@@ -16,11 +16,9 @@ pub mod whole;
 pub use crate::batch::seal_batch;
 pub use crate::outcome::Outcome;
 pub use crate::whole::{open_whole, seal_round, seal_whole};
+pub use gate_core::{DEFAULT_WINDOW, Free, Gate, MAX_LANES, MAX_WINDOW, MAX_WORKERS, usual_window};
 pub use piece_core::{Kind, Piece, PutFault, Shelf, ShelfFault, Work};
 pub use pipe_core::{MAX_DEPTH, pipe};
-pub use worker_core::{DEFAULT_WINDOW, Free, Gate, MAX_WINDOW, MAX_WORKERS, usual_window};
 
-/// The most lanes of a batch.
-pub const MAX_LANES: u32 = 16;
 /// The most jobs of a batch.
 pub const MAX_JOBS: usize = 65_535;

@@ -18,11 +18,12 @@ ghost use Rattle.worker_core.specs.Crew.{idle};
 
 use container_core::laws::{chunks_by_number, chunks_counted, rounds_of_a_stream, rounds_open};
 use container_core::{Cut, Header, Key, MAX_CHUNKS, MAX_PLAIN, TAG};
+use gate_core::{Gate, MAX_WORKERS};
 use round_core::laws::{pieces_by_number, refused_pieces, rounds_are_opened, rounds_are_sealed};
 use round_core::{Places, Round, Task};
 use std::alloc::{AllocError, Global};
 use std::thread::Threads;
-use worker_core::{Crew, Gate, MAX_WORKERS};
+use worker_core::Crew;
 
 // Plaintext bytes of a round that isn't the last: 4 MiB, sealed in some 5 ms by one worker, where a thread starts in
 // less than 0.1 ms. It has 4 chunks of 1 MiB, 64 of 64 KiB, or 1,024 of 4 KiB.

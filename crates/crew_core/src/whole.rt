@@ -10,7 +10,6 @@ ghost use Rattle.crew_core.specs.Spending.{spent_as};
 ghost use Rattle.journal_core.specs.declared.entry.Way.TheVariants.{Sealed, Void};
 ghost use Rattle.ledger_core.specs.Range.{prefix_of};
 
-use crate::MAX_WORKERS;
 use crate::rounds::{Rooms, open_rounds, seal_rounds};
 use container_core::laws::{
     chunks_by_number, headers_name_their_shape, opening_faults, rounds_of_a_stream, rounds_open,
@@ -18,11 +17,11 @@ use container_core::laws::{
 use container_core::{
     Cut, Header, Key, MAX_HEADER, MAX_OPENED, MAX_PLAIN, OpenFault, Shape, TAG, begin,
 };
+use gate_core::{Gate, MAX_WINDOW, MAX_WORKERS};
 use ledger_core::{Grant, Spent};
 use round_core::Task;
 use std::alloc::{AllocError, Global};
 use std::thread::Threads;
-use worker_core::{Gate, MAX_WINDOW};
 
 // Chunks sealed, behind what stands in front of them. All memory but the claim word of a round is taken before the
 // first is sealed.

@@ -1,6 +1,1 @@
-pub mod AnswerLemmas
-pub mod FrontLemmas
-pub mod OpeningRounds
-pub mod PieceLemmas
 pub mod PipeLemmas
-pub mod ReadingLemmas

@@ -1,16 +1,18 @@
 //! The engine that seals a stream of any length, in the memory of so many chunks.
 ghost use Rattle.std.specs.Prelude.{◌≡◌, ℕ, ◌<◌, ◌≤◌, List, OnOk, OnErr};
 ghost use Rattle.container_core.specs.Container.{container};
-ghost use Rattle.crew_core.specs.Spending.{spent_as};
 ghost use Rattle.engine_core.specs.Piped.{HasPipedContainer};
 ghost use Rattle.journal_core.specs.declared.entry.Way.TheVariants.{Sealed, Void};
 ghost use Rattle.ledger_core.specs.Range.{prefix_of};
+ghost use Rattle.ledger_core.specs.Shared.{spent_as};
 ghost use Rattle.output_core.specs.Bounds.{Admits};
 
 use container_core::{Header, Key, SealFault, Shape};
-use crew_core::{Gate, MAX_DEPTH, MAX_WORKERS, pipe};
-use ledger_core::{Grant, Source, Spent};
+use gate_core::{Gate, MAX_DEPTH, MAX_WORKERS};
+use io_core::Source;
+use ledger_core::{Grant, Spent};
 use output_core::Output;
+use pipe_core::pipe;
 use std::alloc::Global;
 use std::sync::Wait;
 use std::thread::Threads;

@@ -1,12 +1,10 @@
-//! Reading to the end, of a plaintext or of what stands behind a header: a reader's fault becomes the engine's.
-ghost use Rattle.std.specs.Prelude.{◌≡◌, ◌≢◌, ◌+◌, ◌<◌, ◌≤◌, ◌^◌, vec_len, Err, IfOk, IfErr, OnOk};
-ghost use Rattle.container_core.specs.Faults.{IsOfBytes};
-ghost use Rattle.io_core.specs.Reads.{ConsumesExactly, ConsumesUpTo};
-ghost use Rattle.io_core.specs.Streams.{Consumes, IsAtEnd, counted};
-ghost use Rattle.engine_core.specs.Engine.{HasReadPlain, open_read_failed};
+//! Reading a plaintext to its end: a reader's fault becomes the engine's.
+ghost use Rattle.std.specs.Prelude.{◌≡◌, ◌≢◌, ◌≤◌, vec_len, Err, IfOk};
+ghost use Rattle.io_core.specs.Streams.{Consumes};
+ghost use Rattle.engine_core.specs.Engine.{HasReadPlain};
 
-use container_core::{MAX_PLAIN, OpenFault, SealFault};
-use ledger_core::{ReadFault, Source, read_to_limit};
+use container_core::{MAX_PLAIN, SealFault};
+use io_core::{ReadFault, Source, read_to_limit};
 use std::alloc::Global;
 
 /// Reads a plaintext of at most `max_bytes` bytes to its end. Of a longer one one byte more is read.
@@ -28,31 +26,5 @@ pub fn read_plain<R: Source>(
         Err(ReadFault::TooLong) => Err(SealFault::TooLong),
         Err(ReadFault::OutOfMemory) => Err(SealFault::OutOfMemory),
         Err(ReadFault::Read) => Err(SealFault::Read),
-    }
-}
-
-/// Reads what stands behind a container's header, at most `most` bytes, to its end. Of a longer rest one byte more is
-/// read.
-pub(crate) fn read_body<R: Source>(
-    alloc: Global,
-    reader: &mut R,
-    most: u64,
-) -> Result<Vec<u8>, OpenFault>
-    requires { most < 2 ^ 63 }
-    ensures body { IfOk result (λ body. Consumes (R.left reader.old) (R.left reader.new) body.items) }
-    ensures end { OnOk result (IsAtEnd (R.left reader.new)) }
-    ensures within { IfOk result (λ body. vec_len body ≤ most) }
-    ensures long { result ≡ Err OpenFault.TooLong
-        → ConsumesExactly (R.left reader.old) (R.left reader.new) (most + 1) }
-    ensures kind { IfErr result (λ fault. IsOfBytes fault → fault ≡ OpenFault.TooLong) }
-    ensures bound { ConsumesUpTo (R.left reader.old) (R.left reader.new) (most + 1) }
-    ensures no_write { result ≢ Err OpenFault.Write }
-    ensures count { R.failures reader.new ≡ counted (open_read_failed result) (R.failures reader.old) }
-{
-    match read_to_limit(alloc, reader, most) {
-        Ok(body) => Ok(body),
-        Err(ReadFault::TooLong) => Err(OpenFault::TooLong),
-        Err(ReadFault::OutOfMemory) => Err(OpenFault::OutOfMemory),
-        Err(ReadFault::Read) => Err(OpenFault::Read),
     }
 }

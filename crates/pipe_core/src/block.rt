@@ -10,7 +10,7 @@ ghost use Rattle.pipe_core.specs.Pieces.{block, room, IsBlock};
 
 use crate::line::Naming;
 use container_core::{Header, Key, TAG, seal_chunk};
-use worker_core::Gate;
+use gate_core::Gate;
 
 /// Plaintext bytes of a block.
 pub(crate) fn block_bytes<N: Naming>(header: &Header, each: u32) -> usize

@@ -6,17 +6,16 @@ ghost use Rattle.output_core.specs.Bounds.{Admits};
 ghost use Rattle.pipe_core.specs.Pipe.{HasPiped, answer_of_stream, whole};
 
 use crate::line::Naming;
-use crate::piece::MAX_DEPTH;
 use crate::round::{Plan, Round};
 use crate::stream::through;
 use container_core::{Header, Key, SealFault};
+use gate_core::{Gate, MAX_DEPTH, MAX_WORKERS};
 use io_core::{Failed, Source};
 use output_core::{Output, put_all};
 use std::alloc::Global;
 use std::marker::Brand;
 use std::sync::Wait;
 use std::thread::Threads;
-use worker_core::{Gate, MAX_WORKERS};
 
 // Of a stream, whose length is bounded by chunks.
 fn of_stream(answer: Result<u64, SealFault>) -> Result<u64, SealFault>

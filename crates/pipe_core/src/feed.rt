@@ -29,12 +29,12 @@ use crate::worker::rest;
 use crate::writing::{write_next, write_part};
 use container_core::{Header, Key, SealFault};
 use crossbeam_queue::Pass;
+use gate_core::Gate;
 use io_core::{Failed, Source};
 use output_core::Output;
 use std::alloc::Global;
 use std::sync::Wait;
 use std::thread::Parker;
-use worker_core::Gate;
 
 // Takes a piece back: whether there was one.
 fn take_back<N: Naming>(

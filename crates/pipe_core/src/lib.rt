@@ -21,5 +21,5 @@ mod worker;
 mod writing;
 
 pub use crate::endless::pipe;
-pub use crate::piece::MAX_DEPTH;
 pub use crate::rounds::pipe_rounds;
+pub use gate_core::MAX_DEPTH;

@@ -7,10 +7,7 @@ ghost use Rattle.container_core.specs.Chunks.{max_chunks};
 use crate::block::{block_bytes, seal_block};
 use crate::line::Naming;
 use container_core::{Header, Key};
-use worker_core::Gate;
-
-/// The most chunks that are read and not yet written.
-pub const MAX_DEPTH: u32 = 64;
+use gate_core::Gate;
 
 /// What goes to a worker.
 #[derive(Drop)]

@@ -15,10 +15,10 @@ use crate::intake::Intake;
 use crate::line::Naming;
 use crate::piece::Task;
 use container_core::{Header, Key, SealFault};
+use gate_core::Gate;
 use io_core::{Failed, Source};
 use std::alloc::{AllocError, Global};
 use std::collections::VecDeque;
-use worker_core::Gate;
 
 /// How an input is sealed: at most `limit` bytes are read of it, the last of which is one too many. It is cut into
 /// blocks of `each` chunks; at most `depth` blocks are read and not written. Full blocks are put by `group`. What was

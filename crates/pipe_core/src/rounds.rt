@@ -20,13 +20,13 @@ use crate::round::{Plan, Round};
 use crate::stream::through;
 use crate::writing::write_part;
 use container_core::{Header, Key, MAX_PLAIN, SealFault};
+use gate_core::{Gate, MAX_WINDOW, MAX_WORKERS};
 use io_core::{Failed, Source};
 use output_core::Output;
 use std::alloc::Global;
 use std::marker::Brand;
 use std::sync::Wait;
 use std::thread::Threads;
-use worker_core::{Gate, MAX_WINDOW, MAX_WORKERS};
 
 // Plaintext bytes of a block of small chunks.
 const BLOCK: usize = 1 << 16;

@@ -17,12 +17,12 @@ use crate::round::{Plan, Round};
 use crate::worker::worker;
 use container_core::{Header, Key, SealFault};
 use crossbeam_queue::Pass;
+use gate_core::{Gate, MAX_WORKERS};
 use io_core::Source;
 use output_core::Output;
 use std::alloc::{AllocError, Global};
 use std::sync::Wait;
 use std::thread::{Parker, Threads, join_mut};
-use worker_core::{Gate, MAX_WORKERS};
 
 // Lets go of the jobs that nobody has taken, at most so many.
 fn drop_jobs<N: Naming>(jobs: &JobLine<N>, into: &mut Pass<Task, Hand>, most: usize)

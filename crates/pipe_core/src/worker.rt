@@ -8,10 +8,10 @@ use crate::line::{Hand, JobLine, Naming, PieceLine, put_piece, take_task};
 use crate::piece::{Piece, Task, make_piece};
 use container_core::{Header, Key};
 use crossbeam_queue::Pass;
+use gate_core::Gate;
 use std::sync::Wait;
 use std::thread;
 use std::thread::Parker;
-use worker_core::Gate;
 
 // How often a thread looks for something to do before it sleeps.
 const LOOKS: u32 = 100;

@@ -8,9 +8,8 @@ ghost use Rattle.round_core.specs.Parts.{room_of};
 ghost use Rattle.round_core.specs.Pieces.{all_made, emptied, Covers, IsPiece};
 ghost use Rattle.worker_core.specs.Crew.{AreWorked, HasMade, IsOfCrew, IsReady, idle};
 
-use crate::MAX_WORKERS;
-use crate::gate::Gate;
 use crate::workers::make_round;
+use gate_core::{Gate, MAX_WORKERS};
 use round_core::{Bench, Places, Round};
 use std::alloc::{AllocError, Global};
 use std::marker::Model;

@@ -8,9 +8,8 @@ ghost use Rattle.claim_core.specs.Claims.{times};
 ghost use Rattle.round_core.specs.Pieces.{all_made, number_of, Covers};
 ghost use Rattle.worker_core.specs.Crew.{AreWorked, HasDrawn, IsReady, IsWorked};
 
-use crate::MAX_WORKERS;
-use crate::gate::Gate;
 use claim_core::{Claimant, Claims};
+use gate_core::{Gate, MAX_WORKERS};
 use round_core::{Bench, Round};
 use std::alloc::Global;
 use std::thread::{Threads, join_mut};

@@ -1,0 +1,5 @@
+pub mod AnswerLemmas
+pub mod FrontLemmas
+pub mod OpeningRounds
+pub mod PieceLemmas
+pub mod ReadingLemmas

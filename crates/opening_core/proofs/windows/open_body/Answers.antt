@@ -1,0 +1,309 @@
+use Rattle.std.proofs.Common.{rules, suc, ◌≡◌, ◌+◌, ◌-◌, true, false, ◌*◌, ◌<◌, ◌≤◌, ◌++◌, ℕ, List, [], Option, length, take, get_or, Ok, Err, sym, ap, ap₂, subst, ◌∙◌}
+use Rattle.std.proofs.Common.{arith, length-append, length-take-le}
+use Rattle.std.proofs.KnownBytes.{Consumes-trans}
+use Rattle.container_core.specs.Chunks.{body_length, most_of}
+use Rattle.container_core.specs.Container.{size_in}
+use Rattle.container_core.specs.Opening.{longest}
+use Rattle.container_core.proofs.OpeningLemmas.{some_size}
+use Rattle.container_core.proofs.PartsLemmas.{container_length-more, count-numbers, most_of-chunks}
+use Rattle.io_core.specs.Streams.{Consumes, IsAtEnd}
+use Rattle.round_core.specs.Answer.{joined}
+use Rattle.opening_core.specs.Fronts.{ReadsOn}
+use Rattle.opening_core.proofs.FrontLemmas.{container-few, early-of_bytes}
+use Rattle.opening_core.proofs.ReadingLemmas.{not_read, not_write}
+use Rattle.opening_core.proofs.AnswerLemmas.{answers-early, reads-same}
+use Rattle.opening_core.proofs.OpeningRounds.{opens-begin, opens-round, ahead-of, consumed-next, answers-refused, body-rest}
+use Rattle.opening_core.proofs.OpeningRounds.{answers-last, cut-under, first-few, opens-last, some-left, Refuses, Splits}
+use Rattle.opening_core.proofs.windows.open_body.Goals.{then-rounds-test+else-held-size, else-rounds-test}
+use Rattle.opening_core.proofs.windows.open_body.Goals as goal
+
+-- the header's bytes stand in front
+named-front : (header image whole : List ℕ) → image ≡ header → take (length header) whole ≡ header → take (length image) whole ≡ image
+named-front header image whole same front = subst (λ (l : List ℕ). take (length l) whole ≡ l) (sym same) front
+
+pub overflow_add-limit : goal.overflow_add-limit
+overflow_add-limit g c =
+    let few = container-few (length c.args.header.now) (size_in c.args.header.now) c.args.max_bytes c.bytes-image.ensures.size.0 c.requires.max_bytes in
+    omega (arith, few, c.longest_bytes.ensures, c.requires.front.short)
+
+pub rounds-init : goal.rounds-init
+rounds-init g c = record {
+  past = [];
+  plain = [];
+  consumed = c.in-Ok.ensures.held;
+  opens = opens-begin c.args.key.now c.args.header.now;
+  kept = λ _. sym (ap₂ (λ x y. x ++ joined y) c.requires.empty c.in-Ok.ensures.places);
+  long = search rules;
+  total = (search rules, search rules);
+  held = search rules;
+  end = λ below short. c.in-Ok.ensures.end (search rules);
+  some = λ more. absurd (omega arith);
+  room = (search rules, λ full. search rules);
+  ready = search rules;
+  count = search rules;
+}
+
+pub open_full-requires-clause-numbers : goal.open_full-requires-clause-numbers
+open_full-requires-clause-numbers g c κs within =
+    let before = c.rounds.invariant in
+    let many : length c.rounds.rooms.current.held ≡ c.args.window * (size_in c.args.header.now + 16) + 1 = search rules in
+    let few = first-few (size_in c.args.header.now) (length c.args.header.now) c.args.max_bytes c.rounds.first
+    c.args.window (length c.rounds.rooms.current.held) c.bytes-image.ensures.size.0 (omega (arith, many))
+    (omega (arith, before.total.0, before.total.1, c.longest_bytes.ensures)) in
+    omega (arith, few, c.requires.window)
+
+pub returns-in-Err-open_full-clause-bound : goal.returns-in-Err-open_full-clause-bound
+returns-in-Err-open_full-clause-bound g c =
+    let before = c.rounds.invariant in
+    let lost = c.in-Err-open_full.ensures.turned.lost in
+    let read = before.past ++ c.rounds.rooms.current.held in
+    let all = length-append read lost.0 in
+    let done = length-append before.past c.rounds.rooms.current.held in
+    let limit = c.longest_bytes.ensures ∙ sym c.requires.limit in
+    (read ++ lost.0, Consumes-trans _ _ _ _ _ before.consumed lost.1, omega (arith, before.total.0, before.long, lost.2, all, done, limit))
+
+pub checked-requires-clause-numbers : goal.checked-requires-clause-numbers
+checked-requires-clause-numbers g c =
+    let before = c.rounds.invariant in
+    let count : length c.open_full.new.rooms.places.values ≡ c.args.window = c.in-Ok-open_full.ensures.count in
+    let many : length c.rounds.rooms.current.held ≡ c.args.window * (size_in c.args.header.now + 16) + 1 = search rules in
+    let few = first-few (size_in c.args.header.now) (length c.args.header.now) c.args.max_bytes c.rounds.first
+    c.args.window (length c.rounds.rooms.current.held) c.bytes-image.ensures.size.0 (omega (arith, many))
+    (omega (arith, before.total.0, before.total.1, c.longest_bytes.ensures)) in
+    omega (arith, few, c.requires.window, count)
+
+pub returns-in-Err-checked-clause-refused : goal.returns-in-Err-checked-clause-refused
+returns-in-Err-checked-clause-refused g c = λ own.
+    let before = c.rounds.invariant in
+    let key = c.args.key.now in
+    let header = c.args.header.now in
+    let first = c.rounds.first in
+    let old = c.rounds.rooms.current.held in
+    let size = c.args.window * (size_in header + 16) in
+    let bytes = take size old in
+    let held = c.open_full.new.rooms.current.held in
+    let turned = c.in-Ok-open_full.ensures.turned.read in
+    let full : length bytes ≡ size = length-take-le size old (search rules) in
+    let many : length old ≡ size + 1 = search rules in
+    let split = ahead-of old size many in
+    let consumed = consumed-next _ _ _ before.past old bytes turned.0 held (get_or old size 0) split turned.2 before.consumed turned.1 in
+    let refused = c.in-Err-checked.ensures.refused key header bytes false c.in-Ok-open_full.ensures.values in
+    let refuses : Refuses key header first bytes c.in-Err-checked.fault =
+    λ rest some. c.rounds_open.ensures.refused key header (size_in header) first true bytes rest c.args.window c.in-Err-checked.fault full c.requires.window.0 some refused in
+    let named = c.refuse.ensures.named own in
+    let limit = c.longest_bytes.ensures ∙ sym c.requires.limit in
+    let past = length-append before.past bytes in
+    let all = length-append (before.past ++ bytes) held in
+    let now : length c.held-in-rounds-2.result.now ≡ length held = search rules in
+    let next : length held ≡ suc (length turned.0) = ap length turned.2 in
+    answers-refused key header c.args.max_bytes first (c.rounds.total + (length c.held-in-rounds-2.result.now - 1)) _ _ _ before.past before.plain bytes held named.0
+    c.in-Err-checked.fault c.refuse.result c.requires.front.whole (c.rounds_open.ensures.whole key header 0) refuses before.opens consumed
+    (omega (arith, next)) (omega (arith, before.total.0, before.long, now, next, past, all, full, many))
+    (reads-same _ _ _ _ _ _ (ap (λ n. n + 1) limit) named.1)
+    (λ whole bytes front. named.2 whole bytes (named-front header c.bytes-image.result.now whole c.bytes-image.ensures.bytes front))
+
+pub returns-in-Err-checked-clause-bound : goal.returns-in-Err-checked-clause-bound
+returns-in-Err-checked-clause-bound g c =
+    let before = c.rounds.invariant in
+    let old = c.rounds.rooms.current.held in
+    let turned = c.in-Ok-open_full.ensures.turned.read in
+    let lost = c.refuse.ensures.bound in
+    let many : length old ≡ c.args.window * (size_in c.args.header.now + 16) + 1 = search rules in
+    let within : c.rounds.total + (length c.held-in-rounds-2.result.now - 1) ≤ c.longest_bytes.result + 1 = search rules in
+    let limit = c.longest_bytes.ensures ∙ sym c.requires.limit in
+    let done = length-append before.past old in
+    let more = length-append (before.past ++ old) turned.0 in
+    let all = length-append ((before.past ++ old) ++ turned.0) lost.0 in
+    let now : length c.held-in-rounds-2.result.now ≡ length c.open_full.new.rooms.current.held = search rules in
+    let next : length c.open_full.new.rooms.current.held ≡ suc (length turned.0) = ap length turned.2 in (
+      ((before.past ++ old) ++ turned.0) ++ lost.0,
+      Consumes-trans _ _ _ _ _ (Consumes-trans _ _ _ _ _ before.consumed turned.1) lost.1,
+      omega (arith, before.total.0, before.long, lost.2, now, next, done, more, all, within, limit),
+    )
+
+pub overflow_add-first : goal.overflow_add-first
+overflow_add-first g c =
+    let before = c.rounds.invariant in
+    let many : length c.rounds.rooms.current.held ≡ c.args.window * (size_in c.args.header.now + 16) + 1 = search rules in
+    let few = first-few (size_in c.args.header.now) (length c.args.header.now) c.args.max_bytes c.rounds.first
+    c.args.window (length c.rounds.rooms.current.held) c.bytes-image.ensures.size.0 (omega (arith, many))
+    (omega (arith, before.total.0, before.total.1, c.longest_bytes.ensures)) in
+    omega (arith, few, c.requires.window)
+
+pub rounds-preserved : goal.rounds-preserved
+rounds-preserved g c =
+    let before = c.rounds.invariant in
+    let key = c.args.key.now in
+    let header = c.args.header.now in
+    let first = c.rounds.first in
+    let old = c.rounds.rooms.current.held in
+    let size = c.args.window * (size_in header + 16) in
+    let bytes = take size old in
+    let held = c.open_full.new.rooms.current.held in
+    let turned = c.in-Ok-open_full.ensures.turned.read in
+    let full : length bytes ≡ size = length-take-le size old (search rules) in
+    let many : length old ≡ size + 1 = search rules in
+    let split = ahead-of old size many in
+    let opened = c.in-Ok-checked.ensures.opened key header bytes false c.in-Ok-open_full.ensures.values in
+    let splits : Splits key header first c.args.window bytes opened.plain =
+    λ rest some. c.rounds_open.ensures.opened key header (size_in header) first true bytes rest opened.plain c.args.window full c.requires.window.0 some opened.opens in
+    let past = length-append before.past bytes in
+    let now : length c.held-in-rounds-2.result.now ≡ length held = search rules in
+    let next : length held ≡ suc (length turned.0) = ap length turned.2 in
+    record {
+      past = before.past ++ bytes;
+      plain = before.plain ++ opened.plain;
+      consumed = consumed-next _ _ _ before.past old bytes turned.0 held (get_or old size 0) split turned.2 before.consumed turned.1;
+      opens = opens-round key header first c.args.window before.past before.plain bytes opened.plain splits before.opens;
+      kept = λ opening. ap₂ ◌++◌ (before.kept opening ∙ sym c.in-Ok-open_full.ensures.turned.gathered) (sym (opened.kept opening));
+      long = omega (arith, before.long, past, full);
+      total = (omega (arith, before.total.0, now, next, many), search rules);
+      held = search rules;
+      end = λ below short. search rules;
+      some = λ more. omega (arith, next);
+      room = (search rules, λ full. search rules);
+      ready = search rules;
+      count = search rules;
+    }
+
+early_reads : (total limit before : ℕ) (a b : Option (List ℕ)) (past held : List ℕ) → Consumes a b (past ++ held)
+    → total ≡ before + (length past + length held) → total ≤ limit → (total < limit → IsAtEnd b) → ReadsOn limit before a b (past ++ held)
+early_reads total limit before a b past held consumed count within end =
+    let all = length-append past held in
+    record { consumed = consumed; within = omega (arith, all, count, within); end = λ below. end (omega (arith, all, count, below)) }
+
+pub returns-in-Err-begin_within-clause-refused : goal.returns-in-Err-begin_within-clause-refused
+returns-in-Err-begin_within-clause-refused g c = λ own.
+    let before = c.rounds.invariant in
+    let header = c.args.header.now in
+    let held = c.rounds.rooms.current.held in
+    let limit = c.longest_bytes.ensures ∙ sym c.requires.limit in
+    let count : c.rounds.total ≡ length header + (length before.past + length held) = omega (arith, before.total.0, before.long) in
+    let end : c.rounds.total < longest c.args.max_bytes header + 1 → IsAtEnd (g.R.Source.left c.rounds.reader) =
+    elim c.rounds-test.branch [
+      | then-rounds-test+else-held-size w ↦ λ below. before.end (omega (arith, limit, below)) (search rules)
+      | else-rounds-test w ↦ λ below. absurd (omega (arith, limit, below, w.rounds-test.false))
+    ] in
+    let reads = early_reads c.rounds.total (longest c.args.max_bytes header + 1) (length header) _ _ before.past held before.consumed count
+    (omega (arith, before.total.1, limit)) end in
+    let all = length-append before.past held in
+    answers-early c.args.key.now header c.args.max_bytes c.rounds.total _ _ (before.past ++ held) c.in-Err-begin_within.fault
+    reads (omega (arith, count, all))
+    (λ whole bytes front. c.in-Err-begin_within.ensures.fault whole bytes (named-front header c.bytes-image.result.now whole c.bytes-image.ensures.bytes front))
+
+pub returns-in-Err-begin_within-clause-no_write : goal.returns-in-Err-begin_within-clause-no_write
+returns-in-Err-begin_within-clause-no_write g c = λ write.
+    let before = c.rounds.invariant in
+    let long = ap length c.bytes-image.ensures.bytes in
+    let own = early-of_bytes c.args.key.now c.bytes-image.result.now c.args.max_bytes c.rounds.total c.in-Err-begin_within.fault
+    (omega (arith, before.total.0, long)) c.in-Err-begin_within.ensures.fault in
+    not_write c.in-Err-begin_within.fault own write
+
+pub returns-in-Err-begin_within-clause-count : goal.returns-in-Err-begin_within-clause-count
+returns-in-Err-begin_within-clause-count g c =
+    let before = c.rounds.invariant in
+    let long = ap length c.bytes-image.ensures.bytes in
+    let own = early-of_bytes c.args.key.now c.bytes-image.result.now c.args.max_bytes c.rounds.total c.in-Err-begin_within.fault
+    (omega (arith, before.total.0, long)) c.in-Err-begin_within.ensures.fault in
+    let none = not_read ℕ c.in-Err-begin_within.fault own in
+    search rules
+
+pub open_last-requires-clause-cut : goal.open_last-requires-clause-cut
+open_last-requires-clause-cut g c κs within =
+    let before = c.rounds.invariant in
+    let header = c.args.header.now in
+    let size = size_in header in
+    let plain = c.in-Ok-begin_within.cut.plain in
+    let held = c.rounds.rooms.current.held in
+    let under = cut-under c.args.key.now header c.bytes-image.result.now c.rounds.total c.in-Ok-begin_within.cut c.requires.front
+    c.bytes-image.ensures.bytes c.in-Ok-begin_within.ensures'.cut c.in-Ok-begin_within.ensures'.named in
+    let body : body_length size plain ≡ c.rounds.first * (size + 16) + length held = omega (arith, before.total.0, under) in
+    let some = some-left size c.rounds.total (length header) plain c.rounds.first (length held) before.total.0 under before.some in
+    let rest = body-rest size plain c.rounds.first (length held) (some_size header) body some in
+    let sized : c.in-Ok-begin_within.cut.size ≡ size = c.in-Ok-begin_within.ensures'.named ∙ ap size_in c.bytes-image.ensures.bytes in
+    let chunks = most_of-chunks c.args.max_bytes c.in-Ok-begin_within.cut.size in
+    let few : plain ≤ 4294967295 * size = omega (arith, c.in-Ok-begin_within.ensures'.few, chunks, sized) in
+    let count = count-numbers size plain (some_size header) few in
+    (plain - c.rounds.first * size, rest.0, omega (arith, few), omega (arith, rest.1, count))
+
+pub open_last-requires-clause-ready : goal.open_last-requires-clause-ready
+open_last-requires-clause-ready g c κs within =
+    let before = c.rounds.invariant in
+    let header = c.args.header.now in
+    let size = size_in header in
+    let held = c.rounds.rooms.current.held in
+    let under = cut-under c.args.key.now header c.bytes-image.result.now c.rounds.total c.in-Ok-begin_within.cut c.requires.front
+    c.bytes-image.ensures.bytes c.in-Ok-begin_within.ensures'.cut c.in-Ok-begin_within.ensures'.named in
+    let sized : c.in-Ok-begin_within.cut.size ≡ size = c.in-Ok-begin_within.ensures'.named ∙ ap size_in c.bytes-image.ensures.bytes in
+    let few = subst (λ (s : ℕ). c.in-Ok-begin_within.cut.plain ≤ most_of c.args.max_bytes s) sized c.in-Ok-begin_within.ensures'.few in
+    let fits = container_length-more (length header) size c.in-Ok-begin_within.cut.plain (most_of c.args.max_bytes size) (some_size header) few in
+    let short : length held ≤ c.args.window * (size + 16) =
+    elim c.rounds-test.branch [
+      | then-rounds-test+else-held-size w ↦ search rules
+      | else-rounds-test w ↦ absurd (omega (arith, under, fits, c.longest_bytes.ensures, w.rounds-test.false))
+    ] in
+    record {
+      idle = before.ready.idle;
+      sizes = before.ready.sizes;
+      rooms = before.ready.rooms;
+      enough = omega (arith, before.ready.enough, short);
+    }
+
+pub returns-in-Ok-open_last-clause-opened : goal.returns-in-Ok-open_last-clause-opened
+returns-in-Ok-open_last-clause-opened g c =
+    let before = c.rounds.invariant in
+    let key = c.args.key.now in
+    let header = c.args.header.now in
+    let size = size_in header in
+    let bytes = c.in-Ok-begin_within.cut.plain in
+    let held = c.rounds.rooms.current.held in
+    let limit = c.longest_bytes.ensures ∙ sym c.requires.limit in
+    let count : c.rounds.total ≡ length header + (length before.past + length held) = omega (arith, before.total.0, before.long) in
+    let end : c.rounds.total < longest c.args.max_bytes header + 1 → IsAtEnd (g.R.Source.left c.rounds.reader) =
+    elim c.rounds-test.branch [
+      | then-rounds-test+else-held-size w ↦ λ below. before.end (omega (arith, limit, below)) (search rules)
+      | else-rounds-test w ↦ λ below. absurd (omega (arith, limit, below, w.rounds-test.false))
+    ] in
+    let reads = early_reads c.rounds.total (longest c.args.max_bytes header + 1) (length header) _ _ before.past held before.consumed count
+    (omega (arith, before.total.1, limit)) end in
+    let all = length-append before.past held in
+    let under = cut-under key header c.bytes-image.result.now c.rounds.total c.in-Ok-begin_within.cut c.requires.front
+    c.bytes-image.ensures.bytes c.in-Ok-begin_within.ensures'.cut c.in-Ok-begin_within.ensures'.named in
+    let some = some-left size c.rounds.total (length header) bytes c.rounds.first (length held) before.total.0 under before.some in
+    let (last, opened, taken) = c.in-Ok-open_last.ensures.opened in
+    let body : length (before.past ++ held) ≡ body_length size bytes = omega (arith, under, count, all) in
+    let whole = opens-last key header c.rounds.first before.past before.plain held (Ok opened.plain) some opened.opens before.opens in
+    let long = c.rounds_open.ensures.length key header size 0 true (before.past ++ held) (before.plain ++ opened.plain) bytes (some_size header) body whole in (
+      before.plain ++ opened.plain,
+      (search rules) ∙ sym long,
+      answers-last key header c.args.max_bytes c.rounds.first c.rounds.total _ _ before.past before.plain held (Ok opened.plain)
+          c.requires.front (c.rounds_open.ensures.whole key header 0) before.opens reads some (omega (arith, count, all))
+          (λ whole bytes front. c.in-Ok-begin_within.ensures.faultless whole bytes (named-front header c.bytes-image.result.now whole c.bytes-image.ensures.bytes front))
+          opened.opens,
+      λ opening. taken ∙ ap₂ ◌++◌ (sym (before.kept opening)) (opened.kept opening),
+    )
+
+pub returns-clause-refused : goal.returns-clause-refused
+returns-clause-refused g c = λ own.
+    let before = c.rounds.invariant in
+    let key = c.args.key.now in
+    let header = c.args.header.now in
+    let size = size_in header in
+    let held = c.rounds.rooms.current.held in
+    let limit = c.longest_bytes.ensures ∙ sym c.requires.limit in
+    let count : c.rounds.total ≡ length header + (length before.past + length held) = omega (arith, before.total.0, before.long) in
+    let end : c.rounds.total < longest c.args.max_bytes header + 1 → IsAtEnd (g.R.Source.left c.rounds.reader) =
+    elim c.rounds-test.branch [
+      | then-rounds-test+else-held-size w ↦ λ below. before.end (omega (arith, limit, below)) (search rules)
+      | else-rounds-test w ↦ λ below. absurd (omega (arith, limit, below, w.rounds-test.false))
+    ] in
+    let reads = early_reads c.rounds.total (longest c.args.max_bytes header + 1) (length header) _ _ before.past held before.consumed count
+    (omega (arith, before.total.1, limit)) end in
+    let all = length-append before.past held in
+    let under = cut-under key header c.bytes-image.result.now c.rounds.total c.in-Ok-begin_within.cut c.requires.front
+    c.bytes-image.ensures.bytes c.in-Ok-begin_within.ensures'.cut c.in-Ok-begin_within.ensures'.named in
+    let some = some-left size c.rounds.total (length header) c.in-Ok-begin_within.cut.plain c.rounds.first (length held) before.total.0 under before.some in
+    answers-last key header c.args.max_bytes c.rounds.first c.rounds.total _ _ before.past before.plain held (Err c.in-Err-open_last.fault)
+    c.requires.front (c.rounds_open.ensures.whole key header 0) before.opens reads some (omega (arith, count, all))
+    (λ whole bytes front. c.in-Ok-begin_within.ensures.faultless whole bytes (named-front header c.bytes-image.result.now whole c.bytes-image.ensures.bytes front))
+    (c.in-Err-open_last.ensures.refused own)

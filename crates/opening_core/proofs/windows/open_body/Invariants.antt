@@ -1,0 +1,29 @@
+-- What was read, what of it opened, what of that waits to be taken, and what is in hand.
+use Rattle.std.proofs.Common.{◌≡◌, ℕ, ◌+◌, ◌-◌, ◌*◌, ◌<◌, ◌≤◌, ◌++◌, List, length, min}
+use Rattle.container_core.specs.Container.{size_in}
+use Rattle.io_core.specs.Streams.{Consumes, IsAtEnd}
+use Rattle.round_core.specs.Answer.{joined}
+use Rattle.round_core.specs.declared.round.Task.TheVariants.{Opening}
+use Rattle.opening_core.specs.Windows.{IsReady}
+use Rattle.opening_core.proofs.OpeningRounds.{OpensBehind}
+use Rattle.opening_core.proofs.windows.open_body.Given as goal
+
+abbrev pub invariant-rounds : goal.invariant-rounds
+invariant-rounds g l = record {
+  past : List ℕ;
+  plain : List ℕ;
+  consumed : Consumes (g.R.Source.left l.fn.reader) (g.R.Source.left l.reader) (past ++ l.rooms.current.held);
+  opens : OpensBehind l.key l.header l.first past plain;
+  kept : l.task ≡ Opening → plain ≡ g.O.Taking.bytes l.out ++ joined l.rooms.places.values;
+  long : length past ≡ l.first * (size_in l.header + 16);
+  total : (l.total ≡ length l.header + (l.first * (size_in l.header + 16) + length l.rooms.current.held)) × (l.total ≤ l.limit);
+  held : length l.rooms.current.held ≤ l.fn.window * (size_in l.header + 16) + 1;
+  end : l.total < l.limit → length l.rooms.current.held ≤ l.fn.window * (size_in l.header + 16) → IsAtEnd (g.R.Source.left l.reader);
+  some : 0 < l.first → 0 < length l.rooms.current.held;
+  room : (l.fn.window * (size_in l.header + 16) + 1 ≤ l.rooms.current.room) × (l.fn.window * (size_in l.header + 16) < length l.rooms.current.held → l.fn.window * (size_in l.header + 16) + 1 ≤ l.rooms.next.room);
+  ready : IsReady l.task (size_in l.header) (min (l.fn.window * (size_in l.header + 16)) (length l.rooms.current.held)) l.rooms.crew l.rooms.places;
+  count : g.R.Source.failures l.reader ≡ g.R.Source.failures l.fn.reader;
+}
+
+abbrev pub decreases-rounds : goal.decreases-rounds
+decreases-rounds g l = 2 * (l.limit - l.total) + length l.rooms.current.held

@@ -1,0 +1,407 @@
+//! Opening in rounds: a window of a container is opened, or only checked, by workers while the caller's thread takes
+//! the plaintext of the one before and reads the one behind.
+//!
+//! A full window is opened once one more byte was seen behind it, so its last chunk isn't the last of all. A container
+//! with a chunk that doesn't check is read to its end, or to one byte past the longest: that its length is wrong comes
+//! first.
+ghost use Rattle.std.specs.Prelude.{◌≡◌, ◌≢◌, ◌⊎◌, ℕ, ◌+◌, ◌-◌, ◌*◌, ◌^◌, ◌<◌, ◌≤◌, ◌++◌, Bool, true, false, List};
+ghost use Rattle.std.specs.Prelude.{[], length, take, min, slice_index, Ok, Err, IfOk, IfErr, OnOk, OnErr, IfSome};
+ghost use Rattle.container_core.specs.Chunks.{body_length, chunk_count, container_limit, most_chunk, sealed_chunks};
+ghost use Rattle.container_core.specs.Container.{size_in};
+ghost use Rattle.container_core.specs.Faults.{IsOfBytes};
+ghost use Rattle.container_core.specs.Opening.{longest, opening, unsealed_by};
+ghost use Rattle.io_core.specs.Reads.{ConsumesUpTo};
+ghost use Rattle.io_core.specs.Streams.{Consumes, IsAtEnd, counted};
+ghost use Rattle.round_core.specs.Values.{round_of, values_of};
+ghost use Rattle.round_core.specs.Answer.{joined};
+ghost use Rattle.opening_core.specs.Engine.{HasHeader, HasReadContainer, OpensTo, open_read_failed};
+ghost use Rattle.opening_core.specs.Fronts.{Answers, SaysLength};
+ghost use Rattle.opening_core.specs.Windows.{HasTurned, OpensRound, IsReady};
+
+use crate::front::{open_front, refuse};
+use crate::rooms::{Rooms, byte_behind};
+use crate::taking::Taking;
+use container_core::laws::{chunks_by_number, chunks_of_two_parts, rounds_open};
+use container_core::{Cut, Header, Key, MAX_CHUNKS, MAX_OPENED, OpenFault, TAG, begin_within};
+use gate_core::{Gate, MAX_WINDOW, MAX_WORKERS, usual_opening};
+use io_core::{Failed, Source};
+use round_core::laws::{pieces_by_number, refused_pieces, rounds_are_checked, rounds_are_opened};
+use round_core::{Places, Round, Task};
+use std::alloc::{AllocError, Global};
+use std::mem;
+use std::thread::Threads;
+use window_core::Window;
+
+// How many bytes so many sealed chunks have, none of which is the last, under a header.
+fn sealed_bytes(chunks: u32, header: &Header) -> usize
+    requires { chunks ≤ MAX_WINDOW }
+    ensures value { result ≡ chunks * (size_in header.now + TAG) }
+    ensures most { result ≤ MAX_WINDOW * (most_chunk + TAG) }
+{
+    chunks as usize * (header.chunk() + TAG)
+}
+
+// How many plaintext bytes so many chunks have, none of which is the last, under a header.
+fn plain_bytes(chunks: u32, header: &Header) -> u64
+    requires { chunks ≤ MAX_WINDOW }
+    ensures value { result ≡ chunks * size_in header.now }
+    ensures most { result ≤ MAX_WINDOW * most_chunk }
+{
+    u64::from(chunks) * header.chunk() as u64
+}
+
+// Takes the plaintext of the round before, and reads the next one on behind the byte of it that was seen.
+fn turn<R: Source, O: Taking>(
+    alloc: Global,
+    reader: &mut R,
+    out: &mut O,
+    places: &mut Places,
+    next: &mut Window,
+    ahead: u8,
+    upto: usize,
+) -> Result<(), OpenFault>
+    requires { (0 < upto) × (upto ≤ next.old.room) }
+    ensures turned { HasTurned (R.left reader.old) (R.left reader.new) (R.failures reader.old) (R.failures reader.new)
+        (O.bytes out.old) (O.bytes out.new) places.old.values next.old next.new ahead upto result }
+    ensures places { (places.new.room ≡ places.old.room) × (places.new.size ≡ places.old.size) }
+{
+    if out.take(alloc, places).is_err() {
+        return Err(OpenFault::OutOfMemory);
+    }
+    next.begin_with(ahead);
+    match next.fill(reader, upto) {
+        Ok(()) => Ok(()),
+        Err(Failed) => Err(OpenFault::Read),
+    }
+}
+
+// Whether all chunks of a round check, the first of which has this number in the whole; or the least that doesn't.
+fn checked(places: &Places, task: Task, first: u32) -> Result<(), OpenFault>
+    requires task { task ≢ Task.Sealing }
+    requires numbers { first + length places.now.values ≤ 2 ^ 32 }
+    ensures opened { OnOk result ((key header body : List ℕ) (last : Bool)
+        → places.now.values ≡ values_of task key header first last body
+        → OpensRound task key header first last body (joined places.now.values)) }
+    ensures refused { IfErr result (λ fault. (key header body : List ℕ) (last : Bool)
+        → places.now.values ≡ values_of task key header first last body
+        → unsealed_by key header first last (sealed_chunks (size_in header) body) ≡ Err fault) }
+    ensures fault { IfErr result IsOfBytes }
+{
+    // What the pieces say of the chunks.
+    rounds_are_opened();
+    rounds_are_checked();
+    refused_pieces();
+    match places.first_refused() {
+        None => Ok(()),
+        Some(number) => Err(OpenFault::Forged {
+            chunk: first + number,
+        }),
+    }
+}
+
+// For how many chunks of a container's body there is to be room, where so many bytes are at hand.
+fn pieces_of(bytes: usize, header: &Header, window: u32) -> u32
+    requires window { (0 < window) × (window ≤ MAX_WINDOW) }
+    ensures some { 0 < result }
+    ensures few { result ≤ window }
+    ensures enough { min (window * (size_in header.now + TAG)) bytes ≤ result * (size_in header.now + TAG) }
+{
+    let most = bytes.min(sealed_bytes(window, header));
+    (most.saturating_sub(1) / sealed_bytes(1, header) + 1) as u32
+}
+
+// Reads the first round of a container's body, of which at most so many bytes are read, and makes the room of its
+// opening in rounds of `window` chunks: but for the first window no more than a body of one round needs.
+fn begin<R: Source>(
+    alloc: Global,
+    task: Task,
+    header: &Header,
+    reader: &mut R,
+    most: usize,
+    window: u32,
+    workers: u32,
+) -> Result<Rooms, OpenFault>
+    requires workers { (0 < workers) × (workers ≤ MAX_WORKERS) }
+    requires window { (0 < window) × (window ≤ MAX_WINDOW) }
+    ensures held { IfOk result (λ rooms. Consumes (R.left reader.old) (R.left reader.new) rooms.current.held) }
+    ensures within { IfOk result (λ rooms. length rooms.current.held
+        ≤ min most (window * (size_in header.now + TAG) + 1)) }
+    ensures end { IfOk result (λ rooms. length rooms.current.held < min most (window * (size_in header.now + TAG) + 1)
+        → IsAtEnd (R.left reader.new)) }
+    ensures lost { OnErr result (ConsumesUpTo (R.left reader.old) (R.left reader.new) most) }
+    ensures fault { IfErr result (λ fault. (fault ≡ OpenFault.OutOfMemory) ⊎ (fault ≡ OpenFault.Read)) }
+    ensures count { R.failures reader.new ≡ counted (open_read_failed result) (R.failures reader.old) }
+    ensures window { IfOk result (λ rooms. window * (size_in header.now + TAG) + 1 ≤ rooms.current.room) }
+    ensures next { IfOk result (λ rooms. length rooms.current.held ≤ rooms.next.room) }
+    ensures ready { IfOk result (λ rooms. IsReady task (size_in header.now)
+        (min (window * (size_in header.now + TAG)) (length rooms.current.held)) rooms.crew rooms.places) }
+    ensures places { IfOk result (λ rooms. rooms.places.values ≡ []) }
+{
+    let room = sealed_bytes(window, header) + 1;
+    let Ok(mut current) = Window::new(alloc, room) else {
+        return Err(OpenFault::OutOfMemory);
+    };
+    if current.fill(reader, most.min(room)).is_err() {
+        return Err(OpenFault::Read);
+    }
+    let pieces = pieces_of(current.held().len(), header, window);
+    match Rooms::new(alloc, task, header.chunk(), current, pieces, workers) {
+        Ok(rooms) => Ok(rooms),
+        Err(AllocError) => Err(OpenFault::OutOfMemory),
+    }
+}
+
+// The full round that a window has, where a byte was seen behind it.
+fn full_round<'a>(
+    task: Task,
+    key: &'a Key,
+    header: &'a Header,
+    first: u32,
+    chunks: u32,
+    window: &'a Window,
+) -> Round<'a>
+    requires task { task ≢ Task.Sealing }
+    requires chunks { (0 < chunks) × (chunks ≤ MAX_WINDOW) }
+    requires numbers { first + chunks ≤ 2 ^ 32 }
+    requires full { chunks * (size_in header.now + TAG) < length window.now.held }
+    ensures round { result ≡ round_of task key.now header.now first false
+        (take (chunks * (size_in header.now + TAG)) window.now.held) }
+    ensures count { length result.values ≡ chunks }
+{
+    pieces_by_number();
+    chunks_of_two_parts();
+    let (bytes, _) = window.held().split_at(sealed_bytes(chunks, header));
+    let cut = Cut::of(header, plain_bytes(chunks, header));
+    Round::new(task, key, header, first, false, cut, bytes)
+}
+
+// Opens a full round, while the plaintext of the one before is taken and the next one is read, behind the byte of it
+// that was seen.
+fn open_full<T: Threads + Sync, R: Source, G: Gate + Sync, O: Taking>(
+    rt: &T,
+    alloc: Global,
+    task: Task,
+    key: &Key,
+    header: &Header,
+    first: u32,
+    chunks: u32,
+    rooms: &mut Rooms,
+    reader: &mut R,
+    out: &mut O,
+    upto: usize,
+    gate: &G,
+) -> Result<(), OpenFault>
+    requires task { task ≢ Task.Sealing }
+    requires chunks { (0 < chunks) × (chunks ≤ MAX_WINDOW) }
+    requires numbers { first + chunks ≤ 2 ^ 32 }
+    requires full { chunks * (size_in header.now + TAG) < length rooms.old.current.held }
+    requires upto { (0 < upto) × (upto ≤ rooms.old.next.room) }
+    requires ready { IsReady task (size_in header.now) (chunks * (size_in header.now + TAG))
+        rooms.old.crew rooms.old.places }
+    ensures values { OnOk result (rooms.new.places.values ≡ values_of task key.now header.now first false
+        (take (chunks * (size_in header.now + TAG)) rooms.old.current.held)) }
+    ensures count { OnOk result (length rooms.new.places.values ≡ chunks) }
+    ensures turned { HasTurned (R.left reader.old) (R.left reader.new) (R.failures reader.old) (R.failures reader.new)
+        (O.bytes out.old) (O.bytes out.new) rooms.old.places.values rooms.old.next rooms.new.current
+        (slice_index rooms.old.current.held (chunks * (size_in header.now + TAG))) upto result }
+    ensures ready { IsReady task (size_in header.now) (chunks * (size_in header.now + TAG))
+        rooms.new.crew rooms.new.places }
+    ensures room { rooms.new.next ≡ rooms.old.current }
+{
+    let Rooms {
+        current,
+        next,
+        crew,
+        places,
+    } = rooms;
+    let ahead = byte_behind(current, sealed_bytes(chunks, header));
+    let round = full_round(task, key, header, first, chunks, current);
+    let waiting = &mut *places;
+    let behind = &mut *next;
+    let mut chore = || -> Result<(), OpenFault>
+        requires { (0 < upto) × (upto ≤ behind.now.room) }
+        ensures turned { HasTurned (R.left reader.entry.now) (R.left reader.exit.now) (R.failures reader.entry.now)
+            (R.failures reader.exit.now) (O.bytes out.entry.now) (O.bytes out.exit.now) waiting.entry.now.values
+            behind.entry.now behind.exit.now ahead upto result }
+        ensures places { (waiting.exit.now.room ≡ waiting.entry.now.room)
+            × (waiting.exit.now.size ≡ waiting.entry.now.size) }
+    { turn(alloc, reader, out, waiting, behind, ahead, upto) };
+    let turned = crew.make(rt, alloc, &round, gate, &mut chore);
+    crew.put(&round, places);
+    mem::swap(current, next);
+    turned
+}
+
+// Opens the last round, and takes the plaintext of the one before and of this.
+fn open_last<T: Threads + Sync, G: Gate + Sync, O: Taking>(
+    rt: &T,
+    alloc: Global,
+    task: Task,
+    key: &Key,
+    header: &Header,
+    first: u32,
+    rooms: &mut Rooms,
+    out: &mut O,
+    gate: &G,
+) -> Result<(), OpenFault>
+    requires task { task ≢ Task.Sealing }
+    requires cut { (plain : ℕ) × (length rooms.old.current.held ≡ body_length (size_in header.now) plain)
+        × (plain ≤ MAX_CHUNKS * size_in header.now) × (first + chunk_count (size_in header.now) plain ≤ 2 ^ 32) }
+    requires ready { IsReady task (size_in header.now) (length rooms.old.current.held)
+        rooms.old.crew rooms.old.places }
+    ensures opened { OnOk result ((last : List ℕ)
+        × OpensRound task key.now header.now first true rooms.old.current.held last
+        × (O.bytes out.new ≡ (O.bytes out.old ++ joined rooms.old.places.values) ++ last)) }
+    ensures refused { IfErr result (λ fault. IsOfBytes fault
+        → unsealed_by key.now header.now first true (sealed_chunks (size_in header.now) rooms.old.current.held)
+        ≡ Err fault) }
+    ensures fault { IfErr result (λ fault. IsOfBytes fault ⊎ (fault ≡ OpenFault.OutOfMemory)) }
+{
+    pieces_by_number();
+    chunks_by_number();
+    let Rooms {
+        current,
+        next: _,
+        crew,
+        places,
+    } = rooms;
+    let bytes = current.held();
+    let Ok(cut) = Cut::of_body(header, bytes.len() as u64) else {
+        unreachable!();
+    };
+    let round = Round::new(task, key, header, first, true, cut, bytes);
+    let waiting = &mut *places;
+    let mut chore = || -> Result<(), AllocError>
+        ensures bytes { OnOk result (O.bytes out.exit.now
+            ≡ O.bytes out.entry.now ++ joined waiting.entry.now.values) }
+        ensures places { (waiting.exit.now.room ≡ waiting.entry.now.room)
+            × (waiting.exit.now.size ≡ waiting.entry.now.size) }
+    { out.take(alloc, waiting) };
+    if crew.make(rt, alloc, &round, gate, &mut chore).is_err() {
+        return Err(OpenFault::OutOfMemory);
+    }
+    crew.put(&round, places);
+    match checked(places, task, first) {
+        Ok(()) => {}
+        Err(fault) => return Err(fault),
+    }
+    match out.take_last(alloc, places) {
+        Ok(()) => Ok(()),
+        Err(AllocError) => Err(OpenFault::OutOfMemory),
+    }
+}
+
+// Opens all that stands behind a header in rounds, has its plaintext taken where it isn't only checked, and answers how
+// many bytes that has.
+fn open_body<T: Threads + Sync, R: Source, G: Gate + Sync, O: Taking>(
+    rt: &T,
+    alloc: Global,
+    task: Task,
+    key: &Key,
+    header: &Header,
+    reader: &mut R,
+    max_bytes: u64,
+    workers: u32,
+    window: u32,
+    out: &mut O,
+    gate: &G,
+) -> Result<u64, OpenFault>
+    requires task { task ≢ Task.Sealing }
+    requires front { SaysLength key.now header.now }
+    requires limit { longest max_bytes header.now
+        ≡ container_limit (length header.now) (size_in header.now) max_bytes }
+    requires max_bytes { max_bytes ≤ MAX_OPENED }
+    requires workers { (0 < workers) × (workers ≤ MAX_WORKERS) }
+    requires window { (0 < window) × (window ≤ MAX_WINDOW) }
+    requires empty { O.bytes out.old ≡ [] }
+    ensures opened { IfOk result (λ n. (plain : List ℕ) × (n ≡ length plain)
+        × Answers key.now header.now max_bytes (R.left reader.old) (R.left reader.new) (Ok plain)
+        × (task ≡ Task.Opening → O.bytes out.new ≡ plain)) }
+    ensures refused { IfErr result (λ fault. IsOfBytes fault
+        → Answers key.now header.now max_bytes (R.left reader.old) (R.left reader.new) (Err fault)) }
+    ensures bound { ConsumesUpTo (R.left reader.old) (R.left reader.new)
+        (longest max_bytes header.now + 1 - length header.now) }
+    ensures no_write { result ≢ Err OpenFault.Write }
+    ensures count { R.failures reader.new ≡ counted (open_read_failed result) (R.failures reader.old) }
+{
+    // Rounds one behind the other open as the whole does.
+    rounds_open();
+    let image = header.bytes();
+    let limit = header.longest_bytes(max_bytes) as usize + 1;
+    let size = sealed_bytes(window, header);
+    let most = limit - image.len();
+    let mut rooms = match begin(alloc, task, header, reader, most, window, workers) {
+        Ok(rooms) => rooms,
+        Err(fault) => return Err(fault),
+    };
+    let mut total = image.len() + rooms.current.held().len();
+    let mut first = 0;
+    'rounds: while total < limit && rooms.current.held().len() > size {
+        let upto = (limit - total).min(size) + 1;
+        match open_full(
+            rt, alloc, task, key, header, first, window, &mut rooms, reader, out, upto, gate,
+        ) {
+            Ok(()) => {}
+            Err(fault) => return Err(fault),
+        }
+        total += rooms.current.held().len() - 1;
+        match checked(&rooms.places, task, first) {
+            Ok(()) => {}
+            Err(fault) => return Err(refuse(key, image, reader, total, limit, max_bytes, fault)),
+        }
+        first += window;
+    }
+    let cut = match begin_within(key, image, total as u64, max_bytes) {
+        Ok((_, cut)) => cut,
+        Err(fault) => return Err(fault),
+    };
+    match open_last(rt, alloc, task, key, header, first, &mut rooms, out, gate) {
+        Ok(()) => Ok(cut.plain()),
+        Err(fault) => Err(fault),
+    }
+}
+
+/// Opens all that the reader has left in rounds of `window` chunks (of `usual_opening`, where no number is given), by
+/// 1 to 16 workers, has its plaintext taken where the task is `Opening`, and answers its header and
+/// how many bytes the plaintext has; or the first fault of the container. A failure leaves some of the plaintext. Of an
+/// input that is too long one byte past the longest container is read.
+pub(crate) fn open_rounds<T: Threads + Sync, R: Source, G: Gate + Sync, O: Taking>(
+    rt: &T,
+    alloc: Global,
+    task: Task,
+    key: &Key,
+    reader: &mut R,
+    max_bytes: u64,
+    workers: u32,
+    window: Option<u32>,
+    out: &mut O,
+    gate: &G,
+) -> Result<(Header, u64), OpenFault>
+    requires task { task ≢ Task.Sealing }
+    requires max_bytes { max_bytes ≤ MAX_OPENED }
+    requires workers { (0 < workers) × (workers ≤ MAX_WORKERS) }
+    requires window { IfSome window (λ chunks. (0 < chunks) × (chunks ≤ MAX_WINDOW)) }
+    requires empty { O.bytes out.old ≡ [] }
+    ensures header { IfOk result (λ opened. IfSome (R.left reader.old) (HasHeader opened.0)) }
+    ensures length { IfOk result (λ opened. IfSome (R.left reader.old) (λ input.
+        OpensTo key.now max_bytes input opened.1)) }
+    ensures plaintext { OnOk result (task ≡ Task.Opening
+        → IfSome (R.left reader.old) (λ input. opening key.now max_bytes input ≡ Ok (O.bytes out.new))) }
+    ensures taken { IfOk result (λ opened. task ≡ Task.Opening → opened.1 ≡ length (O.bytes out.new)) }
+    ensures no_write { result ≢ Err OpenFault.Write }
+    ensures reads { HasReadContainer key.now max_bytes (R.left reader.old) (R.left reader.new)
+        (R.failures reader.old) (R.failures reader.new) result }
+{
+    match open_front(key, reader, max_bytes) {
+        Ok(header) => {
+            let window = window.unwrap_or(usual_opening(header.chunk(), workers));
+            match open_body(
+                rt, alloc, task, key, &header, reader, max_bytes, workers, window, out, gate,
+            ) {
+                Ok(bytes) => Ok((header, bytes)),
+                Err(fault) => Err(fault),
+            }
+        }
+        Err(fault) => Err(fault),
+    }
+}
