@@ -7,12 +7,12 @@ use Rattle.container_core.specs.Shape.{ShapeView, size_of}
 use Rattle.container_core.specs.Stream.{stream, stream_by}
 use Rattle.container_core.specs.declared.fault.SealFault.{SealFault}
 use Rattle.container_core.proofs.HeaderLemmas.{length-hint_of, size-header_of}
-use Rattle.engine_core.specs.Engine.{BeginsContainer, DropsRound, HasReadPlain, HasWrittenRounds, rounds_so_far, seal_read_failed, seal_write_failed}
+use Rattle.engine_core.specs.Engine.{BeginsContainer, CutsContainer, DropsRound, HasReadPlain, HasWrittenRounds, rounds_so_far, seal_read_failed, seal_write_failed}
 use Rattle.engine_core.specs.Piped.{HasPipedContainer}
-use Rattle.io_core.specs.Reads.{ConsumesExactly}
-use Rattle.io_core.specs.Streams.{Appends, AppendsFront, counted}
+use Rattle.io_core.specs.Reads.{ConsumesExactly, ConsumesUpTo}
+use Rattle.io_core.specs.Streams.{Appends, AppendsFront, LacksSome, counted}
 use Rattle.output_core.specs.Bounds.{Admits, Bound}
-use Rattle.pipe_core.specs.Order.{HasBegun, chunks_so_far}
+use Rattle.pipe_core.specs.Order.{HasBegun, IsCutOff, chunks_so_far}
 use Rattle.pipe_core.specs.Rounds.{DropsInHand, HasSealedRounds}
 use Rattle.pipe_core.specs.Pipe.{HasPiped, read_failed, whole, write_failed}
 
@@ -72,7 +72,10 @@ piped-container key prefix header shape most left left' taken taken' failures fa
       within = on_ok result (if_some left (λ input was. subst (λ (n : ℕ). length input ≤ n) sized was)) did.within;
       more = λ e. if_some left (λ input was. subst (λ (n : ℕ). n < length input) sized was) (did.more e);
       one = λ e. subst (λ (n : ℕ). ConsumesExactly left left' (n + 1)) sized (did.one e);
+      bound = subst (λ (n : ℕ). ConsumesUpTo left left' (n + 1)) sized did.bound;
       begun = on_err result (if_some left (λ input was. subst (AppendsFront taken taken') (whole-container key prefix header input shape named) was)) did.begun;
+      short = λ e. if_some left (λ input was. subst (LacksSome taken taken') (whole-container key prefix header input shape named) was) (did.short e);
+      few = λ e. subst (AppendsFront taken taken') named (did.few e);
       endless = did.endless;
       read = same_reads failures failures' result did.read;
       write = same_writes refusals refusals' result did.write;
@@ -85,6 +88,15 @@ begins : (key prefix header : List ℕ) (shape : ShapeView) (left taken taken' :
     → HasBegun header key header left taken taken' → BeginsContainer key shape prefix left taken taken'
 begins key prefix header shape left taken taken' named begun =
     (begun.0, begun.1, subst (AppendsFront taken taken') (whole-container key prefix header begun.0 shape named) begun.2)
+
+cuts : (key prefix header : List ℕ) (shape : ShapeView) (left taken taken' : Option (List ℕ)) → header ≡ header_of key shape prefix
+    → IsCutOff header key header left taken taken' → CutsContainer key shape prefix left taken taken'
+cuts key prefix header shape left taken taken' named cut = (
+  cut.0,
+  cut.1,
+  subst (AppendsFront taken taken') (whole-container key prefix header cut.0 shape named) cut.2,
+  subst (LacksSome taken taken') (whole-container key prefix header cut.0 shape named) cut.3,
+)
 
 so_far : (key header header' past : List ℕ) (size : ℕ) → header ≡ header' → size_in header ≡ size
     → chunks_so_far header key header past ≡ rounds_so_far size key header' past
@@ -128,6 +140,7 @@ rounds-container key prefix header shape most window left left' taken taken' fai
   written = on_ok result (if_some left (λ input was. subst (Appends taken taken') (whole-container key prefix header input shape named) was)) did.written;
   within = did.within;
   begun = on_err result (begins key prefix header shape left taken taken' named) did.begun;
+  short = λ e. cuts key prefix header shape left taken taken' named (did.short e);
   dropped = λ e. drops key prefix header shape most window left left' taken taken' named (did.dropped e);
   unwritten = did.unwritten;
   write = same_writes refusals refusals' result did.write;

@@ -55,6 +55,12 @@ abbrev pub BeginsContainer : List ℕ → ShapeView → List ℕ → Option (Lis
 BeginsContainer key shape prefix left taken taken' = (plain : List ℕ) × IfSome left (λ input. input ≡ plain)
     × AppendsFront taken taken' (container key shape prefix plain)
 
+-- the same, and not all of it
+abbrev pub CutsContainer : List ℕ → ShapeView → List ℕ → Option (List ℕ) → Option (List ℕ) → Option (List ℕ) → Type 0
+CutsContainer key shape prefix left taken taken' = (plain : List ℕ) × IfSome left (λ input. input ≡ plain)
+    × AppendsFront taken taken' (container key shape prefix plain)
+    × LacksSome taken taken' (container key shape prefix plain)
+
 -- what is written once these bytes are sealed in full rounds of chunks of a size, none of which is the last: nothing
 -- before the first
 abbrev pub rounds_so_far : ℕ → List ℕ → List ℕ → List ℕ → List ℕ
@@ -77,8 +83,9 @@ pub record HasWrittenRounds (key : List ℕ) (shape : ShapeView) (prefix : List 
   -- what was written is the container of the whole input
   pub written : OnOk result (IfSome left (λ input. Appends taken taken' (container key shape prefix input)))
   pub within : OnOk result (IfSome left (λ input. length input ≤ most))
-  -- at a fault a beginning of that was written
+  -- at a fault a beginning of that was written, and where a write failed not all
   pub begun : OnErr result (BeginsContainer key shape prefix left taken taken')
+  pub short : result ≡ Err sealing_fault.Write → CutsContainer key shape prefix left taken taken'
   -- of an input that is too long the rounds before the one in hand were written
   pub dropped : result ≡ Err sealing_fault.TooLong → DropsRound key shape prefix most window left left' taken taken'
   -- memory is refused before anything was written

@@ -1,13 +1,13 @@
 -- What the contract of the engine that seals a stream cites.
 use Rattle.std.specs.Prelude.{◌≡◌, ◌≢◌, ℕ, ◌+◌, ◌*◌, ◌<◌, ◌≤◌, List, length, Option}
 use Rattle.std.specs.Prelude.{Result, Err, IfOk, OnOk, OnErr, IfSome}
-use Rattle.container_core.specs.Container.{container}
+use Rattle.container_core.specs.Container.{container, header_of}
 use Rattle.container_core.specs.Shape.{ShapeView, size_of}
 use Rattle.container_core.specs.declared.fault.SealFault.{SealFault}
 use Rattle.container_core.specs.declared.fault.SealFault.TheVariants as sealing_fault
 use Rattle.engine_core.specs.Engine.{seal_read_failed, seal_write_failed}
-use Rattle.io_core.specs.Reads.{ConsumesExactly}
-use Rattle.io_core.specs.Streams.{Appends, AppendsFront, IsAtEnd, counted}
+use Rattle.io_core.specs.Reads.{ConsumesExactly, ConsumesUpTo}
+use Rattle.io_core.specs.Streams.{Appends, AppendsFront, IsAtEnd, LacksSome, counted}
 
 -- What it did with its reader, which had `left` to be read, and has `left'` now, and with its writer, which had taken
 -- `taken`, and has `taken'` now. The input is what the reader had left, where it tells that.
@@ -23,8 +23,13 @@ pub record HasPipedContainer (key : List ℕ) (shape : ShapeView) (prefix : List
   pub within : OnOk result (IfSome left (λ input. length input ≤ most * size_of shape))
   pub more : result ≡ Err sealing_fault.TooManyChunks → IfSome left (λ input. most * size_of shape < length input)
   pub one : result ≡ Err sealing_fault.TooManyChunks → ConsumesExactly left left' (most * size_of shape + 1)
-  -- at a fault a beginning of that container was written
+  pub bound : ConsumesUpTo left left' (most * size_of shape + 1)
+  -- at a fault a beginning of that container was written; where a write failed not all, and where memory was refused no
+  -- more than the header
   pub begun : OnErr result (IfSome left (λ input. AppendsFront taken taken' (container key shape prefix input)))
+  pub short : result ≡ Err sealing_fault.Write
+      → IfSome left (λ input. LacksSome taken taken' (container key shape prefix input))
+  pub few : result ≡ Err sealing_fault.OutOfMemory → AppendsFront taken taken' (header_of key shape prefix)
   -- a stream is never too long
   pub endless : result ≢ Err sealing_fault.TooLong
   -- a failed read is Read, a failed write is Write, and no other fault is

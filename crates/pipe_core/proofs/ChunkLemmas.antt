@@ -9,8 +9,9 @@ use Rattle.container_core.specs.Stream.{stream, stream_by}
 use Rattle.container_core.proofs.OpeningLemmas.{some_size}
 use Rattle.container_core.proofs.RoundLemmas.{stream_by-chunks}
 use Rattle.container_core.proofs.StreamLemmas.{stream_by-true}
-use Rattle.io_core.specs.Streams.{Appends, AppendsFront, IsFront}
-use Rattle.pipe_core.specs.Order.{behind, chunks_so_far, front_at, AreWritten, Follows, HasBegun}
+use Rattle.io_core.specs.Streams.{Appends, AppendsFront, IsFront, LacksSome}
+use Rattle.output_core.proofs.PartLemmas.{lacks_within}
+use Rattle.pipe_core.specs.Order.{behind, chunks_so_far, front_at, AreWritten, Follows, HasBegun, IsCutOff}
 use Rattle.pipe_core.specs.Pieces.{block, IsPart, StandsIn}
 use Rattle.pipe_core.proofs.BlockLemmas.{pos_times}
 
@@ -105,11 +106,11 @@ follows_more : (told : Option (List ℕ)) (past text after : List ℕ) → 0 < l
 follows_more None past text after more is = tt
 follows_more (Some input) past text after more is = (after, is ∙ sym (append_assoc past text after), λ _. more)
 
--- a beginning of what comes next was written
-begun_of : (front key header plain done next tail : List ℕ) (told taken before after : Option (List ℕ)) → IfSome told (λ input. input ≡ plain)
-    → behind front key header plain ≡ (done ++ next) ++ tail → Appends taken before done → AppendsFront before after next
-    → HasBegun front key header told taken after
-begun_of front key header plain done next tail told taken before after of whole grown begun = (
+-- a beginning of what comes next was written, and not all
+cut_of : (front key header plain done next tail : List ℕ) (told taken before after : Option (List ℕ)) → IfSome told (λ input. input ≡ plain)
+    → behind front key header plain ≡ (done ++ next) ++ tail → Appends taken before done → AppendsFront before after next → LacksSome before after next
+    → IsCutOff front key header told taken after
+cut_of front key header plain done next tail told taken before after of whole grown begun lacks = (
   plain,
   of,
   (
@@ -122,6 +123,7 @@ begun_of front key header plain done next tail told taken before after of whole 
     ),
     Appends-trans taken before after done begun.0 grown begun.2,
   ),
+  subst (LacksSome taken after) (sym (whole ∙ append_assoc done next tail)) (lacks_within taken before after done next tail grown begun lacks),
 )
 
 -- a full block more is written
@@ -149,20 +151,20 @@ written_more each front key header told taken before after number bytes size one
           (Appends-trans taken before after _ _ was.grown now);
     }
 
--- a beginning of it
-pub begun_more : (each : ℕ) (front key header : List ℕ) (told taken before after : Option (List ℕ)) (number : ℕ) (bytes : List ℕ)
+-- a beginning of it, and not all
+pub cut_more : (each : ℕ) (front key header : List ℕ) (told taken before after : Option (List ℕ)) (number : ℕ) (bytes : List ℕ)
     → 0 < size_in header → 0 < each → IsPart each key header told number false bytes
     → AreWritten each front key header told taken before number → AppendsFront before after (front_at front number ++ bytes)
-    → HasBegun front key header told taken after
-begun_more each front key header told taken before after number bytes size one part was now =
+    → LacksSome before after (front_at front number ++ bytes) → IsCutOff front key header told taken after
+cut_more each front key header told taken before after number bytes size one part was now lacks =
     let text = part.text in
     let full = part.chunk.full refl in
     let s = size_in header in
     let next = after_of (each * s) number told was.past text was.long was.of part.chunk.of in
-    begun_of front key header (was.past ++ (text ++ next.0)) _ (front_at front number ++ bytes) _ told taken before after next.2
+    cut_of front key header (was.past ++ (text ++ next.0)) _ (front_at front number ++ bytes) _ told taken before after next.2
     (behind_full each front key header was.past text next.0 number size one was.long full next.1
     ∙ ap (λ (b : List ℕ). (chunks_so_far front key header was.past ++ (front_at front number ++ b)) ++ stream_by key header (each * (number + 1)) true (chunks s next.0)) (sym part.is))
-    was.grown now
+    was.grown now lacks
 
 -- the last block is written, and with it all
 pub written_last : (each : ℕ) (front key header : List ℕ) (told taken before after : Option (List ℕ)) (number : ℕ) (bytes : List ℕ)
@@ -182,18 +184,18 @@ written_last each front key header told taken before after number bytes size one
     all None is = tt
     all (Some input) is = subst (λ (l : List ℕ). Appends taken after (behind front key header l)) (sym is) whole
 
--- a beginning of it
-pub begun_last : (each : ℕ) (front key header : List ℕ) (told taken before after : Option (List ℕ)) (number : ℕ) (bytes : List ℕ)
+-- a beginning of it, and not all
+pub cut_last : (each : ℕ) (front key header : List ℕ) (told taken before after : Option (List ℕ)) (number : ℕ) (bytes : List ℕ)
     → 0 < size_in header → 0 < each → IsPart each key header told number true bytes
     → AreWritten each front key header told taken before number → AppendsFront before after (front_at front number ++ bytes)
-    → HasBegun front key header told taken after
-begun_last each front key header told taken before after number bytes size one part was now =
-    begun_of front key header (was.past ++ part.text) (chunks_so_far front key header was.past) (front_at front number ++ bytes) [] told taken before after
+    → LacksSome before after (front_at front number ++ bytes) → IsCutOff front key header told taken after
+cut_last each front key header told taken before after number bytes size one part was now lacks =
+    cut_of front key header (was.past ++ part.text) (chunks_so_far front key header was.past) (front_at front number ++ bytes) [] told taken before after
     (last_of (block each header) number told was.past part.text was.long was.of part.chunk.of)
     (behind_part each front key header was.past part.text number size one was.long part.chunk.some
     ∙ ap (λ (b : List ℕ). chunks_so_far front key header was.past ++ (front_at front number ++ b)) (sym part.is)
     ∙ sym (append-nil (chunks_so_far front key header was.past ++ (front_at front number ++ bytes))))
-    was.grown now
+    was.grown now lacks
 
 begun_tail : (each : ℕ) (front key header past rest : List ℕ) (number : ℕ) → 0 < size_in header → 0 < each → length past ≡ number * block each header
     → (0 < length past → 0 < length rest)
@@ -243,15 +245,16 @@ written_next each front key header told taken before after number turn next byte
     (subst (λ (n : ℕ). AreWritten each front key header told taken before n) (sym is) was)
     (subst (λ (b : List ℕ). Appends before after (front_at front number ++ b)) same now))
 
-pub begun_next : (each : ℕ) (front key header : List ℕ) (told taken before after : Option (List ℕ)) (number turn : ℕ) (bytes text : List ℕ)
+pub cut_next : (each : ℕ) (front key header : List ℕ) (told taken before after : Option (List ℕ)) (number turn : ℕ) (bytes text : List ℕ)
     → 0 < each → number ≡ turn → text ≡ bytes
     → IsPart each key header told number false bytes
     → AreWritten each front key header told taken before turn → AppendsFront before after (front_at front number ++ text)
-    → HasBegun front key header told taken after
-begun_next each front key header told taken before after number turn bytes text one is same part was now =
-    begun_more each front key header told taken before after number bytes (some_size header) one part
+    → LacksSome before after (front_at front number ++ text) → IsCutOff front key header told taken after
+cut_next each front key header told taken before after number turn bytes text one is same part was now lacks =
+    cut_more each front key header told taken before after number bytes (some_size header) one part
     (subst (λ (n : ℕ). AreWritten each front key header told taken before n) (sym is) was)
     (subst (λ (b : List ℕ). AppendsFront before after (front_at front number ++ b)) same now)
+    (subst (λ (b : List ℕ). LacksSome before after (front_at front number ++ b)) same lacks)
 
 pub front_first : (front : List ℕ) (number : ℕ) → number ≡ 0 → front_at front number ≡ front
 front_first front zero none = refl
@@ -260,6 +263,15 @@ front_first front (suc n) none = absurd (omega (arith, none))
 -- a beginning of the first of two
 pub begun_before : (a b : Option (List ℕ)) (xs ys : List ℕ) → AppendsFront a b xs → AppendsFront a b (xs ++ ys)
 begun_before a b xs ys begun = (begun.0, (begun.1.0 ++ ys, ap (λ (l : List ℕ). l ++ ys) begun.1.1 ∙ append_assoc begun.0 begun.1.0 ys), begun.2)
+
+-- not all of the first of two
+pub lacks_before : (a b : Option (List ℕ)) (xs ys : List ℕ) → AppendsFront a b xs → LacksSome a b xs → LacksSome a b (xs ++ ys)
+lacks_before a b xs ys begun lacks = lacks_within a a b [] xs ys (Appends-nil a) begun lacks
+
+-- the first, and not all of the second
+pub lacks_behind : (a b c : Option (List ℕ)) (xs ys : List ℕ) → Appends a b xs → AppendsFront b c ys → LacksSome b c ys → LacksSome a c (xs ++ ys)
+lacks_behind a b c xs ys before begun lacks =
+    subst (λ (l : List ℕ). LacksSome a c (xs ++ l)) (append-nil ys) (lacks_within a b c xs ys [] before begun lacks)
 
 -- the first, and a beginning of the second
 pub begun_behind : (a b c : Option (List ℕ)) (xs ys : List ℕ) → Appends a b xs → AppendsFront b c ys → AppendsFront a c (xs ++ ys)
@@ -272,6 +284,10 @@ begun_behind a b c xs ys before begun = (
 pub on_err : {A E : Type 0} {P Q : Type 0} (r : Result A E) → (P → Q) → OnErr r P → OnErr r Q
 on_err (Ok x) f p = tt
 on_err (Err x) f p = f p
+
+pub both_err : {A E : Type 0} {P Q R : Type 0} (r : Result A E) → (P → Q → R) → OnErr r P → OnErr r Q → OnErr r R
+both_err (Ok x) f p q = tt
+both_err (Err x) f p q = f p q
 
 pub written_at : (each : ℕ) (front key header : List ℕ) (told taken now : Option (List ℕ)) (m n : ℕ) → n ≡ m → AreWritten each front key header told taken now m
     → AreWritten each front key header told taken now n
@@ -290,13 +306,14 @@ written_job each r front front' key header told taken before after number turn b
     on_ok r (λ grown. written_next each front key header told taken before after number turn (turn + 1) bytes text one is refl same part was
     (subst (λ (l : List ℕ). Appends before after (front_at l number ++ text)) e grown)) now
 
-pub begun_job : (each : ℕ) {A E : Type 0} (r : Result A E) (front front' key header : List ℕ) (told taken before after : Option (List ℕ)) (number turn : ℕ)
+pub cut_job : (each : ℕ) {A E : Type 0} (r : Result A E) (front front' key header : List ℕ) (told taken before after : Option (List ℕ)) (number turn : ℕ)
     (bytes text : List ℕ) → 0 < each → front' ≡ front → number ≡ turn → text ≡ bytes → IsPart each key header told number false bytes
     → AreWritten each front key header told taken before turn → OnErr r (AppendsFront before after (front_at front' number ++ text))
-    → OnErr r (HasBegun front key header told taken after)
-begun_job each r front front' key header told taken before after number turn bytes text one e is same part was now =
-    on_err r (λ begun. begun_next each front key header told taken before after number turn bytes text one is same part was
-    (subst (λ (l : List ℕ). AppendsFront before after (front_at l number ++ text)) e begun)) now
+    → OnErr r (LacksSome before after (front_at front' number ++ text)) → OnErr r (IsCutOff front key header told taken after)
+cut_job each r front front' key header told taken before after number turn bytes text one e is same part was now lacks =
+    both_err r (λ begun short. cut_next each front key header told taken before after number turn bytes text one is same part was
+    (subst (λ (l : List ℕ). AppendsFront before after (front_at l number ++ text)) e begun)
+    (subst (λ (l : List ℕ). LacksSome before after (front_at l number ++ text)) e short)) now lacks
 
 pub same_number : (m n : ℕ) → m ∷ [] ≡ n ∷ [] → m ≡ n
 same_number m n e = ap (λ (l : List ℕ). get_or l 0 0) e

@@ -18,7 +18,7 @@ use Rattle.pipe_core.specs.declared.piece.Task.{Task}
 use Rattle.pipe_core.specs.declared.round.Plan.{Plan}
 use Rattle.pipe_core.specs.declared.round.Round.{Round}
 use Rattle.pipe_core.specs.Intake.{HasRead, seen}
-use Rattle.pipe_core.specs.Order.{behind, empty, AreWritten, Follows, HasBegun, IsOrdered}
+use Rattle.pipe_core.specs.Order.{behind, empty, AreWritten, Follows, HasBegun, IsCutOff, IsOrdered}
 use Rattle.pipe_core.specs.Hands.{hand, all_numbers}
 use Rattle.pipe_core.specs.Pieces.{block, room, IsChunk, IsPart, IsTask, task_numbers}
 use Rattle.pipe_core.specs.Round.{AreJobs, AreRounds, IsHanded, IsInHand, IsLast, IsPlan, IsRead, IsUnderWay}
@@ -299,6 +299,7 @@ rounds_end each front key header told left taken now limit group failures failur
       bound = (had.bytes, had.consumed, let e = end.2 in omega arith);
       dropped = λ e. cc;
       begun = tt;
+      short = λ e. cc;
       unwritten = λ e. cc;
       by_bytes = λ e. cc;
       read = reads;
@@ -368,6 +369,7 @@ rounds_long each front key header told left taken now limit group put failures f
         was.grown,
       );
       begun = begun_now each front key header told taken now put size one was;
+      short = λ e. cc;
       unwritten = λ e. cc;
       by_bytes = λ e. cc;
       read = reads;
@@ -392,6 +394,7 @@ rounds_memory front key header told left taken limit group failures failures' re
   bound = (bound.0, bound.1, let b = bound.2 in omega arith);
   dropped = λ e. cc;
   begun = begun_none front key header told taken;
+  short = λ e. cc;
   unwritten = λ _. Keeps-refl taken;
   by_bytes = λ e. cc;
   read = reads;
@@ -411,6 +414,7 @@ rounds_read front key header told left taken now limit group failures failures' 
   bound = (bound.0, bound.1, let b = bound.2 in omega arith);
   dropped = λ e. cc;
   begun = begun;
+  short = λ e. cc;
   unwritten = λ e. cc;
   by_bytes = λ e. cc;
   read = reads;
@@ -418,9 +422,9 @@ rounds_read front key header told left taken now limit group failures failures' 
 }
 
 pub rounds_write : (front key header : List ℕ) (told left taken now : Option (List ℕ)) (limit group : ℕ) (failures failures' refusals refusals' : Option ℕ)
-    → 0 < limit → ConsumesUpTo told left limit → HasBegun front key header told taken now → failures' ≡ failures → refusals' ≡ counted true refusals
+    → 0 < limit → ConsumesUpTo told left limit → IsCutOff front key header told taken now → failures' ≡ failures → refusals' ≡ counted true refusals
     → HasSealedRounds front key header (limit - 1) group told left failures failures' taken now refusals refusals' (Err Write)
-rounds_write front key header told left taken now limit group failures failures' refusals refusals' some bound begun reads writes = record {
+rounds_write front key header told left taken now limit group failures failures' refusals refusals' some bound cut reads writes = record {
   end = tt;
   written = tt;
   answer = tt;
@@ -429,7 +433,8 @@ rounds_write front key header told left taken now limit group failures failures'
   one = λ e. cc;
   bound = (bound.0, bound.1, let b = bound.2 in omega arith);
   dropped = λ e. cc;
-  begun = begun;
+  begun = (cut.0, cut.1, cut.2);
+  short = λ _. cut;
   unwritten = λ e. cc;
   by_bytes = λ e. cc;
   read = reads;

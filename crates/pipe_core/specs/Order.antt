@@ -5,7 +5,7 @@ use Rattle.std.specs.Prelude.{nat_lt, if◌then◌else◌, false, IfSome, length
 use Rattle.container_core.specs.Chunks.{chunks}
 use Rattle.container_core.specs.Container.{size_in}
 use Rattle.container_core.specs.Stream.{stream, stream_by}
-use Rattle.io_core.specs.Streams.{Appends, AppendsFront}
+use Rattle.io_core.specs.Streams.{Appends, AppendsFront, LacksSome}
 use Rattle.output_core.specs.Bounds.{Admits, Bound}
 use Rattle.pipe_core.specs.declared.early.Early.{Early}
 use Rattle.pipe_core.specs.declared.line.Hand.{Hand}
@@ -58,6 +58,11 @@ pub record AreWritten (each : ℕ) (front key header : List ℕ) (told taken tak
 abbrev pub HasBegun : List ℕ → List ℕ → List ℕ → Option (List ℕ) → Option (List ℕ) → Option (List ℕ) → Type 0
 HasBegun front key header told taken taken' = (plain : List ℕ) × IfSome told (λ input. input ≡ plain)
     × AppendsFront taken taken' (behind front key header plain)
+
+-- the same, and not all of it
+abbrev pub IsCutOff : List ℕ → List ℕ → List ℕ → Option (List ℕ) → Option (List ℕ) → Option (List ℕ) → Type 0
+IsCutOff front key header told taken taken' = (plain : List ℕ) × IfSome told (λ input. input ≡ plain)
+    × AppendsFront taken taken' (behind front key header plain) × LacksSome taken taken' (behind front key header plain)
 
 -- behind what the output had taken at first the first so many full blocks were written, and whatever the input turns
 -- out to be, the output may take all that is written of it

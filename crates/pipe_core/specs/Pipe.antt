@@ -5,8 +5,8 @@ use Rattle.container_core.specs.Container.{size_in}
 use Rattle.container_core.specs.Faults.{is_failed_read, is_failed_write}
 use Rattle.container_core.specs.declared.fault.SealFault.{SealFault}
 use Rattle.container_core.specs.declared.fault.SealFault.TheVariants as sealing_fault
-use Rattle.io_core.specs.Reads.{ConsumesExactly}
-use Rattle.io_core.specs.Streams.{IsAtEnd, Appends, AppendsFront, counted}
+use Rattle.io_core.specs.Reads.{ConsumesExactly, ConsumesUpTo}
+use Rattle.io_core.specs.Streams.{IsAtEnd, Appends, AppendsFront, LacksSome, counted}
 use Rattle.pipe_core.specs.Order.{behind}
 
 -- whether a read failed
@@ -42,8 +42,12 @@ pub record HasPiped (key header : List ℕ) (most : ℕ) (left left' : Option (L
   pub within : OnOk result (IfSome left (λ input. length input ≤ most * size_in header))
   pub more : result ≡ Err sealing_fault.TooManyChunks → IfSome left (λ input. most * size_in header < length input)
   pub one : result ≡ Err sealing_fault.TooManyChunks → ConsumesExactly left left' (most * size_in header + 1)
-  -- at a fault a beginning of that was written
+  pub bound : ConsumesUpTo left left' (most * size_in header + 1)
+  -- at a fault a beginning of that was written; where a write failed not all, and where memory was refused no more than
+  -- the header
   pub begun : OnErr result (IfSome left (λ input. AppendsFront taken taken' (whole key header input)))
+  pub short : result ≡ Err sealing_fault.Write → IfSome left (λ input. LacksSome taken taken' (whole key header input))
+  pub few : result ≡ Err sealing_fault.OutOfMemory → AppendsFront taken taken' header
   -- a stream is never too long
   pub endless : result ≡ Err sealing_fault.TooLong → ⊥
   -- a failed read is Read, a failed write is Write, and no other fault is

@@ -6,7 +6,7 @@ use Rattle.container_core.specs.declared.fault.SealFault.{SealFault}
 use Rattle.container_core.specs.declared.fault.SealFault.TheVariants as sealing_fault
 use Rattle.io_core.specs.Reads.{ConsumesExactly, ConsumesUpTo}
 use Rattle.io_core.specs.Streams.{Appends, Consumes, IsAtEnd, Keeps, counted}
-use Rattle.pipe_core.specs.Order.{HasBegun, behind, chunks_so_far}
+use Rattle.pipe_core.specs.Order.{HasBegun, IsCutOff, behind, chunks_so_far}
 use Rattle.pipe_core.specs.Pipe.{read_failed, write_failed}
 
 -- what was read is some full rounds, which were written whole, and the round in hand, which was dropped; the byte
@@ -36,8 +36,9 @@ pub record HasSealedRounds (front key header : List ℕ) (most window : ℕ) (le
   pub one : result ≡ Err sealing_fault.TooLong → ConsumesExactly left left' (most + 1)
   pub bound : ConsumesUpTo left left' (most + 1)
   pub dropped : result ≡ Err sealing_fault.TooLong → DropsInHand front key header most window left left' taken taken'
-  -- at a fault a beginning of that was written
+  -- at a fault a beginning of that was written, and where a write failed not all
   pub begun : OnErr result (HasBegun front key header left taken taken')
+  pub short : result ≡ Err sealing_fault.Write → IsCutOff front key header left taken taken'
   -- memory is refused before anything was written
   pub unwritten : result ≡ Err sealing_fault.OutOfMemory → Keeps taken taken'
   -- the length is bounded by bytes

@@ -8,7 +8,7 @@ ghost use Rattle.io_core.specs.Reads.{ConsumesUpTo};
 ghost use Rattle.io_core.specs.Streams.{counted};
 ghost use Rattle.output_core.specs.Bounds.{Admits};
 ghost use Rattle.pipe_core.specs.Hands.{hand};
-ghost use Rattle.pipe_core.specs.Order.{behind, below, AreKept, AreWritten, HasBegun, IsOrdered};
+ghost use Rattle.pipe_core.specs.Order.{behind, below, AreKept, AreWritten, IsCutOff, IsOrdered};
 ghost use Rattle.pipe_core.specs.Order.{IsSeen, MayGoOn};
 ghost use Rattle.pipe_core.specs.Pieces.{block, room, IsBlock};
 ghost use Rattle.pipe_core.specs.Round.{front_of, AreRounds, IsHanded, IsInHand, IsLast, IsPlan, IsRead};
@@ -90,7 +90,7 @@ fn turn<N: Naming, W: Output>(
         → OnOk result (AreWritten N.each front.now N.key N.header N.told taken (W.taken writer.new) early.new.written) }
     ensures begun { (taken : Option (List ℕ))
         → AreWritten N.each front.now N.key N.header N.told taken (W.taken writer.old) early.old.written
-        → OnErr result (HasBegun front.now N.key N.header N.told taken (W.taken writer.new)) }
+        → OnErr result (IsCutOff front.now N.key N.header N.told taken (W.taken writer.new)) }
     ensures same { W.bound writer.new ≡ W.bound writer.old }
     ensures count { W.failures writer.new ≡ counted (is_err result) (W.failures writer.old) }
 {
@@ -240,7 +240,7 @@ fn take_in<N: Naming, T: Wait, R: Source, W: Output, G: Gate>(
     ensures bound { ConsumesUpTo N.told (R.left reader.new) plan.limit }
     ensures written { OnOk result (AreWritten N.each front.now N.key N.header N.told
         (W.taken writer.old) (W.taken writer.new) early.new.written) }
-    ensures begun { OnErr result (HasBegun front.now N.key N.header N.told
+    ensures begun { OnErr result (IsCutOff front.now N.key N.header N.told
         (W.taken writer.old) (W.taken writer.new)) }
     ensures reads { IfOk result (λ all. R.failures reader.new ≡ counted (not all) (R.failures reader.old)) }
     ensures unread { OnErr result (R.failures reader.new ≡ R.failures reader.old) }
@@ -321,7 +321,7 @@ fn drain<N: Naming, T: Wait, W: Output, G: Gate>(
         → OnOk result (AreWritten N.each front.now N.key N.header N.told taken (W.taken writer.new) early.new.written) }
     ensures begun { (taken : Option (List ℕ))
         → AreWritten N.each front.now N.key N.header N.told taken (W.taken writer.old) early.old.written
-        → OnErr result (HasBegun front.now N.key N.header N.told taken (W.taken writer.new)) }
+        → OnErr result (IsCutOff front.now N.key N.header N.told taken (W.taken writer.new)) }
     ensures bound { W.bound writer.new ≡ W.bound writer.old }
     ensures count { W.failures writer.new ≡ counted (is_err result) (W.failures writer.old) }
 {

@@ -7,7 +7,7 @@ ghost use Rattle.std.specs.Prelude.{is_err, true, take, drop};
 ghost use Rattle.container_core.specs.Container.{hint_of, size_in};
 ghost use Rattle.io_core.specs.Streams.{counted};
 ghost use Rattle.output_core.specs.Bounds.{Admits};
-ghost use Rattle.pipe_core.specs.Order.{behind, AreWritten, HasBegun, MayGoOn};
+ghost use Rattle.pipe_core.specs.Order.{behind, AreWritten, IsCutOff, MayGoOn};
 ghost use Rattle.pipe_core.specs.Pieces.{block, IsBlock, IsTask, task_numbers};
 ghost use Rattle.pipe_core.specs.Round.{IsInHand};
 ghost use Rattle.pipe_core.specs.Rounds.{HasSealedRounds};
@@ -50,7 +50,7 @@ fn write_job<N: Naming, W: Output, G: Gate>(
         → OnOk result (AreWritten N.each N.header N.key N.header N.told taken (W.taken writer.new) (number + 1)) }
     ensures begun { (taken : Option (List ℕ)) (number : ℕ) → task_numbers task ≡ number ∷ []
         → AreWritten N.each N.header N.key N.header N.told taken (W.taken writer.old) number
-        → OnErr result (HasBegun N.header N.key N.header N.told taken (W.taken writer.new)) }
+        → OnErr result (IsCutOff N.header N.key N.header N.told taken (W.taken writer.new)) }
     ensures same { W.bound writer.new ≡ W.bound writer.old }
     ensures count { W.failures writer.new ≡ counted (is_err result) (W.failures writer.old) }
 {

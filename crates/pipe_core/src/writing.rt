@@ -1,9 +1,9 @@
 //! What is written: each piece in its turn, and the header before the first.
 ghost use Rattle.std.specs.Prelude.{◌≡◌, ℕ, ◌+◌, ◌<◌, ◌≤◌, ◌++◌, All, Option, List, length, is_err, OnOk, OnErr};
 ghost use Rattle.std.specs.VecDeque.{deque_capacity};
-ghost use Rattle.io_core.specs.Streams.{Appends, AppendsFront, counted};
+ghost use Rattle.io_core.specs.Streams.{Appends, AppendsFront, LacksSome, counted};
 ghost use Rattle.output_core.specs.Bounds.{Admits};
-ghost use Rattle.pipe_core.specs.Order.{front_at, AreKept, AreWritten, HasBegun, IsOrdered, MayGoOn};
+ghost use Rattle.pipe_core.specs.Order.{front_at, AreKept, AreWritten, IsCutOff, IsOrdered, MayGoOn};
 ghost use Rattle.pipe_core.specs.Pieces.{room};
 ghost use Rattle.pipe_core.specs.declared.line.Hand.{Hand};
 ghost use Rattle.container_core.specs.Chunks.{max_chunks};
@@ -25,6 +25,8 @@ pub(crate) fn write_part<W: Output>(
     ensures ok { OnOk result (Appends (W.taken writer.old) (W.taken writer.new)
         (front_at front.now number ++ bytes.now)) }
     ensures err { OnErr result (AppendsFront (W.taken writer.old) (W.taken writer.new)
+        (front_at front.now number ++ bytes.now)) }
+    ensures short { OnErr result (LacksSome (W.taken writer.old) (W.taken writer.new)
         (front_at front.now number ++ bytes.now)) }
     ensures same { W.bound writer.new ≡ W.bound writer.old }
     ensures count { W.failures writer.new ≡ counted (is_err result) (W.failures writer.old) }
@@ -64,7 +66,7 @@ pub(crate) fn write_next<N: Naming, W: Output>(
         → OnOk result (AreWritten N.each front.now N.key N.header N.told taken (W.taken writer.new) early.new.written) }
     ensures begun { (taken : Option (List ℕ))
         → AreWritten N.each front.now N.key N.header N.told taken (W.taken writer.old) early.old.written
-        → OnErr result (HasBegun front.now N.key N.header N.told taken (W.taken writer.new)) }
+        → OnErr result (IsCutOff front.now N.key N.header N.told taken (W.taken writer.new)) }
     ensures same { W.bound writer.new ≡ W.bound writer.old }
     ensures count { W.failures writer.new ≡ counted (is_err result) (W.failures writer.old) }
 {

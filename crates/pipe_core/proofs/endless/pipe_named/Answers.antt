@@ -1,11 +1,11 @@
 use Rattle.std.proofs.Common.{arith, refl, ◌≡◌, ◌+◌, ◌-◌, ◌*◌, ◌<◌, ◌≤◌, ◌∙◌, ℕ, List, Option, ap, sym, subst, true}
 use Rattle.std.proofs.Math.Nat.{mul-le-mul_right}
 use Rattle.container_core.specs.Container.{size_in}
-use Rattle.io_core.specs.Streams.{Appends, AppendsFront}
+use Rattle.io_core.specs.Streams.{Appends, AppendsFront, LacksSome}
 use Rattle.pipe_core.specs.Round.{IsInHand, IsPlan}
 use Rattle.pipe_core.proofs.MayLemmas.{may_header, may_stream}
 use Rattle.pipe_core.proofs.RoundLemmas.{plan_as, read_none, rounds_counts}
-use Rattle.pipe_core.proofs.StreamLemmas.{piped_as, piped_header, piped_of}
+use Rattle.pipe_core.proofs.StreamLemmas.{piped_as, piped_header, piped_none, piped_of}
 use Rattle.pipe_core.proofs.endless.pipe_named.Goals as goal
 
 pub put_all-requires : goal.put_all-requires
@@ -17,10 +17,14 @@ through-requires-clause-may g c κs within =
     let put = c.in_default-put_all.ensures in
     may_stream _ _ _ _ _ _ _ _ _ c.bytes.ensures.bytes n.0 n.1 put.same put.ok c.requires.may
 
+pub returns-in_default : goal.returns-in_default
+returns-in_default g c = record { piped = piped_none _ _ _ _ _ _ _ }
+
 pub returns-in-Err : goal.returns-in-Err
 returns-in-Err g c = record {
   piped = piped_header _ _ _ _ _ _ _ _ _
       (subst (λ (l : List ℕ). AppendsFront (g.W.Output.taken c.args.writer.now) (g.W.Output.taken c.put_all.new.output) l) c.bytes.ensures.bytes c.in-Err.ensures.err)
+      (subst (λ (l : List ℕ). LacksSome (g.W.Output.taken c.args.writer.now) (g.W.Output.taken c.put_all.new.output) l) c.bytes.ensures.bytes c.in-Err.ensures.short)
       c.in-Err.ensures.count;
 }
 

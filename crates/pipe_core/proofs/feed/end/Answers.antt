@@ -1,11 +1,11 @@
 use Rattle.std.proofs.Common.{arith, refl, ◌≡◌, ◌-◌, ◌*◌, ◌++◌, ℕ, List, ap, ◌∙◌, sym, subst, take}
-use Rattle.io_core.specs.Streams.{Appends, AppendsFront}
+use Rattle.io_core.specs.Streams.{Appends, AppendsFront, LacksSome}
 use Rattle.container_core.proofs.OpeningLemmas.{some_size}
 use Rattle.pipe_core.specs.Intake.{HasRead}
 use Rattle.output_core.specs.Bounds.{Admits}
 use Rattle.pipe_core.specs.Order.{front_at, MayGoOn}
 use Rattle.pipe_core.specs.Pieces.{block}
-use Rattle.pipe_core.proofs.ChunkLemmas.{begun_last, written_last}
+use Rattle.pipe_core.proofs.ChunkLemmas.{cut_last, written_last}
 use Rattle.pipe_core.proofs.MayLemmas.{may_last}
 use Rattle.pipe_core.proofs.RoundLemmas.{last_at, last_part, not_ended, rounds_end, rounds_long, rounds_write}
 use Rattle.pipe_core.proofs.feed.end.Goals as goal
@@ -66,6 +66,9 @@ returns-in-Err g c = record {
       let grown = subst (λ (n : ℕ). AppendsFront (g.W.Output.taken c.args.writer.now) (g.W.Output.taken c.write_part.new.writer) (front_at front n ++ take round.filled round.last.items)) number
       (subst (λ (l : List ℕ). AppendsFront (g.W.Output.taken c.args.writer.now) (g.W.Output.taken c.write_part.new.writer) (front_at front (round.intake.blocks - 1) ++ take round.filled l))
       c.deref.ensures.value c.in-Err.ensures.err) in
+      let lacks = subst (λ (n : ℕ). LacksSome (g.W.Output.taken c.args.writer.now) (g.W.Output.taken c.write_part.new.writer) (front_at front n ++ take round.filled round.last.items)) number
+      (subst (λ (l : List ℕ). LacksSome (g.W.Output.taken c.args.writer.now) (g.W.Output.taken c.write_part.new.writer) (front_at front (round.intake.blocks - 1) ++ take round.filled l))
+      c.deref.ensures.value c.in-Err.ensures.short) in
       rounds_write front g.N.Naming.key header g.N.Naming.told left taken _ limit (group * g.N.Naming.each) _ _ _ _ some (held.read.bytes, held.read.consumed, held.read.bound)
-      (begun_last _ front g.N.Naming.key header g.N.Naming.told taken _ _ put _ (some_size header) c.requires.each.0 part.0 written grown) refl c.in-Err.ensures.count;
+      (cut_last _ front g.N.Naming.key header g.N.Naming.told taken _ _ put _ (some_size header) c.requires.each.0 part.0 written grown lacks) refl c.in-Err.ensures.count;
 }

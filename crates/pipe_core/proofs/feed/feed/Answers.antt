@@ -1,7 +1,7 @@
 use Rattle.std.proofs.Common.{arith, refl, ◌≡◌, ◌-◌, ◌*◌, ◌∙◌, ℕ, List, Bool, not, true, ap, sym, subst, length}
 use Rattle.container_core.proofs.OpeningLemmas.{some_size}
 use Rattle.io_core.specs.Streams.{counted}
-use Rattle.pipe_core.specs.Order.{HasBegun, MayGoOn}
+use Rattle.pipe_core.specs.Order.{HasBegun, IsCutOff, MayGoOn}
 use Rattle.pipe_core.specs.Round.{front_of}
 use Rattle.pipe_core.proofs.ChunkLemmas.{begun_now, written_at}
 use Rattle.pipe_core.proofs.MayLemmas.{may_as, may_behind, may_more}
@@ -58,7 +58,7 @@ returns-in-Err-clause-sealed g c =
     let t = c.in-Err.ensures in
     let front = c.front-front.ensures ∙ ap (λ (h : List ℕ). front_of h c.args.plan) c.requires.named.1 in
     rounds_write _ _ _ _ _ _ _ c.args.plan.limit (c.args.plan.group * g.N.Naming.each) _ _ _ _ c.requires.plan.limit.0 t.bound
-    (subst (λ (l : List ℕ). HasBegun l g.N.Naming.key g.N.Naming.header g.N.Naming.told (g.W.Output.taken c.args.writer.now) (g.W.Output.taken c.take_in.new.writer)) front t.begun)
+    (subst (λ (l : List ℕ). IsCutOff l g.N.Naming.key g.N.Naming.header g.N.Naming.told (g.W.Output.taken c.args.writer.now) (g.W.Output.taken c.take_in.new.writer)) front t.begun)
     t.unread t.writes
 
 pub returns-then-not-all-clause-sealed : goal.returns-then-not-all-clause-sealed
@@ -76,7 +76,7 @@ returns-in-Err-drain-clause-sealed g c =
     let d = c.in-Err-drain.ensures in
     let front = c.front-front.ensures ∙ ap (λ (h : List ℕ). front_of h c.args.plan) c.requires.named.1 in
     rounds_write _ _ _ _ _ _ _ c.args.plan.limit (c.args.plan.group * g.N.Naming.each) _ _ _ _ c.requires.plan.limit.0 t.bound
-    (subst (λ (l : List ℕ). HasBegun l g.N.Naming.key g.N.Naming.header g.N.Naming.told (g.W.Output.taken c.args.writer.now) (g.W.Output.taken c.drain.new.writer)) front
+    (subst (λ (l : List ℕ). IsCutOff l g.N.Naming.key g.N.Naming.header g.N.Naming.told (g.W.Output.taken c.args.writer.now) (g.W.Output.taken c.drain.new.writer)) front
     (d.begun _ t.written))
     (t.reads ∙ ap (λ (b : Bool). counted (not b) (g.R.Source.failures c.args.reader.now)) c.if-not-all.false)
     (d.count ∙ ap (counted true) t.writes)

@@ -1,5 +1,5 @@
 use Rattle.std.proofs.Common.{arith}
-use Rattle.pipe_core.proofs.ChunkLemmas.{written_next, begun_next}
+use Rattle.pipe_core.proofs.ChunkLemmas.{cut_next, written_next}
 use Rattle.pipe_core.proofs.MayLemmas.{may_turn}
 use Rattle.pipe_core.proofs.Orders.{first_is, order_next}
 use Rattle.pipe_core.proofs.writing.write_next.Goals as goal
@@ -31,4 +31,4 @@ pub returns-in-Err-clause-begun : goal.returns-in-Err-clause-begun
 returns-in-Err-clause-begun g c = λ taken was.
     let p = c.in-Some.piece in
     let first = first_is _ _ _ _ _ _ _ p c.in-Some.ensures.some.0 c.requires.kept in
-    begun_next _ _ _ _ _ taken _ _ p.number _ _ _ c.requires.each first.0 c.as_slice.ensures.value first.1.1 was c.in-Err.ensures.err
+    cut_next _ _ _ _ _ taken _ _ p.number _ _ _ c.requires.each first.0 c.as_slice.ensures.value first.1.1 was c.in-Err.ensures.err c.in-Err.ensures.short

@@ -1,6 +1,6 @@
 use Rattle.std.proofs.Common.{arith, ◌++◌, ℕ, List, sym, subst}
-use Rattle.io_core.specs.Streams.{AppendsFront}
-use Rattle.pipe_core.proofs.ChunkLemmas.{begun_before, begun_behind, front_first, on_err}
+use Rattle.io_core.specs.Streams.{AppendsFront, LacksSome}
+use Rattle.pipe_core.proofs.ChunkLemmas.{begun_before, begun_behind, both_err, front_first, lacks_before, lacks_behind, on_err}
 use Rattle.pipe_core.proofs.writing.write_part.Goals as goal
 
 pub returns-in-Err-clause-err : goal.returns-in-Err-clause-err
@@ -14,3 +14,15 @@ returns-in-Ok-clause-err g c =
     on_err c.put_all-in-Ok.result
     (λ begun. subst (λ (l : List ℕ). AppendsFront (g.W.Output.taken c.args.writer.now) (g.W.Output.taken c.put_all-in-Ok.new.output) (l ++ c.args.bytes.now)) (sym first) (begun_behind _ _ _ c.args.front.now c.args.bytes.now c.in-Ok.ensures.ok begun))
     c.put_all-in-Ok.ensures.err
+
+pub returns-in-Err-clause-short : goal.returns-in-Err-clause-short
+returns-in-Err-clause-short g c =
+    let first = front_first c.args.front.now c.args.number (omega arith) in
+    subst (λ (l : List ℕ). LacksSome (g.W.Output.taken c.args.writer.now) (g.W.Output.taken c.put_all-2.new.output) (l ++ c.args.bytes.now)) (sym first) (lacks_before _ _ c.args.front.now c.args.bytes.now c.in-Err.ensures.err c.in-Err.ensures.short)
+
+pub returns-in-Ok-clause-short : goal.returns-in-Ok-clause-short
+returns-in-Ok-clause-short g c =
+    let first = front_first c.args.front.now c.args.number (omega arith) in
+    both_err c.put_all-in-Ok.result
+    (λ begun lacks. subst (λ (l : List ℕ). LacksSome (g.W.Output.taken c.args.writer.now) (g.W.Output.taken c.put_all-in-Ok.new.output) (l ++ c.args.bytes.now)) (sym first) (lacks_behind _ _ _ c.args.front.now c.args.bytes.now c.in-Ok.ensures.ok begun lacks))
+    c.put_all-in-Ok.ensures.err c.put_all-in-Ok.ensures.short
