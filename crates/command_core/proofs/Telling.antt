@@ -1,13 +1,16 @@
 -- One line more: what was told of the files so far, and what is told with the next one.
 use Rattle.std.proofs.Common.{◌≡◌, ◌≢◌, ℕ, ◌≤◌, Bool, true, false, ◌||◌, if◌then◌else◌, inl, inr, ⊎_elim, refl, sym, ap}
-use Rattle.std.proofs.Common.{subst, ◌∙◌, List, [], ◌∷◌, ◌++◌, map, append-nil, append_assoc, Option, flat_map, Bor}
+use Rattle.std.proofs.Common.{subst, ◌∙◌, List, [], ◌∷◌, ◌++◌, map, append-nil, append_assoc, Option, Some, None, flat_map, Bor}
 use Rattle.std.proofs.Common.{take, length, get_or, ◌+◌, ◌<◌, add-one, arith, lit≤}
 use Rattle.std.proofs.Math.Seq.{take-suc}
 use Rattle.std.proofs.KnownBytes.{Appends-nil, Appends-trans}
+use Rattle.std.proofs.Common.{length-append}
+use Rattle.std.proofs.lemmas.Bool.{cases_eq}
 use Rattle.std.proofs.lemmas.List.{map-append}
 use Rattle.std.proofs.lemmas.List.Folds.{list_any-append}
 use Rattle.std.specs.List.{list_any}
-use Rattle.io_core.specs.Streams.{Appends, AppendsFront, counted}
+use Rattle.io_core.specs.Streams.{Appends, AppendsFront, LacksSome, counted}
+use Rattle.output_core.proofs.PartLemmas.{lacks_within}
 use Rattle.journal_core.specs.Text.{ended_lines}
 use Rattle.journal_core.proofs.Texts.{ended_lines-append}
 use Rattle.command_core.specs.Lines.{FileLine, line_text, lines_text, is_failed, status_of_lines}
@@ -35,6 +38,32 @@ begun_more : (old new : Option (List ℕ)) (text more : List ℕ) → AppendsFro
 begun_more old new text more (front, (rest, split), appended) =
     (front, (rest ++ more, ap (λ l. l ++ more) split ∙ append_assoc front rest more), appended)
 
+-- where not all was written, not all of more was
+lacks_before : (old new : Option (List ℕ)) (text more : List ℕ) → AppendsFront old new text → LacksSome old new text
+    → LacksSome old new (text ++ more)
+lacks_before old new text more begun lacks = lacks_within old old new [] text more (Appends-nil old) begun lacks
+
+-- nor where all was written before the last part
+lacks_behind : (old mid new : Option (List ℕ)) (text more : List ℕ) → Appends old mid text → AppendsFront mid new more
+    → LacksSome mid new more → LacksSome old new (text ++ more)
+lacks_behind old mid new text more grown begun lacks =
+    subst (λ l. LacksSome old new (text ++ l)) (append-nil more) (lacks_within old mid new text more [] grown begun lacks)
+
+-- nor where no more was written
+pub lacks_more : (old new : Option (List ℕ)) (text more : List ℕ) → 0 < length more → Appends old new text
+    → LacksSome old new (text ++ more)
+lacks_more None new text more some grown = tt
+lacks_more (Some xs) None text more some grown = absurd grown
+lacks_more (Some xs) (Some ys) text more some grown = λ whole.
+    let long : length ys ≡ length xs + length text = ap (length {A = ℕ}) grown ∙ length-append xs text in
+    let longer : length ys ≡ length xs + (length text + length more) =
+    ap (length {A = ℕ}) whole ∙ length-append xs (text ++ more) ∙ ap (λ n. length xs + n) (length-append text more) in
+    omega arith
+
+-- a text that ends with a line feed, and more
+pub some_text : (text more : List ℕ) → 0 < length (text ++ 10 ∷ more)
+some_text text more = let long = length-append text (10 ∷ more) in omega arith
+
 -- no further line is tried
 pub untold : (status : ℕ) (told : List FileLine) (line : FileLine) (old new : Option (List ℕ))
     (failures failures' : Option ℕ)
@@ -44,15 +73,20 @@ untold status told line old new failures failures' t = record {
   begun = subst (AppendsFront old new) (sym (lines_text-push told line))
       (begun_more old new (lines_text told) (line_bytes line) t.begun);
   whole = λ other. absurd (other refl);
+  short = λ _. subst (LacksSome old new) (sym (lines_text-push told line)) (⊎_elim
+      (λ two. lacks_before old new (lines_text told) (line_bytes line) t.begun (t.short two))
+      (λ other. lacks_more old new (lines_text told) (line_bytes line) (some_text (line_text line.name line.outcome) [])
+      (t.whole other).1)
+      (cases_eq status 2));
   stopped = ⊎_elim (λ same. inl same) (λ rose. inr (refl, rose.1)) t.stopped;
 }
 
 -- the line's write failed
 pub broken : (status : ℕ) (told : List FileLine) (line : FileLine) (old mid new : Option (List ℕ))
     (failures failures' failures'' : Option ℕ)
-    → status ≢ 2 → AppendsFront mid new (line_bytes line) → failures'' ≡ counted true failures'
-    → AreTold status told old mid failures failures' → AreTold 2 (told ++ line ∷ []) old new failures failures''
-broken status told line old mid new _ _ _ other (front, (rest, split), appended) rose t = record {
+    → status ≢ 2 → AppendsFront mid new (line_bytes line) → LacksSome mid new (line_bytes line)
+    → failures'' ≡ counted true failures' → AreTold status told old mid failures failures' → AreTold 2 (told ++ line ∷ []) old new failures failures''
+broken status told line old mid new _ _ _ other (front, (rest, split), appended) lacks rose t = record {
   range = lit≤ tt;
   begun = subst (AppendsFront old new) (sym (lines_text-push told line)) (
     lines_text told ++ front,
@@ -60,6 +94,9 @@ broken status told line old mid new _ _ _ other (front, (rest, split), appended)
     Appends-trans old mid new (lines_text told) front (t.whole other).1 appended,
   );
   whole = λ two. absurd (two refl);
+  short = λ _. subst (LacksSome old new) (sym (lines_text-push told line))
+      (lacks_behind old mid new (lines_text told) (line_bytes line) (t.whole other).1
+      (front, (rest, split), appended) lacks);
   stopped = ⊎_elim (λ same. inr (refl, rose ∙ ap (counted true) same)) (λ two. absurd (other two.0)) t.stopped;
 }
 
@@ -96,6 +133,7 @@ told_more status status' told line old mid new failures failures' failures'' oth
       range = within (is_failed line.outcome) is t.range;
       begun = (lines_text (told ++ line ∷ []), ([], sym (append-nil (lines_text (told ++ line ∷ [])))), all);
       whole = λ two. (is ∙ status-push told line status (t.whole other).0, all);
+      short = λ two. absurd (not_two (is_failed line.outcome) is two);
       stopped = ⊎_elim (λ kept. inl (same ∙ kept)) (λ two. absurd (other two.0)) t.stopped;
     }
   where
@@ -103,12 +141,17 @@ told_more status status' told line old mid new failures failures' failures'' oth
     within true e h = omega arith
     within false e h = omega arith
 
+    not_two : (b : Bool) → status' ≡ (if b then 1 else status) → status' ≡ 2 → ⊥
+    not_two true e two = omega arith
+    not_two false e two = other (sym e ∙ two)
+
 -- of no file nothing is told
 pub nothing_told : (taken : Option (List ℕ)) (failures : Option ℕ) → AreTold 0 [] taken taken failures failures
 nothing_told taken failures = record {
   range = lit≤ tt;
   begun = ([], ([], refl), Appends-nil taken);
   whole = λ other. (refl, Appends-nil taken);
+  short = λ two. cc;
   stopped = inl refl;
 }
 

@@ -6,7 +6,7 @@ use Rattle.container_core.specs.Container.{header_length}
 use Rattle.container_core.specs.Faults.{IsOfBytes}
 use Rattle.container_core.specs.Opening.{opening}
 use Rattle.opening_core.specs.Engine.{OpensTo, open_read_failed}
-use Rattle.io_core.specs.Streams.{Appends, AppendsFront, IsFront, counted}
+use Rattle.io_core.specs.Streams.{Appends, AppendsFront, IsFront, counted, LacksSome}
 use Rattle.command_core.specs.declared.commands.OpenOptions.{OpenOptions}
 use Rattle.command_core.specs.declared.commands.TheConstants.{MAX_OPENED_BYTES}
 use Rattle.command_core.specs.declared.folder.FolderFault.TheVariants as refusal
@@ -127,13 +127,14 @@ pub record AreDone (does : List ℕ → FileOutcome → List Event → Type 0) (
   pub each : All (λ w. does w.line.name w.line.outcome w.events) works
   pub joined : events ≡ flat_map (λ w. w.events) works
 
--- What a writer of lines got: a beginning of them; with a status other than 2 all of them, and the status is theirs. At
--- most one write failed, and then the status is 2: behind a failed write no other is tried.
+-- What a writer of lines got: a beginning of them; with a status other than 2 all of them, and the status is theirs,
+-- and with 2 not all. At most one write failed, and then the status is 2: behind a failed write no other is tried.
 pub record AreTold (status : ℕ) (lines : List FileLine) (old new : Option (List ℕ))
     (failures failures' : Option ℕ) : Type 0 where
   pub range : status ≤ 2
   pub begun : AppendsFront old new (lines_text lines)
   pub whole : status ≢ 2 → (status ≡ status_of_lines lines) × Appends old new (lines_text lines)
+  pub short : status ≡ 2 → LacksSome old new (lines_text lines)
   pub stopped : (failures' ≡ failures) ⊎ ((status ≡ 2) × (failures' ≡ counted true failures))
 
 -- Every file was worked, in order, each with an outcome that fits its name; their lines were told; and what happened,

@@ -4,6 +4,7 @@ pub mod Chunks
 pub mod Finished
 pub mod Groups
 pub mod Happened
+pub mod Journals
 pub mod Life
 pub mod Matches
 pub mod Numbering

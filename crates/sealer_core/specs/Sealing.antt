@@ -10,7 +10,7 @@ use Rattle.journal_core.specs.History.{Legal, tally_of, times_granted}
 use Rattle.journal_core.specs.Range.{Numbers, prefix_of}
 use Rattle.container_core.specs.Container.{container}
 use Rattle.container_core.specs.Shape.{ShapeView}
-use Rattle.io_core.specs.Streams.{Appends, AppendsFront, IsFront}
+use Rattle.io_core.specs.Streams.{Appends, AppendsFront, IsFront, LacksSome}
 use Rattle.container_core.specs.declared.fault.SealFault.TheVariants as sealing_fault
 use Rattle.ledger_core.specs.declared.fault.IssueFault.{IssueFault}
 use Rattle.ledger_core.specs.declared.fault.IssueFault.TheVariants as issue_fault
@@ -322,10 +322,11 @@ pub record HasSealed (happened : List (List FileLine) → List ℕ → Type 0) (
   pub accounts : Accounts worked.lines worked.voids history
   pub settled : IsSettled history
 
--- what a journal got, where one was asked for: this text, or a beginning of it
+-- what a journal got, where one was asked for: this text, or a beginning of it and not all
 abbrev pub IsWritten : {J : Type 0} → (J → Option (List ℕ)) → List ℕ → Bool → Option J → Option J → Type 0
 IsWritten taken text whole None None = whole ≡ true
 IsWritten taken text true (Some old) (Some new) = Appends (taken old) (taken new) text
-IsWritten taken text false (Some old) (Some new) = AppendsFront (taken old) (taken new) text
+IsWritten taken text false (Some old) (Some new) =
+    AppendsFront (taken old) (taken new) text × LacksSome (taken old) (taken new) text
 IsWritten taken text whole None (Some new) = ⊥
 IsWritten taken text whole (Some old) None = ⊥

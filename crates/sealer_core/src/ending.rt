@@ -1,7 +1,7 @@
 //! The end of a run that seals: its seats meet, and its journal is written where one was asked for.
 ghost use Rattle.std.specs.Prelude.{List, is_ok, MatchResult, OnOk, OnErr};
 ghost use Rattle.journal_core.specs.declared.entry.Entry.{Entry};
-ghost use Rattle.io_core.specs.Streams.{Appends, AppendsFront};
+ghost use Rattle.io_core.specs.Streams.{Appends, AppendsFront, LacksSome};
 ghost use Rattle.journal_core.specs.Text.{journal_text};
 ghost use Rattle.ledger_core.specs.Closing.{AreAllSeats, IsWhole};
 ghost use Rattle.sealer_core.specs.Sealing.{IsWritten};
@@ -22,6 +22,8 @@ fn write_text<J: Sink>(alloc: Global, journal: &Journal, writer: &mut J) -> Resu
     ensures ok { OnOk result (Appends (J.taken writer.old) (J.taken writer.new)
         (journal_text journal.now.terms journal.now.history)) }
     ensures err { OnErr result (AppendsFront (J.taken writer.old) (J.taken writer.new)
+        (journal_text journal.now.terms journal.now.history)) }
+    ensures short { OnErr result (LacksSome (J.taken writer.old) (J.taken writer.new)
         (journal_text journal.now.terms journal.now.history)) }
 {
     let Ok(text) = journal.text(alloc) else {
@@ -44,7 +46,8 @@ fn write_journal<J: Sink>(
     ensures { (history : List Entry) × IsWhole ledger.terms seats.items history
         × MatchResult result (λ _. Appends (J.taken writer.old) (J.taken writer.new)
         (journal_text ledger.terms history))
-        (λ _. AppendsFront (J.taken writer.old) (J.taken writer.new) (journal_text ledger.terms history)) }
+        (λ _. AppendsFront (J.taken writer.old) (J.taken writer.new) (journal_text ledger.terms history)
+        × LacksSome (J.taken writer.old) (J.taken writer.new) (journal_text ledger.terms history)) }
 {
     match ledger.close(seats) {
         Ok(journal) => write_text(alloc, &journal, writer),

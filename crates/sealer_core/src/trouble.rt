@@ -7,7 +7,7 @@ use thiserror::Error;
 /// Why a run that seals ended with status 2. The texts are those that the program prints.
 #[derive(Clone, Copy, PartialEq, Eq, Debug, Error)]
 pub(crate) enum RunFault {
-    /// No range was reserved. No file was touched.
+    /// No range was reserved, or one was and the log could not be copied into the ledger file. No file was touched.
     #[error("ledger: {0}")]
     Unreserved(ReserveFault),
     /// Memory for the shared ledger was refused. A range was reserved and is given up; no file was touched.

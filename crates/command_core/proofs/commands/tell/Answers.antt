@@ -14,4 +14,4 @@ returns-in-Ok-write_all g c = λ told first count t. told_more _ _ told _ _ _ _ 
 
 pub returns : goal.returns
 returns g c = λ told first count t. broken _ told _ _ _ _ _ _ _ c.if-status-eq-UNTOLD.false (search rules)
-    (search rules) t
+    (search rules) (search rules) t
