@@ -338,6 +338,7 @@ def kinds(made):
     by = ("REFUSE_THREADS",)
     yield Kind("seal, threads refused", sealing("--workers", "4", "long"), ["long"], some("long"), 3, by)
     yield Kind("open, threads refused", ["open", "--key", key, "--workers", "4", "long.stm"], ["long.stm"], {"long.stm": long_stm}, 3, by, line=opened)
+    yield Kind("verify, threads refused", ["verify", "--key", key, "--workers", "4", "long.stm"], ["long.stm"], {"long.stm": long_stm}, 3, by, line=good)
     yield Kind("lanes, threads refused", sealing("--lanes", "4", *LANES), LANES, some(*LANES), 2, by)
     yield Kind("pipe, threads refused", piping("--workers", "4"), ["-"], some(), 3, by, stream)
 

@@ -151,7 +151,7 @@ fn is_met<R: Threads + Sync>(
     let gate = Meeting::new(wanted, if gives_up { FEW_TURNS } else { TURNS });
     let outcomes = sealed(rt, alloc, count, seats, lanes, &gate)?;
     let right = are_met(outcomes.as_slice(), u32::from(count), gives_up);
-    Some(right && gate.passes() == wanted && gate.gave_up() == gives_up)
+    Some(right && gate.is_met(wanted, gives_up))
 }
 
 #[test]

@@ -33,9 +33,7 @@ fn opens_held<R: Threads + Sync>(
     requires workers { (0 < workers) × (workers ≤ MAX_WORKERS) }
 {
     let gate = meeting(wanted, gives_up);
-    opens_to(rt, alloc, bytes, plain, workers, &gate)
-        && gate.passes() == wanted
-        && gate.gave_up() == gives_up
+    opens_to(rt, alloc, bytes, plain, workers, &gate) && gate.is_met(wanted, gives_up)
 }
 
 // The container that so many workers seal at such a gate, where it and the gate at which as many open the container
@@ -53,8 +51,7 @@ fn held<R: Threads + Sync>(
 {
     let gate = meeting(wanted, gives_up);
     let bytes = sealed(rt, alloc, 0, plain, workers, &gate)?;
-    if gate.passes() == wanted
-        && gate.gave_up() == gives_up
+    if gate.is_met(wanted, gives_up)
         && opens_held(
             rt,
             alloc,

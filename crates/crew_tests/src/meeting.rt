@@ -9,6 +9,8 @@ pub struct Meeting {
     wanted: u64,
     turns: u64,
     passes: AtomicU64,
+    // Four bits for each worker, the least for worker 0: how often it passed.
+    workers: AtomicU64,
     gave_up: AtomicU64,
 }
 
@@ -19,6 +21,7 @@ impl Meeting {
             wanted,
             turns,
             passes: AtomicU64::new(0),
+            workers: AtomicU64::new(0),
             gave_up: AtomicU64::new(0),
         }
     }
@@ -32,10 +35,18 @@ impl Meeting {
     pub fn gave_up(&self) -> bool {
         self.gave_up.load(Ordering::SeqCst) > 0
     }
+
+    /// Whether so many passed, and the gate gave up where it is to; where not, each was another worker, of 16.
+    pub fn is_met(&self, passes: u64, gives_up: bool) -> bool {
+        let twice = self.workers.load(Ordering::SeqCst) & 0xeeee_eeee_eeee_eeee;
+        self.passes() == passes && self.gave_up() == gives_up && (gives_up || twice == 0)
+    }
 }
 
 impl Gate for Meeting {
-    fn pass(&self, _worker: u32, _piece: u32) {
+    fn pass(&self, worker: u32, _piece: u32) {
+        self.workers
+            .fetch_add(1 << (4 * (worker % 16)), Ordering::SeqCst);
         self.passes.fetch_add(1, Ordering::SeqCst);
         for _turn in 0..self.turns {
             if self.passes.load(Ordering::SeqCst) >= self.wanted {

@@ -161,34 +161,46 @@ fn opens<R: Threads + Sync, G: Gate + Sync>(
     Some(opened == Ok(plain.len() as u64) && writer.bytes() == plain)
 }
 
-// Whether two passes are made by so many workers in each engine, and the gate gives up as told.
-fn pass_twice<R: Threads + Wait + Sync>(
+// How many chunks there are, which is how many passes have to meet, by how many workers; how often a pass looks for the
+// others, and whether the gate gives up.
+static MEETINGS: [(u32, u32, u64, bool); 3] = [
+    (2, 2, TURNS, false),
+    (4, 4, TURNS, false),
+    // That these can fail: one worker passes twice, and the gate gives up.
+    (2, 1, FEW_TURNS, true),
+];
+
+// Whether so many workers of each engine meet so, or don't.
+fn are_met<R: Threads + Wait + Sync>(
     rt: &R,
     alloc: Global,
-    plain: &[u8],
-    turns: u64,
+    chunks: u32,
     workers: u32,
+    turns: u64,
     gives_up: bool,
-) -> bool
-    requires workers { (0 < workers) × (workers ≤ MAX_WORKERS) }
-{
+) -> Option<bool> {
+    if chunks == 0 || chunks > 16 || workers == 0 || workers > MAX_WORKERS {
+        return None;
+    }
+    let plain = zeros(alloc, (chunks as usize - 1) * 65_536 + 1).ok()?;
     for engine in &ENGINES {
-        let gate = Meeting::new(2, turns);
-        let is_done = runs(rt, alloc, *engine, plain, workers, &gate);
-        if !is_done || gate.gave_up() != gives_up || gate.passes() != 2 {
-            return false;
+        let gate = Meeting::new(u64::from(chunks), turns);
+        let is_done = runs(rt, alloc, *engine, plain.as_slice(), workers, &gate);
+        if !is_done || !gate.is_met(u64::from(chunks), gives_up) {
+            return Some(false);
         }
     }
-    true
+    Some(true)
 }
 
 #[test]
-fn two_workers_meet_in_each_engine(rt: HostRuntime) -> Result<(), Fail> {
-    let plain = zeros(rt.alloc(), 65_537)?;
-    assert!(rt; pass_twice(&rt, rt.alloc(), plain.as_slice(), TURNS, 2, false));
-    // That this can fail: one worker passes twice, and the gate gives up.
-    assert!(rt; pass_twice(&rt, rt.alloc(), plain.as_slice(), FEW_TURNS, 1, true));
-    Ok(())
+fn as_many_workers_meet_in_each_engine_as_are_asked_for(rt: HostRuntime) {
+    for (chunks, workers, turns, gives_up) in &MEETINGS {
+        assert!(rt;
+            are_met(&rt, rt.alloc(), *chunks, *workers, *turns, *gives_up) == Some(true),
+            "{chunks} chunks by {workers}"
+        );
+    }
 }
 
 // Whether two workers meet over a container of two chunks of 1 MiB, whose windows have a chunk for each worker.
@@ -198,7 +210,7 @@ fn meet_over_great_chunks<R: Threads + Sync>(rt: &R, alloc: Global, plain: &[u8]
     for engine in [Engine::Read, Engine::Check] {
         let gate = Meeting::new(2, TURNS);
         let is_done = reads(rt, alloc, engine, plain, container.as_slice(), 2, &gate);
-        if !is_done || gate.gave_up() {
+        if !is_done || !gate.is_met(2, false) {
             return Some(false);
         }
     }

@@ -1,9 +1,9 @@
 //! A container of several windows, which are read one at a time: damaged, cut, and longer than allowed. Nothing of it
 //! is written.
-use container_core::{CHUNK, HEADER, OpenFault, SEALED, Shape, seal};
+use container_core::{CHUNK, HEADER, OpenFault, SEALED, Shape, open, seal};
 use crew_core::{Free, MAX_WINDOW, MAX_WORKERS};
 use crew_tests::{PREFIX, counting_key, flip, pattern};
-use engine_core::{run_open_by, run_plain_by, run_verify_by};
+use engine_core::{run_open_by, run_plain_by, run_verify_by, verify_one};
 use io_memory::{FromMemory, Schedule, ToMemory};
 use std::alloc::Global;
 use std::test::Fail;
@@ -155,7 +155,16 @@ static BAD_CHUNKS: [(&[u8], u32, u32); 11] = [
     (&[5, 2], 16, 2),
 ];
 
-// Whether so many workers name this chunk of the container where these are changed. It is whole again then.
+// Whether one thread names this fault, over a reader and in memory.
+fn is_named_alone(alloc: Global, bytes: &[u8], fault: OpenFault) -> bool {
+    let key = counting_key();
+    let mut reader = FromMemory::new(bytes, MOST, Schedule::Never);
+    let verified = verify_one(alloc, &key, &mut reader, LIMIT).err();
+    verified == Some(fault) && open(alloc, &key, bytes).err() == Some(fault)
+}
+
+// Whether so many workers, and one thread, name this chunk of the container where these are changed. It is whole again
+// then.
 fn is_least_named<R: Threads + Sync>(
     rt: &R,
     alloc: Global,
@@ -164,10 +173,12 @@ fn is_least_named<R: Threads + Sync>(
     workers: u32,
     least: u32,
 ) -> bool {
+    let fault = OpenFault::Forged { chunk: least };
     flip_chunks(bytes, chunks);
     let named = fault_of(rt, alloc, bytes, LIMIT, workers);
+    let is_named = is_named_alone(alloc, bytes, fault);
     flip_chunks(bytes, chunks);
-    named == Some(OpenFault::Forged { chunk: least })
+    named == Some(fault) && is_named
 }
 
 #[test]
