@@ -7,6 +7,7 @@ use container_core::Shape;
 use folder_memory::{MemoryFolder, Pace};
 use io_memory::Schedule;
 use reserve_core::{Fold, LedgerFile};
+use sealer_core::OpenOptions;
 use std::alloc::Global;
 use std::sync::Wait;
 use std::thread::Threads;
@@ -124,18 +125,15 @@ fn are_left(alloc: Global, folder: &MemoryFolder, case: &Case) -> bool {
     true
 }
 
-// The status of `open_all`, or of `verify_all`, by one worker; `None` where it can't be asked for.
-fn open_in<R: AllocGlobal + Threads + Sync>(
-    rt: &R,
-    folder: &mut MemoryFolder,
-    case: &Case,
-    out: &mut MemoryOuts,
-    verifies: bool,
-    label: Option<&[u8]>,
-    show: bool,
-) -> Option<u8> {
-    let (files, max_bytes) = (case.files, case.max_bytes);
-    open_over(rt, folder, files, out, max_bytes, 1, verifies, label, show)
+// What `open_all` or `verify_all` is asked for, by one worker.
+fn options_of<'a>(case: &Case<'a>) -> OpenOptions<'a> {
+    OpenOptions {
+        files: case.files,
+        workers: 1,
+        max_bytes: case.max_bytes,
+        label: None,
+        show: false,
+    }
 }
 
 // The status of the case's run; `None` where it can't be asked for.
@@ -172,11 +170,31 @@ fn status_over<R: AllocGlobal + Threads + Wait + Sync, S: Fold>(
                 &shape,
             )
         }
-        Work::Open => open_in(rt, folder, case, out, false, None, false),
-        Work::Verify => open_in(rt, folder, case, out, true, None, false),
-        Work::OpenLabelled(label) => open_in(rt, folder, case, out, false, Some(label), false),
-        Work::VerifyLabelled(label) => open_in(rt, folder, case, out, true, Some(label), false),
-        Work::Show => open_in(rt, folder, case, out, true, None, true),
+        Work::Open => open_over(rt, folder, &options_of(case), false, out),
+        Work::Verify => open_over(rt, folder, &options_of(case), true, out),
+        Work::OpenLabelled(label) => {
+            let label = Some(label);
+            let options = OpenOptions {
+                label,
+                ..options_of(case)
+            };
+            open_over(rt, folder, &options, false, out)
+        }
+        Work::VerifyLabelled(label) => {
+            let label = Some(label);
+            let options = OpenOptions {
+                label,
+                ..options_of(case)
+            };
+            open_over(rt, folder, &options, true, out)
+        }
+        Work::Show => {
+            let options = OpenOptions {
+                show: true,
+                ..options_of(case)
+            };
+            open_over(rt, folder, &options, true, out)
+        }
     }
 }
 

@@ -9,6 +9,7 @@ use crate::runs::{
 };
 use folder_memory::{MemoryFolder, Pace};
 use io_memory::Schedule;
+use sealer_core::OpenOptions;
 use std::alloc::{AllocError, Global};
 use std::sync::Wait;
 use std::thread::Threads;
@@ -55,8 +56,14 @@ fn status_of_opening<R: AllocGlobal + Threads + Sync>(
     workers: u32,
     verifies: bool,
 ) -> Option<u8> {
-    let (files, most) = (run.files, run.max_bytes);
-    open_over(rt, folder, files, out, most, workers, verifies, None, false)
+    let options = OpenOptions {
+        files: run.files,
+        workers,
+        max_bytes: run.max_bytes,
+        label: None,
+        show: false,
+    };
+    open_over(rt, folder, &options, verifies, out)
 }
 
 fn status_of<R: AllocGlobal + Threads + Wait + Sync>(

@@ -18,12 +18,32 @@ enum Act {
     Remove,
 }
 
+// Which acts give a file's line a fault, and which.
+static FAULTS: [(Act, &str); 4] = [
+    (Act::Open, "cannot open"),
+    (Act::Create, "cannot create"),
+    (Act::Read, "read failed"),
+    (Act::Write, "write failed"),
+];
+
+impl Act {
+    fn number(self) -> u64 {
+        match self {
+            Act::Open => 1,
+            Act::Create => 2,
+            Act::Read => 3,
+            Act::Write => 4,
+            Act::Remove => 5,
+        }
+    }
+}
+
 /// How many calls were made, and which one fails.
 #[derive(Drop)]
 pub(crate) struct Calls {
     failing: u64,
     made: AtomicU64,
-    // 0 before a call has failed, then which act it was.
+    // 0 before a call has failed, then the number of its act.
     act: AtomicU64,
 }
 
@@ -44,18 +64,18 @@ impl Calls {
 
     /// The fault that a file's line has for the call that failed; empty where none did, or to remove a file.
     pub(crate) fn fault(&self) -> &'static str {
-        match self.act.load(Ordering::SeqCst) {
-            1 => "cannot open",
-            2 => "cannot create",
-            3 => "read failed",
-            4 => "write failed",
-            _ => "",
+        let failed = self.act.load(Ordering::SeqCst);
+        for (act, fault) in &FAULTS {
+            if act.number() == failed {
+                return fault;
+            }
         }
+        ""
     }
 
     /// Whether the call that failed was to remove a file.
     pub(crate) fn has_failed_to_remove(&self) -> bool {
-        self.act.load(Ordering::SeqCst) == 5
+        self.act.load(Ordering::SeqCst) == Act::Remove.number()
     }
 
     // Whether this call fails, which is to do that.
@@ -63,14 +83,7 @@ impl Calls {
         if self.made.fetch_add(1, Ordering::SeqCst) != self.failing {
             return false;
         }
-        let number = match act {
-            Act::Open => 1,
-            Act::Create => 2,
-            Act::Read => 3,
-            Act::Write => 4,
-            Act::Remove => 5,
-        };
-        self.act.store(number, Ordering::SeqCst);
+        self.act.store(act.number(), Ordering::SeqCst);
         true
     }
 }

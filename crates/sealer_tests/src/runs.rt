@@ -262,28 +262,20 @@ pub(crate) fn seal_shaped<R: AllocGlobal + Threads + Wait + Sync, S: Fold, F: Se
 pub(crate) fn open_over<R: AllocGlobal + Threads + Sync, F: OpeningFolder>(
     rt: &R,
     folder: &mut F,
-    files: &[&str],
-    out: &mut MemoryOuts,
-    max_bytes: u64,
-    workers: u32,
+    options: &OpenOptions,
     verifies: bool,
-    label: Option<&[u8]>,
-    show: bool,
+    out: &mut MemoryOuts,
 ) -> Option<u8> {
-    if files.is_empty() || max_bytes > 1 << 40 || workers == 0 || workers > 16 {
+    if options.files.is_empty() || options.max_bytes > 1 << 40 {
         return None;
     }
-    let options = OpenOptions {
-        files,
-        workers,
-        max_bytes,
-        label,
-        show,
-    };
+    if options.workers == 0 || options.workers > 16 {
+        return None;
+    }
     let key = counting_key();
     if verifies {
-        Some(verify_all(rt, rt.alloc(), &key, folder, &options, out))
+        Some(verify_all(rt, rt.alloc(), &key, folder, options, out))
     } else {
-        Some(open_all(rt, rt.alloc(), &key, folder, &options, out))
+        Some(open_all(rt, rt.alloc(), &key, folder, options, out))
     }
 }
