@@ -3,7 +3,7 @@
 ghost use Rattle.std.specs.Prelude.{◌<◌, ◌≤◌};
 
 use crate::windows::LIMIT;
-use container_core::{Shape, seal};
+use container_core::{CHUNK, Shape, seal};
 use crew_core::{Gate, MAX_WORKERS};
 use crew_tests::{Late, Meeting, PREFIX, Recorder, counting_key, grant_of, pattern, zeros};
 use engine_core::{run_check, run_open, run_plain, run_read, run_seal, run_verify};
@@ -163,11 +163,12 @@ fn opens<R: Threads + Sync, G: Gate + Sync>(
 
 // How many chunks there are, which is how many passes have to meet, by how many workers; how often a pass looks for the
 // others, and whether the gate gives up.
-static MEETINGS: [(u32, u32, u64, bool); 3] = [
+static MEETINGS: [(u32, u32, u64, bool); 4] = [
     (2, 2, TURNS, false),
     (4, 4, TURNS, false),
-    // That these can fail: one worker passes twice, and the gate gives up.
+    // That these can fail: with a worker less one passes twice, and the gate gives up.
     (2, 1, FEW_TURNS, true),
+    (4, 3, FEW_TURNS, true),
 ];
 
 // Whether so many workers of each engine meet so, or don't.
@@ -182,7 +183,7 @@ fn are_met<R: Threads + Wait + Sync>(
     if chunks == 0 || chunks > 16 || workers == 0 || workers > MAX_WORKERS {
         return None;
     }
-    let plain = zeros(alloc, (chunks as usize - 1) * 65_536 + 1).ok()?;
+    let plain = zeros(alloc, (chunks as usize - 1) * CHUNK + 1).ok()?;
     for engine in &ENGINES {
         let gate = Meeting::new(u64::from(chunks), turns);
         let is_done = runs(rt, alloc, *engine, plain.as_slice(), workers, &gate);
@@ -201,6 +202,19 @@ fn as_many_workers_meet_in_each_engine_as_are_asked_for(rt: HostRuntime) {
             "{chunks} chunks by {workers}"
         );
     }
+}
+
+// That a meeting can fail where the gate doesn't give up: a worker that passes twice has met nobody.
+#[test]
+fn a_worker_does_not_meet_itself(rt: HostRuntime) {
+    let alone = Meeting::new(1, TURNS);
+    alone.pass(0, 0);
+    alone.pass(0, 1);
+    assert!(rt; !alone.is_met(2, false));
+    let both = Meeting::new(1, TURNS);
+    both.pass(0, 0);
+    both.pass(1, 1);
+    assert!(rt; both.is_met(2, false));
 }
 
 // Whether two workers meet over a container of two chunks of 1 MiB, whose windows have a chunk for each worker.
@@ -257,7 +271,7 @@ fn pass_each_once<R: Threads + Wait + Sync>(
 
 #[test]
 fn all_workers_pass_with_each_piece_once(rt: HostRuntime) -> Result<(), Fail> {
-    let plain = pattern(rt.alloc(), 17 * 65_536 + 1)?;
+    let plain = pattern(rt.alloc(), 17 * CHUNK + 1)?;
     assert!(rt; pass_each_once(&rt, rt.alloc(), plain.as_slice(), 1));
     assert!(rt; pass_each_once(&rt, rt.alloc(), plain.as_slice(), 4));
     assert!(rt; pass_each_once(&rt, rt.alloc(), plain.as_slice(), 16));
@@ -279,7 +293,7 @@ fn are_held_with_one<R: Threads + Wait + Sync>(rt: &R, alloc: Global, plain: &[u
 // A worker that is slow with one piece keeps no other waiting: the second worker makes the seven others meanwhile.
 #[test]
 fn a_held_worker_holds_one_piece(rt: HostRuntime) -> Result<(), Fail> {
-    let plain = pattern(rt.alloc(), 8 * 65_536)?;
+    let plain = pattern(rt.alloc(), 8 * CHUNK)?;
     assert!(rt; are_held_with_one(&rt, rt.alloc(), plain.as_slice()));
     Ok(())
 }

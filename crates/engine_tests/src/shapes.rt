@@ -1,6 +1,7 @@
 //! Version 2: chunks of 2^12, 2^16 and 2^20 bytes under labels of 0, 1 and 255 bytes, made and opened by all engines.
 //! The digests are those of Python's `cryptography` and `hashlib`.
 ghost use Rattle.std.specs.Prelude.{◌<◌, ◌≤◌};
+ghost use Rattle.container_core.specs.Chunks.{most_chunk};
 
 use crate::containers::SHAPED;
 use crate::openings::opens_in;
@@ -29,7 +30,7 @@ fn shape_of(exponent: u32, label: usize) -> Option<Shape> {
 
 // Plaintext bytes of a full chunk.
 pub(crate) fn size_of(exponent: u32) -> usize
-    ensures { result ≤ 1048576 }
+    ensures { result ≤ most_chunk }
 {
     match exponent {
         12 => 4096,
