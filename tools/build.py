@@ -2,9 +2,10 @@
 """build.py [-j N] [CPU]: proves and builds the program, which is then crates/sealer/out/sealer.
 
 Each crate that it stands on is proved once those below it are, several side by side, those with the longest chain of
-crates above them first. N is how many processes prove at a time, in place of one for each processor; where memory is
-short there are fewer. With x86-64-v3 as CPU the program is built for processors with AVX2, and is
-crates/sealer/out/sealer-x86-64-v3 too; on any other processor it says so, and ends with status 127.
+crates above them first. N is how many processes prove at a time, in place of one for each processor that there is to
+use; where memory is short, of the machine or of a container, there are fewer. With x86-64-v3 as CPU the program is
+built for processors with AVX2, and is crates/sealer/out/sealer-x86-64-v3 too; on any other processor it says so, and
+ends with status 127.
 
 `cd crates/sealer && rt run` does the same with one crate at a time. `rt lib` keeps the folders of all crates below its
 own to itself, so here each crate is proved in a room of its own among the system's temporary files: a copy of it and of
@@ -33,6 +34,8 @@ MADE = ("rlib", "incremental")
 OF_CHECK, OF_PROCESS = 3000, 1000
 # More processes than that make no check faster.
 MOST = 4
+# The files of the control group, of version 2 and below it of version 1.
+GROUP = Path("/sys/fs/cgroup")
 # The status of a program that was built for another processor.
 OTHER_CPU = 127
 
@@ -70,9 +73,32 @@ def crates_of_program():
     return found
 
 
+def words_of(name):
+    """The words of a file of the control group, which in a container is its own; none where it isn't there."""
+    try:
+        return (GROUP / name).read_text(encoding="utf-8").split()
+    except OSError:
+        return []
+
+
 def free_memory():
+    """The memory that is free, in MB: of the machine, or of what the control group may have."""
     with open("/proc/meminfo", encoding="utf-8") as file:
-        return next(int(line.split()[1]) // 1024 for line in file if line.startswith("MemAvailable"))
+        free = next(int(line.split()[1]) // 1024 for line in file if line.startswith("MemAvailable"))
+    for limit, held, word in (("memory.max", "memory.stat", "anon"), ("memory/memory.limit_in_bytes", "memory/memory.stat", "total_rss")):
+        most, told = words_of(limit), words_of(held)
+        if most and most[0].isdigit() and word in told:
+            free = min(free, max(int(most[0]) - int(told[told.index(word) + 1]), 0) >> 20)
+    return free
+
+
+def processors():
+    """How many processors this process may run on: fewer by the control group's quota of their time."""
+    found = len(os.sched_getaffinity(0))
+    for quota in (words_of("cpu.max"), words_of("cpu/cpu.cfs_quota_us") + words_of("cpu/cpu.cfs_period_us")):
+        if len(quota) == 2 and quota[0].isdigit():
+            found = min(found, max(int(quota[0]) // int(quota[1]), 1))
+    return found
 
 
 class Runs:
@@ -190,7 +216,7 @@ def fitting(ready, taken, most, memory):
 
 def main():
     parser = argparse.ArgumentParser(description=__doc__, formatter_class=argparse.RawDescriptionHelpFormatter)
-    parser.add_argument("-j", metavar="N", type=int, default=len(os.sched_getaffinity(0)))
+    parser.add_argument("-j", metavar="N", type=int, default=processors())
     parser.add_argument("cpu", nargs="?", metavar="CPU", choices=["x86-64-v3"])
     given = parser.parse_args()
     for it in (signal.SIGTERM, signal.SIGHUP):
