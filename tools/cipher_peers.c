@@ -1,5 +1,5 @@
 /* What tools/measure_cipher.py measures beside our cipher: OpenSSL's and libsodium's ChaCha20-Poly1305, over texts of 64 KiB and of 1 KiB.
-   Prints for each work and length the picoseconds a byte of its best sample, as crates/cipher_bench does; a sample works over 64 KiB.
+   Prints for each work and length the picoseconds a byte of its best sample, as crates/bench does; a sample works over 64 KiB.
    cc -O2 -o cipher_peers cipher_peers.c -lcrypto -lsodium; cipher_peers openssl|sodium */
 #include <openssl/evp.h>
 #include <sodium.h>

@@ -1,9 +1,10 @@
 #!/usr/bin/env python3
 """measure_cipher.py [-c CORE] [-r ROUNDS] [BENCH..]: our cipher beside OpenSSL's and libsodium's, over texts of 64 KiB and of 1 KiB.
 
-BENCH: built programs of crates/cipher_bench, as NAME=PATH; v2=crates/cipher_bench/out/cipher_bench where none is given. They and the peers
-run in turn on one core (2), ROUNDS times over (7), and of each work the best sample of all rounds counts. Prints GB/s, and the ratios to
-each peer. OpenSSL runs as it is, with AVX2 at most, and without AVX. Needs cc and Debian's libssl-dev and libsodium-dev.
+BENCH: built programs of crates/bench, as NAME=PATH; v2=crates/bench/out/bench where none is given. They and the peers run in turn on one
+core (2), ROUNDS times over (7), and of each work the best sample of all rounds counts. Prints GB/s, the ratios to each peer, and the ratios
+that have a mark, of programs named v2 and v3. OpenSSL runs as it is, with AVX2 at most, and without AVX. Needs cc and Debian's libssl-dev and
+libsodium-dev.
 """
 import argparse
 import os
@@ -14,15 +15,18 @@ top = os.path.join(os.path.dirname(os.path.abspath(__file__)), "..")
 asked = argparse.ArgumentParser(description=__doc__, formatter_class=argparse.RawDescriptionHelpFormatter)
 asked.add_argument("-c", "--core", default="2")
 asked.add_argument("-r", "--rounds", type=int, default=7)
-asked.add_argument("bench", nargs="*", default=[f"v2={top}/crates/cipher_bench/out/cipher_bench"])
+asked.add_argument("bench", nargs="*", default=[f"v2={top}/crates/bench/out/bench"])
 asked = asked.parse_args()
 WORKS = ("apply", "mac", "seal", "open", "check")
 LENGTHS = (65536, 1024)
+# of each level: the peer, and the least that sealing and opening, `check`, and texts of 1 KiB are to be of its speed
+MARKS = {"v2": ("OpenSSL, no AVX", 1.0, 2.8, 1.0), "v3": ("OpenSSL, AVX2", 1.0, 3.1, 1.2)}
+LIBSODIUM_MARK = 1.2
 
 with tempfile.TemporaryDirectory() as folder:
     peers = os.path.join(folder, "peers")
     subprocess.run(["cc", "-O2", "-o", peers, f"{top}/tools/cipher_peers.c", "-lcrypto", "-lsodium"], check=True)
-    runs = {name: ([path, "measure"], {}) for name, _, path in (it.partition("=") for it in asked.bench)}
+    runs = {name: ([path, "cipher"], {}) for name, _, path in (it.partition("=") for it in asked.bench)}
     ours = [*runs]
     runs["OpenSSL"] = ([peers, "openssl"], {})
     runs["OpenSSL, AVX2"] = ([peers, "openssl"], {"OPENSSL_ia32cap": ":~0xd0030000"})
@@ -49,6 +53,22 @@ for length in LENGTHS:
             ratios = [f"{work} {best[peer, work, length] / best[name, work, length]:.2f}" for work in ("seal", "open")]
             checks = best[peer, "seal", length] / best[name, "check", length]
             print(f"  {name} to {peer}: {'  '.join(ratios)}  check to its seal {checks:.2f}")
-for name in ours:
-    ratios = [f"{work} {best[name, work, LENGTHS[0]] / best[name, work, LENGTHS[1]]:.2f}" for work in WORKS]
-    print(f"\n{name}: 1 KiB to 64 KiB, speed a byte: {'  '.join(ratios)}")
+
+
+def marks(name):
+    """Gives each ratio that has a mark, as its words, the mark and the ratio."""
+    peer, whole, checks, short = MARKS[name]
+    long, brief = LENGTHS
+    for work in ("seal", "open"):
+        yield f"{work} to {peer}'s", whole, best[peer, work, long] / best[name, work, long]
+    yield f"check to {peer}'s seal", checks, best[peer, "seal", long] / best[name, "check", long]
+    for work in ("seal", "open"):
+        if name == "v3":
+            yield f"{work} to libsodium's", LIBSODIUM_MARK, best["libsodium", work, long] / best[name, work, long]
+        yield f"{work} of {brief} bytes to {peer}'s", short, best[peer, work, brief] / best[name, work, brief]
+
+
+for name in [it for it in ours if it in MARKS]:
+    print(f"\n{name}: ratio, mark")
+    for words, mark, ratio in marks(name):
+        print(f"  {words}: {ratio:.2f}, {mark:.1f}{'' if ratio >= mark else ': missed'}")

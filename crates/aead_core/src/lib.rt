@@ -23,8 +23,8 @@ const FIRST: u32 = 1;
 // The bytes of a block.
 const BLOCK: usize = 64;
 
-// How many bytes are enciphered before they are absorbed: whole blocks that a first-level cache holds.
-const STRIP: usize = 16384;
+// How many bytes are enciphered before they are absorbed: whole blocks that a second-level cache holds.
+const STRIP: usize = 65536;
 
 // The first 32 bytes of a block, which has 64.
 fn first_half(block: &[u8; 64]) -> [u8; 32]

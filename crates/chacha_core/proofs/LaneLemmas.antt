@@ -1,5 +1,5 @@
--- What vectors of n lanes compute, lane by lane, and the rows of eight blocks as bytes of the keystream.
-use Rattle.std.proofs.Common.{◌≡◌, ℕ, zero, suc, ◌+◌, ◌-◌, ◌*◌, ◌/◌, ◌%◌, ◌^◌, ◌<◌, List, [], ◌∷◌, ◌++◌, length}
+-- What vectors of n lanes compute, lane by lane, and the rows of blocks side by side as bytes of the keystream.
+use Rattle.std.proofs.Common.{◌≡◌, ℕ, zero, suc, ◌+◌, ◌-◌, ◌*◌, ◌/◌, ◌%◌, ◌^◌, ◌<◌, ◌≤◌, List, [], ◌∷◌, ◌++◌, length}
 use Rattle.std.proofs.Common.{take, drop, replicate, get_or, slice_index, bit_or, bit_xor, refl, sym, ap, ap₂, ◌∙◌}
 use Rattle.std.proofs.Common.{arith, subst}
 use Rattle.std.proofs.lemmas.Simd.{length-zip2, get_or-zip2, length-replicate, get_or-replicate}
@@ -11,7 +11,14 @@ use Rattle.chacha_core.specs.Lanes.{lane}
 use Rattle.chacha_core.proofs.StreamLemmas.{xor_from-same}
 use Rattle.chacha_core.proofs.WordLemmas.{word_bytes-part}
 
--- what holds of each of the eight lanes
+-- what holds of each of the lanes, of four and of eight
+pub below_four : (P : ℕ → Type 0) → P 0 → P 1 → P 2 → P 3 → (j : ℕ) → j < 4 → P j
+below_four P a b c d zero small = a
+below_four P a b c d (suc zero) small = b
+below_four P a b c d (suc (suc zero)) small = c
+below_four P a b c d (suc (suc (suc zero))) small = d
+below_four P a b c d (suc (suc (suc (suc n)))) small = absurd (omega arith)
+
 pub below_eight : (P : ℕ → Type 0) → P 0 → P 1 → P 2 → P 3 → P 4 → P 5 → P 6 → P 7 → (j : ℕ) → j < 8 → P j
 below_eight P a b c d e f g h zero small = a
 below_eight P a b c d e f g h (suc zero) small = b
@@ -76,68 +83,94 @@ first_lane n a e la j small = get_or_append_left a e 0 j (omega arith)
 second_lane : (n : ℕ) (a e : List ℕ) → length a ≡ n → (j : ℕ) → get_or (a ++ e) (n + j) 0 ≡ slice_index e j
 second_lane n a e la j = ap (λ (m : ℕ). get_or (a ++ e) (m + j) 0) (sym la) ∙ get_or-append-add a e j 0
 
--- lane j of eight vectors, as three times interleaved
-pub row_turned : (a b c d e f g h : List ℕ) → length a ≡ 8 → length b ≡ 8 → length c ≡ 8 → length d ≡ 8
+-- lane j of vectors of which each two were joined, of four and of eight
+pub turned_four : (a b c d : List ℕ) → length a ≡ 4 → length c ≡ 4 → (j : ℕ) → j < 4
+    → get_or (a ++ b) j 0 ∷ get_or (a ++ b) (4 + j) 0 ∷ get_or (c ++ d) j 0 ∷ get_or (c ++ d) (4 + j) 0 ∷ []
+    ≡ slice_index a j ∷ slice_index b j ∷ slice_index c j ∷ slice_index d j ∷ []
+turned_four a b c d la lc j small =
+    rw (
+      first_lane 4 a b la j small,
+      first_lane 4 c d lc j small,
+      second_lane 4 a b la j,
+      second_lane 4 c d lc j,
+    ) refl
+
+pub turned_eight : (a b c d e f g h : List ℕ) → length a ≡ 8 → length c ≡ 8 → length e ≡ 8 → length g ≡ 8
     → (j : ℕ) → j < 8
-    → get_or (a ++ e) j 0 ∷ get_or (b ++ f) j 0 ∷ get_or (c ++ g) j 0 ∷ get_or (d ++ h) j 0
-    ∷ get_or (a ++ e) (8 + j) 0 ∷ get_or (b ++ f) (8 + j) 0 ∷ get_or (c ++ g) (8 + j) 0 ∷ get_or (d ++ h) (8 + j) 0 ∷ []
+    → get_or (a ++ b) j 0 ∷ get_or (a ++ b) (8 + j) 0 ∷ get_or (c ++ d) j 0 ∷ get_or (c ++ d) (8 + j) 0
+    ∷ get_or (e ++ f) j 0 ∷ get_or (e ++ f) (8 + j) 0 ∷ get_or (g ++ h) j 0 ∷ get_or (g ++ h) (8 + j) 0 ∷ []
     ≡ slice_index a j ∷ slice_index b j ∷ slice_index c j ∷ slice_index d j
     ∷ slice_index e j ∷ slice_index f j ∷ slice_index g j ∷ slice_index h j ∷ []
-row_turned a b c d e f g h la lb lc ld j small =
+turned_eight a b c d e f g h la lc le lg j small =
     rw (
-      first_lane 8 a e la j small,
-      first_lane 8 b f lb j small,
-      first_lane 8 c g lc j small,
-      first_lane 8 d h ld j small,
-      second_lane 8 a e la j,
-      second_lane 8 b f lb j,
-      second_lane 8 c g lc j,
-      second_lane 8 d h ld j,
+      first_lane 8 a b la j small,
+      first_lane 8 c d lc j small,
+      first_lane 8 e f le j small,
+      first_lane 8 g h lg j small,
+      second_lane 8 a b la j,
+      second_lane 8 c d lc j,
+      second_lane 8 e f le j,
+      second_lane 8 g h lg j,
     ) refl
 
 -- what holds of each of the sixteen words
 pub below_sixteen : (P : ℕ → Type 0) → P 0 → P 1 → P 2 → P 3 → P 4 → P 5 → P 6 → P 7
     → P 8 → P 9 → P 10 → P 11 → P 12 → P 13 → P 14 → P 15 → (k : ℕ) → k < 16 → P k
-below_sixteen P a0 a1 a2 a3 a4 a5 a6 a7 b0 b1 b2 b3 b4 b5 b6 b7 k small =
-    let place : 8 * (k / 8) + k % 8 ≡ k = omega arith in
-    subst P place (below_two_rows (λ row. (col : ℕ) → col < 8 → P (8 * row + col))
-    (below_eight _ a0 a1 a2 a3 a4 a5 a6 a7) (below_eight _ b0 b1 b2 b3 b4 b5 b6 b7)
-    (k / 8) (omega arith) (k % 8) (omega arith))
-  where
-    below_two_rows : (Q : ℕ → Type 0) → Q 0 → Q 1 → (row : ℕ) → row < 2 → Q row
-    below_two_rows Q first second zero small = first
-    below_two_rows Q first second (suc zero) small = second
-    below_two_rows Q first second (suc (suc n)) small = absurd (omega arith)
+below_sixteen P a0 a1 a2 a3 b0 b1 b2 b3 c0 c1 c2 c3 d0 d1 d2 d3 k small =
+    let place : 4 * (k / 4) + k % 4 ≡ k = omega arith in
+    subst P place (below_four (λ row. (col : ℕ) → col < 4 → P (4 * row + col))
+    (below_four _ a0 a1 a2 a3) (below_four _ b0 b1 b2 b3) (below_four _ c0 c1 c2 c3) (below_four _ d0 d1 d2 d3)
+    (k / 4) (omega arith) (k % 4) (omega arith))
 
--- a byte of a row, of which a block has two
-row_byte : (words : ℕ → List ℕ) (j : ℕ) → length (words (j / 32 / 2)) ≡ 16
-    → slice_index (word_bytes (take 8 (drop (8 * (j / 32 % 2)) (words (j / 32 / 2))))) (j % 32)
-    ≡ slice_index (word_bytes (words (j / 64))) (j % 64)
-row_byte words j long =
-    let ws = words (j / 32 / 2) in
-    let h : ℕ = j / 32 % 2 in
-    let at : ℕ = 4 * (8 * h) in
-    let place : at + j % 32 ≡ j % 64 = omega arith in
-    let which : j / 32 / 2 ≡ j / 64 = omega arith in
-    ap (λ (zs : List ℕ). slice_index zs (j % 32)) (sym (word_bytes-part ws 8 (8 * h) (omega arith)))
-    ∙ get_or-take 32 (drop at (word_bytes ws)) (j % 32) 0 (omega arith)
-    ∙ get_or-drop at (word_bytes ws) (j % 32) 0
-    ∙ ap (slice_index (word_bytes ws)) place
-    ∙ ap (λ (n : ℕ). slice_index (word_bytes (words n)) (j % 64)) which
+-- a state whose rows, the first aside, are turned back by one, two and three words
+abbrev pub turned_back : List ℕ → List ℕ
+turned_back s =
+    slice_index s 0 ∷ slice_index s 1 ∷ slice_index s 2 ∷ slice_index s 3
+    ∷ slice_index s 7 ∷ slice_index s 4 ∷ slice_index s 5 ∷ slice_index s 6
+    ∷ slice_index s 10 ∷ slice_index s 11 ∷ slice_index s 8 ∷ slice_index s 9
+    ∷ slice_index s 13 ∷ slice_index s 14 ∷ slice_index s 15 ∷ slice_index s 12 ∷ []
 
--- the rows of eight blocks are their keystream
-pub rows-keystream : (key nonce : List ℕ) (first : ℕ) (x rows : List (List ℕ)) (text : List ℕ) → length text ≡ 512
-    → ((j : ℕ) → j < 8 → lane j x ≡ block_words (start_state key (first + j) nonce))
+-- byte i of the k words from word h on
+row_byte : (ws : List ℕ) (k h i : ℕ) → length ws ≡ 16 → h + k ≤ 16 → i < 4 * k
+    → slice_index (word_bytes (take k (drop h ws))) i ≡ slice_index (word_bytes ws) (4 * h + i)
+row_byte ws k h i long within small =
+    ap (λ (zs : List ℕ). slice_index zs i) (sym (word_bytes-part ws k h (omega (arith, long))))
+    ∙ get_or-take (4 * k) (drop (4 * h) (word_bytes ws)) i 0 small
+    ∙ get_or-drop (4 * h) (word_bytes ws) i 0
+
+-- byte j of the rows of four blocks, four rows a block, and of eight, two rows a block
+pub byte_of_four : (x rows : List (List ℕ)) (j : ℕ) → j < 256
+    → ((k : ℕ) → k < 16 → get_or rows k [] ≡ take 4 (drop (4 * (k % 4)) (lane (k / 4) x)))
+    → slice_index (word_bytes (get_or rows (j / 16) [])) (j % 16) ≡ slice_index (word_bytes (lane (j / 64) x)) (j % 64)
+byte_of_four x rows j small turned =
+    let block : j / 16 / 4 ≡ j / 64 = omega arith in
+    let place : 4 * (4 * (j / 16 % 4)) + j % 16 ≡ j % 64 = omega arith in
+    ap (λ (zs : List ℕ). slice_index (word_bytes zs) (j % 16)) (turned (j / 16) (omega arith))
+    ∙ row_byte (lane (j / 16 / 4) x) 4 (4 * (j / 16 % 4)) (j % 16) refl (omega arith) (omega arith)
+    ∙ ap₂ (λ (n i : ℕ). slice_index (word_bytes (lane n x)) i) block place
+
+pub byte_of_eight : (x rows : List (List ℕ)) (j : ℕ) → j < 512
     → ((k : ℕ) → k < 16 → get_or rows k [] ≡ take 8 (drop (8 * (k % 2)) (lane (k / 2) x)))
-    → xor_from (λ j. slice_index (word_bytes (get_or rows (j / 32) [])) (j % 32)) 0 text ≡ chacha20 key nonce first text
+    → slice_index (word_bytes (get_or rows (j / 32) [])) (j % 32) ≡ slice_index (word_bytes (lane (j / 64) x)) (j % 64)
+byte_of_eight x rows j small turned =
+    let block : j / 32 / 2 ≡ j / 64 = omega arith in
+    let place : 4 * (8 * (j / 32 % 2)) + j % 32 ≡ j % 64 = omega arith in
+    ap (λ (zs : List ℕ). slice_index (word_bytes zs) (j % 32)) (turned (j / 32) (omega arith))
+    ∙ row_byte (lane (j / 32 / 2) x) 8 (8 * (j / 32 % 2)) (j % 32) refl (omega arith) (omega arith)
+    ∙ ap₂ (λ (n i : ℕ). slice_index (word_bytes (lane n x)) i) block place
+
+-- bytes that are those of blocks side by side, as a keystream
+pub lanes-keystream : (lanes : ℕ) (key nonce : List ℕ) (first : ℕ) (x : List (List ℕ)) (f : ℕ → ℕ) (text : List ℕ)
+    → length text ≡ 64 * lanes
+    → ((j : ℕ) → j < lanes → lane j x ≡ block_words (start_state key (first + j) nonce))
+    → ((j : ℕ) → j < 64 * lanes → f j ≡ slice_index (word_bytes (lane (j / 64) x)) (j % 64))
+    → xor_from f 0 text ≡ chacha20 key nonce first text
 unfolding chacha20 keystream_byte block
-rows-keystream key nonce first x rows text long blocks turned =
-    let f = λ (j : ℕ). slice_index (word_bytes (get_or rows (j / 32) [])) (j % 32) in
+lanes-keystream lanes key nonce first x f text long blocks bytes =
     let g = keystream_byte key nonce first in
     xor_from-same f g 0 0 text (λ j h.
     let here : 0 + j ≡ j = omega arith in
     ap f here
-    ∙ ap (λ (zs : List ℕ). slice_index (word_bytes zs) (j % 32)) (turned (j / 32) (omega arith))
-    ∙ row_byte (λ i. lane i x) j refl
-    ∙ ap (λ (zs : List ℕ). slice_index (word_bytes zs) (j % 64)) (blocks (j / 64) (omega arith))
+    ∙ bytes j (omega (arith, long))
+    ∙ ap (λ (zs : List ℕ). slice_index (word_bytes zs) (j % 64)) (blocks (j / 64) (omega (arith, long)))
     ∙ ap g (sym here))

@@ -1,4 +1,5 @@
 mod LaneLemmas
+mod RollLemmas
 pub mod StreamLemmas
 mod StateLemmas
 mod WordLemmas

@@ -15,7 +15,16 @@ lane j x =
     ∷ lane_at x 8 j ∷ lane_at x 9 j ∷ lane_at x 10 j ∷ lane_at x 11 j
     ∷ lane_at x 12 j ∷ lane_at x 13 j ∷ lane_at x 14 j ∷ lane_at x 15 j ∷ []
 
--- after n double rounds: the vectors have in lane j what these make of the state of block first + j
-abbrev pub UnderWay : ℕ → List ℕ → List ℕ → ℕ → List (List ℕ) → Type 0
-UnderWay n key nonce first x =
-    (j : ℕ) → j < 8 → lane j x ≡ double_rounds n (start_state key (first + j) nonce)
+-- after n double rounds: the vectors have in each lane j what these make of the state of block first + j
+abbrev pub UnderWay : ℕ → ℕ → List ℕ → List ℕ → ℕ → List (List ℕ) → Type 0
+UnderWay lanes n key nonce first x =
+    (j : ℕ) → j < lanes → lane j x ≡ double_rounds n (start_state key (first + j) nonce)
+
+-- where each byte of four words comes from as they are rolled to the left by 16 bits, and by 8
+abbrev pub places_16 : List ℕ
+places_16 =
+    2 ∷ 3 ∷ 0 ∷ 1 ∷ 6 ∷ 7 ∷ 4 ∷ 5 ∷ 10 ∷ 11 ∷ 8 ∷ 9 ∷ 14 ∷ 15 ∷ 12 ∷ 13 ∷ []
+
+abbrev pub places_8 : List ℕ
+places_8 =
+    3 ∷ 0 ∷ 1 ∷ 2 ∷ 7 ∷ 4 ∷ 5 ∷ 6 ∷ 11 ∷ 8 ∷ 9 ∷ 10 ∷ 15 ∷ 12 ∷ 13 ∷ 14 ∷ []

@@ -8,11 +8,13 @@
 ghost use Rattle.std.specs.Prelude.{◌≡◌, ◌+◌, ◌/◌, ◌^◌, ◌<◌, ◌≤◌, length};
 ghost use Rattle.chacha_core.specs.ChaCha20.{quarter_round, block, chacha20};
 
-use group::{BLOCKS, GROUP, apply_group, apply_part};
+pub use eight::apply_by_eight;
+pub use four::apply_by_four;
 use state::{block_words, quarter_round, start_state};
 use stream::{block_bytes, xor_block, xor_rest};
 
-mod group;
+mod eight;
+mod four;
 pub mod laws;
 mod state;
 mod stream;
@@ -41,36 +43,23 @@ pub fn block(key: &[u8; 32], counter: u32, nonce: &[u8; 12]) -> [u8; 64]
     block_bytes(&block_words(&start_state(key, counter, nonce)))
 }
 
+// Whether eight blocks go side by side, as suits vectors of 256 bits, or four, as suits vectors of 128.
+// Nothing is promised of the answer, so that `apply` is proved for either: a build for processors with
+// AVX2 proves and takes this crate with `true` here (tools/build.py).
+fn is_wide() -> bool {
+    false
+}
+
 /// Enciphers or deciphers `text` in place: XORs it with the keystream whose first block has the
 /// counter `first` (RFC 8439, 2.4). No block's counter may pass 32 bits.
 pub fn apply(key: &[u8; 32], nonce: &[u8; 12], first: u32, text: &mut [u8])
     requires { first + (length text.old + 63) / 64 ≤ 2 ^ 32 }
     ensures { text.new ≡ chacha20 key.now nonce.now first text.old }
 {
-    let groups = text.len() / GROUP;
-    'groups: for g in 0..groups {
-        apply_group(key, nonce, first + BLOCKS * g as u32, text, GROUP * g);
-    }
-    if text.len() > GROUP * groups {
-        apply_behind(
-            key,
-            nonce,
-            first + BLOCKS * groups as u32,
-            &mut text[GROUP * groups..],
-        );
-    }
-}
-
-// Enciphers a text shorter than a group, from its first block's counter on: as the first part of a
-// group, where that is worth it and no counter of the group passes 32 bits, and block by block else.
-fn apply_behind(key: &[u8; 32], nonce: &[u8; 12], first: u32, text: &mut [u8])
-    requires { (first + (length text.old + 63) / 64 ≤ 2 ^ 32) × (length text.old < 512) }
-    ensures { text.new ≡ chacha20 key.now nonce.now first text.old }
-{
-    if text.len() > FEW && first <= u32::MAX - (BLOCKS - 1) {
-        apply_part(key, nonce, first, text);
+    if is_wide() {
+        apply_by_eight(key, nonce, first, text);
     } else {
-        apply_plain(key, nonce, first, text);
+        apply_by_four(key, nonce, first, text);
     }
 }
 

@@ -1,7 +1,9 @@
 //! ChaCha20 over the vectors of RFC 8439, and a text against its joined blocks.
 
+ghost use Rattle.std.specs.Prelude.{◌+◌, ◌/◌, ◌^◌, ◌≤◌, length};
+
 use crate::vectors::{BLOCK_KEY, BLOCK_NONCE, BLOCKS, QUARTERS, TEXTS};
-use chacha_core::{apply, block, quarter};
+use chacha_core::{apply, apply_by_eight, apply_by_four, block, quarter};
 use std::alloc::{AllocError, Global};
 use std::test::Fail;
 
@@ -21,9 +23,30 @@ fn blocks_of_the_rfc(rt: HostRuntime) {
     }
 }
 
+// What enciphers: the body that this build has, and each of the two.
+#[derive(Clone, Copy)]
+enum Body {
+    Built,
+    Four,
+    Eight,
+}
+
+static BODIES: [Body; 3] = [Body::Built, Body::Four, Body::Eight];
+
+fn encipher(body: Body, key: &[u8; 32], nonce: &[u8; 12], first: u32, text: &mut [u8])
+    requires { first + (length text.old + 63) / 64 ≤ 2 ^ 32 }
+{
+    match body {
+        Body::Built => apply(key, nonce, first, text),
+        Body::Four => apply_by_four(key, nonce, first, text),
+        Body::Eight => apply_by_eight(key, nonce, first, text),
+    }
+}
+
 // Whether a text becomes `want`, and `want` the text again.
 fn gives(
     alloc: Global,
+    body: Body,
     key: &[u8; 32],
     nonce: &[u8; 12],
     first: u32,
@@ -34,22 +57,24 @@ fn gives(
         return Ok(false);
     }
     let mut text = plain.to_vec(alloc)?;
-    apply(key, nonce, first, &mut text);
+    encipher(body, key, nonce, first, &mut text);
     let is_sealed = text.as_slice() == want;
     if text.len() != plain.len() {
         return Ok(false);
     }
-    apply(key, nonce, first, &mut text);
+    encipher(body, key, nonce, first, &mut text);
     Ok(is_sealed && text.as_slice() == plain)
 }
 
 #[test]
 fn texts_of_the_rfc(rt: HostRuntime) -> Result<(), Fail> {
     for (place, key, nonce, first, plain, want) in &TEXTS {
-        assert!(rt;
-            gives(rt.alloc(), key, nonce, *first, plain, want)?,
-            "{place}"
-        );
+        for body in &BODIES {
+            assert!(rt;
+                gives(rt.alloc(), *body, key, nonce, *first, plain, want)?,
+                "{place}"
+            );
+        }
     }
     Ok(())
 }
@@ -73,19 +98,24 @@ fn xored(alloc: Global, text: &[u8], stream: &[u8]) -> Result<Vec<u8>, AllocErro
 }
 
 // Whether each beginning of a text is enciphered as its XOR with the stream from block 1 on, and back.
-fn is_xored_at_each_length(alloc: Global, plain: &[u8], stream: &[u8]) -> Result<bool, AllocError> {
+fn is_xored_at_each_length(
+    alloc: Global,
+    body: Body,
+    plain: &[u8],
+    stream: &[u8],
+) -> Result<bool, AllocError> {
     for len in 0..plain.len() + 1 {
         let (text, _) = plain.split_at(len);
         let want = xored(alloc, text, stream)?;
-        if !gives(alloc, BLOCK_KEY, BLOCK_NONCE, 1, text, &want)? {
+        if !gives(alloc, body, BLOCK_KEY, BLOCK_NONCE, 1, text, &want)? {
             return Ok(false);
         }
     }
     Ok(true)
 }
 
-// For each length to 1,025, two groups of eight blocks and a byte, `apply` is the XOR with the blocks
-// one behind the other, and twice gives the text back.
+// For each length to 1,025, two groups of eight blocks and a byte, each body gives the XOR with the
+// blocks one after the other, and twice gives the text back.
 #[test]
 fn apply_is_the_xor_with_joined_blocks(rt: HostRuntime) -> Result<(), Fail> {
     let mut plain = Vec::new(rt.alloc());
@@ -93,14 +123,16 @@ fn apply_is_the_xor_with_joined_blocks(rt: HostRuntime) -> Result<(), Fail> {
         plain.push((i % 205) as u8)?;
     }
     let stream = joined(rt.alloc(), 1, 17)?;
-    assert!(rt; is_xored_at_each_length(rt.alloc(), &plain, &stream)?);
+    for body in &BODIES {
+        assert!(rt; is_xored_at_each_length(rt.alloc(), *body, &plain, &stream)?);
+    }
     Ok(())
 }
 
-// Whether zeros that are enciphered from this counter on are what the blocks begin with.
+// Whether zeros that are enciphered from this counter on, by each body, are what the blocks begin with.
 fn is_front_of_blocks(
     alloc: Global,
-    zeros: &mut [u8],
+    zeros: &[u8],
     first: u32,
     count: u32,
 ) -> Result<bool, AllocError> {
@@ -108,39 +140,55 @@ fn is_front_of_blocks(
     if u64::from(first) + zeros.len().div_ceil(64) as u64 > 1 << 32 {
         return Ok(false);
     }
-    apply(BLOCK_KEY, BLOCK_NONCE, first, zeros);
-    Ok(stream.as_slice().starts_with(zeros))
+    for body in &BODIES {
+        let mut text = zeros.to_vec(alloc)?;
+        if text.len() != zeros.len() {
+            return Ok(false);
+        }
+        encipher(*body, BLOCK_KEY, BLOCK_NONCE, first, &mut text);
+        if !stream.as_slice().starts_with(&text) {
+            return Ok(false);
+        }
+    }
+    Ok(true)
 }
 
-// The last eight blocks that the counter allows, whole and cut, which go by a group.
+// From counter 0 on: two groups of eight, and a cut block after them.
+#[test]
+fn apply_begins_at_counter_zero(rt: HostRuntime) -> Result<(), Fail> {
+    assert!(rt; is_front_of_blocks(rt.alloc(), &[0; 1030], 0, 17)?);
+    Ok(())
+}
+
+// The last eight blocks that the counter allows, whole and cut, which go by groups.
 #[test]
 fn apply_reaches_the_last_counter_in_lanes(rt: HostRuntime) -> Result<(), Fail> {
-    assert!(rt; is_front_of_blocks(rt.alloc(), &mut [0; 512], 4_294_967_288, 8)?);
-    assert!(rt; is_front_of_blocks(rt.alloc(), &mut [0; 500], 4_294_967_288, 8)?);
+    assert!(rt; is_front_of_blocks(rt.alloc(), &[0; 512], 4_294_967_288, 8)?);
+    assert!(rt; is_front_of_blocks(rt.alloc(), &[0; 500], 4_294_967_288, 8)?);
     Ok(())
 }
 
-// A whole group, and three blocks behind it that reach the last counter: a second group's would pass
+// Whole groups, and three blocks after them that reach the last counter: another group's would pass
 // 32 bits.
 #[test]
-fn apply_reaches_the_last_counter_behind_a_group(rt: HostRuntime) -> Result<(), Fail> {
-    assert!(rt; is_front_of_blocks(rt.alloc(), &mut [0; 704], 4_294_967_285, 11)?);
+fn apply_reaches_the_last_counter_after_a_group(rt: HostRuntime) -> Result<(), Fail> {
+    assert!(rt; is_front_of_blocks(rt.alloc(), &[0; 704], 4_294_967_285, 11)?);
     Ok(())
 }
 
-// The last three and the last four blocks, which go one by one: a group's counters would pass 32
-// bits.
+// The last three blocks, which go one by one since a group's counters would pass 32 bits, and the
+// last four.
 #[test]
 fn apply_reaches_the_last_counter_block_by_block(rt: HostRuntime) -> Result<(), Fail> {
-    assert!(rt; is_front_of_blocks(rt.alloc(), &mut [0; 192], 4_294_967_293, 3)?);
-    assert!(rt; is_front_of_blocks(rt.alloc(), &mut [0; 256], 4_294_967_292, 4)?);
+    assert!(rt; is_front_of_blocks(rt.alloc(), &[0; 192], 4_294_967_293, 3)?);
+    assert!(rt; is_front_of_blocks(rt.alloc(), &[0; 256], 4_294_967_292, 4)?);
     Ok(())
 }
 
 // The last block that the counter allows, whole and cut.
 #[test]
 fn apply_reaches_the_last_counter(rt: HostRuntime) -> Result<(), Fail> {
-    assert!(rt; is_front_of_blocks(rt.alloc(), &mut [0; 64], u32::MAX, 1)?);
-    assert!(rt; is_front_of_blocks(rt.alloc(), &mut [0; 5], u32::MAX, 1)?);
+    assert!(rt; is_front_of_blocks(rt.alloc(), &[0; 64], u32::MAX, 1)?);
+    assert!(rt; is_front_of_blocks(rt.alloc(), &[0; 5], u32::MAX, 1)?);
     Ok(())
 }

@@ -14,9 +14,9 @@ strips-init c = (refl, absorbed_none _ c.args.key.now c.args.nonce.now c.args.aa
 pub strips-preserved : goal.strips-preserved
 strips-preserved c =
     let i = c.strips.i in
-    let at : ℕ = 16384 * i in
-    let end : ℕ = 16384 * i + 16384 in
-    let next : end ≡ 16384 * (i + 1) = omega arith in
+    let at : ℕ = 65536 * i in
+    let end : ℕ = 65536 * i + 65536 in
+    let next : end ≡ 65536 * (i + 1) = omega arith in
     let (done, held) = c.strips.invariant in
     let key = c.args.key.now in
     let nonce = c.args.nonce.now in
@@ -42,11 +42,11 @@ last c =
     let new = c.seal_strip-2.new.text in
     let mac = c.seal_strip-2.new.mac in
     let end : ℕ = length c.strips.text in
-    let at : ℕ = 16384 * (length text / 16384) in
+    let at : ℕ = 65536 * (length text / 65536) in
     let long = c.strips.auto.text in
-    let upto : c.strips.i ≡ length text / 16384 = omega (arith, c.strips.auto.i-end, c.strips-test.false) in
-    let (done, held) = subst (λ (i : ℕ). EncipheredTo key nonce (16384 * i) text c.strips.text
-    × AbsorbedTo c.strips.mac key nonce aad (16384 * i) c.strips.text) upto c.strips.invariant in
+    let upto : c.strips.i ≡ length text / 65536 = omega (arith, c.strips.auto.i-end, c.strips-test.false) in
+    let (done, held) = subst (λ (i : ℕ). EncipheredTo key nonce (65536 * i) text c.strips.text
+    × AbsorbedTo c.strips.mac key nonce aad (65536 * i) c.strips.text) upto c.strips.invariant in
     let strip = enciphered_step key nonce text c.strips.text new at end (omega arith) (omega (arith, long))
     (omega (arith, long)) done c.seal_strip-2.ensures.text in
     let taken = absorbed_step mac key nonce aad c.strips.text new _ at end (omega (arith, long)) (omega (arith, long))

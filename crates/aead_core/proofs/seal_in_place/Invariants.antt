@@ -4,4 +4,4 @@ use Rattle.aead_core.proofs.seal_in_place.Given as goal
 
 abbrev pub invariant-strips : goal.invariant-strips
 invariant-strips l =
-    EncipheredTo l.key l.nonce (16384 * l.i) l.fn.text l.text × AbsorbedTo l.mac l.key l.nonce l.aad (16384 * l.i) l.text
+    EncipheredTo l.key l.nonce (65536 * l.i) l.fn.text l.text × AbsorbedTo l.mac l.key l.nonce l.aad (65536 * l.i) l.text

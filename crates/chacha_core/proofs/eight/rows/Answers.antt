@@ -1,0 +1,14 @@
+use Rattle.std.proofs.Common.{arith}
+use Rattle.chacha_core.proofs.LaneLemmas.{below_sixteen}
+use Rattle.chacha_core.proofs.eight.rows.Goals as goal
+
+pub returns : goal.returns
+returns c = below_sixteen _
+    (c.transpose-r.ensures 0 (omega arith)) (c.transpose-s.ensures 0 (omega arith))
+    (c.transpose-r.ensures 1 (omega arith)) (c.transpose-s.ensures 1 (omega arith))
+    (c.transpose-r.ensures 2 (omega arith)) (c.transpose-s.ensures 2 (omega arith))
+    (c.transpose-r.ensures 3 (omega arith)) (c.transpose-s.ensures 3 (omega arith))
+    (c.transpose-r.ensures 4 (omega arith)) (c.transpose-s.ensures 4 (omega arith))
+    (c.transpose-r.ensures 5 (omega arith)) (c.transpose-s.ensures 5 (omega arith))
+    (c.transpose-r.ensures 6 (omega arith)) (c.transpose-s.ensures 6 (omega arith))
+    (c.transpose-r.ensures 7 (omega arith)) (c.transpose-s.ensures 7 (omega arith))

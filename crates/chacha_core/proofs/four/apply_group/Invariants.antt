@@ -1,0 +1,7 @@
+use Rattle.std.proofs.Common.{ℕ, List}
+use Rattle.chacha_core.specs.Lanes.{UnderWay}
+use Rattle.chacha_core.proofs.four.apply_group.Given as goal
+
+abbrev pub invariant-rounds : goal.invariant-rounds
+invariant-rounds l = (first : ℕ) (key nonce : List ℕ) → UnderWay 4 0 key nonce first l.start
+    → UnderWay 4 l._round key nonce first l.x

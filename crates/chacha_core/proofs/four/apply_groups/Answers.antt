@@ -1,0 +1,4 @@
+use Rattle.chacha_core.proofs.four.apply_groups.Goals as goal
+
+pub returns : goal.returns
+returns c = c.run_groups.ensures c.args.first c.args.key.now c.args.nonce.now c.requires c.start_states-start.ensures
