@@ -14,7 +14,6 @@ use crew_tests::{Late, Meeting, counting_key};
 use io_memory::{FromMemory, Schedule, ToMemory};
 use ledger_core::{IssueFault, Journal, Tally, audit};
 use std::alloc::Global;
-use std::test::Fail;
 use std::thread::Threads;
 
 // How often a pass looks for the others, where lanes are to meet, and where they can't.
@@ -111,12 +110,14 @@ fn gives<R: Threads + Sync>(
     )
 }
 
+fn gives_both<R: Threads + Sync>(rt: &R, alloc: Global) -> Option<bool> {
+    let two = Shape::two(12, b"db-dump").ok()?;
+    Some(gives(rt, alloc, &Shape::one(), &OF_ONE)? && gives(rt, alloc, &two, &OF_TWO)?)
+}
+
 #[test]
-fn containers_made_elsewhere(rt: HostRuntime) -> Result<(), Fail> {
-    assert!(rt; gives(&rt, rt.alloc(), &Shape::one(), &OF_ONE) == Some(true));
-    let two = Shape::two(12, b"db-dump")?;
-    assert!(rt; gives(&rt, rt.alloc(), &two, &OF_TWO) == Some(true));
-    Ok(())
+fn containers_made_elsewhere(rt: HostRuntime) {
+    assert!(rt; gives_both(&rt, rt.alloc()) == Some(true));
 }
 
 // How many jobs there are, which all have to meet at a gate, over how many seats and on how many lanes; and whether the
@@ -154,36 +155,46 @@ fn is_met<R: Threads + Sync>(
     Some(right && gate.is_met(wanted, gives_up))
 }
 
+fn all_are_met<R: Threads + Sync>(rt: &R, alloc: Global) -> bool {
+    for (count, seats, lanes, gives_up) in &MEETINGS {
+        if is_met(rt, alloc, *count, *seats, *lanes, *gives_up) != Some(true) {
+            return false;
+        }
+    }
+    true
+}
+
 #[test]
 fn as_many_lanes_meet_as_have_a_job(rt: HostRuntime) {
-    for (count, seats, lanes, gives_up) in &MEETINGS {
-        assert!(rt;
-            is_met(&rt, rt.alloc(), *count, *seats, *lanes, *gives_up) == Some(true),
-            "{count} jobs on {lanes} lanes"
-        );
-    }
+    assert!(rt; all_are_met(&rt, rt.alloc()));
+}
+
+fn holds_one_job<R: Threads + Sync>(rt: &R, alloc: Global) -> Option<bool> {
+    let gate = Late::new(7, TURNS);
+    let outcomes = sealed(rt, alloc, 8, 2, 2, &gate)?;
+    let outcomes = outcomes.as_slice();
+    let is_held = !gate.gave_up() && gate.passes() == (7, 1);
+    Some(is_held && at_seat(outcomes, 0) == 7 && at_seat(outcomes, 1) == 1)
 }
 
 // A lane that is held up holds up one job alone: lane 1 is held with its job until lane 0 has passed with all others.
 #[test]
-fn a_held_lane_holds_one_job(rt: HostRuntime) -> Result<(), Fail> {
-    let gate = Late::new(7, TURNS);
-    let outcomes = sealed(&rt, rt.alloc(), 8, 2, 2, &gate).ok_or("not sealed")?;
-    let outcomes = outcomes.as_slice();
-    assert!(rt; !gate.gave_up() && gate.passes() == (7, 1));
-    assert!(rt; (at_seat(outcomes, 0), at_seat(outcomes, 1)) == (7, 1));
-    Ok(())
+fn a_held_lane_holds_one_job(rt: HostRuntime) {
+    assert!(rt; holds_one_job(&rt, rt.alloc()) == Some(true));
+}
+
+fn issues_behind_the_gate<R: Threads + Sync>(rt: &R, alloc: Global) -> Option<bool> {
+    let gate = Held::new(0, 7, TURNS);
+    let outcomes = sealed(rt, alloc, 8, 2, 2, &gate)?;
+    let is_held = !gate.gave_up() && gate.counts() == 0x1111_1111;
+    Some(is_held && is_first_job_late(outcomes.as_slice()))
 }
 
 // Job 0 is held at the gate until the other lane comes with job 7, and by then that lane has six numbers: one that was
 // issued for job 0 before the gate would be among the first.
 #[test]
-fn the_gate_comes_before_the_issue(rt: HostRuntime) -> Result<(), Fail> {
-    let gate = Held::new(0, 7, TURNS);
-    let outcomes = sealed(&rt, rt.alloc(), 8, 2, 2, &gate).ok_or("not sealed")?;
-    assert!(rt; !gate.gave_up() && gate.counts() == 0x1111_1111);
-    assert!(rt; is_first_job_late(outcomes.as_slice()));
-    Ok(())
+fn the_gate_comes_before_the_issue(rt: HostRuntime) {
+    assert!(rt; issues_behind_the_gate(&rt, rt.alloc()) == Some(true));
 }
 
 // The outcomes of so many jobs over a new ledger of the one number `lo`, and what it then tells at a seat.
@@ -227,22 +238,29 @@ fn is_one_numbered(outcomes: &[Outcome], tally: Tally, lanes: u32) -> bool {
         && (tally.sealed, tally.void) == (0, 0)
 }
 
+fn is_range_too_small<R: Threads + Sync>(rt: &R, alloc: Global, lanes: u32) -> Option<bool>
+    requires { (0 < lanes) × (lanes ≤ 2) }
+{
+    let (outcomes, tally) = told(rt, alloc, 7, 2, 6, lanes, 0)?;
+    Some(is_one_numbered(outcomes.as_slice(), tally, lanes))
+}
+
 // The range ends within the batch: one lane gets the number. A lane that finds none is answered so once, and is closed
 // from then on. A second lane may find no job left.
 #[test]
-fn a_range_too_small(rt: HostRuntime) -> Result<(), Fail> {
-    for lanes in 1..3 {
-        let (outcomes, tally) = told(&rt, rt.alloc(), 7, 2, 6, lanes, 0).ok_or("no outcomes")?;
-        assert!(rt; is_one_numbered(outcomes.as_slice(), tally, lanes));
-    }
-    Ok(())
+fn a_range_too_small(rt: HostRuntime) {
+    assert!(rt; is_range_too_small(&rt, rt.alloc(), 1) == Some(true));
+    assert!(rt; is_range_too_small(&rt, rt.alloc(), 2) == Some(true));
+}
+
+fn has_no_jobs<R: Threads + Sync>(rt: &R, alloc: Global) -> Option<bool> {
+    let (outcomes, tally) = told(rt, alloc, 0, 3, 0, 3, 2)?;
+    Some(outcomes.is_empty() && tally == NOTHING)
 }
 
 #[test]
-fn no_jobs(rt: HostRuntime) -> Result<(), Fail> {
-    let (outcomes, tally) = told(&rt, rt.alloc(), 0, 3, 0, 3, 2).ok_or("no outcomes")?;
-    assert!(rt; outcomes.is_empty() && tally == NOTHING);
-    Ok(())
+fn no_jobs(rt: HostRuntime) {
+    assert!(rt; has_no_jobs(&rt, rt.alloc()) == Some(true));
 }
 
 // Whether each outcome's number could be settled at its seat.
@@ -259,11 +277,11 @@ fn are_settled(run: &mut Run, outcomes: Vec<Outcome>) -> bool {
     true
 }
 
-// The journal of forty jobs on sixteen lanes, where each is sealed and settled.
+// The journal of a hundred jobs on sixteen lanes, where each is sealed and settled.
 fn journal_of<R: Threads + Sync>(rt: &R, alloc: Global) -> Option<Journal> {
-    let jobs = jobs_of(alloc, 40).ok()?;
+    let jobs = jobs_of(alloc, 100).ok()?;
     let jobs = jobs.as_slice();
-    let mut run = opened(alloc, 3, 40, 16)?;
+    let mut run = opened(alloc, 3, 100, 16)?;
     let outcomes = run
         .seal(rt, alloc, &counting_key(), &Shape::one(), jobs, 16, &Free)
         .ok()?;
@@ -289,15 +307,17 @@ fn audits_to(alloc: Global, text: &[u8], line: &[u8]) -> Option<bool> {
     Some(writer.bytes() == line)
 }
 
+fn is_journal_whole<R: Threads + Sync>(rt: &R, alloc: Global) -> Option<bool> {
+    let journal = journal_of(rt, alloc)?;
+    let text = journal.text(alloc).ok()?;
+    let line = b"legal: 100 granted, 100 sealed, 0 void, 0 open, 0 refused\n";
+    Some(journal.entries().len() == 200 && audits_to(alloc, text.as_bytes(), line)?)
+}
+
 // A batch over sixteen seats, settled and closed: the journal has each number granted and settled once.
 #[test]
-fn sixteen_lanes_and_their_journal(rt: HostRuntime) -> Result<(), Fail> {
-    let journal = journal_of(&rt, rt.alloc()).ok_or("no journal")?;
-    assert!(rt; journal.entries().len() == 80);
-    let text = journal.text(rt.alloc())?;
-    let line = b"legal: 40 granted, 40 sealed, 0 void, 0 open, 0 refused\n";
-    assert!(rt; audits_to(rt.alloc(), text.as_bytes(), line) == Some(true));
-    Ok(())
+fn sixteen_lanes_and_their_journal(rt: HostRuntime) {
+    assert!(rt; is_journal_whole(&rt, rt.alloc()) == Some(true));
 }
 
 // The outcomes of three jobs on two lanes. A batch that was refused has issued nothing, and is sealed again.
@@ -356,12 +376,16 @@ fn are_kept(alloc: Global, outcomes: &[Outcome], tally: Tally) -> bool {
     all_kept(alloc, outcomes) && tally.granted as usize == numbers(outcomes) && tally.refused == 0
 }
 
+fn loses_no_number<R: Threads + Sync>(rt: &R, alloc: Global) -> Option<bool> {
+    let mut run = opened(alloc, 0, 3, 2)?;
+    let outcomes = sealed_again(rt, alloc, &mut run)?;
+    let tally = run.tally(1);
+    Some(are_kept(alloc, outcomes.as_slice(), tally))
+}
+
 // Three jobs on two lanes. Run it with each allocation refused in turn: either the batch was refused and nothing was
 // issued, or each job has an outcome, and the ledger has granted as many numbers as outcomes have one.
 #[test]
-fn a_refused_growth_loses_no_number(rt: HostRuntime) -> Result<(), Fail> {
-    let mut run = opened(rt.alloc(), 0, 3, 2).ok_or("no ledger")?;
-    let outcomes = sealed_again(&rt, rt.alloc(), &mut run).ok_or("no outcomes")?;
-    assert!(rt; are_kept(rt.alloc(), outcomes.as_slice(), run.tally(1)));
-    Ok(())
+fn a_refused_growth_loses_no_number(rt: HostRuntime) {
+    assert!(rt; loses_no_number(&rt, rt.alloc()) == Some(true));
 }

@@ -3,7 +3,8 @@ ghost use Rattle.std.specs.Prelude.{◌≡◌, ℕ, ◌+◌, ◌-◌, ◌*◌, �
 ghost use Rattle.std.specs.Prelude.{length, take, drop, slice_index_or, None, Ok, Err};
 ghost use Rattle.container_core.specs.Chunks.{chunks, chunk_count, sealed_chunks};
 ghost use Rattle.container_core.specs.Chunks.{body_length, container_length, container_limit};
-ghost use Rattle.container_core.specs.Chunks.{has_plaintext, most_of, chunk_of_one};
+ghost use Rattle.container_core.specs.Chunks.{has_plaintext, most_of, chunk_of_one, most_chunk, tag_size};
+ghost use Rattle.container_core.specs.Chunks.{max_chunks, max_opened, max_plain};
 ghost use Rattle.container_core.specs.Shape.{ShapeView, IsShape, size_of, two};
 ghost use Rattle.container_core.specs.Stream.{nonce_of, prefix_in, stream, stream_by};
 ghost use Rattle.container_core.specs.Container.{container, header_of, header_length, is_two};
@@ -13,7 +14,25 @@ ghost use Rattle.container_core.specs.Faults.{IsOfBytes};
 ghost use Rattle.container_core.specs.Opening.{header_fault, early_fault, longest, opening};
 ghost use Rattle.container_core.specs.Opening.{unsealed, unsealed_by, behind};
 
-use crate::{MAX_CHUNKS, MAX_PLAIN};
+use crate::{
+    CHUNK, HEADER, MAX_CHUNKS, MAX_EXPONENT, MAX_HEADER, MAX_LABEL, MAX_OPENED, MAX_PLAIN,
+    MIN_EXPONENT, SEALED, TAG,
+};
+
+/// The constants are the numbers of the format.
+pub fn sizes_of_the_format()
+    ensures plain { MAX_PLAIN ≡ max_plain }
+    ensures opened { MAX_OPENED ≡ max_opened }
+    ensures chunks { MAX_CHUNKS ≡ max_chunks }
+    ensures chunk { CHUNK ≡ chunk_of_one }
+    ensures tag { TAG ≡ tag_size }
+    ensures sealed { SEALED ≡ chunk_of_one + tag_size }
+    ensures header { HEADER ≡ 24 }
+    ensures label { MAX_LABEL ≡ 255 }
+    ensures longest { MAX_HEADER ≡ 24 + 1 + 255 }
+    ensures least { MIN_EXPONENT ≡ 12 }
+    ensures most { (MAX_EXPONENT ≡ 20) × (most_chunk ≡ 2 ^ MAX_EXPONENT) }
+{}
 
 /// Two chunks have one nonce only where prefix, number and place as the last are the same.
 pub fn nonces_differ()

@@ -8,6 +8,7 @@
 
 pub mod batch;
 mod lanes;
+pub mod laws;
 pub mod outcome;
 mod places;
 mod rounds;

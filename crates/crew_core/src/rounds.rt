@@ -1,8 +1,8 @@
 //! A body sealed or opened in rounds: while the crew makes one, the caller's thread appends the bytes of the one
 //! before, and then draws pieces as the others do.
 //!
-//! The room of the crew is made before the first piece is, and so is that of the whole, by the caller: from then on
-//! nothing answers that memory was refused. Each round asks for one word more, and does without it.
+//! The room of the crew is made before the first piece is, with the words of all rounds, and so is that of the whole, by
+//! the caller: from then on nothing answers that memory was refused.
 ghost use Rattle.std.specs.Prelude.{◌≡◌, ◌+◌, ◌-◌, ◌*◌, ◌^◌, ◌<◌, ◌≤◌, ◌++◌, ℕ, [], length, min, false, true, Ok, Err};
 ghost use Rattle.std.specs.Prelude.{vec_len, vec_capacity, IfOk, IfErr, OnOk};
 ghost use Rattle.container_core.specs.declared.fault.OpenFault.TheVariants.{Forged};
@@ -121,7 +121,8 @@ impl Rooms {
     {
         let pieces = chunks.min(chunks_of_round(size));
         let room = task.room(size);
-        let crew = Crew::new(alloc, workers.min(pieces), pieces, room)?;
+        let mut crew = Crew::new(alloc, workers.min(pieces), pieces, room)?;
+        crew.reserve(alloc, chunks)?;
         let places = Places::new(alloc, pieces, room)?;
         Ok(Rooms { crew, places })
     }

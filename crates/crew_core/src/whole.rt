@@ -23,8 +23,7 @@ use round_core::Task;
 use std::alloc::{AllocError, Global};
 use std::thread::Threads;
 
-// Chunks sealed, behind what stands in front of them. All memory but the claim word of a round is taken before the
-// first is sealed.
+// Chunks sealed, behind what stands in front of them. All memory is taken before the first is sealed.
 fn sealed_behind<R: Threads + Sync, G: Gate + Sync>(
     rt: &R,
     alloc: Global,

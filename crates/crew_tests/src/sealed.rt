@@ -223,8 +223,8 @@ fn containers_are_sealed_and_opened(rt: HostRuntime) {
     assert!(rt; eighteen == Some(true));
 }
 
-// Where a growth is refused the helpers see it, `OutOfMemory` of an opening, and that the number is void; they call
-// again. Where it is the claim word's, the caller's thread makes the round alone.
+// Where a growth is refused, also that of a claim word, the helpers see it, `OutOfMemory` of an opening, and that the
+// number is void; they call again.
 #[test]
 fn a_refused_growth_is_out_of_memory(rt: HostRuntime) {
     assert!(rt; is_made(&rt, rt.alloc(), 0, &ZERO_BYTES, (2, 2), 65_593, &ZEROS));

@@ -1,10 +1,12 @@
-//! What every worker and lane passes before a piece of work, and how many there may be of what is worked on: of workers,
-//! of lanes, of the chunks of a round, and of those of a stream that are held.
+//! What every worker and lane passes before a piece of work, and how many there may be of what is worked on: of
+//! workers, of lanes, of the chunks of a round, and of those of a stream that are held.
 //!
-//! `gate` has what they pass, `window` how many chunks a round has where no number of them is asked for.
+//! `gate` has what they pass, `window` how many chunks a round has where no number of them is asked for, `laws` what the
+//! limits are.
 #![tactic(auto)]
 
 pub mod gate;
+pub mod laws;
 pub mod window;
 
 pub use crate::gate::{Free, Gate};

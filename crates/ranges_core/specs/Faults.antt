@@ -1,5 +1,6 @@
--- The faults' numbers, and when a database is no ledger file.
-use Rattle.std.specs.Prelude.{◌≡◌, ◌≢◌, ◌⊎◌, false, ℕ}
+-- The faults' numbers and texts, and when a database is no ledger file.
+use Rattle.std.specs.Prelude.{◌≡◌, ◌≢◌, ◌⊎◌, false, ℕ, List, ◌++◌, codes}
+use Rattle.std.specs.Fmt.{decimal}
 use Rattle.sqlite.specs.Effect.{Database}
 use Rattle.ranges_core.specs.declared.fault.ReserveFault.{ReserveFault}
 use Rattle.ranges_core.specs.declared.fault.ReserveFault.TheVariants.{ZeroCount, TooMany, FieldSpent, Store, BadStore}
@@ -19,3 +20,10 @@ fault_number TooMany = 31
 fault_number (FieldSpent left) = 32
 fault_number Store = 33
 fault_number BadStore = 34
+
+abbrev pub reserve_text : ReserveFault → List ℕ
+reserve_text ZeroCount = codes "no files"
+reserve_text TooMany = codes "too many files"
+reserve_text (FieldSpent left) = decimal left ++ codes " numbers left"
+reserve_text Store = codes "store failed"
+reserve_text BadStore = codes "not a ledger"

@@ -1,28 +1,24 @@
 //! Why a call of the keeper was refused.
-ghost use Rattle.std.specs.Prelude.{◌≡◌};
-ghost use Rattle.ranges_core.specs.Faults.{fault_number};
+ghost use Rattle.std.specs.Prelude.{◌≡◌, Some};
+ghost use Rattle.ranges_core.specs.Faults.{fault_number, reserve_text};
 
-use thiserror::Error;
+use std::error::Error;
+use std::fmt;
 
 /// Why a call was refused. What was committed stays as it was.
-#[derive(Clone, Copy, PartialEq, Eq, Debug, Error)]
+#[derive(Clone, Copy, PartialEq, Eq, Debug)]
 pub enum ReserveFault {
     /// No number was asked for.
-    #[error("no files")]
     ZeroCount,
     /// More than 65,535 numbers were asked for.
-    #[error("too many files")]
     TooMany,
     /// Fewer numbers are left of the 2^32 of the key and device than were asked for; so many are left.
-    #[error("{left} numbers left")]
     FieldSpent { left: u64 },
     /// The database refused a statement, memory was refused, or `open` met tables other than the keeper makes or a
     /// transaction.
-    #[error("store failed")]
     Store,
     /// The database is no ledger file: one of the two tables cannot be read, or the rows are no lists of adjacent
     /// ranges.
-    #[error("not a ledger")]
     BadStore,
 }
 
@@ -40,3 +36,19 @@ impl ReserveFault {
         }
     }
 }
+
+impl fmt::Display for ReserveFault {
+    ghost output = { λ fault. Some (reserve_text fault) };
+
+    fn fmt<W: fmt::Write>(&self, f: &mut fmt::Formatter<W>) -> fmt::Result {
+        match *self {
+            ReserveFault::ZeroCount => write!(f, "no files"),
+            ReserveFault::TooMany => write!(f, "too many files"),
+            ReserveFault::FieldSpent { left } => write!(f, "{left} numbers left"),
+            ReserveFault::Store => write!(f, "store failed"),
+            ReserveFault::BadStore => write!(f, "not a ledger"),
+        }
+    }
+}
+
+impl Error for ReserveFault {}

@@ -1,8 +1,9 @@
 -- The bytes of the pieces, appended one by one.
-use Rattle.std.proofs.Common.{◌≡◌, ℕ, zero, suc, ◌+◌, ◌<◌, ◌≤◌, List, [], ◌∷◌, ◌++◌, length, take, get_or}
-use Rattle.std.proofs.Common.{Option, Some, None, refl, ap, sym, ◌∙◌, arith, append_assoc, length-append}
+use Rattle.std.proofs.Common.{◌≡◌, ℕ, zero, suc, ◌+◌, ◌<◌, ◌≤◌, List, [], ◌∷◌, ◌++◌, length, take, drop, get_or}
+use Rattle.std.proofs.Common.{Option, Some, None, Result, Ok, Err, OnErr, refl, ap, sym, ◌∙◌, arith, append_assoc, length-append, take-append-drop}
 use lib.Seq.{take-suc}
-use Rattle.round_core.specs.Answer.{joined}
+use Rattle.std.proofs.lemmas.List.{take-take}
+use Rattle.round_core.specs.Answer.{joined, AppendsSome}
 
 joined-append : (xs ys : List (Option (List ℕ))) → joined (xs ++ ys) ≡ joined xs ++ joined ys
 joined-append [] ys = refl
@@ -23,6 +24,33 @@ appended-more values n v before old new below is so_far more =
     more ∙ ap (λ (l : List ℕ). l ++ joined (v ∷ [])) so_far
     ∙ append_assoc before (joined (take n values)) (joined (v ∷ []))
     ∙ ap (λ (l : List ℕ). before ++ l) (sym grown)
+
+-- what holds at any rate holds at an error
+pub at-error : {T E : Type 0} (r : Result T E) (P : Type 0) → P → OnErr r P
+at-error (Ok v) P p = tt
+at-error (Err e) P p = p
+
+-- the pieces so far are a front of as many as there are
+pub appended-some : (values : List (Option (List ℕ))) (n count : ℕ) (old new : List ℕ) → n ≤ count
+    → new ≡ old ++ joined (take n values) → AppendsSome old new (take count values)
+appended-some values n count old new within is =
+    let some = take count values in (
+      joined (take n values),
+      joined (drop n some),
+      ap joined (sym (take-append-drop n some)) ∙ joined-append (take n some) (drop n some)
+          ∙ ap (λ l. joined l ++ joined (drop n some)) (take-take n count values within),
+      is,
+    )
+
+-- the same of all
+pub appended-front : (values : List (Option (List ℕ))) (n : ℕ) (old new : List ℕ)
+    → new ≡ old ++ joined (take n values) → AppendsSome old new values
+appended-front values n old new is = (
+  joined (take n values),
+  joined (drop n values),
+  ap joined (sym (take-append-drop n values)) ∙ joined-append (take n values) (drop n values),
+  is,
+)
 
 -- a piece and those before it have no more bytes than all
 pub piece-within : (values : List (Option (List ℕ))) (n : ℕ) (bytes : List ℕ) → n < length values

@@ -1,5 +1,5 @@
 -- What a round's pieces answer together.
-use Rattle.std.specs.Prelude.{ℕ, suc, ◌+◌, List, [], ◌∷◌, ◌++◌, Option, Some, None, option_map, Result, Ok, Err}
+use Rattle.std.specs.Prelude.{◌≡◌, ℕ, suc, ◌+◌, List, [], ◌∷◌, ◌++◌, Option, Some, None, option_map, Result, Ok, Err}
 use Rattle.container_core.specs.declared.fault.OpenFault.{OpenFault}
 use Rattle.container_core.specs.declared.fault.OpenFault.TheVariants.{Forged}
 
@@ -8,6 +8,11 @@ abbrev pub joined : List (Option (List ℕ)) → List ℕ
 joined [] = []
 joined (None ∷ values) = joined values
 joined (Some bytes ∷ values) = bytes ++ joined values
+
+-- a front of the joined values was appended
+abbrev pub AppendsSome : List ℕ → List ℕ → List (Option (List ℕ)) → Type 0
+AppendsSome old new values =
+    (some : List ℕ) × (rest : List ℕ) × (joined values ≡ some ++ rest) × (new ≡ old ++ some)
 
 -- the least number that has no value, if there is one
 abbrev pub first_refused : List (Option (List ℕ)) → Option ℕ

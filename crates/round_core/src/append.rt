@@ -1,7 +1,7 @@
 //! The bytes of a round's pieces taken from their places, one behind the other: copied, or with their buffers.
 ghost use Rattle.std.specs.Prelude.{◌≡◌, ◌+◌, ◌<◌, ◌≤◌, ◌++◌, ◌∷◌, [], length, map, take, All, OnOk, OnErr};
 ghost use Rattle.std.specs.Prelude.{vec_len, vec_capacity};
-ghost use Rattle.round_core.specs.Answer.{joined};
+ghost use Rattle.round_core.specs.Answer.{joined, AppendsSome};
 ghost use Rattle.round_core.specs.Rooms.{shown, HasRoom};
 
 use crate::parts::Parts;
@@ -20,6 +20,7 @@ fn move_piece(
 ) -> Result<(), AllocError>
     requires room { HasRoom size piece.old }
     ensures bytes { OnOk result (out.new ≡ out.old ++ joined (shown piece.old ∷ [])) }
+    ensures kept { OnErr result (out.new ≡ out.old) }
     ensures room { HasRoom size piece.new }
 {
     if !piece.checks {
@@ -41,6 +42,7 @@ fn move_pieces(
     requires count { count ≤ vec_len pieces.old }
     requires room { All (HasRoom size) pieces.old.items }
     ensures bytes { OnOk result (out.new ≡ out.old ++ joined (take count (map shown pieces.old.items))) }
+    ensures kept { OnErr result (AppendsSome out.old out.new (take count (map shown pieces.old.items))) }
     ensures room { All (HasRoom size) pieces.new.items }
     ensures count { vec_len pieces.new ≡ vec_len pieces.old }
 {
@@ -55,6 +57,7 @@ impl Places {
     /// where it has no room for them. `AllocError`, with some of them appended, where that was refused.
     pub fn append_to(&self, out: &mut Vec<u8>) -> Result<(), AllocError>
         ensures items { OnOk result (out.new.items ≡ out.old.items ++ joined self.now.values) }
+        ensures kept { OnErr result (AppendsSome out.old.items out.new.items self.now.values) }
         ensures full { OnErr result (vec_capacity out.old < vec_len out.old + length (joined self.now.values)) }
         ensures room { OnOk result (vec_capacity out.old ≤ vec_capacity out.new) }
     {
@@ -71,6 +74,7 @@ impl Places {
     /// `AllocError`, with some of them moved, where memory was refused.
     pub fn move_to(&mut self, alloc: Global, out: &mut Parts) -> Result<(), AllocError>
         ensures bytes { OnOk result (out.new ≡ out.old ++ joined self.old.values) }
+        ensures kept { OnErr result (AppendsSome out.old out.new self.old.values) }
         ensures values { OnOk result (self.new.values ≡ []) }
         ensures room { self.new.room ≡ self.old.room }
         ensures size { self.new.size ≡ self.old.size }
@@ -84,6 +88,7 @@ impl Places {
     /// the bytes moved, where memory for the list of buffers was refused.
     pub fn pour_to(&mut self, alloc: Global, out: &mut Parts) -> Result<(), AllocError>
         ensures bytes { OnOk result (out.new ≡ out.old ++ joined self.old.values) }
+        ensures kept { OnErr result (AppendsSome out.old out.new self.old.values) }
         ensures values { self.new.values ≡ [] }
         ensures room { self.new.room ≡ 0 }
         ensures size { self.new.size ≡ self.old.size }

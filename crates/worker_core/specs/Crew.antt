@@ -31,6 +31,14 @@ pub record HasDrawn (claims : ClaimsView) (count : ℕ) (numbers : List ℕ) (cl
   pub drawn : claimant.drawn ≡ numbers
   pub ends : claimant.ends ≡ count
 
+-- the word of a round that has so many pieces, from which so many workers draw
+pub record WordView : Type 0 where
+  pub pieces : ℕ
+  pub workers : ℕ
+
+abbrev pub word_of : ℕ → ℕ → WordView
+word_of pieces workers = record { pieces = pieces; workers = workers }
+
 -- a crew, as its callers see it: how many workers it has, how many pieces each may make, in buffers of how many bytes,
 -- and the pieces that were made and not put on their places
 pub record CrewView : Type 0 where

@@ -5,6 +5,7 @@
 #![tactic(auto)]
 
 pub mod rounds;
+mod word;
 mod workers;
 
 pub use crate::rounds::Crew;

@@ -1,13 +1,15 @@
 //! Rounds made by a crew: so many workers, each with room for all pieces of a round, which is made before any starts.
 //!
 //! `Crew::make` makes the pieces of a round, in whatever order, and `Crew::put` puts them on their places. For a round
-//! it starts its threads and allocates the one word from which the numbers are drawn; without that word the caller's
-//! thread works alone. So once a crew is there, neither answers that memory was refused; a chore may.
+//! it starts its threads, and takes the one word from which the numbers are drawn: one that `Crew::reserve` made, or
+//! else a new one; without a word the caller's thread works alone. So once a crew is there, neither answers that memory
+//! was refused; a chore may.
 ghost use Rattle.std.specs.Prelude.{◌≡◌, ◌<◌, ◌≤◌, [], length, map, All, IfOk};
 ghost use Rattle.round_core.specs.Parts.{room_of};
 ghost use Rattle.round_core.specs.Pieces.{all_made, emptied, Covers, IsPiece};
 ghost use Rattle.worker_core.specs.Crew.{AreWorked, HasMade, IsOfCrew, IsReady, idle};
 
+use crate::word::Word;
 use crate::workers::make_round;
 use gate_core::{Gate, MAX_WORKERS};
 use round_core::{Bench, Places, Round};
@@ -22,6 +24,8 @@ pub struct Crew {
     room: u32,
     size: usize,
     benches: Vec<Bench>,
+    // The words of rounds to come, that of the next one last.
+    words: Vec<Word>,
 }
 
 impl Model for Crew {
@@ -55,10 +59,28 @@ fn benches_of(alloc: Global, workers: u32, room: u32, size: usize) -> Result<Vec
     Ok(benches)
 }
 
+// The words of the rounds of a body of so many chunks, cut into rounds of so many and a last one of the rest, for so
+// many workers or, where a round has fewer pieces, for as many. That of the first round is the last.
+fn words_of(alloc: Global, chunks: u32, each: u32, workers: u32) -> Result<Vec<Word>, AllocError>
+    requires chunks { 0 < chunks }
+    requires each { 0 < each }
+    requires workers { (0 < workers) × (workers ≤ MAX_WORKERS) }
+{
+    let full = (chunks - 1) / each;
+    let rest = (chunks - 1) % each + 1;
+    let mut words = Vec::with_capacity(alloc, full as usize + 1)?;
+    words.push(Word::new(alloc, rest, workers.min(rest))?)?;
+    for _n in 0..full {
+        words.push(Word::new(alloc, each, workers.min(each))?)?;
+    }
+    Ok(words)
+}
+
 // Makes the pieces of a round on benches that have none, and room for all.
 fn make_on<R: Threads + Sync, G: Gate + Sync, C: FnMut() -> A, A>(
     rt: &R,
     alloc: Global,
+    kept: Option<Word>,
     round: &Round,
     benches: &mut Vec<Bench>,
     gate: &G,
@@ -71,7 +93,7 @@ fn make_on<R: Threads + Sync, G: Gate + Sync, C: FnMut() -> A, A>(
     ensures made { Covers round.now benches.new.items }
     ensures worked { AreWorked round.now benches.old.items benches.new.items }
 {
-    make_round(rt, alloc, round, benches.as_mut_slice(), gate, chore)
+    make_round(rt, alloc, kept, round, benches.as_mut_slice(), gate, chore)
 }
 
 // Puts the pieces of a round from benches that have them all onto their places.
@@ -95,17 +117,33 @@ impl Crew {
         ensures { IfOk result (λ crew. crew ≡ idle workers room size) }
     {
         let benches = benches_of(alloc, workers, room, size)?;
+        let words = Vec::new(alloc);
         Ok(Crew {
             room,
             size,
             benches,
+            words,
         })
+    }
+
+    /// Takes the memory of all words of a body of so many chunks beforehand, where each round but the last has as many
+    /// pieces as there is room for. `AllocError` where it was refused. A single worker needs none.
+    pub fn reserve(&mut self, alloc: Global, chunks: u32) -> Result<(), AllocError>
+        requires chunks { 0 < chunks }
+        requires room { 0 < self.old.room }
+        ensures { self.new ≡ self.old }
+    {
+        let workers = self.benches.len() as u32;
+        if workers > 1 {
+            self.words = words_of(alloc, chunks, self.room, workers)?;
+        }
+        Ok(())
     }
 
     /// Makes all pieces of a round, each by the worker that draws its number, while the caller's thread, worker 0,
     /// does a chore first and then draws as the others do. Each worker passes the gate before each piece. A worker
-    /// that can't be started makes nothing, and where memory for the numbers' word is refused the caller's thread
-    /// makes all.
+    /// that can't be started makes nothing, and where no word was reserved and memory for one is refused the caller's
+    /// thread makes all.
     pub fn make<R: Threads + Sync, G: Gate + Sync, C: FnMut() -> A, A>(
         &mut self,
         rt: &R,
@@ -124,7 +162,8 @@ impl Crew {
         ensures room { self.new.room ≡ self.old.room }
         ensures size { self.new.size ≡ self.old.size }
     {
-        make_on(rt, alloc, round, &mut self.benches, gate, chore)
+        let kept = self.words.pop();
+        make_on(rt, alloc, kept, round, &mut self.benches, gate, chore)
     }
 
     /// Puts the pieces of a round, which are all there, on their places, and has none left. Takes no memory.

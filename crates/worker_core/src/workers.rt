@@ -8,6 +8,7 @@ ghost use Rattle.claim_core.specs.Claims.{times};
 ghost use Rattle.round_core.specs.Pieces.{all_made, number_of, Covers};
 ghost use Rattle.worker_core.specs.Crew.{AreWorked, HasDrawn, IsReady, IsWorked};
 
+use crate::word::{Word, word_for};
 use claim_core::{Claimant, Claims};
 use gate_core::{Gate, MAX_WORKERS};
 use round_core::{Bench, Round};
@@ -145,6 +146,7 @@ fn crew_beside<R: Threads + Sync, G: Gate + Sync, C: FnMut() -> A, A>(
 fn make_by<R: Threads + Sync, G: Gate + Sync, C: FnMut() -> A, A>(
     rt: &R,
     alloc: Global,
+    kept: Option<Word>,
     round: &Round,
     benches: &mut [Bench],
     gate: &G,
@@ -159,7 +161,8 @@ fn make_by<R: Threads + Sync, G: Gate + Sync, C: FnMut() -> A, A>(
 {
     let workers = benches.len();
     if workers > 1 {
-        if let Ok((claims, mut claimant)) = Claims::open(alloc, round.count(), workers as u32) {
+        if let Some(word) = word_for(alloc, kept, round.count(), workers as u32) {
+            let (claims, mut claimant) = word.parts();
             let done = crew(rt, round, &claims, gate, &mut claimant, benches, chore);
             claims.close(claimant);
             return done;
@@ -176,6 +179,7 @@ fn make_by<R: Threads + Sync, G: Gate + Sync, C: FnMut() -> A, A>(
 pub(crate) fn make_round<R: Threads + Sync, G: Gate + Sync, C: FnMut() -> A, A>(
     rt: &R,
     alloc: Global,
+    kept: Option<Word>,
     round: &Round,
     benches: &mut [Bench],
     gate: &G,
@@ -191,5 +195,5 @@ pub(crate) fn make_round<R: Threads + Sync, G: Gate + Sync, C: FnMut() -> A, A>(
     // A worker more than there are pieces would have none.
     let workers = benches.len().min(round.count() as usize);
     let (used, _) = benches.split_at_mut(workers);
-    make_by(rt, alloc, round, used, gate, chore)
+    make_by(rt, alloc, kept, round, used, gate, chore)
 }

@@ -1,10 +1,10 @@
-use Rattle.std.proofs.Common.{rules, ◌≡◌, ◌<◌, ◌++◌, ◌∷◌, [], length, map, get_or, None, ap, sym, ◌∙◌, arith}
+use Rattle.std.proofs.Common.{rules, ◌≡◌, ◌<◌, ◌++◌, ◌∷◌, [], length, map, take, get_or, None, ap, sym, ◌∙◌, arith}
 use Rattle.std.proofs.Common.{get_or-set_other}
 use Rattle.std.proofs.lemmas.List.{get_or-map, length-map}
 use Rattle.std.proofs.lemmas.List.Elements.{All-set}
 use Rattle.round_core.specs.Answer.{joined}
 use Rattle.round_core.specs.Rooms.{shown, HasRoom}
-use Rattle.round_core.proofs.AppendLemmas.{appended-more}
+use Rattle.round_core.proofs.AppendLemmas.{appended-more, appended-some, at-error}
 use Rattle.round_core.proofs.append.move_pieces.Goals as goal
 
 pub moving-preserved : goal.moving-preserved
@@ -25,3 +25,11 @@ moving-preserved c =
           (omega (arith, at, length-map old shown)) is before.bytes more;
       rest = λ k d past. get_or-set_other now n k c.move_piece.new.piece d (λ same. omega (arith, past, same)) ∙ before.rest k d (omega (arith, past));
     }
+
+pub returns-in_err-move_piece-clause-kept : goal.returns-in_err-move_piece-clause-kept
+returns-in_err-move_piece-clause-kept c =
+    let moved : c.move_piece.new.out ≡ c.args.out.now ++ joined (take c.moving.number (map shown c.args.pieces.now.items)) =
+    c.in_err-move_piece.ensures.kept ∙ c.moving.invariant.bytes in
+    at-error c.from_residual.result _
+    (appended-some (map shown c.args.pieces.now.items) c.moving.number c.args.count c.args.out.now c.move_piece.new.out
+    (search rules) moved)

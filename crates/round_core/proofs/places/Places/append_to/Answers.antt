@@ -1,6 +1,6 @@
 use Rattle.std.proofs.Common.{rules, ◌≡◌, ◌<◌, ◌++◌, length, take, get_or, Some, None, List, ℕ, ap, sym, ◌∙◌, append-nil, length-append}
 use Rattle.round_core.specs.Answer.{joined}
-use Rattle.round_core.proofs.AppendLemmas.{appended-more, piece-within}
+use Rattle.round_core.proofs.AppendLemmas.{appended-front, appended-more, at-error, piece-within}
 use Rattle.round_core.proofs.places.Places.append_to.Goals.{in-Some+in_ok-extend_from_slice, in_default}
 use Rattle.round_core.proofs.places.Places.append_to.Goals as goal
 
@@ -16,6 +16,11 @@ returns-in_err-extend_from_slice-clause-full c =
     let long : length c.appending.out.items ≡ length (c.args.out.now.items ++ joined (take n values)) =
     ap (λ (l : List ℕ). length l) before.items in
     search rules
+
+pub returns-in_err-extend_from_slice-clause-kept : goal.returns-in_err-extend_from_slice-clause-kept
+returns-in_err-extend_from_slice-clause-kept c =
+    at-error c.from_residual.result _
+    (appended-front c.args.self.now.values c.appending.number c.args.out.now.items c.extend_from_slice.new.self.items (search rules))
 
 pub appending-preserved : goal.appending-preserved
 appending-preserved c =

@@ -1,0 +1,9 @@
+//! What the limit of a batch is, as the contract of a function that does nothing.
+ghost use Rattle.std.specs.Prelude.{◌≡◌};
+
+use crate::MAX_JOBS;
+
+/// The constant is the number that users are told.
+pub fn limits()
+    ensures jobs { MAX_JOBS ≡ 65535 }
+{}

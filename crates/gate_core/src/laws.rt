@@ -1,0 +1,19 @@
+//! What the limits are, as the contract of a function that does nothing.
+ghost use Rattle.std.specs.Prelude.{◌≡◌, ◌^◌};
+
+use crate::{
+    CREW_BYTES, DEFAULT_WINDOW, MAX_DEPTH, MAX_LANES, MAX_WINDOW, MAX_WORKERS, OPENING_BYTES,
+    ROUND_BYTES,
+};
+
+/// The constants are the numbers that users are told.
+pub fn limits()
+    ensures workers { MAX_WORKERS ≡ 16 }
+    ensures lanes { MAX_LANES ≡ 16 }
+    ensures window { MAX_WINDOW ≡ 256 }
+    ensures usual { DEFAULT_WINDOW ≡ 16 }
+    ensures depth { MAX_DEPTH ≡ 64 }
+    ensures round { ROUND_BYTES ≡ 2 ^ 20 }
+    ensures opening { OPENING_BYTES ≡ 2 ^ 18 }
+    ensures crew { CREW_BYTES ≡ 2 ^ 21 }
+{}
