@@ -1,8 +1,8 @@
 //! The engines: sealing, opening and verifying from any reader to any writer, and the audit of a journal.
 //!
-//! Those that open and verify are `opening_core`'s. Of those that seal `one` has the one of one thread, `run` those with
-//! workers, which write the same container, and `pipe` the one that seals a stream of any length; `reading` reads a
-//! plaintext whole. `auditor` has the audit.
+//! Those that open and verify are `opening_core`'s. Of those that seal `one` has the one of one thread, `run` those
+//! with workers, which write the same container, and `pipe` the one that seals a stream of any length; `reading` reads
+//! a plaintext whole. `auditor` has the audit.
 #![tactic(auto)]
 
 pub mod auditor;
@@ -17,6 +17,6 @@ pub use crate::pipe::run_pipe;
 pub use crate::reading::read_plain;
 pub use crate::run::{run_seal, run_seal_by};
 pub use opening_core::{
-    Plaintext, open_one, run_check, run_open, run_open_by, run_plain, run_plain_by, run_read,
-    run_verify, run_verify_by, verify_one,
+    Plaintext, Readings, Stopped, open_one, run_check, run_open, run_open_by, run_open_twice,
+    run_plain, run_plain_by, run_read, run_verify, run_verify_by, verify_one, write_again,
 };

@@ -21,8 +21,8 @@ use std::thread::Threads;
 /// key and a grant's prefix, sealed by 1 to 16 workers that live as long as the stream, where at most `depth` chunks (1
 /// to 64) are read and not yet written. Answers the stream's length. `TooManyChunks` where a byte stands behind so many
 /// full chunks, and nothing past it is read; never `TooLong`. At every fault what was written begins the container of
-/// the whole stream. The header is written before anything is read. Memory is taken for at most `depth` chunks, two
-/// queues and a bell for each worker.
+/// the whole stream. At `Write` it isn't all of that, and at `OutOfMemory` no more than the header. The header is
+/// written before anything is read. Memory is taken for at most `depth` chunks, two queues and a bell for each worker.
 ///
 /// What the writer may hold, where that is bounded, has to allow the container of any plaintext.
 pub fn run_pipe<T: Threads + Wait + Sync, R: Source, W: Output, G: Gate + Sync>(

@@ -1,8 +1,8 @@
 //! Sealing with any number of workers, a round of the input at a time: what is written is the container that one thread
 //! makes.
 //!
-//! A container is written as its plaintext is read, and the grant comes back spent: sealed with `Ok`, else void. A round
-//! is so many chunks of the size that the shape names, 2^12 to 2^20 bytes.
+//! A container is written as its plaintext is read, and the grant comes back spent: sealed with `Ok`, else void. A
+//! round is so many chunks of the size that the shape names, 2^12 to 2^20 bytes.
 ghost use Rattle.std.specs.Prelude.{◌≡◌, ◌≢◌, ℕ, ◌<◌, ◌≤◌, List, Err, OnOk, OnErr};
 ghost use Rattle.container_core.specs.Container.{container};
 ghost use Rattle.journal_core.specs.declared.entry.Way.TheVariants.{Sealed, Void};
@@ -26,9 +26,9 @@ use std::thread::Threads;
 /// input, where at most two windows of chunks are read and not written. Answers the input's length. `TooLong` where a
 /// byte more was read, and nothing past it is; the round in hand is dropped then, and those before it were written. At
 /// every fault what was written begins the container of the input (or, where the reader tells nothing, of some
-/// plaintext), and at `OutOfMemory` it is nothing. Memory is taken before anything is written: two windows of chunks,
-/// two queues and a bell for each worker; of an input that ends within the first round a buffer for each chunk, or for
-/// each block of small ones, and no queue where one worker suffices.
+/// plaintext). At `Write` it isn't all of that, and at `OutOfMemory` it is nothing. Memory is taken before anything is
+/// written: two windows of chunks, two queues and a bell for each worker; of an input that ends within the first round
+/// a buffer for each chunk, or for each block of small ones, and no queue where one worker suffices.
 ///
 /// What the writer may hold, where that is bounded, has to allow the container of any plaintext. So a run
 /// that is killed left no more than a beginning of that.

@@ -24,6 +24,8 @@ mod sealed;
 #[cfg(test)]
 mod shapes;
 #[cfg(test)]
+mod twice;
+#[cfg(test)]
 mod two_chunks;
 #[cfg(test)]
 mod windows;

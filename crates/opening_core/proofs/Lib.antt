@@ -2,4 +2,8 @@ pub mod AnswerLemmas
 pub mod FrontLemmas
 pub mod OpeningRounds
 pub mod PieceLemmas
+pub mod PourLemmas
 pub mod ReadingLemmas
+pub mod SentLemmas
+pub mod TakingLemmas
+pub mod TwiceLemmas

@@ -1,6 +1,6 @@
 -- Opening in rounds: what opened so far, and what is in hand.
 use Rattle.std.proofs.Common.{◌≡◌, ℕ, zero, suc, ◌+◌, ◌-◌, ◌*◌, ◌<◌, ◌≤◌, ◌⊎◌, inl, inr, true, List, [], ◌∷◌, ◌++◌}
-use Rattle.std.proofs.Common.{length, take, get_or, Option, Some, None, Result, Ok, Err, IfSome, IfOk, OnOk, refl, ap, sym, subst, ◌∙◌}
+use Rattle.std.proofs.Common.{length, take, get_or, Option, Some, None, Result, Ok, Err, IfSome, IfOk, refl, ap, sym, subst, ◌∙◌}
 use lib.Seq.{take-suc}
 use Rattle.std.proofs.Common.{arith, zero-mul, append_assoc, length-append, length-take-le}
 use Rattle.std.proofs.lemmas.Bool.{cases_lt}
@@ -8,7 +8,7 @@ use Rattle.std.proofs.lemmas.List.{take_at, take_all}
 use Rattle.std.proofs.lemmas.Result.{IfOk-weaker}
 use Rattle.std.proofs.Math.Nat.{mul-le-mul_right}
 use Rattle.std.proofs.KnownBytes.{Consumes-trans}
-use Rattle.io_core.specs.Streams.{Consumes}
+use Rattle.io_core.specs.Streams.{Appends, Consumes}
 use Rattle.container_core.specs.declared.fault.OpenFault.{OpenFault}
 use Rattle.container_core.specs.declared.fault.OpenFault.TheVariants.{TooLong, BadLength}
 use Rattle.container_core.specs.Chunks.{sealed_chunks, body_length, chunk_count, container_length, container_limit, most_of}
@@ -310,29 +310,21 @@ some-left size total header cut (suc n) held is long some = some (omega arith)
 -- ---- what opening in rounds answers
 
 -- what opening what stands behind a header answers
-abbrev pub Opened : Task → List ℕ → List ℕ → ℕ → Option (List ℕ) → Option (List ℕ) → List ℕ → ℕ → Type 0
-Opened task key header most left left' items n = (plain : List ℕ) × (n ≡ length plain) × Answers key header most left left' (Ok plain)
-    × (task ≡ Opening → items ≡ plain)
+abbrev pub Opened : Task → List ℕ → List ℕ → ℕ → Option (List ℕ) → Option (List ℕ) → Option (List ℕ) → Option (List ℕ) → ℕ → Type 0
+Opened task key header most left left' taken taken' n = (plain : List ℕ) × (n ≡ length plain) × Answers key header most left left' (Ok plain)
+    × (task ≡ Opening → Appends taken taken' plain)
 
 if_some : (o : Option (List ℕ)) (P Q : List ℕ → Type 0) → ((x : List ℕ) → P x → Q x) → IfSome o P → IfSome o Q
 if_some None P Q weaker p = tt
 if_some (Some x) P Q weaker p = weaker x p
 
-pub rounds-length : (task : Task) (key header items : List ℕ) (most : ℕ) (left left' left'' : Option (List ℕ))
+pub rounds-length : (task : Task) (key header : List ℕ) (most : ℕ) (left left' left'' taken taken' : Option (List ℕ))
     (result : Result ℕ OpenFault) → SaysLength key header → Consumes left left' header
-    → IfOk result (Opened task key header most left' left'' items)
+    → IfOk result (Opened task key header most left' left'' taken taken')
     → IfOk result (λ n. IfSome left (λ input. OpensTo key most input n))
-rounds-length task key header items most left left' left'' result says first opened =
+rounds-length task key header most left left' left'' taken taken' result says first opened =
     IfOk-weaker result _ _ (λ n o. opens_to o.0 n o.1 (input-answers key header most left left' left'' (Ok o.0) says first o.2)) opened
   where
     opens_to : (plain : List ℕ) (n : ℕ) → n ≡ length plain → IfSome left (λ input. opening key most input ≡ Ok plain)
         → IfSome left (λ input. OpensTo key most input n)
     opens_to plain n is opens = if_some left _ _ (λ input e. (plain, e, is)) opens
-
-pub rounds-plain : (task : Task) (key header items : List ℕ) (most : ℕ) (left left' left'' : Option (List ℕ))
-    (result : Result ℕ OpenFault) → SaysLength key header → Consumes left left' header
-    → IfOk result (Opened task key header most left' left'' items)
-    → OnOk result (task ≡ Opening → IfSome left (λ input. opening key most input ≡ Ok items))
-rounds-plain task key header items most left left' left'' result says first opened =
-    IfOk-weaker result _ _ (λ n o opening. input-answers key header most left left' left'' (Ok items) says first
-    (subst (λ (p : List ℕ). Answers key header most left' left'' (Ok p)) (sym (o.3 opening)) o.2)) opened

@@ -1,13 +1,13 @@
 -- Inside: what the functions tell each other that open in rounds.
-use Rattle.std.specs.Prelude.{◌≡◌, ◌⊎◌, ℕ, ◌+◌, ◌-◌, ◌*◌, ◌<◌, ◌≤◌, ◌++◌, Bool, List, [], ◌∷◌, length, Option}
-use Rattle.std.specs.Prelude.{Result, Ok, OnOk, OnErr, IfErr}
+use Rattle.std.specs.Prelude.{◌≡◌, ◌⊎◌, ℕ, ◌+◌, ◌-◌, ◌*◌, ◌<◌, ◌≤◌, ◌++◌, Bool, true, List, [], ◌∷◌, length, Option}
+use Rattle.std.specs.Prelude.{Some, None, Result, Ok, OnOk, OnErr, IfSome}
 use Rattle.container_core.specs.Chunks.{sealed_chunks}
 use Rattle.container_core.specs.Container.{size_in}
 use Rattle.container_core.specs.declared.fault.OpenFault.{OpenFault}
 use Rattle.container_core.specs.declared.fault.OpenFault.TheVariants as opening_fault
-use Rattle.container_core.specs.Opening.{unsealed_by}
+use Rattle.container_core.specs.Opening.{opening, unsealed_by}
 use Rattle.io_core.specs.Reads.{ConsumesUpTo}
-use Rattle.io_core.specs.Streams.{Consumes, IsAtEnd, counted}
+use Rattle.io_core.specs.Streams.{Appends, AppendsFront, Consumes, IsAtEnd, IsFront, counted}
 use Rattle.round_core.specs.declared.round.Task.{Task}
 use Rattle.round_core.specs.declared.round.Task.TheVariants.{Opening}
 use Rattle.container_core.specs.declared.TheConstants.{TAG}
@@ -16,7 +16,8 @@ use Rattle.round_core.specs.Answer.{joined}
 use Rattle.round_core.specs.Views.{PlacesView}
 use Rattle.worker_core.specs.Crew.{CrewView}
 use Rattle.window_core.specs.Windows.{WindowView}
-use Rattle.opening_core.specs.Engine.{open_read_failed}
+use Rattle.opening_core.specs.Engine.{open_read_failed, open_write_failed}
+use Rattle.output_core.specs.Bounds.{Admits, Allows, Bound}
 
 -- a round opens, and where it isn't only checked this is its plaintext
 pub record OpensRound (task : Task) (key header : List ℕ) (first : ℕ) (last : Bool) (body joined : List ℕ)
@@ -25,19 +26,33 @@ pub record OpensRound (task : Task) (key header : List ℕ) (first : ℕ) (last 
   pub opens : unsealed_by key header first last (sealed_chunks (size_in header) body) ≡ Ok plain
   pub kept : task ≡ Opening → joined ≡ plain
 
--- What a turn did with its reader, the plaintext so far and the window that comes next.
-pub record HasTurned (left left' : Option (List ℕ)) (failures failures' : Option ℕ) (items items' : List ℕ)
-    (values : List (Option (List ℕ))) (next next' : WindowView) (ahead upto : ℕ) (result : Result (Unit {0}) OpenFault)
-    : Type 0 where
-  -- the pieces that waited are behind the plaintext
-  pub gathered : OnOk result (items' ≡ items ++ joined values)
+-- What was done with the pieces on their places and what takes them, which had taken `taken`, and has `taken'` now.
+pub record HasGathered (taken taken' : Option (List ℕ)) (failures failures' : Option ℕ) (bound bound' : Option Bound)
+    (values : List (Option (List ℕ))) (result : Result (Unit {0}) OpenFault) : Type 0 where
+  -- they are behind what it took before, or at a fault a front of them
+  pub all : OnOk result (Appends taken taken' (joined values))
+  pub begun : OnErr result (AppendsFront taken taken' (joined values))
+  -- a failed write is Write, and no other fault is
+  pub count : failures' ≡ counted (open_write_failed result) failures
+  pub same : bound' ≡ bound
+
+-- a fault of what takes the pieces: memory was refused, or, where it writes, a write failed
+abbrev pub IsTakingFault : Bool → OpenFault → Type 0
+IsTakingFault writes fault = (fault ≡ opening_fault.OutOfMemory) ⊎ ((fault ≡ opening_fault.Write) × (writes ≡ true))
+
+-- or of a read
+abbrev pub IsTurningFault : Bool → OpenFault → Type 0
+IsTurningFault writes fault = (fault ≡ opening_fault.Read) ⊎ IsTakingFault writes fault
+
+-- What a turn did with its reader and the window that comes next.
+pub record HasTurned (left left' : Option (List ℕ)) (failures failures' : Option ℕ) (next next' : WindowView)
+    (ahead upto : ℕ) (result : Result (Unit {0}) OpenFault) : Type 0 where
   -- what was read stands in the window, behind the byte that was seen
   pub read : OnOk result ((read : List ℕ) × Consumes left left' read × (next'.held ≡ ahead ∷ read))
   pub within : OnOk result (length next'.held ≤ upto)
   pub end : OnOk result (length next'.held < upto → IsAtEnd left')
   pub lost : OnErr result (ConsumesUpTo left left' (upto - 1))
   pub room : next.room ≤ next'.room
-  pub fault : IfErr result (λ fault. (fault ≡ opening_fault.OutOfMemory) ⊎ (fault ≡ opening_fault.Read))
   pub count : failures' ≡ counted (open_read_failed result) failures
 
 -- so many bytes of a container's body, in chunks of a size, can be opened by the crew, and their pieces put on the
@@ -47,3 +62,44 @@ pub record IsReady (task : Task) (size bytes : ℕ) (crew : CrewView) (places : 
   pub sizes : (crew.size ≡ room_of task size) × (places.size ≡ room_of task size)
   pub rooms : crew.room ≡ places.room
   pub enough : bytes ≤ places.room * (size + TAG)
+
+-- where what stands behind the header makes it open, what was taken begins the plaintext
+abbrev pub HasBegun : List ℕ → List ℕ → ℕ → Option (List ℕ) → Option (List ℕ) → Option (List ℕ) → Type 0
+HasBegun key header most left taken taken' =
+    IfSome left (λ rest. (plain : List ℕ) → opening key most (header ++ rest) ≡ Ok plain → AppendsFront taken taken' plain)
+
+-- the input opens, and what was taken is the plaintext, of so many bytes
+abbrev pub HasTaken : List ℕ → ℕ → Option (List ℕ) → Option (List ℕ) → Option (List ℕ) → ℕ → Type 0
+HasTaken key most left taken taken' n = (plain : List ℕ) × Appends taken taken' plain × (n ≡ length plain)
+    × IfSome left (λ input. opening key most input ≡ Ok plain)
+
+-- of a last round nothing was taken, or, where it opens, a beginning of its plaintext, behind the pieces that waited
+abbrev pub HasBegunLast : List ℕ → List ℕ → ℕ → List ℕ → List (Option (List ℕ)) → Option (List ℕ) → Option (List ℕ) → Type 0
+HasBegunLast key header first held waiting taken taken' =
+    AppendsFront taken taken' (joined waiting)
+    ⊎ ((last : List ℕ) × (unsealed_by key header first true (sealed_chunks (size_in header) held) ≡ Ok last)
+    × AppendsFront taken taken' (joined waiting ++ last))
+
+-- What was written of a container that wasn't opened to its end, whatever its bytes are: a beginning of what some chunks
+-- open to, from the first on, which stood behind `before` in front of what the reader had; or nothing.
+pub record HasSent (key header before : List ℕ) (left taken taken' : Option (List ℕ)) : Type 0 where
+  pub body : List ℕ
+  pub plain : List ℕ
+  pub last : Bool
+  pub read : IfSome left (IsFront (before ++ body))
+  pub checked : (plain ≡ []) ⊎ (unsealed_by key header 0 last (sealed_chunks (size_in header) body) ≡ Ok plain)
+  pub sent : AppendsFront taken taken' plain
+
+-- what stands behind the header makes it open, and a bounded output may hold the plaintext behind what it took
+abbrev pub MayTake : Task → List ℕ → List ℕ → ℕ → Option (List ℕ) → Option (List ℕ) → Bound → Type 0
+MayTake task key header most left taken bound = (task ≡ Opening) × (rest : List ℕ) × (plain : List ℕ) × (held : List ℕ)
+    × (left ≡ Some rest) × (opening key most (header ++ rest) ≡ Ok plain) × (taken ≡ Some held) × Allows bound (held ++ plain)
+
+-- an output may take the pieces that wait, and the plaintext of the last round behind them
+pub record MayTakeLast (task : Task) (key header : List ℕ) (first : ℕ) (held : List ℕ) (waiting : List (Option (List ℕ)))
+    (bound : Option Bound) (taken : Option (List ℕ)) : Type 0 where
+  pub before : Admits bound taken (joined waiting)
+  pub other : (task ≡ Opening → ⊥) → bound ≡ None
+  pub behind : task ≡ Opening → (last : List ℕ)
+      → unsealed_by key header first true (sealed_chunks (size_in header) held) ≡ Ok last
+      → Admits bound taken (joined waiting ++ last)

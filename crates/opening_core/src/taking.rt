@@ -1,49 +1,79 @@
-//! What the plaintext of an opening is taken to, piece by piece: one list of bytes, or the buffers in which the pieces
-//! were made.
-ghost use Rattle.std.specs.Prelude.{◌≡◌, ℕ, List, ◌++◌, OnOk};
+//! What the plaintext of an opening is taken to, piece by piece: one list of bytes, the buffers in which the pieces were
+//! made, or a writer (`pouring`).
+ghost use Rattle.std.specs.Prelude.{◌≡◌, ℕ, List, Bool, false, Option, Some, None, IfErr};
+ghost use Rattle.output_core.specs.Bounds.{Admits, Bound};
 ghost use Rattle.round_core.specs.Answer.{joined};
+ghost use Rattle.opening_core.specs.Windows.{HasGathered, IsTakingFault};
 
+use container_core::OpenFault;
 use round_core::{Parts, Places};
 use std::alloc::{AllocError, Global};
 
 /// What takes the pieces of rounds.
 pub(crate) trait Taking {
-    // The bytes that it took.
-    ghost bytes: { Self → List ℕ };
+    // The bytes that it took, where they are known.
+    ghost bytes: { Self → Option (List ℕ) };
 
-    /// Takes the pieces on their places behind those before. `AllocError` where memory for them was refused.
-    fn take(&mut self, alloc: Global, places: &mut Places) -> Result<(), AllocError>
-        ensures bytes { OnOk result (bytes self.new ≡ bytes self.old ++ joined places.old.values) }
-        ensures room { places.new.room ≡ places.old.room }
-        ensures size { places.new.size ≡ places.old.size };
+    // Whether it writes them, so that a write may fail.
+    ghost writes: { Bool } = { false };
 
-    /// The same of the last round, behind which the places serve no other.
-    fn take_last(&mut self, alloc: Global, places: &mut Places) -> Result<(), AllocError>
-        ensures bytes { OnOk result (bytes self.new ≡ bytes self.old ++ joined places.old.values) };
+    // How many writes failed so far, where that is known.
+    ghost failures: { Self → Option ℕ } = { λ _. None };
+
+    // What it may hold, where that is bounded.
+    ghost bound: { Self → Option Bound } = { λ _. None };
+
+    /// Takes the pieces on their places behind those before. `OutOfMemory` where memory for them was refused, `Write`
+    /// where a write failed: then a front of them was taken.
+    fn take(&mut self, alloc: Global, places: &mut Places) -> Result<(), OpenFault>
+        requires may { Admits (bound self.old) (bytes self.old) (joined places.old.values) }
+        ensures gathered { HasGathered (bytes self.old) (bytes self.new) (failures self.old) (failures self.new)
+            (bound self.old) (bound self.new) places.old.values result }
+        ensures fault { IfErr result (IsTakingFault writes) }
+        ensures places { (places.new.room ≡ places.old.room) × (places.new.size ≡ places.old.size) };
+
+    /// The same of the last round, after which the places serve no other.
+    fn take_last(&mut self, alloc: Global, places: &mut Places) -> Result<(), OpenFault>
+        requires may { Admits (bound self.old) (bytes self.old) (joined places.old.values) }
+        ensures gathered { HasGathered (bytes self.old) (bytes self.new) (failures self.old) (failures self.new)
+            (bound self.old) (bound self.new) places.old.values result }
+        ensures fault { IfErr result (IsTakingFault writes) };
 }
 
 /// Copied, behind one another.
 impl Taking for Vec<u8> {
-    ghost bytes = { λ out. out.items };
+    ghost bytes = { λ out. Some out.items };
 
-    fn take(&mut self, _alloc: Global, places: &mut Places) -> Result<(), AllocError> {
-        places.append_to(self)
+    fn take(&mut self, _alloc: Global, places: &mut Places) -> Result<(), OpenFault> {
+        match places.append_to(self) {
+            Ok(()) => Ok(()),
+            Err(AllocError) => Err(OpenFault::OutOfMemory),
+        }
     }
 
-    fn take_last(&mut self, _alloc: Global, places: &mut Places) -> Result<(), AllocError> {
-        places.append_to(self)
+    fn take_last(&mut self, _alloc: Global, places: &mut Places) -> Result<(), OpenFault> {
+        match places.append_to(self) {
+            Ok(()) => Ok(()),
+            Err(AllocError) => Err(OpenFault::OutOfMemory),
+        }
     }
 }
 
 /// With their buffers.
 impl Taking for Parts {
-    ghost bytes = { λ out. out };
+    ghost bytes = { λ out. Some out };
 
-    fn take(&mut self, alloc: Global, places: &mut Places) -> Result<(), AllocError> {
-        places.move_to(alloc, self)
+    fn take(&mut self, alloc: Global, places: &mut Places) -> Result<(), OpenFault> {
+        match places.move_to(alloc, self) {
+            Ok(()) => Ok(()),
+            Err(AllocError) => Err(OpenFault::OutOfMemory),
+        }
     }
 
-    fn take_last(&mut self, alloc: Global, places: &mut Places) -> Result<(), AllocError> {
-        places.pour_to(alloc, self)
+    fn take_last(&mut self, alloc: Global, places: &mut Places) -> Result<(), OpenFault> {
+        match places.pour_to(alloc, self) {
+            Ok(()) => Ok(()),
+            Err(AllocError) => Err(OpenFault::OutOfMemory),
+        }
     }
 }

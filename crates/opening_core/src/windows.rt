@@ -6,17 +6,21 @@
 //! first.
 ghost use Rattle.std.specs.Prelude.{◌≡◌, ◌≢◌, ◌⊎◌, ℕ, ◌+◌, ◌-◌, ◌*◌, ◌^◌, ◌<◌, ◌≤◌, ◌++◌, Bool, true, false, List};
 ghost use Rattle.std.specs.Prelude.{[], length, take, min, slice_index, Ok, Err, IfOk, IfErr, OnOk, OnErr, IfSome};
+ghost use Rattle.std.specs.Prelude.{Some, None};
 ghost use Rattle.container_core.specs.Chunks.{body_length, chunk_count, container_limit, most_chunk, sealed_chunks};
 ghost use Rattle.container_core.specs.Container.{size_in};
 ghost use Rattle.container_core.specs.Faults.{IsOfBytes};
 ghost use Rattle.container_core.specs.Opening.{longest, opening, unsealed_by};
 ghost use Rattle.io_core.specs.Reads.{ConsumesUpTo};
-ghost use Rattle.io_core.specs.Streams.{Consumes, IsAtEnd, counted};
+ghost use Rattle.io_core.specs.Streams.{Appends, Consumes, IsAtEnd, counted};
+ghost use Rattle.output_core.specs.Bounds.{Admits};
 ghost use Rattle.round_core.specs.Values.{round_of, values_of};
 ghost use Rattle.round_core.specs.Answer.{joined};
 ghost use Rattle.opening_core.specs.Engine.{HasHeader, HasReadContainer, OpensTo, open_read_failed};
+ghost use Rattle.opening_core.specs.Engine.{open_write_failed};
 ghost use Rattle.opening_core.specs.Fronts.{Answers, SaysLength};
-ghost use Rattle.opening_core.specs.Windows.{HasTurned, OpensRound, IsReady};
+ghost use Rattle.opening_core.specs.Windows.{HasBegun, HasBegunLast, HasGathered, HasSent, HasTaken, HasTurned};
+ghost use Rattle.opening_core.specs.Windows.{IsReady, IsTakingFault, IsTurningFault, MayTake, MayTakeLast, OpensRound};
 
 use crate::front::{open_front, refuse};
 use crate::rooms::{Rooms, byte_behind};
@@ -60,13 +64,18 @@ fn turn<R: Source, O: Taking>(
     ahead: u8,
     upto: usize,
 ) -> Result<(), OpenFault>
-    requires { (0 < upto) × (upto ≤ next.old.room) }
+    requires upto { (0 < upto) × (upto ≤ next.old.room) }
+    requires may { Admits (O.bound out.old) (O.bytes out.old) (joined places.old.values) }
     ensures turned { HasTurned (R.left reader.old) (R.left reader.new) (R.failures reader.old) (R.failures reader.new)
-        (O.bytes out.old) (O.bytes out.new) places.old.values next.old next.new ahead upto result }
+        next.old next.new ahead upto result }
+    ensures gathered { HasGathered (O.bytes out.old) (O.bytes out.new) (O.failures out.old) (O.failures out.new)
+        (O.bound out.old) (O.bound out.new) places.old.values result }
+    ensures fault { IfErr result (IsTurningFault O.writes) }
     ensures places { (places.new.room ≡ places.old.room) × (places.new.size ≡ places.old.size) }
 {
-    if out.take(alloc, places).is_err() {
-        return Err(OpenFault::OutOfMemory);
+    match out.take(alloc, places) {
+        Ok(()) => {}
+        Err(fault) => return Err(fault),
     }
     next.begin_with(ahead);
     match next.fill(reader, upto) {
@@ -196,14 +205,18 @@ fn open_full<T: Threads + Sync, R: Source, G: Gate + Sync, O: Taking>(
     requires numbers { first + chunks ≤ 2 ^ 32 }
     requires full { chunks * (size_in header.now + TAG) < length rooms.old.current.held }
     requires upto { (0 < upto) × (upto ≤ rooms.old.next.room) }
+    requires may { Admits (O.bound out.old) (O.bytes out.old) (joined rooms.old.places.values) }
     requires ready { IsReady task (size_in header.now) (chunks * (size_in header.now + TAG))
         rooms.old.crew rooms.old.places }
     ensures values { OnOk result (rooms.new.places.values ≡ values_of task key.now header.now first false
         (take (chunks * (size_in header.now + TAG)) rooms.old.current.held)) }
     ensures count { OnOk result (length rooms.new.places.values ≡ chunks) }
     ensures turned { HasTurned (R.left reader.old) (R.left reader.new) (R.failures reader.old) (R.failures reader.new)
-        (O.bytes out.old) (O.bytes out.new) rooms.old.places.values rooms.old.next rooms.new.current
+        rooms.old.next rooms.new.current
         (slice_index rooms.old.current.held (chunks * (size_in header.now + TAG))) upto result }
+    ensures gathered { HasGathered (O.bytes out.old) (O.bytes out.new) (O.failures out.old) (O.failures out.new)
+        (O.bound out.old) (O.bound out.new) rooms.old.places.values result }
+    ensures fault { IfErr result (IsTurningFault O.writes) }
     ensures ready { IsReady task (size_in header.now) (chunks * (size_in header.now + TAG))
         rooms.new.crew rooms.new.places }
     ensures room { rooms.new.next ≡ rooms.old.current }
@@ -219,10 +232,13 @@ fn open_full<T: Threads + Sync, R: Source, G: Gate + Sync, O: Taking>(
     let waiting = &mut *places;
     let behind = &mut *next;
     let mut chore = || -> Result<(), OpenFault>
-        requires { (0 < upto) × (upto ≤ behind.now.room) }
+        requires upto { (0 < upto) × (upto ≤ behind.now.room) }
+        requires may { Admits (O.bound out.now) (O.bytes out.now) (joined waiting.now.values) }
         ensures turned { HasTurned (R.left reader.entry.now) (R.left reader.exit.now) (R.failures reader.entry.now)
-            (R.failures reader.exit.now) (O.bytes out.entry.now) (O.bytes out.exit.now) waiting.entry.now.values
-            behind.entry.now behind.exit.now ahead upto result }
+            (R.failures reader.exit.now) behind.entry.now behind.exit.now ahead upto result }
+        ensures gathered { HasGathered (O.bytes out.entry.now) (O.bytes out.exit.now) (O.failures out.entry.now)
+            (O.failures out.exit.now) (O.bound out.entry.now) (O.bound out.exit.now) waiting.entry.now.values result }
+        ensures fault { IfErr result (IsTurningFault O.writes) }
         ensures places { (waiting.exit.now.room ≡ waiting.entry.now.room)
             × (waiting.exit.now.size ≡ waiting.entry.now.size) }
     { turn(alloc, reader, out, waiting, behind, ahead, upto) };
@@ -249,13 +265,19 @@ fn open_last<T: Threads + Sync, G: Gate + Sync, O: Taking>(
         × (plain ≤ MAX_CHUNKS * size_in header.now) × (first + chunk_count (size_in header.now) plain ≤ 2 ^ 32) }
     requires ready { IsReady task (size_in header.now) (length rooms.old.current.held)
         rooms.old.crew rooms.old.places }
+    requires may { MayTakeLast task key.now header.now first rooms.old.current.held rooms.old.places.values
+        (O.bound out.old) (O.bytes out.old) }
     ensures opened { OnOk result ((last : List ℕ)
         × OpensRound task key.now header.now first true rooms.old.current.held last
-        × (O.bytes out.new ≡ (O.bytes out.old ++ joined rooms.old.places.values) ++ last)) }
+        × Appends (O.bytes out.old) (O.bytes out.new) (joined rooms.old.places.values ++ last)) }
+    ensures begun { OnErr result (task ≡ Task.Opening
+        → HasBegunLast key.now header.now first rooms.old.current.held rooms.old.places.values
+        (O.bytes out.old) (O.bytes out.new)) }
     ensures refused { IfErr result (λ fault. IsOfBytes fault
         → unsealed_by key.now header.now first true (sealed_chunks (size_in header.now) rooms.old.current.held)
         ≡ Err fault) }
-    ensures fault { IfErr result (λ fault. IsOfBytes fault ⊎ (fault ≡ OpenFault.OutOfMemory)) }
+    ensures fault { IfErr result (λ fault. IsOfBytes fault ⊎ IsTakingFault O.writes fault) }
+    ensures writes { O.failures out.new ≡ counted (open_write_failed result) (O.failures out.old) }
 {
     pieces_by_number();
     chunks_by_number();
@@ -271,14 +293,17 @@ fn open_last<T: Threads + Sync, G: Gate + Sync, O: Taking>(
     };
     let round = Round::new(task, key, header, first, true, cut, bytes);
     let waiting = &mut *places;
-    let mut chore = || -> Result<(), AllocError>
-        ensures bytes { OnOk result (O.bytes out.exit.now
-            ≡ O.bytes out.entry.now ++ joined waiting.entry.now.values) }
+    let mut chore = || -> Result<(), OpenFault>
+        requires may { Admits (O.bound out.now) (O.bytes out.now) (joined waiting.now.values) }
+        ensures gathered { HasGathered (O.bytes out.entry.now) (O.bytes out.exit.now) (O.failures out.entry.now)
+            (O.failures out.exit.now) (O.bound out.entry.now) (O.bound out.exit.now) waiting.entry.now.values result }
+        ensures fault { IfErr result (IsTakingFault O.writes) }
         ensures places { (waiting.exit.now.room ≡ waiting.entry.now.room)
             × (waiting.exit.now.size ≡ waiting.entry.now.size) }
     { out.take(alloc, waiting) };
-    if crew.make(rt, alloc, &round, gate, &mut chore).is_err() {
-        return Err(OpenFault::OutOfMemory);
+    match crew.make(rt, alloc, &round, gate, &mut chore) {
+        Ok(()) => {}
+        Err(fault) => return Err(fault),
     }
     crew.put(&round, places);
     match checked(places, task, first) {
@@ -287,13 +312,13 @@ fn open_last<T: Threads + Sync, G: Gate + Sync, O: Taking>(
     }
     match out.take_last(alloc, places) {
         Ok(()) => Ok(()),
-        Err(AllocError) => Err(OpenFault::OutOfMemory),
+        Err(fault) => Err(fault),
     }
 }
 
 // Opens all that stands behind a header in rounds, has its plaintext taken where it isn't only checked, and answers how
 // many bytes that has.
-fn open_body<T: Threads + Sync, R: Source, G: Gate + Sync, O: Taking>(
+pub(crate) fn open_body<T: Threads + Sync, R: Source, G: Gate + Sync, O: Taking>(
     rt: &T,
     alloc: Global,
     task: Task,
@@ -313,16 +338,22 @@ fn open_body<T: Threads + Sync, R: Source, G: Gate + Sync, O: Taking>(
     requires max_bytes { max_bytes ≤ MAX_OPENED }
     requires workers { (0 < workers) × (workers ≤ MAX_WORKERS) }
     requires window { (0 < window) × (window ≤ MAX_WINDOW) }
-    requires empty { O.bytes out.old ≡ [] }
+    requires may { IfSome (O.bound out.old)
+        (MayTake task key.now header.now max_bytes (R.left reader.old) (O.bytes out.old)) }
     ensures opened { IfOk result (λ n. (plain : List ℕ) × (n ≡ length plain)
         × Answers key.now header.now max_bytes (R.left reader.old) (R.left reader.new) (Ok plain)
-        × (task ≡ Task.Opening → O.bytes out.new ≡ plain)) }
+        × (task ≡ Task.Opening → Appends (O.bytes out.old) (O.bytes out.new) plain)) }
+    ensures begun { OnErr result (task ≡ Task.Opening
+        → HasBegun key.now header.now max_bytes (R.left reader.old) (O.bytes out.old) (O.bytes out.new)) }
+    ensures sent { OnErr result (task ≡ Task.Opening
+        → HasSent key.now header.now [] (R.left reader.old) (O.bytes out.old) (O.bytes out.new)) }
     ensures refused { IfErr result (λ fault. IsOfBytes fault
         → Answers key.now header.now max_bytes (R.left reader.old) (R.left reader.new) (Err fault)) }
     ensures bound { ConsumesUpTo (R.left reader.old) (R.left reader.new)
         (longest max_bytes header.now + 1 - length header.now) }
-    ensures no_write { result ≢ Err OpenFault.Write }
+    ensures no_write { result ≡ Err OpenFault.Write → O.writes ≡ true }
     ensures count { R.failures reader.new ≡ counted (open_read_failed result) (R.failures reader.old) }
+    ensures writes { O.failures out.new ≡ counted (open_write_failed result) (O.failures out.old) }
 {
     // Rounds one behind the other open as the whole does.
     rounds_open();
@@ -381,13 +412,13 @@ pub(crate) fn open_rounds<T: Threads + Sync, R: Source, G: Gate + Sync, O: Takin
     requires max_bytes { max_bytes ≤ MAX_OPENED }
     requires workers { (0 < workers) × (workers ≤ MAX_WORKERS) }
     requires window { IfSome window (λ chunks. (0 < chunks) × (chunks ≤ MAX_WINDOW)) }
-    requires empty { O.bytes out.old ≡ [] }
+    requires unbounded { O.bound out.old ≡ None }
+    requires kept { O.writes ≡ false }
     ensures header { IfOk result (λ opened. IfSome (R.left reader.old) (HasHeader opened.0)) }
     ensures length { IfOk result (λ opened. IfSome (R.left reader.old) (λ input.
         OpensTo key.now max_bytes input opened.1)) }
-    ensures plaintext { OnOk result (task ≡ Task.Opening
-        → IfSome (R.left reader.old) (λ input. opening key.now max_bytes input ≡ Ok (O.bytes out.new))) }
-    ensures taken { IfOk result (λ opened. task ≡ Task.Opening → opened.1 ≡ length (O.bytes out.new)) }
+    ensures taken { IfOk result (λ opened. task ≡ Task.Opening
+        → HasTaken key.now max_bytes (R.left reader.old) (O.bytes out.old) (O.bytes out.new) opened.1) }
     ensures no_write { result ≢ Err OpenFault.Write }
     ensures reads { HasReadContainer key.now max_bytes (R.left reader.old) (R.left reader.new)
         (R.failures reader.old) (R.failures reader.new) result }

@@ -1,19 +1,23 @@
-use Rattle.std.proofs.Common.{rules, suc, ◌≡◌, ◌+◌, ◌-◌, true, false, ◌*◌, ◌<◌, ◌≤◌, ◌++◌, ℕ, List, [], Option, length, take, get_or, Ok, Err, sym, ap, ap₂, subst, ◌∙◌}
-use Rattle.std.proofs.Common.{arith, length-append, length-take-le}
+use Rattle.std.proofs.Common.{rules, suc, ◌≡◌, ◌+◌, ◌-◌, true, false, ◌*◌, inl, refl, ◌<◌, ◌≤◌, ◌++◌, ℕ, List, [], Option, length, take, get_or, Ok, Err, sym, ap, ap₂, subst, ◌∙◌}
+use Rattle.std.proofs.Common.{arith, append-nil, length-append, length-take-le}
 use Rattle.std.proofs.KnownBytes.{Consumes-trans}
 use Rattle.container_core.specs.Chunks.{body_length, most_of}
 use Rattle.container_core.specs.Container.{size_in}
 use Rattle.container_core.specs.Opening.{longest}
 use Rattle.container_core.proofs.OpeningLemmas.{some_size}
 use Rattle.container_core.proofs.PartsLemmas.{container_length-more, count-numbers, most_of-chunks}
-use Rattle.io_core.specs.Streams.{Consumes, IsAtEnd}
-use Rattle.round_core.specs.Answer.{joined}
+use Rattle.io_core.specs.Streams.{Appends, Consumes, IsAtEnd, counted}
 use Rattle.opening_core.specs.Fronts.{ReadsOn}
 use Rattle.opening_core.proofs.FrontLemmas.{container-few, early-of_bytes}
-use Rattle.opening_core.proofs.ReadingLemmas.{not_read, not_write}
+use Rattle.opening_core.specs.Engine.{open_write_failed}
+use Rattle.opening_core.proofs.ReadingLemmas.{not_read, not_write, not_written}
+use Rattle.opening_core.proofs.TakingLemmas.{begins-no_write, begins-unwritten, last-unread, last-writes, refuses-no_write, refuses-unwritten}
+use Rattle.opening_core.proofs.TakingLemmas.{turning-not_bytes, turning-writes}
 use Rattle.opening_core.proofs.AnswerLemmas.{answers-early, reads-same}
 use Rattle.opening_core.proofs.OpeningRounds.{opens-begin, opens-round, ahead-of, consumed-next, answers-refused, body-rest}
 use Rattle.opening_core.proofs.OpeningRounds.{answers-last, cut-under, first-few, opens-last, some-left, Refuses, Splits}
+use Rattle.opening_core.proofs.SentLemmas.{admits-last, admits-waiting, bounded-opens, begun-front, begun-last, begun-none, checks-more, front-more, front-sent, front-whole}
+use Rattle.opening_core.proofs.SentLemmas.{sent-all, sent-last, sent-more, sent-none, sent-nothing, sent-so_far, some-or-none}
 use Rattle.opening_core.proofs.windows.open_body.Goals.{then-rounds-test+else-held-size, else-rounds-test}
 use Rattle.opening_core.proofs.windows.open_body.Goals as goal
 
@@ -32,7 +36,11 @@ rounds-init g c = record {
   plain = [];
   consumed = c.in-Ok.ensures.held;
   opens = opens-begin c.args.key.now c.args.header.now;
-  kept = λ _. sym (ap₂ (λ x y. x ++ joined y) c.requires.empty c.in-Ok.ensures.places);
+  kept = λ _. sent-none (g.O.Taking.bytes c.args.out.now) _ c.in-Ok.ensures.places;
+  none = λ _. refl;
+  checks = λ more. absurd (omega arith);
+  bound = refl;
+  writes = refl;
   long = search rules;
   total = (search rules, search rules);
   held = search rules;
@@ -51,6 +59,51 @@ open_full-requires-clause-numbers g c κs within =
     c.args.window (length c.rounds.rooms.current.held) c.bytes-image.ensures.size.0 (omega (arith, many))
     (omega (arith, before.total.0, before.total.1, c.longest_bytes.ensures)) in
     omega (arith, few, c.requires.window)
+
+pub returns-in-Err-clause-no_write : goal.returns-in-Err-clause-no_write
+returns-in-Err-clause-no_write g c = λ write. absurd (begins-no_write _ c.in-Err.ensures.fault write)
+
+pub returns-in-Err-clause-writes : goal.returns-in-Err-clause-writes
+returns-in-Err-clause-writes g c = sym (ap (λ b. counted b (g.O.Taking.failures c.args.out.now)) (begins-unwritten _ c.in-Err.ensures.fault))
+
+pub returns-in-Err-open_full-clause-refused : goal.returns-in-Err-open_full-clause-refused
+returns-in-Err-open_full-clause-refused g c = λ own. absurd (turning-not_bytes _ _ c.in-Err-open_full.ensures.fault own)
+
+pub returns-in-Err-open_full-clause-no_write : goal.returns-in-Err-open_full-clause-no_write
+returns-in-Err-open_full-clause-no_write g c = λ write. turning-writes _ _ c.in-Err-open_full.ensures.fault write
+
+pub returns-in-Err-open_full-clause-writes : goal.returns-in-Err-open_full-clause-writes
+returns-in-Err-open_full-clause-writes g c =
+    c.in-Err-open_full.ensures.gathered.count ∙ ap (counted (open_write_failed {A = ℕ} (Err c.in-Err-open_full.fault))) c.rounds.invariant.writes
+
+pub returns-in-Err-checked-clause-no_write : goal.returns-in-Err-checked-clause-no_write
+returns-in-Err-checked-clause-no_write g c = λ write. absurd (refuses-no_write _ c.refuse.ensures.fault write)
+
+pub returns-in-Err-checked-clause-writes : goal.returns-in-Err-checked-clause-writes
+returns-in-Err-checked-clause-writes g c =
+    c.in-Ok-open_full.ensures.gathered.count ∙ c.rounds.invariant.writes
+    ∙ sym (ap (λ b. counted b (g.O.Taking.failures c.args.out.now)) (refuses-unwritten _ c.refuse.ensures.fault))
+
+pub returns-in-Err-begin_within-clause-writes : goal.returns-in-Err-begin_within-clause-writes
+returns-in-Err-begin_within-clause-writes g c =
+    let before = c.rounds.invariant in
+    let long = ap length c.bytes-image.ensures.bytes in
+    let own = early-of_bytes c.args.key.now c.bytes-image.result.now c.args.max_bytes c.rounds.total c.in-Err-begin_within.fault
+    (omega (arith, before.total.0, long)) c.in-Err-begin_within.ensures.fault in
+    before.writes ∙ sym (ap (λ b. counted b (g.O.Taking.failures c.args.out.now)) (not_written c.in-Err-begin_within.fault own))
+
+pub returns-clause-no_write : goal.returns-clause-no_write
+returns-clause-no_write g c = λ write. last-writes _ _ c.in-Err-open_last.ensures.fault write
+
+pub returns-clause-count : goal.returns-clause-count
+returns-clause-count g c =
+    c.rounds.invariant.count
+    ∙ sym (ap (λ b. counted b (g.R.Source.failures c.args.reader.now)) (last-unread _ _ c.in-Err-open_last.ensures.fault))
+
+pub returns-clause-writes : goal.returns-clause-writes
+returns-clause-writes g c =
+    let is : c.open_last.result ≡ Err c.in-Err-open_last.fault = search rules in
+    c.open_last.ensures.writes ∙ ap₂ (λ r n. counted (open_write_failed r) n) is c.rounds.invariant.writes
 
 pub returns-in-Err-open_full-clause-bound : goal.returns-in-Err-open_full-clause-bound
 returns-in-Err-open_full-clause-bound g c =
@@ -155,7 +208,13 @@ rounds-preserved g c =
       plain = before.plain ++ opened.plain;
       consumed = consumed-next _ _ _ before.past old bytes turned.0 held (get_or old size 0) split turned.2 before.consumed turned.1;
       opens = opens-round key header first c.args.window before.past before.plain bytes opened.plain splits before.opens;
-      kept = λ opening. ap₂ ◌++◌ (before.kept opening ∙ sym c.in-Ok-open_full.ensures.turned.gathered) (sym (opened.kept opening));
+      kept = λ opening. sent-more _ _ _ before.plain _ opened.plain _ (before.kept opening) c.in-Ok-open_full.ensures.gathered.all (sym (opened.kept opening));
+      none = λ zero. absurd (omega (arith, zero, c.requires.window.0));
+      checks = λ more. checks-more key header before.past before.plain bytes opened.plain (size_in header) first refl
+          (λ front rest plain count. c.rounds_open.ensures.opened key header (size_in header) 0 false front rest plain count)
+          before.long before.none before.checks (omega (arith, full, c.requires.window, some_size header)) opened.opens;
+      bound = c.open_full.ensures.gathered.same ∙ before.bound;
+      writes = c.in-Ok-open_full.ensures.gathered.count ∙ before.writes;
       long = omega (arith, before.long, past, full);
       total = (omega (arith, before.total.0, now, next, many), search rules);
       held = search rules;
@@ -197,7 +256,7 @@ returns-in-Err-begin_within-clause-no_write g c = λ write.
     let long = ap length c.bytes-image.ensures.bytes in
     let own = early-of_bytes c.args.key.now c.bytes-image.result.now c.args.max_bytes c.rounds.total c.in-Err-begin_within.fault
     (omega (arith, before.total.0, long)) c.in-Err-begin_within.ensures.fault in
-    not_write c.in-Err-begin_within.fault own write
+    absurd (not_write c.in-Err-begin_within.fault own write)
 
 pub returns-in-Err-begin_within-clause-count : goal.returns-in-Err-begin_within-clause-count
 returns-in-Err-begin_within-clause-count g c =
@@ -280,7 +339,8 @@ returns-in-Ok-open_last-clause-opened g c =
           c.requires.front (c.rounds_open.ensures.whole key header 0) before.opens reads some (omega (arith, count, all))
           (λ whole bytes front. c.in-Ok-begin_within.ensures.faultless whole bytes (named-front header c.bytes-image.result.now whole c.bytes-image.ensures.bytes front))
           opened.opens,
-      λ opening. taken ∙ ap₂ ◌++◌ (sym (before.kept opening)) (opened.kept opening),
+      λ opening. subst (λ (l : List ℕ). Appends (g.O.Taking.bytes c.args.out.now) (g.O.Taking.bytes c.open_last.new.out) (before.plain ++ l)) (opened.kept opening)
+          (sent-all _ _ _ before.plain _ last (before.kept opening) taken),
     )
 
 pub returns-clause-refused : goal.returns-clause-refused
@@ -307,3 +367,124 @@ returns-clause-refused g c = λ own.
     c.requires.front (c.rounds_open.ensures.whole key header 0) before.opens reads some (omega (arith, count, all))
     (λ whole bytes front. c.in-Ok-begin_within.ensures.faultless whole bytes (named-front header c.bytes-image.result.now whole c.bytes-image.ensures.bytes front))
     (c.in-Err-open_last.ensures.refused own)
+
+pub returns-in-Err-open_full-clause-begun : goal.returns-in-Err-open_full-clause-begun
+returns-in-Err-open_full-clause-begun g c = λ opening.
+    let before = c.rounds.invariant in
+    let some : 0 < length c.rounds.rooms.current.held = search rules in
+    begun-front c.args.key.now c.args.header.now c.args.max_bytes c.rounds.first _ _ _ _ before.past c.rounds.rooms.current.held before.plain
+    c.requires.front.whole (c.rounds_open.ensures.whole c.args.key.now c.args.header.now 0) before.opens before.consumed (inl some)
+    (λ p front. front-more _ _ _ before.plain _ p (before.kept opening) c.in-Err-open_full.ensures.gathered.begun front)
+
+pub returns-in-Err-checked-clause-begun : goal.returns-in-Err-checked-clause-begun
+returns-in-Err-checked-clause-begun g c = λ opening.
+    let before = c.rounds.invariant in
+    let some : 0 < length c.rounds.rooms.current.held = search rules in
+    begun-front c.args.key.now c.args.header.now c.args.max_bytes c.rounds.first _ _ _ _ before.past c.rounds.rooms.current.held before.plain
+    c.requires.front.whole (c.rounds_open.ensures.whole c.args.key.now c.args.header.now 0) before.opens before.consumed (inl some)
+    (λ p front. front-more _ _ _ before.plain _ p (before.kept opening) (front-whole _ _ _ c.in-Ok-open_full.ensures.gathered.all) front)
+
+pub returns-in-Err-begin_within-clause-begun : goal.returns-in-Err-begin_within-clause-begun
+returns-in-Err-begin_within-clause-begun g c = λ opening.
+    let before = c.rounds.invariant in
+    let held = c.rounds.rooms.current.held in
+    begun-front c.args.key.now c.args.header.now c.args.max_bytes c.rounds.first _ _ _ _ before.past held before.plain
+    c.requires.front.whole (c.rounds_open.ensures.whole c.args.key.now c.args.header.now 0) before.opens before.consumed
+    (some-or-none c.rounds.first held before.plain before.some before.none)
+    (λ p front. front-sent _ _ before.plain _ p (before.kept opening) front)
+
+pub returns-clause-begun : goal.returns-clause-begun
+returns-clause-begun g c = λ opening.
+    let before = c.rounds.invariant in
+    let key = c.args.key.now in
+    let header = c.args.header.now in
+    let size = size_in header in
+    let held = c.rounds.rooms.current.held in
+    let limit = c.longest_bytes.ensures ∙ sym c.requires.limit in
+    let under = cut-under key header c.bytes-image.result.now c.rounds.total c.in-Ok-begin_within.cut c.requires.front
+    c.bytes-image.ensures.bytes c.in-Ok-begin_within.ensures'.cut c.in-Ok-begin_within.ensures'.named in
+    let sized : c.in-Ok-begin_within.cut.size ≡ size = c.in-Ok-begin_within.ensures'.named ∙ ap size_in c.bytes-image.ensures.bytes in
+    let few = subst (λ (s : ℕ). c.in-Ok-begin_within.cut.plain ≤ most_of c.args.max_bytes s) sized c.in-Ok-begin_within.ensures'.few in
+    let fits = container_length-more (length header) size c.in-Ok-begin_within.cut.plain (most_of c.args.max_bytes size) (some_size header) few in
+    let some = some-left size c.rounds.total (length header) c.in-Ok-begin_within.cut.plain c.rounds.first (length held) before.total.0 under before.some in
+    let end : IsAtEnd (g.R.Source.left c.rounds.reader) =
+    elim c.rounds-test.branch [
+      | then-rounds-test+else-held-size w ↦ before.end (omega (arith, under, fits, c.longest_bytes.ensures)) (search rules)
+      | else-rounds-test w ↦ absurd (omega (arith, under, fits, c.longest_bytes.ensures, w.rounds-test.false))
+    ] in
+    begun-last key header c.args.max_bytes c.rounds.first _ _ _ _ _ before.past held before.plain c.rounds.rooms.places.values c.requires.front.whole
+    (c.rounds_open.ensures.whole key header 0) before.opens before.consumed end some (before.kept opening)
+    (c.in-Err-open_last.ensures.begun opening)
+
+pub returns-in-Err-clause-begun : goal.returns-in-Err-clause-begun
+returns-in-Err-clause-begun g c = λ opening. begun-none c.args.key.now c.args.header.now c.args.max_bytes _ _
+
+pub returns-in-Err-clause-sent : goal.returns-in-Err-clause-sent
+returns-in-Err-clause-sent g c = λ opening. sent-nothing c.args.key.now c.args.header.now _ _
+
+pub returns-in-Err-open_full-clause-sent : goal.returns-in-Err-open_full-clause-sent
+returns-in-Err-open_full-clause-sent g c = λ opening.
+    let before = c.rounds.invariant in
+    sent-so_far c.args.key.now c.args.header.now c.rounds.first _ _ _ _ before.past c.rounds.rooms.current.held before.plain before.consumed before.none before.checks
+    (front-more _ _ _ before.plain _ before.plain (before.kept opening) c.in-Err-open_full.ensures.gathered.begun ([], sym (append-nil before.plain)))
+
+pub returns-in-Err-checked-clause-sent : goal.returns-in-Err-checked-clause-sent
+returns-in-Err-checked-clause-sent g c = λ opening.
+    let before = c.rounds.invariant in
+    sent-so_far c.args.key.now c.args.header.now c.rounds.first _ _ _ _ before.past c.rounds.rooms.current.held before.plain before.consumed before.none before.checks
+    (front-more _ _ _ before.plain _ before.plain (before.kept opening) (front-whole _ _ _ c.in-Ok-open_full.ensures.gathered.all) ([], sym (append-nil before.plain)))
+
+pub returns-in-Err-begin_within-clause-sent : goal.returns-in-Err-begin_within-clause-sent
+returns-in-Err-begin_within-clause-sent g c = λ opening.
+    let before = c.rounds.invariant in
+    sent-so_far c.args.key.now c.args.header.now c.rounds.first _ _ _ _ before.past c.rounds.rooms.current.held before.plain before.consumed before.none before.checks
+    (front-sent _ _ before.plain _ before.plain (before.kept opening) ([], sym (append-nil before.plain)))
+
+pub returns-clause-sent : goal.returns-clause-sent
+returns-clause-sent g c = λ opening.
+    let before = c.rounds.invariant in
+    let key = c.args.key.now in
+    let header = c.args.header.now in
+    let held = c.rounds.rooms.current.held in
+    let under = cut-under key header c.bytes-image.result.now c.rounds.total c.in-Ok-begin_within.cut c.requires.front
+    c.bytes-image.ensures.bytes c.in-Ok-begin_within.ensures'.cut c.in-Ok-begin_within.ensures'.named in
+    let some = some-left (size_in header) c.rounds.total (length header) c.in-Ok-begin_within.cut.plain c.rounds.first (length held) before.total.0 under before.some in
+    sent-last key header c.rounds.first _ _ _ _ _ before.past held before.plain c.rounds.rooms.places.values before.consumed before.none before.checks
+    before.opens some (before.kept opening) (c.in-Err-open_last.ensures.begun opening)
+
+pub open_full-requires-clause-may : goal.open_full-requires-clause-may
+open_full-requires-clause-may g c κs within =
+    let before = c.rounds.invariant in
+    let some : 0 < length c.rounds.rooms.current.held = search rules in
+    admits-waiting c.args.task c.args.key.now c.args.header.now c.args.max_bytes c.rounds.first _ before.past c.rounds.rooms.current.held before.plain _
+    c.requires.front.whole (c.rounds_open.ensures.whole c.args.key.now c.args.header.now 0) before.opens _ _ _ _ _ before.bound c.requires.may
+    before.consumed (inl some) before.kept
+
+pub open_last-requires-clause-may : goal.open_last-requires-clause-may
+open_last-requires-clause-may g c κs within =
+    let before = c.rounds.invariant in
+    let key = c.args.key.now in
+    let header = c.args.header.now in
+    let size = size_in header in
+    let held = c.rounds.rooms.current.held in
+    let limit = c.longest_bytes.ensures ∙ sym c.requires.limit in
+    let under = cut-under key header c.bytes-image.result.now c.rounds.total c.in-Ok-begin_within.cut c.requires.front
+    c.bytes-image.ensures.bytes c.in-Ok-begin_within.ensures'.cut c.in-Ok-begin_within.ensures'.named in
+    let sized : c.in-Ok-begin_within.cut.size ≡ size = c.in-Ok-begin_within.ensures'.named ∙ ap size_in c.bytes-image.ensures.bytes in
+    let few = subst (λ (s : ℕ). c.in-Ok-begin_within.cut.plain ≤ most_of c.args.max_bytes s) sized c.in-Ok-begin_within.ensures'.few in
+    let fits = container_length-more (length header) size c.in-Ok-begin_within.cut.plain (most_of c.args.max_bytes size) (some_size header) few in
+    let some = some-left size c.rounds.total (length header) c.in-Ok-begin_within.cut.plain c.rounds.first (length held) before.total.0 under before.some in
+    let end : IsAtEnd (g.R.Source.left c.rounds.reader) =
+    elim c.rounds-test.branch [
+      | then-rounds-test+else-held-size w ↦ before.end (omega (arith, under, fits, c.longest_bytes.ensures)) (search rules)
+      | else-rounds-test w ↦ absurd (omega (arith, under, fits, c.longest_bytes.ensures, w.rounds-test.false))
+    ] in
+    record {
+      before = admits-waiting c.args.task key header c.args.max_bytes c.rounds.first _ before.past held before.plain _
+          c.requires.front.whole (c.rounds_open.ensures.whole key header 0) before.opens _ _ _ _ _ before.bound c.requires.may
+          before.consumed (inl some) before.kept;
+      other = bounded-opens c.args.task key header c.args.max_bytes _ _ _ _ before.bound c.requires.may;
+      behind = λ opening last opens. admits-last c.args.task key header c.args.max_bytes c.rounds.first _ before.past held before.plain _
+          c.requires.front.whole (c.rounds_open.ensures.whole key header 0) before.opens _ _ _ _ _ last before.bound c.requires.may
+          before.consumed some end before.kept opens;
+    }

@@ -1,11 +1,14 @@
 -- What was read, what of it opened, what of that waits to be taken, and what is in hand.
-use Rattle.std.proofs.Common.{◌≡◌, ℕ, ◌+◌, ◌-◌, ◌*◌, ◌<◌, ◌≤◌, ◌++◌, List, length, min}
+use Rattle.std.proofs.Common.{◌≡◌, ℕ, ◌+◌, ◌-◌, ◌*◌, ◌<◌, ◌≤◌, ◌++◌, false, List, [], length, min, Ok}
+use Rattle.container_core.specs.Chunks.{sealed_chunks}
 use Rattle.container_core.specs.Container.{size_in}
+use Rattle.container_core.specs.Opening.{unsealed_by}
 use Rattle.io_core.specs.Streams.{Consumes, IsAtEnd}
 use Rattle.round_core.specs.Answer.{joined}
 use Rattle.round_core.specs.declared.round.Task.TheVariants.{Opening}
 use Rattle.opening_core.specs.Windows.{IsReady}
 use Rattle.opening_core.proofs.OpeningRounds.{OpensBehind}
+use Rattle.opening_core.proofs.SentLemmas.{Sent}
 use Rattle.opening_core.proofs.windows.open_body.Given as goal
 
 abbrev pub invariant-rounds : goal.invariant-rounds
@@ -14,7 +17,11 @@ invariant-rounds g l = record {
   plain : List ℕ;
   consumed : Consumes (g.R.Source.left l.fn.reader) (g.R.Source.left l.reader) (past ++ l.rooms.current.held);
   opens : OpensBehind l.key l.header l.first past plain;
-  kept : l.task ≡ Opening → plain ≡ g.O.Taking.bytes l.out ++ joined l.rooms.places.values;
+  kept : l.task ≡ Opening → Sent (g.O.Taking.bytes l.fn.out) (g.O.Taking.bytes l.out) plain (joined l.rooms.places.values);
+  none : l.first ≡ 0 → plain ≡ [];
+  checks : 0 < l.first → unsealed_by l.key l.header 0 false (sealed_chunks (size_in l.header) past) ≡ Ok plain;
+  bound : g.O.Taking.bound l.out ≡ g.O.Taking.bound l.fn.out;
+  writes : g.O.Taking.failures l.out ≡ g.O.Taking.failures l.fn.out;
   long : length past ≡ l.first * (size_in l.header + 16);
   total : (l.total ≡ length l.header + (l.first * (size_in l.header + 16) + length l.rooms.current.held)) × (l.total ≤ l.limit);
   held : length l.rooms.current.held ≤ l.fn.window * (size_in l.header + 16) + 1;

@@ -1,10 +1,14 @@
-use Rattle.std.proofs.Common.{rules, ◌≡◌, true, length, ap, ◌∙◌, arith}
+use Rattle.std.proofs.Common.{rules, ◌≡◌, true, inr, Ok, length, ap, sym, ◌∙◌, arith}
+use Rattle.io_core.specs.Streams.{Appends}
+use Rattle.round_core.specs.Answer.{joined}
+use Rattle.round_core.specs.Values.{values_of}
 use Rattle.std.proofs.lemmas.Result.{IfErr-at_err}
 use Rattle.container_core.specs.Chunks.{body_length}
 use Rattle.container_core.specs.Container.{size_in}
 use Rattle.container_core.specs.Cutting.{RefusesCut}
 use Rattle.container_core.proofs.OpeningLemmas.{some_size}
 use Rattle.opening_core.proofs.OpeningRounds.{count-last, count-room, cut-same, no-refusal}
+use Rattle.opening_core.proofs.SentLemmas.{front-behind, last-may}
 use Rattle.opening_core.proofs.windows.open_last.Goals as goal
 
 pub unreachable-requires : goal.unreachable-requires
@@ -44,6 +48,39 @@ put-requires-clause-room g c =
     ∙ count-last c.args.task size body plain c.requires.task (c.chunks_by_number.ensures.sealed_count size body plain (some_size c.args.header.now) long) in
     let made = ap (λ r. length r.values) c.new-round.ensures in
     let room = count-room size plain c.args.rooms.now.places.room (some_size c.args.header.now) (omega (arith, is, c.requires.ready.enough)) in
-    let same = c.make.ensures.chore.met.1.1.0 in
+    let same = c.make.ensures.chore.met.1.1.1.0 in
     let back : c.make.new.chore.2.now ≡ c.places-2-1.given.0 = search rules in
     rw (← back) (omega (arith, values, made, room, same))
+
+pub returns-in-Err-take_last-clause-begun : goal.returns-in-Err-take_last-clause-begun
+returns-in-Err-take_last-clause-begun g c = λ opening.
+    let key = c.args.key.now in
+    let header = c.args.header.now in
+    let held = c.args.rooms.now.current.held in
+    let last = c.put.new.places.values in
+    let waiting = c.args.rooms.now.places.values in
+    let is : last ≡ values_of c.args.task key header c.args.first true held = search rules in
+    let opened = c.in-Ok-checked.ensures.opened key header held true is in
+    let out : c.make.new.chore.0.now ≡ c.out-1.given.0 = search rules in
+    let done : Appends (g.O.Taking.bytes c.args.out.now) (g.O.Taking.bytes c.make.new.chore.0.now) (joined waiting) = search rules in
+    inr (
+      joined last,
+      opened.opens ∙ ap Ok (sym (opened.kept opening)),
+      front-behind _ _ _ (joined waiting) (joined last) (rw (← out) done) c.in-Err-take_last.ensures.gathered.begun,
+    )
+
+pub take_last-requires : goal.take_last-requires
+take_last-requires g c =
+    let key = c.args.key.now in
+    let header = c.args.header.now in
+    let held = c.args.rooms.now.current.held in
+    let values = c.put.new.places.values in
+    let waiting = c.args.rooms.now.places.values in
+    let is : values ≡ values_of c.args.task key header c.args.first true held = search rules in
+    let opened = c.in-Ok-checked.ensures.opened key header held true is in
+    let out : c.make.new.chore.0.now ≡ c.out-1.given.0 = search rules in
+    let done : Appends (g.O.Taking.bytes c.args.out.now) (g.O.Taking.bytes c.make.new.chore.0.now) (joined waiting) = search rules in
+    record {
+      may = last-may c.args.task key header c.args.first held waiting values _ _ _ _ c.requires.may (search rules)
+          (λ opening. opened.opens ∙ ap Ok (sym (opened.kept opening))) (rw (← out) done);
+    }

@@ -1,0 +1,254 @@
+//! Opening by two readings: what is written where both give a container, where the first one has a fault, and where the
+//! second one gives other bytes.
+ghost use Rattle.std.specs.Prelude.{◌≤◌, ◌<◌, Some};
+
+use container_core::{Key, MAX_OPENED, OpenFault, Shape, seal};
+use crew_core::{Free, MAX_WORKERS};
+use engine_core::{Readings, Stopped, run_open_twice};
+use io_core::Failed;
+use io_memory::{FromMemory, Schedule, ToMemory};
+use std::alloc::Global;
+use std::test::Fail;
+use std::thread::Threads;
+
+const MOST: usize = usize::MAX;
+
+// Bytes in memory: each reading gives the same.
+#[derive(Drop)]
+struct Same<'a> {
+    bytes: &'a [u8],
+}
+
+impl<'a> Readings for Same<'a> {
+    type Reading = FromMemory<'a>;
+
+    ghost bytes = { λ s. Some s.bytes.now };
+
+    fn begin(&mut self) -> Result<Self::Reading, Failed> {
+        Ok(FromMemory::new(self.bytes, MOST, Schedule::Never))
+    }
+}
+
+// Bytes that are others at the second reading. Nothing is told of them.
+#[derive(Drop)]
+struct Changed<'a> {
+    first: &'a [u8],
+    second: &'a [u8],
+    // How the second reading fails.
+    schedule: Schedule,
+    began: bool,
+}
+
+impl<'a> Readings for Changed<'a> {
+    type Reading = FromMemory<'a>;
+
+    fn begin(&mut self) -> Result<Self::Reading, Failed> {
+        if self.began {
+            return Ok(FromMemory::new(self.second, MOST, self.schedule));
+        }
+        self.began = true;
+        Ok(FromMemory::new(self.first, MOST, Schedule::Never))
+    }
+}
+
+fn key() -> Key {
+    Key::new([7; 32])
+}
+
+// 48 chunks of 4 KiB and a byte: one worker takes three windows of 16 chunks, and a last one.
+const SHORT: u32 = 196_609;
+// 257 chunks and a byte: several workers take a window of 256 chunks, and a last one.
+const LONG: u32 = 1_052_673;
+
+fn text(alloc: Global, length: u32) -> Option<Vec<u8>> {
+    let mut bytes = Vec::new(alloc);
+    for n in 0..length {
+        bytes.push((n % 251) as u8).ok()?;
+    }
+    Some(bytes)
+}
+
+fn sealed(alloc: Global, file: u8, plain: &[u8]) -> Option<Vec<u8>> {
+    let shape = Shape::two(12, b"a").ok()?;
+    seal(alloc, &key(), &shape, [0, 0, 1, 0, 0, 0, file], plain).ok()
+}
+
+// The answer, and how many bytes were written, all of which begin the text.
+fn opened<R: Threads + Sync, S: Readings>(
+    rt: &R,
+    alloc: Global,
+    source: &mut S,
+    plain: &[u8],
+    schedule: Schedule,
+    workers: u32,
+) -> Option<(Result<u64, Stopped>, usize)>
+    requires { (0 < workers) × (workers ≤ MAX_WORKERS) }
+{
+    let writer = ToMemory::new(alloc, 0, MOST, schedule).ok()?;
+    let key = key();
+    let (done, writer) = run_open_twice(
+        rt, alloc, &key, source, writer, MAX_OPENED, workers, &Free,
+    );
+    let bytes = writer.bytes();
+    let begins = bytes.len() <= plain.len() && bytes == &plain[..bytes.len()];
+    if begins {
+        Some((done, bytes.len()))
+    } else {
+        None
+    }
+}
+
+// Both readings give the container: all is written, by whatever number of workers.
+fn opens<R: Threads + Sync>(rt: &R, alloc: Global, length: u32, workers: u32) -> Option<bool>
+    requires { (0 < workers) × (workers ≤ MAX_WORKERS) }
+{
+    let plain = text(alloc, length)?;
+    let container = sealed(alloc, 0, plain.as_slice())?;
+    let mut source = Same {
+        bytes: container.as_slice(),
+    };
+    let (done, n) = opened(
+        rt,
+        alloc,
+        &mut source,
+        plain.as_slice(),
+        Schedule::Never,
+        workers,
+    )?;
+    Some(done == Ok(u64::from(length)) && n == length as usize)
+}
+
+#[test]
+fn all_is_written(rt: HostRuntime) -> Result<(), Fail> {
+    assert!(rt; opens(&rt, rt.alloc(), SHORT, 1) == Some(true));
+    assert!(rt; opens(&rt, rt.alloc(), LONG, 4) == Some(true));
+    Ok(())
+}
+
+// The byte at this place is changed before the first reading, or after it.
+fn altered<R: Threads + Sync>(
+    rt: &R,
+    alloc: Global,
+    place: usize,
+    before: bool,
+) -> Option<(Result<u64, Stopped>, usize)> {
+    let plain = text(alloc, SHORT)?;
+    let container = sealed(alloc, 0, plain.as_slice())?;
+    let mut other = sealed(alloc, 0, plain.as_slice())?;
+    if place < other.len() {
+        other[place] ^= 1;
+    }
+    let first = if before { &other } else { &container };
+    let mut source = Changed {
+        first: first.as_slice(),
+        second: other.as_slice(),
+        schedule: Schedule::Never,
+        began: false,
+    };
+    opened(rt, alloc, &mut source, plain.as_slice(), Schedule::Never, 1)
+}
+
+// Where chunk `n` of 4 KiB begins, behind a header of 26 bytes.
+fn place_of(n: usize) -> usize
+    requires { n ≤ 1000 }
+{
+    26 + n * 4112
+}
+
+#[test]
+fn a_fault_that_was_there_before_is_refused(rt: HostRuntime) -> Result<(), Fail> {
+    for (chunk, refused) in [(0usize, 0u32), (20, 20), (48, 48)] {
+        let forged = OpenFault::Forged { chunk: refused };
+        let answer = altered(&rt, rt.alloc(), place_of(chunk), true);
+        assert!(rt; answer == Some((Err(Stopped::Refused(forged)), 0)));
+    }
+    Ok(())
+}
+
+#[test]
+fn a_change_between_the_readings_stops_before_its_window(rt: HostRuntime) -> Result<(), Fail> {
+    for (chunk, written) in [
+        (0usize, 0usize),
+        (15, 0),
+        (16, 65_536),
+        (47, 131_072),
+        (48, 196_608),
+    ] {
+        let answer = altered(&rt, rt.alloc(), place_of(chunk), false);
+        assert!(rt; answer == Some((Err(Stopped::Changed), written)));
+    }
+    // The prefix in the header.
+    assert!(rt; altered(&rt, rt.alloc(), 16, false) == Some((Err(Stopped::Changed), 0)));
+    Ok(())
+}
+
+// At the second reading there is another container of the key, or the first one cut, or a read fails.
+fn swapped<R: Threads + Sync>(
+    rt: &R,
+    alloc: Global,
+    file: u8,
+    kept: usize,
+    schedule: Schedule,
+) -> Option<(Result<u64, Stopped>, usize)> {
+    let plain = text(alloc, SHORT)?;
+    let container = sealed(alloc, 0, plain.as_slice())?;
+    let other = sealed(alloc, file, plain.as_slice())?;
+    let kept = kept.min(other.len());
+    let mut source = Changed {
+        first: container.as_slice(),
+        second: &other[..kept],
+        schedule,
+        began: false,
+    };
+    opened(rt, alloc, &mut source, plain.as_slice(), Schedule::Never, 1)
+}
+
+#[test]
+fn another_container_is_not_written(rt: HostRuntime) -> Result<(), Fail> {
+    assert!(rt;
+        swapped(&rt, rt.alloc(), 1, MOST, Schedule::Never) == Some((Err(Stopped::Changed), 0))
+    );
+    // Cut after chunk 19: the window before the cut was checked in both readings.
+    let cut = swapped(&rt, rt.alloc(), 0, place_of(20), Schedule::Never);
+    assert!(rt; cut == Some((Err(Stopped::Changed), 65_536)));
+    // A read that fails in the third window, while the second is opened.
+    let failed = swapped(
+        &rt,
+        rt.alloc(),
+        0,
+        MOST,
+        Schedule::Bytes(place_of(40) as u64),
+    );
+    assert!(rt; failed == Some((Err(Stopped::Broken(OpenFault::Read)), 65_536)));
+    Ok(())
+}
+
+// The writer fails after so many bytes.
+fn broken<R: Threads + Sync>(
+    rt: &R,
+    alloc: Global,
+    bytes: u64,
+) -> Option<(Result<u64, Stopped>, usize)> {
+    let plain = text(alloc, SHORT)?;
+    let container = sealed(alloc, 0, plain.as_slice())?;
+    let mut source = Same {
+        bytes: container.as_slice(),
+    };
+    opened(
+        rt,
+        alloc,
+        &mut source,
+        plain.as_slice(),
+        Schedule::Bytes(bytes),
+        1,
+    )
+}
+
+#[test]
+fn a_failed_write_leaves_a_beginning(rt: HostRuntime) -> Result<(), Fail> {
+    for bytes in [0u64, 1, 4096, 100_000, 196_608] {
+        let answer = broken(&rt, rt.alloc(), bytes);
+        assert!(rt; answer == Some((Err(Stopped::Broken(OpenFault::Write)), bytes as usize)));
+    }
+    Ok(())
+}

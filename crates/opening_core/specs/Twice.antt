@@ -1,0 +1,84 @@
+-- What the contracts of an opening by two readings cite.
+use Rattle.std.specs.Prelude.{◌≡◌, ◌⊎◌, ℕ, List, ◌++◌, length, Bool, true, false, Option, Some, IfSome}
+use Rattle.std.specs.Prelude.{Result, Ok, Err, OnOk, OnErr, IfOk}
+use Rattle.container_core.specs.declared.fault.OpenFault.{OpenFault}
+use Rattle.container_core.specs.declared.fault.OpenFault.TheVariants as opening_fault
+use Rattle.container_core.specs.Faults.{IsOfBytes}
+use Rattle.container_core.specs.Opening.{opening}
+use Rattle.io_core.specs.Streams.{Appends, AppendsFront, Keeps, counted}
+use Rattle.opening_core.specs.declared.twice.Stopped.{Stopped}
+use Rattle.opening_core.specs.declared.twice.Stopped.TheVariants.{Refused, Changed, Broken}
+use Rattle.opening_core.specs.Engine.{HasHeader}
+use Rattle.opening_core.specs.Windows.{HasSent}
+use Rattle.output_core.specs.Bounds.{Allows, Bound}
+
+-- whether it was broken off by a failed read, or by a failed write
+abbrev pub broken_by_read : Result ℕ Stopped → Bool
+broken_by_read (Ok n) = false
+broken_by_read (Err (Broken opening_fault.Read)) = true
+broken_by_read (Err _) = false
+
+abbrev pub broken_by_write : Result ℕ Stopped → Bool
+broken_by_write (Ok n) = false
+broken_by_write (Err (Broken opening_fault.Write)) = true
+broken_by_write (Err _) = false
+
+-- the input opens, and its plaintext, of so many bytes, was written
+abbrev pub WritesAll : List ℕ → ℕ → Option (List ℕ) → Option (List ℕ) → List ℕ → ℕ → Type 0
+WritesAll key most taken taken' input n =
+    (plain : List ℕ) × (opening key most input ≡ Ok plain) × Appends taken taken' plain × (n ≡ length plain)
+
+-- where the input opens, a beginning of its plaintext was written
+abbrev pub WritesSome : List ℕ → ℕ → Option (List ℕ) → Option (List ℕ) → List ℕ → Type 0
+WritesSome key most taken taken' input =
+    (plain : List ℕ) → opening key most input ≡ Ok plain → AppendsFront taken taken' plain
+
+-- What a second reading did, of a container that a first one checked and that has this header: its reader had `left` to
+-- be read, and its writer had taken `taken`, and has `taken'` now. Of both it is counted how many calls failed.
+pub record HasWrittenAgain (key header : List ℕ) (most : ℕ) (left taken taken' : Option (List ℕ))
+    (reads reads' writes writes' : Option ℕ) (result : Result ℕ Stopped) : Type 0 where
+  -- what was written is the plaintext of just what this reading gave
+  pub written : IfOk result (λ n. IfSome left (λ input. WritesAll key most taken taken' input n))
+  -- else a beginning of it, where it has one
+  pub begun : OnErr result (IfSome left (WritesSome key most taken taken'))
+  -- it has the header of the first reading
+  pub headed : OnOk result (IfSome left (HasHeader header))
+  -- whatever it gave, each byte that was written is of a chunk that was checked, under that header and at its place
+  pub checked : OnErr result (Keeps taken taken' ⊎ HasSent key header header left taken taken')
+  -- it gave other bytes: they don't open, or have another header
+  pub changed : result ≡ Err Changed → IfSome left (λ input. (plain : List ℕ) → HasHeader header input
+      → opening key most input ≡ Ok plain → ⊥)
+  -- no fault is one of the first reading
+  pub checked_before : (fault : OpenFault) → result ≡ Err (Refused fault) → ⊥
+  -- what broke it off is no fault of the bytes: it is Read or Write exactly where a call failed
+  pub broken : (fault : OpenFault) → result ≡ Err (Broken fault) → IsOfBytes fault → ⊥
+  pub read : reads' ≡ counted (broken_by_read result) reads
+  pub write : writes' ≡ counted (broken_by_write result) writes
+
+-- What an opening by two readings did, each of which gives `bytes`, where they are known.
+pub record HasOpenedTwice (key : List ℕ) (most : ℕ) (bytes taken taken' : Option (List ℕ))
+    (writes writes' : Option ℕ) (result : Result ℕ Stopped) : Type 0 where
+  -- the bytes are a container, and what was written is its plaintext
+  pub written : IfOk result (λ n. IfSome bytes (λ input. WritesAll key most taken taken' input n))
+  -- at a refusal nothing was written, and a fault of the bytes is the first that they have
+  pub unwritten : (fault : OpenFault) → result ≡ Err (Refused fault) → Keeps taken taken'
+  pub refused : (fault : OpenFault) → result ≡ Err (Refused fault) → IsOfBytes fault
+      → IfSome bytes (λ input. opening key most input ≡ Err fault)
+  -- where it was broken off after the check the bytes are a container, and a beginning of its plaintext was written
+  pub begun : (fault : OpenFault) → result ≡ Err (Broken fault)
+      → IfSome bytes (λ input. (plain : List ℕ) × (opening key most input ≡ Ok plain) × AppendsFront taken taken' plain)
+  pub broken : (fault : OpenFault) → result ≡ Err (Broken fault) → IsOfBytes fault → ⊥
+  -- by Write exactly where a write failed
+  pub write : writes' ≡ counted (broken_by_write result) writes
+  -- readings that give the same bytes have none that were changed
+  pub same : result ≡ Err Changed → IfSome bytes (λ _. ⊥)
+
+-- the input opens, and a bounded output may hold its plaintext behind what it took
+abbrev pub MayWrite : List ℕ → ℕ → Option (List ℕ) → Option (List ℕ) → Bound → Type 0
+MayWrite key most left taken bound = (input : List ℕ) × (plain : List ℕ) × (held : List ℕ)
+    × (left ≡ Some input) × (opening key most input ≡ Ok plain) × (taken ≡ Some held) × Allows bound (held ++ plain)
+
+-- where the input opens, a bounded output may hold its plaintext behind what it took
+abbrev pub MayWriteIt : List ℕ → ℕ → Option (List ℕ) → Option (List ℕ) → Bound → Type 0
+MayWriteIt key most bytes taken bound = (input : List ℕ) × (held : List ℕ) × (bytes ≡ Some input) × (taken ≡ Some held)
+    × ((plain : List ℕ) → opening key most input ≡ Ok plain → Allows bound (held ++ plain))

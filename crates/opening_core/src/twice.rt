@@ -1,0 +1,199 @@
+//! Opening what can be read twice, in the memory of a verification: the first reading checks every chunk, the second one
+//! checks each again before it writes it.
+//!
+//! The header holds the second reading to the first: it has a device and a file number, and a number is sealed once. So
+//! another container of the key is refused before a byte is written, and a chunk that was changed before it is written.
+ghost use Rattle.std.specs.Prelude.{◌≡◌, ℕ, ◌<◌, ◌≤◌, List, [], length, Option, None, Ok, Err};
+ghost use Rattle.std.specs.Prelude.{IfOk, IfErr, IfSome, OnErr};
+ghost use Rattle.container_core.specs.Chunks.{container_limit};
+ghost use Rattle.container_core.specs.Container.{size_in};
+ghost use Rattle.container_core.specs.Faults.{IsOfBytes};
+ghost use Rattle.container_core.specs.Opening.{longest};
+ghost use Rattle.io_core.specs.Streams.{Appends, Keeps, counted};
+ghost use Rattle.opening_core.specs.Engine.{open_read_failed, open_write_failed};
+ghost use Rattle.opening_core.specs.Fronts.{Answers, SaysLength};
+ghost use Rattle.opening_core.specs.Twice.{HasOpenedTwice, HasWrittenAgain, MayWrite, MayWriteIt};
+ghost use Rattle.opening_core.specs.Twice.{broken_by_read, broken_by_write};
+ghost use Rattle.opening_core.specs.Windows.{HasBegun, HasSent, MayTake};
+
+use crate::front::open_front;
+use crate::pouring::Pouring;
+use crate::run::run_check;
+use crate::windows::open_body;
+use container_core::{Header, Key, MAX_OPENED, OpenFault};
+use gate_core::{Gate, MAX_WORKERS, usual_opening};
+use io_core::{Failed, Source};
+use output_core::Output;
+use round_core::Task;
+use std::alloc::Global;
+use std::thread::Threads;
+
+/// Why an opening by two readings stopped.
+#[derive(Clone, Copy, PartialEq, Eq, Debug)]
+pub enum Stopped {
+    /// Nothing was written.
+    Refused(OpenFault),
+    /// The second reading gave other bytes than the first. What was written had passed the check again.
+    Changed,
+    /// Memory was refused or a call failed, after the whole check: a beginning was written, or nothing.
+    Broken(OpenFault),
+}
+
+/// What can be read more than once from its first byte.
+pub trait Readings {
+    /// What reads it once.
+    type Reading: Source + Drop;
+
+    // The bytes that each reading gives, where they are known. That all give the same is for the implementor to prove.
+    ghost bytes: { Self → Option (List ℕ) } = { λ _. None };
+
+    /// Begins a reading.
+    fn begin(&mut self) -> Result<Self::Reading, Failed>
+        ensures left { IfOk result (λ reading. Keeps (bytes self.old) (Self.Reading.left reading)) }
+        ensures same { Keeps (bytes self.old) (bytes self.new) };
+}
+
+// How a fault of the second reading is answered.
+fn stop_at(fault: OpenFault) -> Stopped
+    ensures changed { result ≡ Stopped.Changed → IsOfBytes fault }
+    ensures broken { (f : OpenFault) → result ≡ Stopped.Broken f → IsOfBytes f → ⊥ }
+    ensures checked_before { (f : OpenFault) → result ≡ Stopped.Refused f → ⊥ }
+    ensures read { broken_by_read (Err result) ≡ open_read_failed {A = ℕ} (Err fault) }
+    ensures write { broken_by_write (Err result) ≡ open_write_failed {A = ℕ} (Err fault) }
+{
+    match fault {
+        OpenFault::OutOfMemory | OpenFault::Read | OpenFault::Write => Stopped::Broken(fault),
+        _ => Stopped::Changed,
+    }
+}
+
+// Writes the plaintext of what stands behind a header, each round while the next is checked. The writer comes back.
+fn write_body<T: Threads + Sync, R: Source, W: Output + Drop, G: Gate + Sync>(
+    rt: &T,
+    alloc: Global,
+    key: &Key,
+    header: &Header,
+    reader: &mut R,
+    writer: W,
+    max_bytes: u64,
+    workers: u32,
+    gate: &G,
+) -> (Result<u64, OpenFault>, W)
+    requires front { SaysLength key.now header.now }
+    requires limit { longest max_bytes header.now
+        ≡ container_limit (length header.now) (size_in header.now) max_bytes }
+    requires max_bytes { max_bytes ≤ MAX_OPENED }
+    requires workers { (0 < workers) × (workers ≤ MAX_WORKERS) }
+    requires may { IfSome (W.bound writer)
+        (MayTake Task.Opening key.now header.now max_bytes (R.left reader.old) (W.taken writer)) }
+    ensures written { IfOk result.0 (λ n. (plain : List ℕ) × (n ≡ length plain)
+        × Answers key.now header.now max_bytes (R.left reader.old) (R.left reader.new) (Ok plain)
+        × Appends (W.taken writer) (W.taken result.1) plain) }
+    ensures begun { OnErr result.0 (HasBegun key.now header.now max_bytes (R.left reader.old)
+        (W.taken writer) (W.taken result.1)) }
+    ensures sent { OnErr result.0 (HasSent key.now header.now [] (R.left reader.old)
+        (W.taken writer) (W.taken result.1)) }
+    ensures refused { IfErr result.0 (λ fault. IsOfBytes fault
+        → Answers key.now header.now max_bytes (R.left reader.old) (R.left reader.new) (Err fault)) }
+    ensures read { R.failures reader.new ≡ counted (open_read_failed result.0) (R.failures reader.old) }
+    ensures write { W.failures result.1 ≡ counted (open_write_failed result.0) (W.failures writer) }
+{
+    let mut out = Pouring { sink: writer };
+    let window = usual_opening(header.chunk(), workers);
+    let done = open_body(
+        rt,
+        alloc,
+        Task::Opening,
+        key,
+        header,
+        reader,
+        max_bytes,
+        workers,
+        window,
+        &mut out,
+        gate,
+    );
+    let Pouring { sink } = out;
+    (done, sink)
+}
+
+/// Reads a container with this header, which was checked before, once more, and writes its plaintext, each chunk once it
+/// was checked again, by 1 to 16 workers. Whatever this reading gives: with `Ok` it is a container with this header, and
+/// its whole plaintext was written; else what was written is chunks that had passed the check, from the first on, and of
+/// a container with another header nothing was. The writer comes back.
+pub fn write_again<T: Threads + Sync, R: Source, W: Output + Drop, G: Gate + Sync>(
+    rt: &T,
+    alloc: Global,
+    key: &Key,
+    header: &Header,
+    reader: &mut R,
+    writer: W,
+    max_bytes: u64,
+    workers: u32,
+    gate: &G,
+) -> (Result<u64, Stopped>, W)
+    requires max_bytes { max_bytes ≤ MAX_OPENED }
+    requires workers { (0 < workers) × (workers ≤ MAX_WORKERS) }
+    requires may { IfSome (W.bound writer) (MayWrite key.now max_bytes (R.left reader.old) (W.taken writer)) }
+    ensures { HasWrittenAgain key.now header.now max_bytes (R.left reader.old)
+        (W.taken writer) (W.taken result.1) (R.failures reader.old) (R.failures reader.new)
+        (W.failures writer) (W.failures result.1) result.0 }
+{
+    let again = match open_front(key, reader, max_bytes) {
+        Ok(again) => again,
+        Err(fault) => return (Err(stop_at(fault)), writer),
+    };
+    if again.bytes() != header.bytes() {
+        return (Err(Stopped::Changed), writer);
+    }
+    match write_body(
+        rt, alloc, key, &again, reader, writer, max_bytes, workers, gate,
+    ) {
+        (Ok(n), writer) => (Ok(n), writer),
+        (Err(fault), writer) => (Err(stop_at(fault)), writer),
+    }
+}
+
+/// Opens what can be read twice, by 1 to 16 workers, in the memory of a verification: the first reading checks every
+/// chunk, and only then the second one writes the plaintext, of at most `max_bytes` bytes, chunk by chunk. Answers the
+/// plaintext's length. At `Refused` nothing was written. At `Broken` the bytes are a container, memory was refused or a
+/// call failed, and a beginning of the plaintext was written. `Changed` comes only where the two readings don't give the
+/// same bytes. The writer comes back.
+pub fn run_open_twice<T: Threads + Sync, S: Readings, W: Output + Drop, G: Gate + Sync>(
+    rt: &T,
+    alloc: Global,
+    key: &Key,
+    source: &mut S,
+    writer: W,
+    max_bytes: u64,
+    workers: u32,
+    gate: &G,
+) -> (Result<u64, Stopped>, W)
+    requires max_bytes { max_bytes ≤ MAX_OPENED }
+    requires workers { (0 < workers) × (workers ≤ MAX_WORKERS) }
+    requires may { IfSome (W.bound writer) (MayWriteIt key.now max_bytes (S.bytes source.old) (W.taken writer)) }
+    ensures { HasOpenedTwice key.now max_bytes (S.bytes source.old) (W.taken writer) (W.taken result.1)
+        (W.failures writer) (W.failures result.1) result.0 }
+{
+    let Ok(mut first) = source.begin() else {
+        return (Err(Stopped::Refused(OpenFault::Read)), writer);
+    };
+    let header = match run_check(rt, alloc, key, &mut first, max_bytes, workers, gate) {
+        Ok((header, _)) => header,
+        Err(fault) => return (Err(Stopped::Refused(fault)), writer),
+    };
+    let Ok(mut second) = source.begin() else {
+        return (Err(Stopped::Refused(OpenFault::Read)), writer);
+    };
+    write_again(
+        rt,
+        alloc,
+        key,
+        &header,
+        &mut second,
+        writer,
+        max_bytes,
+        workers,
+        gate,
+    )
+}
