@@ -1,13 +1,11 @@
-//! Tests of `pipe_core` and of `run_pipe`: streams sealed by 1 to 16 workers, and files in small chunks, over readers
-//! and writers in memory.
+//! Tests of `pipe_core`, of its streams by `run_pipe`: streams sealed by 1 to 16 workers, and files in small chunks, over
+//! readers and writers in memory.
 #![tactic(auto)]
 
 #[cfg(test)]
 mod blocks;
 #[cfg(test)]
 mod containers;
-#[cfg(test)]
-mod engine;
 #[cfg(test)]
 mod faults;
 #[cfg(test)]

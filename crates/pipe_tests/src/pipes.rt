@@ -1,12 +1,15 @@
-//! A pipe under the key 00 01 .. 1f, device 1 and file 0, and the containers that it has to give.
+//! The engine of a pipe under the key 00 01 .. 1f and the grant of device 1 and file 0, the sealing in rounds that it
+//! shares its workers with, and the containers that they have to give.
 ghost use Rattle.std.specs.Prelude.{◌≡◌, drop, take, true};
 ghost use Rattle.container_core.specs.Container.{hint_of};
 
 use container_core::{Header, Key, MAX_PLAIN, SealFault, Shape, seal};
-use crew_tests::{PREFIX, counting_key};
+use crew_tests::{PREFIX, counting_key, grant_of};
+use engine_core::run_pipe;
 use io_core::{Sink, Source};
 use io_memory::{FromMemory, Schedule, ToMemory};
-use pipe_core::{MAX_DEPTH, pipe, pipe_rounds};
+use ledger_core::Way;
+use pipe_core::{MAX_DEPTH, pipe_rounds};
 use sha2::{Digest, Sha256};
 use std::alloc::Global;
 use std::sync::Wait;
@@ -49,7 +52,7 @@ fn is_of(header: &Header, key: &Key) -> bool
     header.bytes()[17..24] == key.id()[..7]
 }
 
-/// What the pipe answers, or `None` where it is asked for what it doesn't take.
+/// What the engine answers, or `None` where it is asked for what it doesn't take, or the grant doesn't end as it has to.
 pub fn piped<T: Threads + Wait + Sync, R: Source, W: Sink, G: Gate + Sync>(
     rt: &T,
     alloc: Global,
@@ -59,25 +62,29 @@ pub fn piped<T: Threads + Wait + Sync, R: Source, W: Sink, G: Gate + Sync>(
     asked: Asked,
     gate: &G,
 ) -> Option<Result<u64, SealFault>> {
-    let key = counting_key();
-    let header = Header::of(&key, shape, PREFIX);
     let Asked {
         max_chunks,
         workers,
         depth,
     } = asked;
-    if max_chunks == 0
-        || workers == 0
-        || workers > MAX_WORKERS
-        || depth == 0
-        || depth > MAX_DEPTH
-        || !is_of(&header, &key)
-    {
+    if max_chunks == 0 || workers == 0 || workers > MAX_WORKERS || depth == 0 || depth > MAX_DEPTH {
         return None;
     }
-    Some(pipe(
-        rt, alloc, &key, &header, reader, writer, max_chunks, workers, depth, gate,
-    ))
+    let grant = grant_of(alloc, 0)?;
+    let key = counting_key();
+    let (answer, spent) = run_pipe(
+        rt, alloc, &key, shape, grant, reader, writer, max_chunks, workers, depth, gate,
+    );
+    let way = if answer.is_ok() {
+        Way::Sealed
+    } else {
+        Way::Void
+    };
+    if spent.number() == 0 && spent.way() == way {
+        Some(answer)
+    } else {
+        None
+    }
 }
 
 /// What the sealing in rounds answers, or `None` where it is asked for what it doesn't take.

@@ -1,13 +1,13 @@
 //! `run_pipe` by two workers where one growth is refused. Run it with each allocation refused in turn
 //! (`tools/refused_tests.py`).
-use crate::engine::pipe_from;
+use crate::pipes::{Asked, piped};
 use container_core::{SealFault, Shape};
 use crew_tests::{ZERO_BYTES, ZEROS_SEALED, sealed_zeros};
 use io_memory::{FromMemory, Schedule, ToMemory};
-use ledger_core::Way;
 use std::alloc::{AllocError, Global};
 use std::sync::Wait;
 use std::thread::Threads;
+use worker_core::Free;
 
 // A refusal that was asked for is met once, so the same call finds memory at once.
 fn writer_of(alloc: Global) -> Option<ToMemory> {
@@ -24,20 +24,27 @@ fn is_sealed_or_refused<T: Threads + Wait + Sync>(
     alloc: Global,
     whole: &[u8],
 ) -> Option<Option<bool>> {
-    let reader = FromMemory::new(&ZERO_BYTES, usize::MAX, Schedule::Never);
+    let mut reader = FromMemory::new(&ZERO_BYTES, usize::MAX, Schedule::Never);
     let mut writer = writer_of(alloc)?;
-    Some(
-        match pipe_from(rt, alloc, &Shape::one(), reader, &mut writer, 2)? {
-            (Err(SealFault::OutOfMemory), way) => {
-                if way == Way::Void && whole.starts_with(writer.bytes()) {
-                    None
-                } else {
-                    Some(false)
-                }
-            }
-            answer => Some(answer == (Ok(65_537), Way::Sealed) && writer.bytes() == whole),
-        },
-    )
+    let asked = Asked {
+        max_chunks: 2,
+        workers: 2,
+        depth: 4,
+    };
+    let answer = piped(
+        rt,
+        alloc,
+        &Shape::one(),
+        &mut reader,
+        &mut writer,
+        asked,
+        &Free,
+    )?;
+    let written = writer.bytes();
+    Some(match answer {
+        Err(SealFault::OutOfMemory) if whole.starts_with(written) => None,
+        _ => Some(answer == Ok(65_537) && written == whole),
+    })
 }
 
 fn seals_again<T: Threads + Wait + Sync>(rt: &T, alloc: Global) -> Option<bool> {

@@ -1,9 +1,9 @@
 //! Whole streams, with the most chunks and one byte more, of all lengths beside a chunk's, and a byte a call. What they
-//! have to give is of Python's `cryptography`, in `containers`.
-use crate::containers::{A_BYTE_MORE, A_PART_MORE, LENGTHS};
+//! have to give is of Python's `cryptography`, in `containers` and of `crew_tests`.
+use crate::containers::{A_BYTE_MORE, A_PART_MORE, EMPTY, LENGTHS, TWO_CHUNKS};
 use crate::pipes::{Asked, known, piped, seals_freely, seals_to, small};
 use container_core::{SealFault, Shape};
-use crew_tests::{pattern, zeros};
+use crew_tests::{ZERO_BYTES, pattern, sealed_zeros, zeros};
 use io_core::{Failed, fill};
 use io_memory::{FromMemory, Schedule, ToMemory};
 use std::alloc::Global;
@@ -20,7 +20,7 @@ fn left_of(reader: &mut FromMemory<'_>) -> Option<usize> {
     }
 }
 
-// How many bytes of a plaintext are left unread where two chunks are allowed, and more are there. What was written
+// How many bytes of a plaintext are left unread where so many chunks are allowed, and more are there. What was written
 // begins its container.
 fn left_behind<T: Threads + Wait + Sync>(
     rt: &T,
@@ -28,18 +28,12 @@ fn left_behind<T: Threads + Wait + Sync>(
     shape: &Shape,
     plain: &[u8],
     container: &[u8],
-    workers: u32,
-    depth: u32,
+    asked: Asked,
 ) -> Option<usize> {
     let mut reader = FromMemory::new(plain, 1_000, Schedule::Never);
     let mut writer = ToMemory::new(alloc, plain.len(), usize::MAX, Schedule::Never).ok()?;
-    let asked = Asked {
-        max_chunks: 2,
-        workers,
-        depth,
-    };
     let answer = piped(rt, alloc, shape, &mut reader, &mut writer, asked, &Free)?;
-    let begun = container.starts_with(writer.bytes()) && writer.bytes().len() >= 25;
+    let begun = container.starts_with(writer.bytes()) && writer.bytes().len() >= 24;
     if answer == Err(SealFault::TooManyChunks) && begun {
         left_of(&mut reader)
     } else {
@@ -47,7 +41,7 @@ fn left_behind<T: Threads + Wait + Sync>(
     }
 }
 
-// The same of so many zeros, whose container has this SHA-256.
+// The same of so many zeros in small chunks, of which two are allowed, and whose container has this SHA-256.
 fn leaves<T: Threads + Wait + Sync>(
     rt: &T,
     alloc: Global,
@@ -58,15 +52,31 @@ fn leaves<T: Threads + Wait + Sync>(
 ) -> Option<usize> {
     let shape = small()?;
     let plain = zeros(alloc, count).ok()?;
-    let container = known(alloc, &shape, plain.as_slice(), digest)?;
+    let plain = plain.as_slice();
+    let container = known(alloc, &shape, plain, digest)?;
+    let asked = Asked {
+        max_chunks: 2,
+        workers,
+        depth,
+    };
+    left_behind(rt, alloc, &shape, plain, container.as_slice(), asked)
+}
+
+// The same of 65,537 zeros, of which one chunk is allowed.
+fn leaves_of_one<T: Threads + Wait + Sync>(rt: &T, alloc: Global) -> Option<usize> {
+    let container = sealed_zeros(alloc)?;
+    let asked = Asked {
+        max_chunks: 1,
+        workers: 2,
+        depth: 4,
+    };
     left_behind(
         rt,
         alloc,
-        &shape,
-        plain.as_slice(),
+        &Shape::one(),
+        &ZERO_BYTES,
         container.as_slice(),
-        workers,
-        depth,
+        asked,
     )
 }
 
@@ -76,6 +86,40 @@ fn a_byte_behind_the_most_chunks(rt: HostRuntime) {
         assert!(rt; leaves(&rt, rt.alloc(), 8_193, &A_BYTE_MORE, workers, depth) == Some(0));
         assert!(rt; leaves(&rt, rt.alloc(), 9_000, &A_PART_MORE, workers, depth) == Some(807));
     }
+    assert!(rt; leaves_of_one(&rt, rt.alloc()) == Some(0));
+}
+
+// Whether no byte and two full chunks of 4 KiB, and two of 64 KiB, the last of a byte, have their containers.
+fn all_are_known<T: Threads + Wait + Sync>(rt: &T, alloc: Global) -> Option<bool> {
+    let (shape, one) = (small()?, Shape::one());
+    let asked = Asked {
+        max_chunks: 2,
+        workers: 2,
+        depth: 4,
+    };
+    let plain = zeros(alloc, 8_192).ok()?;
+    let plain = plain.as_slice();
+    let two = known(alloc, &shape, plain, &TWO_CHUNKS)?;
+    let whole = sealed_zeros(alloc)?;
+    Some(
+        seals_freely(rt, alloc, &shape, &[], asked, &EMPTY)
+            && seals_to(
+                rt,
+                alloc,
+                &shape,
+                plain,
+                1_000,
+                asked,
+                &Free,
+                two.as_slice(),
+            )
+            && seals_freely(rt, alloc, &one, &ZERO_BYTES, asked, whole.as_slice()),
+    )
+}
+
+#[test]
+fn known_containers(rt: HostRuntime) {
+    assert!(rt; all_are_known(&rt, rt.alloc()) == Some(true));
 }
 
 // Whether a plaintext is sealed to its container by 1, 2, 4 and 16 workers, with 1, 2, 16 and 64 chunks in hand.

@@ -1,19 +1,13 @@
-//! Measures the cipher: ChaCha20, Poly1305, and the AEAD's sealing, opening and checking, over texts of 64 KiB and of 1
-//! KiB.
-//!
-//! Without an argument it works once over 64 KiB of zeros by each and prints what comes out. With the argument
-//! `measure` it prints for each work and length the picoseconds a byte of its best sample; a sample works over 64 KiB,
-//! in texts of the length.
-#![tactic(auto)]
-
+//! ChaCha20, Poly1305, and the AEAD's sealing, opening and checking, over texts of 64 KiB and of 1 KiB.
 ghost use Rattle.std.specs.Prelude.{◌≡◌, ◌≤◌, length};
 
+use crate::clock::nanos_since;
 use aead_core::{check, open_in_place, seal_in_place};
 use anyhow::Result;
 use chacha_core::apply;
+use container_tests::COUNTING;
 use poly_core::Mac;
 use std::alloc::Global;
-use std::env;
 use std::io::{self, Print};
 use std::time::{Clock, Instant};
 
@@ -26,11 +20,6 @@ const TEXTS: usize = 64;
 // How many samples are taken of each work.
 const SAMPLES: u32 = 2_000;
 
-const KEY: [u8; 32] = [
-    0, 1, 2, 3, 4, 5, 6, 7, 8, 9, 10, 11, 12, 13, 14, 15, 16, 17, 18, 19, 20, 21, 22, 23, 24, 25,
-    26, 27, 28, 29, 30, 31,
-];
-
 const NONCE: [u8; 12] = [0; 12];
 
 // What is measured.
@@ -42,6 +31,14 @@ enum Work {
     Open,
     Check,
 }
+
+static WORKS: [(&str, Work); 5] = [
+    ("apply", Work::Apply),
+    ("mac", Work::Mac),
+    ("seal", Work::Seal),
+    ("open", Work::Open),
+    ("check", Work::Check),
+];
 
 // The first 16 bytes of a text.
 fn front(text: &[u8]) -> [u8; 16] {
@@ -58,22 +55,22 @@ fn work_over(work: Work, text: &mut [u8], tag: &mut [u8; 16]) -> u8
 {
     match work {
         Work::Apply => {
-            apply(&KEY, &NONCE, 1, text);
+            apply(&COUNTING, &NONCE, 1, text);
             *tag = front(text);
             tag[0]
         }
         Work::Mac => {
-            let mut mac = Mac::new(&KEY);
+            let mut mac = Mac::new(&COUNTING);
             mac.absorb(text);
             *tag = mac.finish();
             tag[0]
         }
         Work::Seal => {
-            *tag = seal_in_place(&KEY, &NONCE, b"", text);
+            *tag = seal_in_place(&COUNTING, &NONCE, b"", text);
             tag[0]
         }
-        Work::Open => open_in_place(&KEY, &NONCE, b"", text, tag) as u8,
-        Work::Check => check(&KEY, &NONCE, b"", text, tag) as u8,
+        Work::Open => open_in_place(&COUNTING, &NONCE, b"", text, tag) as u8,
+        Work::Check => check(&COUNTING, &NONCE, b"", text, tag) as u8,
     }
 }
 
@@ -101,12 +98,11 @@ fn sample<C: Clock>(
     }
     let start = Instant::now(clock)?;
     let seen = work_over_all(work, bytes, length, tags);
-    let nanos = start.elapsed(clock)?.as_nanos();
-    Ok((u64::try_from(nanos).unwrap_or(u64::MAX), seen))
+    Ok((nanos_since(clock, &start)?, seen))
 }
 
 // Prints the picoseconds a byte of the best sample.
-fn measure<R: Clock + Print>(
+fn measure_work<R: Clock + Print>(
     rt: &R,
     name: &str,
     work: Work,
@@ -125,8 +121,25 @@ fn measure<R: Clock + Print>(
     println!(rt; "{name} {length} {picos} ({seen})")
 }
 
+// Measures each work over texts of this length.
+fn measure_length<R: Clock + Print>(rt: &R, bytes: &mut [u8], length: usize) -> io::Result<()> {
+    for (name, work) in &WORKS {
+        measure_work(rt, name, *work, bytes, length)?;
+    }
+    Ok(())
+}
+
+/// Prints for each work and length the picoseconds a byte of its best sample. A sample works over 64 KiB, in texts of
+/// the length.
+pub fn measure<R: Clock + Print>(rt: &R, alloc: Global) -> Result<()> {
+    let mut bytes = vec![in alloc; 0u8; TEXT]?;
+    measure_length(rt, bytes.as_mut_slice(), 65_536)?;
+    measure_length(rt, bytes.as_mut_slice(), 1_024)?;
+    Ok(())
+}
+
 // Prints what comes out of one round over zeros.
-fn show<R: Print>(rt: &R, alloc: Global, name: &str, work: Work) -> Result<()> {
+fn show_work<R: Print>(rt: &R, alloc: Global, name: &str, work: Work) -> Result<()> {
     let mut text = vec![in alloc; 0u8; TEXT]?;
     let mut tag = [0; 16];
     if text.len() <= TEXT {
@@ -137,24 +150,9 @@ fn show<R: Print>(rt: &R, alloc: Global, name: &str, work: Work) -> Result<()> {
     Ok(())
 }
 
-fn main(rt: HostRuntime) -> Result<()> {
-    let alloc = rt.alloc();
-    let mut measuring = false;
-    for word in env::args(&rt)? {
-        measuring = measuring || word.as_str() == "measure";
-    }
-    if !measuring {
-        show(&rt, alloc, "ChaCha20", Work::Apply)?;
-        show(&rt, alloc, "Poly1305", Work::Mac)?;
-        return show(&rt, alloc, "AEAD", Work::Seal);
-    }
-    let mut bytes = vec![in alloc; 0u8; TEXT]?;
-    for length in [65_536, 1_024] {
-        measure(&rt, "apply", Work::Apply, &mut bytes, length)?;
-        measure(&rt, "mac", Work::Mac, &mut bytes, length)?;
-        measure(&rt, "seal", Work::Seal, &mut bytes, length)?;
-        measure(&rt, "open", Work::Open, &mut bytes, length)?;
-        measure(&rt, "check", Work::Check, &mut bytes, length)?;
-    }
-    Ok(())
+/// Prints what comes out of one round over 64 KiB of zeros.
+pub fn show<R: Print>(rt: &R, alloc: Global) -> Result<()> {
+    show_work(rt, alloc, "ChaCha20", Work::Apply)?;
+    show_work(rt, alloc, "Poly1305", Work::Mac)?;
+    show_work(rt, alloc, "AEAD", Work::Seal)
 }

@@ -1,16 +1,11 @@
-//! Measures the shared ledger: operations a second of 1, 2 and 4 threads that issue and settle, beside the same three
-//! counts under a `Mutex`.
-//!
-//! Without an argument each spends a short range once and prints its counts. With the argument `measure` it prints
-//! the speed of the middle and of the best round over the greatest range. A round's time has the start and the end of
-//! its threads in it.
-#![tactic(auto)]
+//! The shared ledger: operations a second of 1, 2 and 4 threads that issue and settle, beside the same three counts
+//! under a `Mutex`. A round's time has the start and the end of its threads in it.
 
+use crate::clock::nanos_since;
 use anyhow::Result;
 use ledger_core::{BadRange, Device, Range, Tally};
 use ledger_tests::Run;
 use std::alloc::Global;
-use std::env;
 use std::io::{self, Print};
 use std::sync::{Mutex, Wait};
 use std::thread::{Threads, for_each_mut};
@@ -54,11 +49,6 @@ struct Round {
     tally: Tally,
 }
 
-fn nanos_since(clock: &impl Clock, start: Instant) -> io::Result<u64> {
-    let nanos = start.elapsed(clock)?.as_nanos();
-    Ok(u64::try_from(nanos).unwrap_or(u64::MAX))
-}
-
 // The threads spend the range of a ledger.
 fn ledger_round<R: Clock + Threads + Sync>(
     rt: &R,
@@ -72,7 +62,7 @@ fn ledger_round<R: Clock + Threads + Sync>(
     let mut run = Run::open(alloc, range, threads)?;
     let start = Instant::now(rt)?;
     run.spend(rt, threads);
-    let nanos = nanos_since(rt, start)?;
+    let nanos = nanos_since(rt, &start)?;
     let tally = run.tally(0);
     Ok(Round { nanos, tally })
 }
@@ -104,7 +94,7 @@ fn lock_round<R: Clock + Threads + Wait + Sync>(
     let shared = &counts;
     let work = |_worker: usize, _seat: &mut u32| spend_counts(rt, shared, size);
     for_each_mut(rt, workers.as_mut_slice(), (threads as usize).max(1), &work);
-    let nanos = nanos_since(rt, start)?;
+    let nanos = nanos_since(rt, &start)?;
     let counts = counts.into_inner();
     let granted = counts.issues.min(size);
     let tally = Tally {
@@ -116,7 +106,7 @@ fn lock_round<R: Clock + Threads + Wait + Sync>(
     Ok(Round { nanos, tally })
 }
 
-fn show<R: Print>(rt: &R, name: &str, threads: u32, tally: Tally) -> io::Result<()> {
+fn print_tally<R: Print>(rt: &R, name: &str, threads: u32, tally: Tally) -> io::Result<()> {
     let Tally {
         granted,
         refused,
@@ -151,7 +141,7 @@ fn speeds_of(mut nanos: Vec<u64>, threads: u32) -> Speeds {
     }
 }
 
-fn measure<R: Clock + Print + Threads + Wait + Sync>(
+fn print_speeds<R: Clock + Print + Threads + Wait + Sync>(
     rt: &R,
     alloc: Global,
     threads: u32,
@@ -170,21 +160,21 @@ fn measure<R: Clock + Print + Threads + Wait + Sync>(
     Ok(())
 }
 
-fn main(rt: HostRuntime) -> Result<()> {
-    let alloc = rt.alloc();
-    let mut measuring = false;
-    for word in env::args(&rt)? {
-        measuring = measuring || word.as_str() == "measure";
-    }
+/// Prints the speed of the middle and of the best round over the greatest range.
+pub fn measure<R: Clock + Print + Threads + Wait + Sync>(rt: &R, alloc: Global) -> Result<()> {
     for threads in [1, 2, 4] {
-        if measuring {
-            measure(&rt, alloc, threads)?;
-        } else {
-            let ledger = ledger_round(&rt, alloc, SHORT, threads)?;
-            show(&rt, "ledger", threads, ledger.tally)?;
-            let lock = lock_round(&rt, alloc, SHORT, threads)?;
-            show(&rt, "lock", threads, lock.tally)?;
-        }
+        print_speeds(rt, alloc, threads)?;
+    }
+    Ok(())
+}
+
+/// Prints what the ledger and the lock count over a short range.
+pub fn show<R: Clock + Print + Threads + Wait + Sync>(rt: &R, alloc: Global) -> Result<()> {
+    for threads in [1, 2, 4] {
+        let ledger = ledger_round(rt, alloc, SHORT, threads)?;
+        print_tally(rt, "ledger", threads, ledger.tally)?;
+        let lock = lock_round(rt, alloc, SHORT, threads)?;
+        print_tally(rt, "lock", threads, lock.tally)?;
     }
     Ok(())
 }
