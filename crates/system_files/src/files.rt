@@ -1,7 +1,6 @@
 //! The file system as a folder.
-ghost use Rattle.std.specs.Prelude.{◌≢◌, Err};
-
-use crate::ledger::{is_beside, is_of_ledger};
+use crate::outputs::{self, Output, Outputs, create_new};
+use crate::own::{FileId, OwnFiles, OwnPaths, is_of_ledger};
 use crate::progress::{Counted, Progress};
 use command_core::{Folder, FolderFault, OpeningFolder, Plaintext};
 use container_core::{Key, Shape};
@@ -9,11 +8,11 @@ use front_core::SealingFolder;
 use ledger_core::{FromRead, Ledger, Seat, ToWrite};
 use path_core::put_below;
 use reserve_core::{Fold, LedgerFile};
+use std::fs;
 use std::fs::{File, OpenFile};
-use std::io::{BufReader, ErrorKind, Read, Write};
-use std::os::unix::fs::MetadataExt;
+use std::io::BufReader;
 use std::rt::{Clock, Files};
-use std::{fs, io};
+use system_ledger::is_beside;
 use thiserror::Error;
 
 /// Bytes of the buffer through which a file is read.
@@ -31,6 +30,53 @@ pub struct SystemFiles<'p, 'r, R: Files + AllocGlobal + Clock + Eprint> {
     pub sync: bool,
     /// What counts the bytes that are read of files, where that is asked for.
     pub progress: Option<&'p Progress<'r, R>>,
+    outputs: Outputs,
+    // The run's own files, where it has some: looked up as the first file is opened.
+    own_paths: Option<OwnPaths<'r>>,
+    own: Option<OwnFiles>,
+}
+
+impl<'p, 'r, R: Files + AllocGlobal + Clock + Eprint> SystemFiles<'p, 'r, R> {
+    /// The files of the system, for one run.
+    pub fn new(
+        rt: &'r R,
+        into: Option<&'r str>,
+        sync: bool,
+        progress: Option<&'p Progress<'r, R>>,
+    ) -> SystemFiles<'p, 'r, R> {
+        SystemFiles {
+            rt,
+            into,
+            sync,
+            progress,
+            outputs: Outputs::new(rt),
+            own_paths: None,
+            own: None,
+        }
+    }
+
+    /// From here on the files at these paths can't be opened, by whatever name. They are looked up as the first file is
+    /// opened.
+    pub fn keep_out(&mut self, paths: OwnPaths<'r>) {
+        self.own_paths = Some(paths);
+        self.own = None;
+    }
+
+    // Whether a file is one of the run's own. Where that can't be told it counts as one.
+    fn is_own(&mut self, file: FileId) -> bool {
+        let Some(paths) = self.own_paths else {
+            return false;
+        };
+        let own = match self.own {
+            Some(own) => own,
+            None => match OwnFiles::at(self.rt, &paths) {
+                Ok(own) => own,
+                Err(_) => return true,
+            },
+        };
+        self.own = Some(own);
+        own.has(file)
+    }
 }
 
 /// Why the journal file isn't there. The texts are those that the program prints.
@@ -72,93 +118,6 @@ pub fn new_journal<R: Files + AllocGlobal>(
     Ok(Some(ToWrite(journal)))
 }
 
-// Creates a file. The system makes it only where there is none of the name, so no other program's file is ever
-// replaced.
-fn create_new<R: Files>(rt: &R, path: &str) -> Result<R::File, FolderFault> {
-    match File::create_new(rt, path) {
-        Ok(file) => Ok(file),
-        Err(error) if error.kind() == ErrorKind::AlreadyExists => Err(FolderFault::Exists),
-        Err(_) => Err(FolderFault::Failed),
-    }
-}
-
-/// An output that is written: its path, its file, and the folder that has its name, where both are to be put on the
-/// disk.
-#[derive(Drop)]
-pub struct Output<F: Read + Write + Drop> {
-    // It is made before the file is, so that the removal takes no memory.
-    path: String,
-    file: F,
-    folder: Option<F>,
-}
-
-impl<F: Read + Write + Drop> Write for Output<F> {
-    fn write(&mut self, buf: &[u8]) -> io::Result<usize> {
-        self.file.write(buf)
-    }
-
-    fn flush(&mut self) -> io::Result<()> {
-        self.file.flush()
-    }
-}
-
-// Creates an output. The folder is opened first, so that an output whose name can't be put on the disk isn't made.
-fn output_at<R: Files>(
-    rt: &R,
-    path: String,
-    sync: bool,
-) -> Result<ToWrite<Output<R::File>>, FolderFault> {
-    let folder = if sync {
-        match File::open(rt, folder_of(path.as_str())) {
-            Ok(folder) => Some(folder),
-            Err(_) => return Err(FolderFault::Failed),
-        }
-    } else {
-        None
-    };
-    match create_new(rt, path.as_str()) {
-        Ok(file) => Ok(ToWrite(Output { path, file, folder })),
-        Err(fault) => Err(fault),
-    }
-}
-
-// The folder that has the name of this path.
-fn folder_of(path: &str) -> &str {
-    match path.rsplit_once('/') {
-        None => ".",
-        Some(("", _)) => "/",
-        Some((folder, _)) => folder,
-    }
-}
-
-// Puts an output on the disk, and then its name, where the folder is there.
-fn put_on_disk<F: OpenFile>(file: &F, folder: &Option<F>) -> io::Result<()> {
-    if let Some(folder) = folder {
-        file.sync_all()?;
-        folder.sync_all()?;
-    }
-    Ok(())
-}
-
-// Whether another file has this name by now: ours was moved away or removed, and somebody else made one. Where that
-// can't be told it counts as ours.
-fn is_anothers<R: Files>(rt: &R, own: &R::File, path: &str) -> bool {
-    match (own.metadata(), fs::symlink_metadata(rt, path)) {
-        (Ok(own), Ok(found)) => found.dev() != own.dev() || found.ino() != own.ino(),
-        _ => false,
-    }
-}
-
-// Removes a file. Its only fault is `Failed`.
-fn remove_at<R: Files>(rt: &R, path: &str) -> Result<(), FolderFault>
-    ensures fault { result ≢ Err FolderFault.Exists }
-{
-    match fs::remove_file(rt, path) {
-        Ok(()) => Ok(()),
-        Err(_) => Err(FolderFault::Failed),
-    }
-}
-
 /// What stands in for standard streams that are closed, so that no file that is opened later takes the number of one
 /// and gets what is meant for the stream.
 pub fn stand_ins<R: Files>(rt: &R) -> [Option<R::File>; 3] {
@@ -176,6 +135,14 @@ fn stand_in<R: Files>(rt: &R) -> Option<R::File> {
 
 /// Opens a file to be read. A directory is none.
 pub fn open_unbuffered<R: Files>(rt: &R, name: &str) -> Result<R::File, FolderFault> {
+    match open_known(rt, name) {
+        Ok((file, _)) => Ok(file),
+        Err(fault) => Err(fault),
+    }
+}
+
+// The same, and which file it is.
+fn open_known<R: Files>(rt: &R, name: &str) -> Result<(R::File, FileId), FolderFault> {
     let Ok(file) = File::open(rt, name) else {
         return Err(FolderFault::Failed);
     };
@@ -185,7 +152,7 @@ pub fn open_unbuffered<R: Files>(rt: &R, name: &str) -> Result<R::File, FolderFa
     if metadata.is_dir() {
         return Err(FolderFault::Failed);
     }
-    Ok(file)
+    Ok((file, FileId::of(&metadata)))
 }
 
 impl<'p, 'r, R: Files + AllocGlobal + Clock + Eprint> Folder for SystemFiles<'p, 'r, R> {
@@ -195,9 +162,12 @@ impl<'p, 'r, R: Files + AllocGlobal + Clock + Eprint> Folder for SystemFiles<'p,
     type Writer = ToWrite<Output<R::File>>;
 
     fn open(&mut self, name: &str) -> Result<Self::Reader, FolderFault> {
-        let Ok(file) = open_unbuffered(self.rt, name) else {
+        let Ok((file, id)) = open_known(self.rt, name) else {
             return Err(FolderFault::Failed);
         };
+        if self.is_own(id) {
+            return Err(FolderFault::Failed);
+        }
         match BufReader::with_capacity(self.rt.alloc(), BUFFER, file) {
             Ok(reader) => Ok(FromRead(Counted {
                 reader,
@@ -216,28 +186,23 @@ impl<'p, 'r, R: Files + AllocGlobal + Clock + Eprint> Folder for SystemFiles<'p,
         if !is_placed {
             return Err(FolderFault::Failed);
         }
-        output_at(self.rt, path, self.sync)
+        match self.outputs.create(self.rt, path, self.sync) {
+            Ok(output) => Ok(ToWrite(output)),
+            Err(fault) => Err(fault),
+        }
     }
 
     // Without `sync` the file is closed here, and the disk has it when the system writes it.
     fn finish(&mut self, output: Self::Writer) -> Result<(), Self::Writer> {
-        match put_on_disk(&output.0.file, &output.0.folder) {
+        let ToWrite(mut output) = output;
+        match outputs::finish(self.rt, &mut output) {
             Ok(()) => Ok(()),
-            Err(_) => Err(output),
+            Err(_) => Err(ToWrite(output)),
         }
     }
 
-    // The file is closed before it is removed. One that somebody else made under its name since then stays.
     fn discard(&mut self, output: Self::Writer) -> Result<(), FolderFault> {
-        let ToWrite(Output { path, file, folder }) = output;
-        let is_own = !is_anothers(self.rt, &file, path.as_str());
-        drop(file);
-        drop(folder);
-        if is_own {
-            remove_at(self.rt, path.as_str())
-        } else {
-            Err(FolderFault::Failed)
-        }
+        outputs::discard(self.rt, output.0)
     }
 
     ghost sound = { λ _. ∣ tt ∣₁ };

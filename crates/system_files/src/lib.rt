@@ -1,14 +1,12 @@
-//! The file system as `sealer` uses it: its files as a `Folder`, the journal's file, and the ledger file.
+//! The file system as `sealer` uses it: its files as a `Folder`, and the journal's file.
 #![tactic(auto)]
 
 pub mod files;
-pub mod holdings;
-pub mod ledger;
-mod log;
+pub mod outputs;
+pub mod own;
 pub mod progress;
 
 pub use crate::files::{JournalFault, SystemFiles, new_journal, open_unbuffered, stand_ins};
-pub use crate::holdings::{Holding, read_holdings};
-pub use crate::ledger::{LedgerFault, LedgerPath, close_ledger, may_open, open_ledger};
+pub use crate::own::{OwnPaths, StandardInput};
 pub use crate::progress::{Progress, Told};
 pub use path_core::{PlaceFault, are_apart, last_name};

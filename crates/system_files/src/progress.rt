@@ -174,6 +174,8 @@ pub struct Counted<'p, 'r, R: Clock + Eprint, F: Read + Drop> {
 }
 
 impl<R: Clock + Eprint, F: Read + Drop> Read for Counted<'_, '_, R, F> {
+    ghost remaining = { λ counted. F.remaining counted.reader };
+
     fn read(&mut self, buf: &mut [u8]) -> io::Result<usize> {
         let got = self.reader.read(buf);
         if let (Some(progress), Ok(bytes)) = (self.progress, &got) {
@@ -196,6 +198,8 @@ pub struct Told<'p, 'r, R: Clock + Eprint, W: Write + Drop> {
 }
 
 impl<R: Clock + Eprint, W: Write + Drop> Write for Told<'_, '_, R, W> {
+    ghost contents = { λ told. W.contents told.writer };
+
     fn write(&mut self, buf: &[u8]) -> io::Result<usize> {
         let Some(progress) = self.progress else {
             return self.writer.write(buf);

@@ -1,5 +1,5 @@
 use Rattle.std.proofs.Common.{refl, arith}
-use Rattle.system_files.proofs.ledger.open_ledger.Goals as goal
+use Rattle.system_ledger.proofs.ledger.open_ledger.Goals as goal
 
 pub returns-in-Ok-keeper_over : goal.returns-in-Ok-keeper_over
 returns-in-Ok-keeper_over g c =

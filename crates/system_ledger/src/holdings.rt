@@ -4,7 +4,7 @@ use crate::ledger::{LedgerFault, LedgerPath, keeper_over, may_open};
 use crate::log::{log_beside, opened};
 use reserve_core::NUMBERS;
 use sqlite::{Alter, Connection, Row};
-use std::alloc::Global;
+use std::alloc::{AllocError, Global};
 use std::fmt::{Display, Formatter};
 use std::fs::File;
 use std::io::{ErrorKind, Read};
@@ -55,33 +55,56 @@ pub fn read_holdings<R: Files + AllocGlobal>(
         may_make: false,
     };
     may_open(rt, &ledger)?;
-    let Ok(log) = log_beside(rt, path) else {
-        return Err(LedgerFault::CannotOpen);
-    };
-    let log = log.as_str();
+    match log_beside(rt, path) {
+        Ok(log) => match read_alike(rt, path, log.as_str()) {
+            Some(read) => held_by(
+                rt.alloc(),
+                opened(rt.alloc(), read.log.as_slice(), read.db.as_slice()),
+            ),
+            None => Err(LedgerFault::CannotOpen),
+        },
+        Err(_) => Err(LedgerFault::CannotOpen),
+    }
+}
+
+// The bytes of the two files.
+#[derive(Drop)]
+struct Both {
+    log: Vec<u8>,
+    db: Vec<u8>,
+}
+
+// The two files, where a run could open them, and they were the same when they were read again.
+fn read_alike<R: Files + AllocGlobal>(rt: &R, path: &str, log: &str) -> Option<Both> {
     if !is_alone(rt, path, log) {
-        return Err(LedgerFault::CannotOpen);
+        return None;
     }
-    let Ok(log_bytes) = read_if_there(rt, log) else {
-        return Err(LedgerFault::CannotOpen);
-    };
-    // What is no database is refused before it is read whole. Where the log has pages the file's first one may be among
-    // them.
-    if log_bytes.is_empty() && !begins_as_database(rt, path) {
-        return Err(LedgerFault::CannotOpen);
+    let read = read_both(rt, path, log)?;
+    if is_still(rt, path, read.db.as_slice()) && is_still(rt, log, read.log.as_slice()) {
+        Some(read)
+    } else {
+        None
     }
-    let Ok(db_bytes) = fs::read(rt, path) else {
-        return Err(LedgerFault::CannotOpen);
-    };
-    let (Ok(db_again), Ok(log_again)) = (fs::read(rt, path), read_if_there(rt, log)) else {
-        return Err(LedgerFault::CannotOpen);
-    };
-    if db_bytes.as_slice() != db_again.as_slice() || log_bytes.as_slice() != log_again.as_slice() {
-        return Err(LedgerFault::CannotOpen);
+}
+
+// The two files. What is no database is refused before it is read whole. Where the log has pages the file's first one
+// may be among them.
+fn read_both<R: Files + AllocGlobal>(rt: &R, path: &str, log: &str) -> Option<Both> {
+    let log = read_if_there(rt, log).ok()?;
+    if log.is_empty() && !begins_as_database(rt, path) {
+        return None;
     }
-    match opened(rt.alloc(), log_bytes.as_slice(), db_bytes.as_slice()) {
-        Ok(Some(connection)) => held_by(rt.alloc(), connection),
-        _ => Err(LedgerFault::CannotOpen),
+    match fs::read(rt, path) {
+        Ok(db) => Some(Both { log, db }),
+        Err(_) => None,
+    }
+}
+
+// Whether a file has these bytes, none where it isn't there.
+fn is_still<R: Files + AllocGlobal>(rt: &R, path: &str, bytes: &[u8]) -> bool {
+    match read_if_there(rt, path) {
+        Ok(again) => again.as_slice() == bytes,
+        Err(_) => false,
     }
 }
 
@@ -140,8 +163,18 @@ fn read_if_there<R: Files + AllocGlobal>(rt: &R, path: &str) -> io::Result<Vec<u
     }
 }
 
-// What a database holds that is a ledger.
+// What a database holds that is a ledger, where there is one.
 fn held_by<S: Alter + Drop>(
+    alloc: Global,
+    opened: Result<Option<Connection<S>>, AllocError>,
+) -> Result<Vec<Holding>, LedgerFault> {
+    match opened {
+        Ok(Some(connection)) => holdings_of(alloc, connection),
+        _ => Err(LedgerFault::CannotOpen),
+    }
+}
+
+fn holdings_of<S: Alter + Drop>(
     alloc: Global,
     connection: Connection<S>,
 ) -> Result<Vec<Holding>, LedgerFault> {

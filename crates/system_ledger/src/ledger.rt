@@ -15,10 +15,8 @@ use reserve_core::{Keeper, LedgerFile, ReserveFault};
 use sqlite::{Alter, Connection, FileFrom, FileStore, Options, Start};
 use sqlite_disk::Disk;
 use std::fs;
-use std::fs::OpenFile;
 use std::hash::{BuildHasher, RandomState};
 use std::io::{self, ErrorKind};
-use std::os::unix::fs::MetadataExt;
 use std::rt::Files;
 use thiserror::Error;
 
@@ -97,8 +95,8 @@ fn length_of<R: Files + AllocGlobal>(rt: &R, path: &str) -> io::Result<Option<u6
 }
 
 /// This ledger file, with its keeper; it is made where there is none. A path that names no file (an empty one,
-/// `:memory:` or a URI) is refused: two runs must never be without a file between them. A refusal leaves the log as it
-/// is.
+/// `:memory:` or a URI) is refused: two runs must never be without a file between them. A refusal keeps the pages of
+/// the log.
 ///
 /// Where none may be made, a database without tables is `NotThere`, also one that the opening itself began since the
 /// file was gone. `S` stands for what the files hold, as the database's own way to open a path has it.
@@ -194,34 +192,4 @@ pub fn is_beside(path: &str, ledger: &str) -> bool {
         Some(rest) => matches!(rest, "" | "-wal" | "-shm" | "-journal"),
         None => false,
     }
-}
-
-/// Whether a file that was just created is, by whatever path, the ledger file or one that its database keeps beside it.
-/// Where that can't be told it counts as one.
-pub fn is_of_ledger<R: Files + AllocGlobal, F: OpenFile>(
-    rt: &R,
-    created: &F,
-    ledger: &str,
-) -> bool {
-    let Ok(own) = created.metadata() else {
-        return true;
-    };
-    // The database's files lie where a link leads.
-    let real = fs::canonicalize(rt, ledger);
-    let base = match &real {
-        Ok(path) => path.as_str(),
-        Err(_) => ledger,
-    };
-    for end in ["", "-wal", "-shm", "-journal"] {
-        let Ok(name) = format!(in rt.alloc(); "{base}{end}") else {
-            return true;
-        };
-        if let Ok(other) = fs::metadata(rt, name.as_str())
-            && other.dev() == own.dev()
-            && other.ino() == own.ino()
-        {
-            return true;
-        }
-    }
-    false
 }

@@ -3,7 +3,7 @@ use Rattle.sqlite_disk.specs.Events.{Event, replay}
 use Rattle.sqlite_wal.specs.Recovery.{Image}
 use Rattle.sqlite.specs.Files.{file_state}
 use Rattle.sqlite.specs.Start.{FindsIn}
-use Rattle.system_files.proofs.ledger.connect.Goals as goal
+use Rattle.system_ledger.proofs.ledger.connect.Goals as goal
 
 abbrev image : List ℕ → List ℕ → Image
 image log db = record { log = log; db = db }

@@ -1,5 +1,6 @@
 //! The log that a database keeps beside its file (PATH-wal), and whether it goes with the file.
-use sqlite::{Alter, Connection, Error, ErrorCode, FileStore, Files as DiskFiles, Options, params};
+use crate::marks::{Mark, keeps_marks};
+use sqlite::{Alter, Connection, Error, ErrorCode, FileStore, Files as DiskFiles, Options, Row};
 use sqlite_disk::{Disk, Memory};
 use std::alloc::{AllocError, Global};
 use std::fs;
@@ -57,22 +58,13 @@ pub(crate) fn log_adds<R: Files + AllocGlobal>(
 
 // The same of the bytes of both files.
 fn adds(alloc: Global, db: &[u8], log: &[u8]) -> bool {
-    match opened(alloc, &[], db) {
-        Ok(Some(alone)) => is_kept_by(alone, opened(alloc, log, db)),
+    match marks_in(alloc, opened(alloc, &[], db)) {
+        Ok(Some(marks)) => match marks_in(alloc, opened(alloc, log, db)) {
+            Ok(Some(others)) => keeps_marks(marks.as_slice(), others.as_slice()),
+            _ => false,
+        },
         Ok(None) => true,
         Err(_) => false,
-    }
-}
-
-// Whether each key and device of the one ledger has its numbers in the other, where that could be opened.
-fn is_kept_by<S: Alter + Drop>(
-    one: Connection<S>,
-    other: Result<Option<Connection<S>>, AllocError>,
-) -> bool {
-    let mut one = one;
-    match other {
-        Ok(Some(mut other)) => keeps_marks(&mut one, &mut other),
-        _ => false,
     }
 }
 
@@ -111,33 +103,43 @@ fn copied(alloc: Global, bytes: &[u8]) -> Result<Memory, AllocError> {
     Ok(file)
 }
 
-// Whether each key and device of the one ledger has its numbers in the other.
-fn keeps_marks<S: Alter>(one: &mut Connection<S>, other: &mut Connection<S>) -> bool {
-    let marks = match one.query_all("SELECT key_id, device, next FROM mark", &[]) {
-        Ok(marks) => marks,
-        Err(error) => return !is_for_memory(&error),
+// The marks of a database that was opened, where there is one and it has a table of them.
+fn marks_in<S: Alter + Drop>(
+    alloc: Global,
+    opened: Result<Option<Connection<S>>, AllocError>,
+) -> Result<Option<Vec<Mark>>, Unread> {
+    let mut connection = match opened {
+        Ok(Some(connection)) => connection,
+        Ok(None) => return Ok(None),
+        Err(_) => return Err(Unread),
     };
-    for mark in &marks {
-        let (Ok(key), Ok(device), Ok(next)) = (
-            mark.get::<Vec<u8>>(0),
-            mark.get::<i64>(1),
-            mark.get::<i64>(2),
-        ) else {
-            return false;
-        };
-        if next_in(other, &key, device) < Some(next) {
-            return false;
-        }
+    match connection.query_all("SELECT key_id, device, next FROM mark", &[]) {
+        Ok(rows) => match read(alloc, rows.as_slice()) {
+            Ok(marks) => Ok(Some(marks)),
+            Err(unread) => Err(unread),
+        },
+        Err(error) if is_for_memory(&error) => Err(Unread),
+        Err(_) => Ok(None),
     }
-    true
 }
 
-fn next_in<S: Alter>(ledger: &mut Connection<S>, key: &Vec<u8>, device: i64) -> Option<i64> {
-    let found = ledger
-        .query_row(
-            "SELECT next FROM mark WHERE key_id = ?1 AND device = ?2",
-            params![key, device],
-        )
-        .ok()?;
-    found.get(0).ok()
+// Memory was refused, or a row holds something else.
+#[derive(Drop)]
+struct Unread;
+
+fn read(alloc: Global, rows: &[Row]) -> Result<Vec<Mark>, Unread> {
+    let mut marks = Vec::new(alloc);
+    for row in rows {
+        if marks.push(mark_of(row)?).is_err() {
+            return Err(Unread);
+        }
+    }
+    Ok(marks)
+}
+
+fn mark_of(row: &Row) -> Result<Mark, Unread> {
+    match (row.get(0), row.get(1), row.get(2)) {
+        (Ok(key), Ok(device), Ok(next)) => Ok(Mark { key, device, next }),
+        _ => Err(Unread),
+    }
 }

@@ -1,0 +1,321 @@
+//! Outputs: files that get their names only once they are whole.
+//!
+//! An output is written as a part, a hidden file in the folder of its name. Once it is whole a hard link gives it its
+//! name, which never replaces a file, and the part's name is removed. So whatever ends a run, a file that has an output's
+//! name is whole. Where a file can't have two names an output has its own from the beginning.
+
+ghost use Rattle.std.specs.Prelude.{◌≡◌, ◌≢◌, Err};
+
+use crate::own::FileId;
+use command_core::FolderFault;
+use std::alloc::Global;
+use std::fs::{File, OpenFile};
+use std::io::{ErrorKind, Read, Write};
+use std::rt::{Clock, Files};
+use std::{fs, io};
+
+/// An output that is written: its file, and the folder that has its name, where both are to be put on the disk.
+#[derive(Drop)]
+pub struct Output<F: Read + Write + Drop> {
+    // The names are made before the file is, so that their removal takes no memory.
+    path: String,
+    part: Option<String>,
+    // Whether the file has its own name by now. It has the part's as long as that is there.
+    is_named: bool,
+    file: F,
+    folder: Option<F>,
+}
+
+impl<F: Read + Write + Drop> Write for Output<F> {
+    ghost contents = { λ output. F.contents output.file };
+
+    fn write(&mut self, buf: &[u8]) -> io::Result<usize> {
+        self.file.write(buf)
+    }
+
+    fn flush(&mut self) -> io::Result<()> {
+        self.file.flush()
+    }
+}
+
+/// How the outputs of a run are made.
+#[derive(Drop)]
+pub(crate) struct Outputs {
+    // When the run began, in nanoseconds: the names of its parts have it.
+    begun: u64,
+    // The folder of the last output, and whether files there can have two names.
+    links: Option<(String, bool)>,
+}
+
+impl Outputs {
+    pub(crate) fn new<R: Clock>(rt: &R) -> Outputs {
+        let begun = match rt.since_1970() {
+            Ok(time) => u64::try_from(time.as_nanos()).unwrap_or(0),
+            Err(_) => 0,
+        };
+        Outputs { begun, links: None }
+    }
+
+    /// Creates an output, where there is no file of its name. With `sync` its folder is opened first, so that an output
+    /// whose name can't be put on the disk isn't made.
+    pub(crate) fn create<R: Files + AllocGlobal>(
+        &mut self,
+        rt: &R,
+        path: String,
+        sync: bool,
+    ) -> Result<Output<R::File>, FolderFault> {
+        let (folder, name) = folder_and_name(path.as_str());
+        let opened = if sync {
+            match File::open(rt, folder) {
+                Ok(opened) => Some(opened),
+                Err(_) => return Err(FolderFault::Failed),
+            }
+        } else {
+            None
+        };
+        is_free(rt, path.as_str(), name)?;
+        match self.part(rt, folder, name)? {
+            Some((part, file)) => Ok(Output {
+                path,
+                part: Some(part),
+                is_named: false,
+                file,
+                folder: opened,
+            }),
+            None => {
+                let file = create_new(rt, path.as_str())?;
+                Ok(Output {
+                    path,
+                    part: None,
+                    is_named: true,
+                    file,
+                    folder: opened,
+                })
+            }
+        }
+    }
+
+    // A new part of an output of this name, where files in this folder can have two names. Whether they can is tried
+    // with the first one there.
+    fn part<R: Files + AllocGlobal>(
+        &mut self,
+        rt: &R,
+        folder: &str,
+        name: &str,
+    ) -> Result<Option<(String, R::File)>, FolderFault> {
+        let known = match &self.links {
+            Some((last, links)) if last.as_str() == folder => Some(*links),
+            _ => None,
+        };
+        if known == Some(false) {
+            return Ok(None);
+        }
+        let part = part_name(rt.alloc(), folder, self.begun, name, "")?;
+        let file = match File::create_new(rt, part.as_str()) {
+            Ok(file) => file,
+            Err(error) => {
+                return match error.kind() {
+                    // Another FILE of the run has an output of this name.
+                    ErrorKind::AlreadyExists => Err(FolderFault::Exists),
+                    // The part's name may be longer than the output's.
+                    ErrorKind::InvalidFilename => Ok(None),
+                    _ => Err(FolderFault::Failed),
+                };
+            }
+        };
+        let links = match known {
+            Some(links) => Ok(links),
+            None => self.try_links(rt, folder, name, part.as_str()),
+        };
+        if links == Ok(true) {
+            return Ok(Some((part, file)));
+        }
+        drop(file);
+        let _ = fs::remove_file(rt, part.as_str());
+        match links {
+            Ok(_) => Ok(None),
+            Err(fault) => Err(fault),
+        }
+    }
+
+    // Tries whether this part, of an output of this name, can have a second name in its folder.
+    fn try_links<R: Files + AllocGlobal>(
+        &mut self,
+        rt: &R,
+        folder: &str,
+        name: &str,
+        part: &str,
+    ) -> Result<bool, FolderFault> {
+        let mut last = String::new(rt.alloc());
+        if last.push_str(folder).is_err() {
+            return Err(FolderFault::Failed);
+        }
+        let second = part_name(rt.alloc(), folder, self.begun, name, "2")?;
+        let links = has_links(rt, part, second.as_str())?;
+        self.links = Some((last, links));
+        Ok(links)
+    }
+}
+
+// The folder that has the name of this path, and that name.
+fn folder_and_name(path: &str) -> (&str, &str) {
+    match path.rsplit_once('/') {
+        None => (".", path),
+        Some(("", name)) => ("/", name),
+        Some((folder, name)) => (folder, name),
+    }
+}
+
+// Whether there is no file at this path, whose last name this is.
+fn is_free<R: Files>(rt: &R, path: &str, name: &str) -> Result<(), FolderFault> {
+    if name.is_empty() {
+        return Err(FolderFault::Failed);
+    }
+    match fs::symlink_metadata(rt, path) {
+        Ok(_) => Err(FolderFault::Exists),
+        Err(error) if error.kind() == ErrorKind::NotFound => Ok(()),
+        Err(_) => Err(FolderFault::Failed),
+    }
+}
+
+/// Creates a file. The system makes it only where there is none of the name, so no other program's file is ever
+/// replaced.
+pub(crate) fn create_new<R: Files>(rt: &R, path: &str) -> Result<R::File, FolderFault> {
+    match File::create_new(rt, path) {
+        Ok(file) => Ok(file),
+        Err(error) if error.kind() == ErrorKind::AlreadyExists => Err(FolderFault::Exists),
+        Err(_) => Err(FolderFault::Failed),
+    }
+}
+
+// The path of a part. Two outputs of one run that would get one name in one folder have one part, by whatever paths, so
+// that the second isn't created.
+fn part_name(
+    alloc: Global,
+    folder: &str,
+    begun: u64,
+    name: &str,
+    mark: &str,
+) -> Result<String, FolderFault> {
+    let number = number_of(name);
+    match format!(in alloc; "{folder}/.{begun:016x}{number:016x}{mark}.part") {
+        Ok(part) => Ok(part),
+        Err(_) => Err(FolderFault::Failed),
+    }
+}
+
+// A number for a name (FNV-1a, 64 bits).
+fn number_of(name: &str) -> u64 {
+    let mut number = 0xcbf2_9ce4_8422_2325_u64;
+    for byte in name.as_bytes() {
+        number = (number ^ u64::from(*byte)).wrapping_mul(0x0100_0000_01b3);
+    }
+    number
+}
+
+// Whether a file can have a second name, which is removed again. It can't where the file system has no links, or the
+// folder lets no name go.
+fn has_links<R: Files>(rt: &R, name: &str, second: &str) -> Result<bool, FolderFault> {
+    match fs::hard_link(rt, name, second) {
+        Ok(()) if fs::remove_file(rt, second).is_ok() => Ok(true),
+        Ok(()) => {
+            // Where that failed by chance no part is left.
+            let _ = fs::remove_file(rt, second);
+            Ok(false)
+        }
+        Err(error) => match error.kind() {
+            ErrorKind::PermissionDenied | ErrorKind::Unsupported | ErrorKind::TooManyLinks => {
+                Ok(false)
+            }
+            _ => Err(FolderFault::Failed),
+        },
+    }
+}
+
+/// Gives an output that is whole its name. Where its folder is there the file is put on the disk first, and its name at
+/// the end.
+pub(crate) fn finish<R: Files>(rt: &R, output: &mut Output<R::File>) -> io::Result<()>
+    ensures file { output.new.file ≡ output.old.file }
+{
+    if output.folder.is_some() {
+        output.file.sync_all()?;
+    }
+    if let Some(part) = &output.part {
+        if !output.is_named {
+            link(rt, &output.file, part.as_str(), output.path.as_str())?;
+            output.is_named = true;
+        }
+        match fs::remove_file(rt, part.as_str()) {
+            Ok(()) => {}
+            // A folder that lets no name go: the output keeps both.
+            Err(error) if error.kind() == ErrorKind::PermissionDenied => {}
+            Err(error) => return Err(error),
+        }
+        output.part = None;
+    }
+    match &output.folder {
+        Some(folder) => folder.sync_all(),
+        None => Ok(()),
+    }
+}
+
+// Gives a file that has one name a second one, where no other file has that.
+fn link<R: Files>(rt: &R, file: &R::File, name: &str, second: &str) -> io::Result<()> {
+    match fs::hard_link(rt, name, second) {
+        Ok(()) => Ok(()),
+        // A server of files may have made the link, and have lost its answer.
+        Err(_) if is_at(rt, file, second) == Some(true) => Ok(()),
+        Err(error) => Err(error),
+    }
+}
+
+/// Removes an output that isn't whole: it is closed, and loses the names that it has. One that another file has by now
+/// stays, and the fault then is `Failed`.
+pub(crate) fn discard<R: Files>(rt: &R, output: Output<R::File>) -> Result<(), FolderFault>
+    ensures fault { result ≢ Err FolderFault.Exists }
+{
+    let Output {
+        path,
+        part,
+        is_named,
+        file,
+        folder,
+    } = output;
+    let path = if is_named { Some(path) } else { None };
+    let is_own_path = is_own(rt, &file, &path);
+    let is_own_part = is_own(rt, &file, &part);
+    drop(file);
+    drop(folder);
+    let without_path = is_own_path && removes(rt, &path);
+    let without_part = is_own_part && removes(rt, &part);
+    if without_path && without_part {
+        Ok(())
+    } else {
+        Err(FolderFault::Failed)
+    }
+}
+
+// Whether a name, where there is one, is still this file's: else ours was moved away or removed, and somebody else made
+// one. Where that can't be told it counts as ours.
+fn is_own<R: Files>(rt: &R, file: &R::File, name: &Option<String>) -> bool {
+    match name {
+        Some(name) => is_at(rt, file, name.as_str()) != Some(false),
+        None => true,
+    }
+}
+
+// Removes a name, where there is one: whether it is gone.
+fn removes<R: Files>(rt: &R, name: &Option<String>) -> bool {
+    match name {
+        Some(name) => fs::remove_file(rt, name.as_str()).is_ok(),
+        None => true,
+    }
+}
+
+// Whether a name is this file's, where that can be told.
+fn is_at<R: Files>(rt: &R, file: &R::File, name: &str) -> Option<bool> {
+    match (file.metadata(), fs::symlink_metadata(rt, name)) {
+        (Ok(file), Ok(found)) => Some(FileId::of(&file) == FileId::of(&found)),
+        _ => None,
+    }
+}

@@ -1,0 +1,212 @@
+//! The files that a run has of its own: its ledger with what the database keeps beside it, its key file, its journal.
+//!
+//! None of them is an input. What is sealed of a ledger is a copy of it, and whoever opens that copy gets its numbers
+//! again.
+ghost use Rattle.std.specs.Prelude.{◌≡◌, ◌⊎◌, Some, true};
+
+use std::fs::{Metadata, OpenFile};
+use std::io::{ErrorKind, Read};
+use std::os::unix::fs::MetadataExt;
+use std::rt::Files;
+use std::{fs, io};
+
+/// Where the system shows a process its standard input.
+const STANDARD_INPUT: &str = "/proc/self/fd/0";
+
+/// Which file it is, by whatever path.
+#[derive(Clone, Copy, PartialEq, Eq, Debug)]
+pub struct FileId {
+    /// The number of its device.
+    pub device: u64,
+    /// The number of its inode.
+    pub inode: u64,
+}
+
+impl FileId {
+    /// Which file this is told of.
+    pub(crate) fn of(metadata: &Metadata) -> FileId {
+        FileId {
+            device: metadata.dev(),
+            inode: metadata.ino(),
+        }
+    }
+}
+
+/// A ledger file and those that its database keeps beside it, as far as they are there.
+#[derive(Clone, Copy, Debug)]
+pub struct LedgerFiles {
+    /// The ledger file.
+    pub ledger: Option<FileId>,
+    /// LEDGER-wal.
+    pub wal: Option<FileId>,
+    /// LEDGER-journal, which other programs make.
+    pub rollback: Option<FileId>,
+    /// LEDGER-shm, which other programs make.
+    pub shm: Option<FileId>,
+}
+
+impl LedgerFiles {
+    /// Looks the files up. They are where a link to the ledger file leads.
+    pub(crate) fn at<R: Files + AllocGlobal>(rt: &R, ledger: &str) -> io::Result<LedgerFiles> {
+        match fs::canonicalize(rt, ledger) {
+            Ok(real) => LedgerFiles::at_real(rt, real.as_str()),
+            Err(error) if is_missing(&error) => LedgerFiles::at_real(rt, ledger),
+            Err(error) => Err(error),
+        }
+    }
+
+    // The same of a path that is no link.
+    fn at_real<R: Files + AllocGlobal>(rt: &R, ledger: &str) -> io::Result<LedgerFiles> {
+        Ok(LedgerFiles {
+            ledger: file_at(rt, ledger)?,
+            wal: file_beside(rt, ledger, "-wal")?,
+            rollback: file_beside(rt, ledger, "-journal")?,
+            shm: file_beside(rt, ledger, "-shm")?,
+        })
+    }
+
+    /// Whether this file is one of them.
+    pub fn has(&self, file: FileId) -> bool
+        ensures ledger { self.now.ledger ≡ Some file → result ≡ true }
+        ensures wal { self.now.wal ≡ Some file → result ≡ true }
+        ensures rollback { self.now.rollback ≡ Some file → result ≡ true }
+        ensures shm { self.now.shm ≡ Some file → result ≡ true }
+        ensures no_other { result ≡ true → (self.now.ledger ≡ Some file) ⊎ (self.now.wal ≡ Some file)
+            ⊎ (self.now.rollback ≡ Some file) ⊎ (self.now.shm ≡ Some file) }
+    {
+        let file = Some(file);
+        self.ledger == file || self.wal == file || self.rollback == file || self.shm == file
+    }
+}
+
+/// The paths of a run's own files.
+#[derive(Clone, Copy, Debug)]
+pub struct OwnPaths<'a> {
+    /// That of the ledger file.
+    pub ledger: &'a str,
+    /// That of the key file.
+    pub key: &'a str,
+    /// That of the journal, where one is asked for.
+    pub journal: Option<&'a str>,
+}
+
+/// A run's own files, as far as they are there.
+#[derive(Clone, Copy, Debug)]
+pub struct OwnFiles {
+    /// The ledger file and those beside it.
+    pub ledger: LedgerFiles,
+    /// The key file.
+    pub key: Option<FileId>,
+    /// The journal.
+    pub journal: Option<FileId>,
+}
+
+impl OwnFiles {
+    /// Looks the files up.
+    pub(crate) fn at<R: Files + AllocGlobal>(rt: &R, paths: &OwnPaths<'_>) -> io::Result<OwnFiles> {
+        let journal = match paths.journal {
+            Some(path) => file_at(rt, path)?,
+            None => None,
+        };
+        Ok(OwnFiles {
+            ledger: LedgerFiles::at(rt, paths.ledger)?,
+            key: file_at(rt, paths.key)?,
+            journal,
+        })
+    }
+
+    /// Whether this file is one of them, so that it is no input.
+    pub fn has(&self, file: FileId) -> bool
+        ensures ledger { self.now.ledger.ledger ≡ Some file → result ≡ true }
+        ensures wal { self.now.ledger.wal ≡ Some file → result ≡ true }
+        ensures rollback { self.now.ledger.rollback ≡ Some file → result ≡ true }
+        ensures shm { self.now.ledger.shm ≡ Some file → result ≡ true }
+        ensures key { self.now.key ≡ Some file → result ≡ true }
+        ensures journal { self.now.journal ≡ Some file → result ≡ true }
+        ensures no_other { result ≡ true → (self.now.ledger.ledger ≡ Some file) ⊎ (self.now.ledger.wal ≡ Some file)
+            ⊎ (self.now.ledger.rollback ≡ Some file) ⊎ (self.now.ledger.shm ≡ Some file)
+            ⊎ (self.now.key ≡ Some file) ⊎ (self.now.journal ≡ Some file) }
+    {
+        self.ledger.has(file) || self.key == Some(file) || self.journal == Some(file)
+    }
+}
+
+// Whether there is no file of a name, or can't be one.
+fn is_missing(error: &io::Error) -> bool {
+    matches!(
+        error.kind(),
+        ErrorKind::NotFound | ErrorKind::InvalidFilename
+    )
+}
+
+// The file at a path, where there is one.
+fn file_at<R: Files>(rt: &R, path: &str) -> io::Result<Option<FileId>> {
+    match fs::metadata(rt, path) {
+        Ok(found) => Ok(Some(FileId::of(&found))),
+        Err(error) if is_missing(&error) => Ok(None),
+        Err(error) => Err(error),
+    }
+}
+
+// The file whose name is that of the ledger file with this end.
+fn file_beside<R: Files + AllocGlobal>(
+    rt: &R,
+    ledger: &str,
+    end: &str,
+) -> io::Result<Option<FileId>> {
+    let Ok(path) = format!(in rt.alloc(); "{ledger}{end}") else {
+        return Err(io::Error::from(ErrorKind::OutOfMemory));
+    };
+    file_at(rt, path.as_str())
+}
+
+/// Whether a file that was just created is the ledger file or one beside it. Where that can't be told it counts as one.
+pub(crate) fn is_of_ledger<R: Files + AllocGlobal, F: OpenFile>(
+    rt: &R,
+    created: &F,
+    ledger: &str,
+) -> bool {
+    match (created.metadata(), LedgerFiles::at(rt, ledger)) {
+        (Ok(created), Ok(files)) => files.has(FileId::of(&created)),
+        _ => true,
+    }
+}
+
+/// What the standard input is read by where it is sealed: it fails where it is one of the run's own files, as far as
+/// `/proc` tells which file it is.
+#[derive(Drop)]
+pub struct StandardInput<'r, 'p, R: Files + AllocGlobal, I: Read + Drop> {
+    rt: &'r R,
+    input: I,
+    paths: OwnPaths<'p>,
+    // Whether it was looked at: not before it is read, since only then all of the run's files are there.
+    is_another: bool,
+}
+
+impl<'r, 'p, R: Files + AllocGlobal, I: Read + Drop> StandardInput<'r, 'p, R, I> {
+    /// This input, of a run with these files of its own.
+    pub fn new(rt: &'r R, input: I, paths: OwnPaths<'p>) -> StandardInput<'r, 'p, R, I> {
+        StandardInput {
+            rt,
+            input,
+            paths,
+            is_another: false,
+        }
+    }
+}
+
+impl<R: Files + AllocGlobal, I: Read + Drop> Read for StandardInput<'_, '_, R, I> {
+    ghost remaining = { λ standard. I.remaining standard.input };
+
+    fn read(&mut self, buf: &mut [u8]) -> io::Result<usize> {
+        if !self.is_another {
+            if let Ok(input) = fs::metadata(self.rt, STANDARD_INPUT)
+                && OwnFiles::at(self.rt, &self.paths)?.has(FileId::of(&input))
+            {
+                return Err(io::Error::from(ErrorKind::PermissionDenied));
+            }
+            self.is_another = true;
+        }
+        self.input.read(buf)
+    }
+}

@@ -1,0 +1,10 @@
+//! The ledger file at a path: whether a run may open it, its opening and closing, and what it holds.
+#![tactic(auto)]
+
+pub mod holdings;
+pub mod ledger;
+mod log;
+mod marks;
+
+pub use crate::holdings::{Holding, read_holdings};
+pub use crate::ledger::{LedgerFault, LedgerPath, close_ledger, is_beside, may_open, open_ledger};

@@ -1,0 +1,47 @@
+//! The marks of a ledger: for each key and device, the number with which its next range begins.
+ghost use Rattle.std.specs.Prelude.{◌↔◌, IsTrue};
+ghost use Rattle.std.specs.List.{Any};
+ghost use Rattle.system_ledger.specs.Marks.{AreKeptBy, IsKeptBy};
+
+/// A row of a ledger's table of marks.
+#[derive(Drop)]
+pub struct Mark {
+    /// The key's id.
+    pub key: Vec<u8>,
+    pub device: i64,
+    /// The number with which the next range begins.
+    pub next: i64,
+}
+
+/// Whether each of these marks has one of the same key and device among the others that is not less.
+pub fn keeps_marks(marks: &[Mark], others: &[Mark]) -> bool
+    ensures kept { IsTrue result ↔ AreKeptBy marks.now others.now }
+{
+    for mark in marks {
+        if !is_kept(mark, others) {
+            return false;
+        }
+    }
+    true
+}
+
+// Whether one of these marks keeps it.
+fn is_kept(mark: &Mark, others: &[Mark]) -> bool
+    ensures { IsTrue result ↔ Any (IsKeptBy mark.now) others.now }
+{
+    for other in others {
+        if keeps(mark, other) {
+            return true;
+        }
+    }
+    false
+}
+
+// Whether the other mark keeps this one.
+fn keeps(mark: &Mark, other: &Mark) -> bool
+    ensures { IsTrue result ↔ IsKeptBy mark.now other.now }
+{
+    other.device == mark.device
+        && other.next >= mark.next
+        && other.key.as_slice() == mark.key.as_slice()
+}
