@@ -18,9 +18,10 @@ use crate::facts::Facts;
 use crate::folder::{Folder, FolderFault, OpeningFolder, write_or_discard};
 use crate::label::is_labelled;
 use crate::line::{FileFault, FileOutcome, Line};
+use crate::report::Report;
 use container_core::{Key, MAX_OPENED, MAX_PLAIN, OpenFault};
 use gate_core::{Free, MAX_WORKERS};
-use ledger_core::{Failed, Sink, Source, write_all};
+use ledger_core::{Failed, Source};
 use opening_core::{Plaintext, run_check, run_read};
 use std::alloc::Global;
 use std::thread::Threads;
@@ -57,7 +58,7 @@ pub struct OpenOptions<'a> {
 
 /// Where a command writes to.
 #[derive(Drop)]
-pub struct Outs<L: Sink + Drop, E: Sink + Drop, J: Sink + Drop> {
+pub struct Outs<L: Report + Drop, E: Report + Drop, J: Report + Drop> {
     /// Standard output: a line for each file.
     pub lines: L,
     /// Standard error.
@@ -207,7 +208,7 @@ fn worse(status: u8, outcome: FileOutcome) -> u8
 
 /// Writes a file's line, unless one before it wasn't written. The answer is the status so far. A line for which memory
 /// is refused is one that isn't written.
-pub fn tell<W: Sink>(
+pub fn tell<W: Report>(
     alloc: Global,
     lines: &mut W,
     status: u8,
@@ -226,7 +227,7 @@ pub fn tell<W: Sink>(
     let Ok(text) = format!(in alloc; "{line}\n") else {
         return UNTOLD;
     };
-    match write_all(lines, text.as_bytes()) {
+    match lines.print(text.as_bytes()) {
         Ok(()) => worse(status, outcome),
         Err(Failed) => UNTOLD,
     }
@@ -239,9 +240,9 @@ pub fn tell<W: Sink>(
 pub fn open_all<
     T: Threads + Sync,
     F: OpeningFolder,
-    L: Sink + Drop,
-    E: Sink + Drop,
-    J: Sink + Drop,
+    L: Report + Drop,
+    E: Report + Drop,
+    J: Report + Drop,
 >(
     rt: &T,
     alloc: Global,
@@ -273,7 +274,13 @@ pub fn open_all<
 /// Checks each file's container, and its label, as `open_all` does, and makes no file. Where `show` is asked for, each
 /// good file is told with what its header says, on a second line. The answer is the exit status: 0 where every file is
 /// good, 1 where one failed, 2 where a line couldn't be written.
-pub fn verify_all<T: Threads + Sync, F: Folder, L: Sink + Drop, E: Sink + Drop, J: Sink + Drop>(
+pub fn verify_all<
+    T: Threads + Sync,
+    F: Folder,
+    L: Report + Drop,
+    E: Report + Drop,
+    J: Report + Drop,
+>(
     rt: &T,
     alloc: Global,
     key: &Key,

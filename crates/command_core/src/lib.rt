@@ -10,6 +10,7 @@ pub mod folder;
 pub mod key_file;
 pub(crate) mod label;
 pub mod line;
+pub mod report;
 
 pub use crate::commands::{
     MAX_BYTES, MAX_OPENED_BYTES, OpenOptions, Outs, open_all, tell, verify_all,
@@ -18,5 +19,6 @@ pub use crate::facts::Facts;
 pub use crate::folder::{Folder, FolderFault, OpeningFolder};
 pub use crate::key_file::{KeyFault, read_key};
 pub use crate::line::{FileFault, FileOutcome, Line};
+pub use crate::report::Report;
 pub use gate_core::MAX_WORKERS;
 pub use opening_core::Plaintext;

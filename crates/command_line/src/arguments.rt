@@ -57,20 +57,20 @@ pub fn command<'a>(alloc: Global) -> Result<Command<'a>, Error> {
         .about("Seals, opens and verifies many files under one key, each under a number of its own")
         .after_help(SEALER_HELP)
         .subcommand_required(true);
-    let sealer = with_command(sealer, seal_command(alloc))?;
-    let sealer = with_command(sealer, pipe_command(alloc))?;
-    let sealer = with_command(sealer, opening_command(alloc))?;
-    let sealer = with_command(sealer, verifying_command(alloc))?;
-    let sealer = with_command(sealer, Ok(audit_command(alloc)))?;
+    let sealer = with_command(Ok(sealer), seal_command(alloc));
+    let sealer = with_command(sealer, pipe_command(alloc));
+    let sealer = with_command(sealer, opening_command(alloc));
+    let sealer = with_command(sealer, verifying_command(alloc));
+    let sealer = with_command(sealer, Ok(audit_command(alloc)));
     with_command(sealer, ledger_command(alloc))
 }
 
-// A command with one more below it.
+// A command with one more below it. It takes results, so that `command` ends in one place.
 fn with_command<'a>(
-    command: Command<'a>,
+    command: Result<Command<'a>, Error>,
     below: Result<Command<'a>, Error>,
 ) -> Result<Command<'a>, Error> {
-    Ok(command.subcommand(below?)?)
+    Ok(command?.subcommand(below?)?)
 }
 
 fn opening_command<'a>(alloc: Global) -> Result<Command<'a>, Error> {

@@ -5,15 +5,21 @@
 #![tactic(auto)]
 
 pub mod arguments;
+pub mod fault;
+pub mod given;
 pub mod names;
 mod options;
 pub mod requests;
 pub mod version;
 
 pub use crate::arguments::command;
+pub use crate::fault::UsageFault;
+pub use crate::given::{
+    DEFAULT_DEPTH, DEFAULT_LANES, DEFAULT_MAX_BYTES, DEFAULT_MAX_CHUNKS, DEFAULT_WORKERS,
+};
 pub use crate::names::{ListRequest, files_of, list_request, names_in};
 pub use crate::requests::{
-    DEFAULT_EXPONENT, DEFAULT_MAX_BYTES, OpenRequest, PipeRequest, SealRequest, Showing,
-    UsageFault, open_request, pipe_request, seal_request, showing_asked,
+    DEFAULT_EXPONENT, OpenRequest, PipeRequest, SealRequest, Showing, open_request, pipe_request,
+    seal_request, showing_asked,
 };
 pub use crate::version::VERSION;

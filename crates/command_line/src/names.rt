@@ -7,7 +7,7 @@ ghost use Rattle.clap.specs.Matches.{first_value, found_of, one_text};
 ghost use Rattle.std.specs.List.{All};
 ghost use Rattle.command_line.specs.Names.{IsListOf, IsListed};
 
-use crate::requests::UsageFault;
+use crate::fault::UsageFault;
 use clap::ArgMatches;
 use std::alloc::Global;
 

@@ -267,9 +267,7 @@ pub(crate) static SHAPE_ROWS: [Row; 3] = [
 // A number in a range, with what stands where none is given.
 fn number<'a>(arg: Arg<'a>, least: u32, most: u32, absent: &Absent) -> Arg<'a> {
     let range = i64::from(least)..=i64::from(most);
-    let arg = arg
-        .value_name("N")
-        .value_parser(value_parser!(u32).range(range));
+    let arg = arg.value_parser(value_parser!(u32).range(range));
     match absent {
         Absent::Default(text) => arg.default_value(text),
         Absent::Nothing => arg,
@@ -277,39 +275,56 @@ fn number<'a>(arg: Arg<'a>, least: u32, most: u32, absent: &Absent) -> Arg<'a> {
     }
 }
 
+// The files of a command.
+fn files<'a>(arg: Arg<'a>, list: &'static str) -> Result<Arg<'a>, Error> {
+    Ok(
+        arg.num_args(1..)
+            .action(ArgAction::Append)
+            .required_unless_present(list)?,
+    )
+}
+
+// An option that is given or not.
+fn flag<'a>(arg: Arg<'a>, name: &'static str) -> Arg<'a> {
+    arg.long(name).action(ArgAction::SetTrue)
+}
+
+// An option with a value, which the help calls so.
+fn valued<'a>(arg: Arg<'a>, name: &'static str, value: &'static str) -> Arg<'a> {
+    arg.long(name).value_name(value)
+}
+
+// Nothing, or one of these words.
+fn words_of<'a>(arg: Arg<'a>, words: &'static [&'static str], absent: &'static str) -> Arg<'a> {
+    arg.num_args(0..=1)
+        .require_equals(true)
+        .value_parser(&*words)
+        .default_missing_value(absent)
+}
+
+// A number of bytes up to the most, and the one where none is given.
+fn bytes<'a>(arg: Arg<'a>, most: i64, default: &'static str) -> Arg<'a> {
+    arg.value_parser(value_parser!(u64).range(0..=most))
+        .default_value(default)
+}
+
 // The argument of a row.
 fn arg_of<'a>(alloc: Global, row: &Row) -> Result<Arg<'a>, Error> {
     let arg = Arg::new(alloc, row.name).help(row.help);
     let arg = match &row.takes {
-        Takes::FilesUnless(list) => arg
-            .num_args(1..)
-            .action(ArgAction::Append)
-            .required_unless_present(list)?,
-        Takes::Nothing => arg.long(row.name).action(ArgAction::SetTrue),
-        Takes::NothingWithout(other) => arg
-            .long(row.name)
-            .action(ArgAction::SetTrue)
-            .requires_arg(other)?,
-        Takes::Path { is_required } => arg.long(row.name).value_name("F").required(*is_required),
-        Takes::Words { words, absent } => arg
-            .long(row.name)
-            .value_name("WHEN")
-            .num_args(0..=1)
-            .require_equals(true)
-            .value_parser(*words)
-            .default_missing_value(absent),
-        Takes::Folder => arg.long(row.name).value_name("DIR"),
-        Takes::Text => arg.long(row.name).value_name("TEXT"),
+        Takes::FilesUnless(list) => files(arg, list)?,
+        Takes::Nothing => flag(arg, row.name),
+        Takes::NothingWithout(other) => flag(arg, row.name).requires_arg(other)?,
+        Takes::Path { is_required } => valued(arg, row.name, "F").required(*is_required),
+        Takes::Words { words, absent } => words_of(valued(arg, row.name, "WHEN"), words, absent),
+        Takes::Folder => valued(arg, row.name, "DIR"),
+        Takes::Text => valued(arg, row.name, "TEXT"),
         Takes::Number {
             least,
             most,
             absent,
-        } => number(arg.long(row.name), *least, *most, absent),
-        Takes::Bytes { most, default } => arg
-            .long(row.name)
-            .value_name("N")
-            .value_parser(value_parser!(u64).range(0..=*most))
-            .default_value(default),
+        } => number(valued(arg, row.name, "N"), *least, *most, absent),
+        Takes::Bytes { most, default } => bytes(valued(arg, row.name, "N"), *most, default),
     };
     Ok(arg)
 }

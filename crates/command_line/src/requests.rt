@@ -1,56 +1,24 @@
 //! What the commands are asked for, of words that their parser took.
-ghost use Rattle.std.specs.Prelude.{◌<◌, ◌≤◌, ◌≡◌, ◌⊎◌, ℕ, IfErr, IfOk, IfSome, None, Option, OnErr};
-ghost use Rattle.std.specs.Prelude.{Some, codes, false, length, option_map, true};
-ghost use Rattle.clap.specs.Matches.{first_value, found_of, one_text};
-ghost use Rattle.container_core.specs.Shape.{IsShape, IsShort};
+ghost use Rattle.std.specs.Prelude.{◌<◌, ◌≤◌, ◌≡◌, ◌⊎◌, IfErr, IfOk, IfSome, None, OnErr};
+ghost use Rattle.std.specs.Prelude.{Some, codes, length, not, option_map, unwrap_or};
+ghost use Rattle.clap.specs.Matches.{first_value, found_of};
+ghost use Rattle.container_core.specs.Shape.{IsShape, IsShort, size_of};
+ghost use Rattle.gate_core.specs.Window.{usual};
 ghost use Rattle.command_line.specs.Asked.{shape_asked};
+ghost use Rattle.command_line.specs.Given.{IsFlag, number_given};
 
+use crate::fault::UsageFault;
+use crate::given::{
+    DEFAULT_DEPTH, DEFAULT_LANES, DEFAULT_MAX_BYTES, DEFAULT_MAX_CHUNKS, DEFAULT_WORKERS,
+    open_numbers, pipe_numbers, seal_numbers,
+};
 use clap::ArgMatches;
 use container_core::{MAX_EXPONENT, MAX_LABEL, MAX_OPENED, MAX_PLAIN, MIN_EXPONENT, Shape};
 use gate_core::{MAX_DEPTH, MAX_LANES, MAX_WINDOW, MAX_WORKERS, usual_window};
 use ledger_core::Device;
-use thiserror::Error as ThisError;
 
-/// Plaintext bytes of a file where no limit is given: 1 GiB.
-pub const DEFAULT_MAX_BYTES: u64 = 1 << 30;
-/// Chunks of a stream where no limit is given.
-pub const DEFAULT_MAX_CHUNKS: u32 = 1 << 14;
-/// Chunks of a stream that are read and not yet written, where no number is given.
-pub const DEFAULT_DEPTH: u32 = 16;
 /// The exponent of the size of the chunks where a label is given alone: chunks of 65,536 bytes.
 pub const DEFAULT_EXPONENT: u32 = 16;
-
-/// Why the words of a command, which its parser took, are still a fault of usage.
-#[derive(Clone, Copy, PartialEq, Eq, Debug, ThisError)]
-pub enum UsageFault {
-    /// Never: the parser takes no words without these arguments.
-    #[error("an argument is missing")]
-    Missing,
-    /// More than one lane, and more than one worker.
-    #[error("lanes and workers cannot both be above 1")]
-    LanesAndWorkers,
-    /// A label of more than 255 bytes.
-    #[error("label too long")]
-    LabelTooLong,
-    /// There are no files: none stands on the command line, and the list has none.
-    #[error("no files")]
-    NoFiles,
-    /// A name in the list of files is empty.
-    #[error("a name in the list is empty")]
-    EmptyName,
-    /// The list of files isn't UTF-8.
-    #[error("the list is no text")]
-    ListNoText,
-    /// The list of files can't be read. The program tells it; no request does.
-    #[error("cannot read the list")]
-    CannotReadList,
-    /// Memory was refused for the names.
-    #[error("out of memory")]
-    OutOfMemory,
-    /// A container would be written to a terminal, and that wasn't asked for. The program tells it; no request does.
-    #[error("standard output is a terminal")]
-    Terminal,
-}
 
 /// When a run tells on standard error how far it is.
 #[derive(Clone, Copy, PartialEq, Eq, Debug)]
@@ -111,25 +79,30 @@ pub fn seal_request<'m, 'a>(
     ensures key { IfOk result (λ request. Some request.key.now ≡ first_value (found_of matches.now) (codes "key")) }
     ensures ledger { IfOk result (λ request. Some request.ledger.now
         ≡ first_value (found_of matches.now) (codes "ledger")) }
+    ensures may_make { IfOk result (λ request. IsFlag matches.now (codes "no-new-ledger") (not request.may_make)) }
+    ensures device { IfOk result (λ request. number_given matches.now (codes "device") ≡ Some request.device) }
     ensures journal { IfOk result (λ request. option_map (λ journal. journal.now) request.journal
         ≡ first_value (found_of matches.now) (codes "journal")) }
     ensures files { IfOk result (λ request. (request.files.now ≡ files.now) × (0 < length request.files.now)) }
     ensures workers { IfOk result (λ request. (0 < request.workers) × (request.workers ≤ MAX_WORKERS)) }
+    ensures workers_given { IfOk result (λ request. request.workers
+        ≡ unwrap_or (number_given matches.now (codes "workers")) DEFAULT_WORKERS) }
     ensures lanes { IfOk result (λ request. (0 < request.lanes) × (request.lanes ≤ MAX_LANES)) }
+    ensures lanes_given { IfOk result (λ request. request.lanes
+        ≡ unwrap_or (number_given matches.now (codes "lanes")) DEFAULT_LANES) }
     ensures apart { IfOk result (λ request. (request.workers ≤ 1) ⊎ (request.lanes ≤ 1)) }
     ensures window { IfOk result (λ request. (0 < request.window) × (request.window ≤ MAX_WINDOW)) }
+    ensures window_given { IfOk result (λ request. request.window
+        ≡ unwrap_or (number_given matches.now (codes "window")) (usual (size_of request.shape) request.workers)) }
     ensures max_bytes { IfOk result (λ request. request.max_bytes ≤ MAX_PLAIN) }
+    ensures max_bytes_given { IfOk result (λ request. request.max_bytes
+        ≡ unwrap_or (number_given matches.now (codes "max-bytes")) DEFAULT_MAX_BYTES) }
     ensures into { IfOk result (λ request. option_map (λ into. into.now) request.into
         ≡ first_value (found_of matches.now) (codes "into")) }
-    ensures synced { IfOk result (λ request. one_text (found_of matches.now) (codes "sync") ≡ Some (codes "true")
-        → request.sync ≡ true) }
-    ensures unsynced { IfOk result (λ request. one_text (found_of matches.now) (codes "sync") ≡ Some (codes "false")
-        → request.sync ≡ false) }
+    ensures sync { IfOk result (λ request. IsFlag matches.now (codes "sync") request.sync) }
 
-    // The label is the one that was given. Without it, and without an exponent, the containers are of version 1.
-    ensures shape { IfOk result (λ request. (exponent : Option ℕ)
-        × (one_text (found_of matches.now) (codes "exponent") ≡ None → exponent ≡ None)
-        × (request.shape ≡ shape_asked exponent (first_value (found_of matches.now) (codes "label")))) }
+    ensures shape { IfOk result (λ request. request.shape ≡ shape_asked (number_given matches.now (codes "exponent"))
+        (first_value (found_of matches.now) (codes "label"))) }
     ensures lawful { IfOk result (λ request. IsShape request.shape) }
     ensures short { IfOk result (λ request. IsShort request.shape.label) }
     ensures too_long { result ≡ Err UsageFault.LabelTooLong
@@ -138,21 +111,18 @@ pub fn seal_request<'m, 'a>(
     let (Some(key), Some(ledger)) = (matches.get_str("key"), matches.get_str("ledger")) else {
         return Err(UsageFault::Missing);
     };
-    let Some(number) = matches.get_one::<u32>("device") else {
-        return Err(UsageFault::Missing);
-    };
-    let Some(device) = Device::new(number) else {
-        return Err(UsageFault::Missing);
+    let numbers = match seal_numbers(matches) {
+        Ok(numbers) => numbers,
+        Err(fault) => return Err(fault),
     };
     if files.is_empty() {
         return Err(UsageFault::NoFiles);
     }
-    let workers = workers(matches);
-    let lanes = lanes(matches);
+    let (workers, lanes) = (numbers.workers, numbers.lanes);
     if workers > 1 && lanes > 1 {
         return Err(UsageFault::LanesAndWorkers);
     }
-    let shape = match shape_of(exponent(matches), matches.get_str("label")) {
+    let shape = match shape_of(numbers.exponent, matches.get_str("label")) {
         Ok(shape) => shape,
         Err(fault) => return Err(fault),
     };
@@ -160,12 +130,14 @@ pub fn seal_request<'m, 'a>(
         key,
         ledger,
         may_make: !matches.get_flag("no-new-ledger"),
-        device,
+        device: numbers.device,
         files,
         workers,
         lanes,
-        window: window(matches, &shape, workers),
-        max_bytes: max_bytes(matches, MAX_PLAIN),
+        window: numbers
+            .window
+            .unwrap_or(usual_window(shape.chunk(), workers)),
+        max_bytes: numbers.max_bytes,
         journal: matches.get_str("journal"),
         shape,
         into: matches.get_str("into"),
@@ -198,37 +170,36 @@ pub fn pipe_request<'a>(matches: &ArgMatches<'a>) -> Result<PipeRequest<'a>, Usa
     ensures key { IfOk result (λ request. Some request.key.now ≡ first_value (found_of matches.now) (codes "key")) }
     ensures ledger { IfOk result (λ request. Some request.ledger.now
         ≡ first_value (found_of matches.now) (codes "ledger")) }
+    ensures may_make { IfOk result (λ request. IsFlag matches.now (codes "no-new-ledger") (not request.may_make)) }
+    ensures device { IfOk result (λ request. number_given matches.now (codes "device") ≡ Some request.device) }
     ensures journal { IfOk result (λ request. option_map (λ journal. journal.now) request.journal
         ≡ first_value (found_of matches.now) (codes "journal")) }
     ensures workers { IfOk result (λ request. (0 < request.workers) × (request.workers ≤ MAX_WORKERS)) }
+    ensures workers_given { IfOk result (λ request. request.workers
+        ≡ unwrap_or (number_given matches.now (codes "workers")) DEFAULT_WORKERS) }
     ensures depth { IfOk result (λ request. (0 < request.depth) × (request.depth ≤ MAX_DEPTH)) }
+    ensures depth_given { IfOk result (λ request. request.depth
+        ≡ unwrap_or (number_given matches.now (codes "depth")) DEFAULT_DEPTH) }
     ensures most { IfOk result (λ request. 0 < request.max_chunks) }
+    ensures most_given { IfOk result (λ request. request.max_chunks
+        ≡ unwrap_or (number_given matches.now (codes "max-chunks")) DEFAULT_MAX_CHUNKS) }
 
-    // The label is the one that was given. Without it, and without an exponent, the container is of version 1.
-    ensures shape { IfOk result (λ request. (exponent : Option ℕ)
-        × (one_text (found_of matches.now) (codes "exponent") ≡ None → exponent ≡ None)
-        × (request.shape ≡ shape_asked exponent (first_value (found_of matches.now) (codes "label")))) }
+    ensures shape { IfOk result (λ request. request.shape ≡ shape_asked (number_given matches.now (codes "exponent"))
+        (first_value (found_of matches.now) (codes "label"))) }
     ensures lawful { IfOk result (λ request. IsShape request.shape) }
     ensures short { IfOk result (λ request. IsShort request.shape.label) }
-    ensures forced { IfOk result (λ request. one_text (found_of matches.now) (codes "force-terminal")
-        ≡ Some (codes "true") → request.to_terminal ≡ true) }
-    ensures hidden { IfOk result (λ request. one_text (found_of matches.now) (codes "force-terminal")
-        ≡ Some (codes "false") → request.to_terminal ≡ false) }
-    ensures without { IfOk result (λ request. one_text (found_of matches.now) (codes "force-terminal") ≡ None
-        → request.to_terminal ≡ false) }
+    ensures terminal { IfOk result (λ request. IsFlag matches.now (codes "force-terminal") request.to_terminal) }
     ensures too_long { result ≡ Err UsageFault.LabelTooLong
         → IfSome (first_value (found_of matches.now) (codes "label")) (λ label. MAX_LABEL < length label) }
 {
     let (Some(key), Some(ledger)) = (matches.get_str("key"), matches.get_str("ledger")) else {
         return Err(UsageFault::Missing);
     };
-    let Some(number) = matches.get_one::<u32>("device") else {
-        return Err(UsageFault::Missing);
+    let numbers = match pipe_numbers(matches) {
+        Ok(numbers) => numbers,
+        Err(fault) => return Err(fault),
     };
-    let Some(device) = Device::new(number) else {
-        return Err(UsageFault::Missing);
-    };
-    let shape = match shape_of(exponent(matches), matches.get_str("label")) {
+    let shape = match shape_of(numbers.exponent, matches.get_str("label")) {
         Ok(shape) => shape,
         Err(fault) => return Err(fault),
     };
@@ -236,13 +207,10 @@ pub fn pipe_request<'a>(matches: &ArgMatches<'a>) -> Result<PipeRequest<'a>, Usa
         key,
         ledger,
         may_make: !matches.get_flag("no-new-ledger"),
-        device,
-        workers: workers(matches),
-        depth: depth(matches),
-        max_chunks: matches
-            .get_one::<u32>("max-chunks")
-            .unwrap_or(DEFAULT_MAX_CHUNKS)
-            .max(1),
+        device: numbers.device,
+        workers: numbers.workers,
+        depth: numbers.depth,
+        max_chunks: numbers.max_chunks,
         journal: matches.get_str("journal"),
         shape,
         to_terminal: matches.get_flag("force-terminal"),
@@ -276,22 +244,18 @@ pub fn open_request<'m, 'a>(
     ensures key { IfOk result (λ request. Some request.key.now ≡ first_value (found_of matches.now) (codes "key")) }
     ensures files { IfOk result (λ request. (request.files.now ≡ files.now) × (0 < length request.files.now)) }
     ensures workers { IfOk result (λ request. (0 < request.workers) × (request.workers ≤ MAX_WORKERS)) }
+    ensures workers_given { IfOk result (λ request. request.workers
+        ≡ unwrap_or (number_given matches.now (codes "workers")) DEFAULT_WORKERS) }
     ensures max_bytes { IfOk result (λ request. request.max_bytes ≤ MAX_OPENED) }
+    ensures max_bytes_given { IfOk result (λ request. request.max_bytes
+        ≡ unwrap_or (number_given matches.now (codes "max-bytes")) DEFAULT_MAX_BYTES) }
     ensures label { IfOk result (λ request. option_map (λ label. label.now) request.label
         ≡ first_value (found_of matches.now) (codes "label")) }
     ensures short { IfOk result (λ request. IfSome request.label (λ label. length label.now ≤ MAX_LABEL)) }
-    ensures shown { IfOk result (λ request. one_text (found_of matches.now) (codes "show") ≡ Some (codes "true")
-        → request.show ≡ true) }
-    ensures hidden { IfOk result (λ request. one_text (found_of matches.now) (codes "show") ≡ Some (codes "false")
-        → request.show ≡ false) }
-    ensures without { IfOk result (λ request. one_text (found_of matches.now) (codes "show") ≡ None
-        → request.show ≡ false) }
+    ensures show { IfOk result (λ request. IsFlag matches.now (codes "show") request.show) }
     ensures into { IfOk result (λ request. option_map (λ into. into.now) request.into
         ≡ first_value (found_of matches.now) (codes "into")) }
-    ensures synced { IfOk result (λ request. one_text (found_of matches.now) (codes "sync") ≡ Some (codes "true")
-        → request.sync ≡ true) }
-    ensures unsynced { IfOk result (λ request. one_text (found_of matches.now) (codes "sync") ≡ Some (codes "false")
-        → request.sync ≡ false) }
+    ensures sync { IfOk result (λ request. IsFlag matches.now (codes "sync") request.sync) }
     ensures too_long { result ≡ Err UsageFault.LabelTooLong
         → IfSome (first_value (found_of matches.now) (codes "label")) (λ label. MAX_LABEL < length label) }
 {
@@ -301,6 +265,10 @@ pub fn open_request<'m, 'a>(
     if files.is_empty() {
         return Err(UsageFault::NoFiles);
     }
+    let numbers = match open_numbers(matches) {
+        Ok(numbers) => numbers,
+        Err(fault) => return Err(fault),
+    };
     let label = match label_of(matches.get_str("label")) {
         Ok(label) => label,
         Err(fault) => return Err(fault),
@@ -308,8 +276,8 @@ pub fn open_request<'m, 'a>(
     Ok(OpenRequest {
         key,
         files,
-        workers: workers(matches),
-        max_bytes: max_bytes(matches, MAX_OPENED),
+        workers: numbers.workers,
+        max_bytes: numbers.max_bytes,
         label,
         show: matches.get_flag("show"),
         into: matches.get_str("into"),
@@ -346,71 +314,5 @@ fn label_of(text: Option<&str>) -> Result<Option<&[u8]>, UsageFault>
         None => Ok(None),
         Some(text) if text.len() > MAX_LABEL => Err(UsageFault::LabelTooLong),
         Some(text) => Ok(Some(text.as_bytes())),
-    }
-}
-
-// The number of workers, which the command line has tested.
-fn workers(matches: &ArgMatches<'_>) -> u32
-    ensures { (0 < result) × (result ≤ MAX_WORKERS) }
-{
-    matches
-        .get_one::<u32>("workers")
-        .unwrap_or(1)
-        .max(1)
-        .min(MAX_WORKERS)
-}
-
-// The greatest number of plaintext bytes, at most so many, which the command line has tested.
-fn max_bytes(matches: &ArgMatches<'_>, most: u64) -> u64
-    ensures { result ≤ most }
-{
-    matches
-        .get_one::<u64>("max-bytes")
-        .unwrap_or(DEFAULT_MAX_BYTES)
-        .min(most)
-}
-
-// The number of chunks of a round, which the command line has tested, or the usual one where none is given.
-fn window(matches: &ArgMatches<'_>, shape: &Shape, workers: u32) -> u32
-    requires { (0 < workers) × (workers ≤ MAX_WORKERS) }
-    ensures { (0 < result) × (result ≤ MAX_WINDOW) }
-{
-    matches
-        .get_one::<u32>("window")
-        .unwrap_or(usual_window(shape.chunk(), workers))
-        .max(1)
-        .min(MAX_WINDOW)
-}
-
-// How many chunks are read and not yet written, which the command line has tested.
-fn depth(matches: &ArgMatches<'_>) -> u32
-    ensures { (0 < result) × (result ≤ MAX_DEPTH) }
-{
-    matches
-        .get_one::<u32>("depth")
-        .unwrap_or(DEFAULT_DEPTH)
-        .max(1)
-        .min(MAX_DEPTH)
-}
-
-// The number of lanes, which the command line has tested.
-fn lanes(matches: &ArgMatches<'_>) -> u32
-    ensures { (0 < result) × (result ≤ MAX_LANES) }
-{
-    matches
-        .get_one::<u32>("lanes")
-        .unwrap_or(1)
-        .max(1)
-        .min(MAX_LANES)
-}
-
-// The exponent of the chunks' size, where it was given, which the command line has tested.
-fn exponent(matches: &ArgMatches<'_>) -> Option<u32>
-    ensures range { IfSome result (λ e. (MIN_EXPONENT ≤ e) × (e ≤ MAX_EXPONENT)) }
-    ensures none { one_text (found_of matches.now) (codes "exponent") ≡ None → result ≡ None }
-{
-    match matches.get_one::<u32>("exponent") {
-        None => None,
-        Some(exponent) => Some(exponent.max(MIN_EXPONENT).min(MAX_EXPONENT)),
     }
 }

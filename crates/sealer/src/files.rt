@@ -87,12 +87,7 @@ pub(crate) fn outputs_of<'p, 'r, R: Files + AllocGlobal + Clock + Eprint>(
     if into.is_some() {
         are_apart(rt.alloc(), files)?;
     }
-    Ok(SystemFiles {
-        rt,
-        into,
-        sync,
-        progress,
-    })
+    Ok(SystemFiles::new(rt, into, sync, progress))
 }
 
 /// What a run over files tells on: what was drawn of how far it is is taken away before each line.

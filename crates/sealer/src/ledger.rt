@@ -6,7 +6,7 @@ use ledger_core::{Sink, ToWrite, write_all};
 use std::alloc::Global;
 use std::io::Write;
 use std::rt::Files;
-use system_files::{Holding, read_holdings};
+use system_ledger::{Holding, read_holdings};
 use thiserror::Error;
 
 /// Why what a ledger file holds wasn't told whole.

@@ -1,6 +1,6 @@
 //! The commands that seal: what a run begins with, and the ledger file over which it seals.
 ghost use Rattle.std.specs.Prelude.{◌≡◌, ◌⊎◌, ◌<◌, ◌≤◌, ℕ, Bool, List, Option, length, map, true, ◌≢◌, IfOk, IfSome};
-ghost use Rattle.std.specs.Prelude.{[], OnErr, if◌then◌else◌};
+ghost use Rattle.std.specs.Prelude.{[], false, OnErr, if◌then◌else◌};
 ghost use Rattle.sha2.specs.Sha256.{sha256};
 ghost use Rattle.journal_core.specs.declared.entry.Entry.{Entry};
 ghost use Rattle.journal_core.specs.Journal.{terms_of};
@@ -10,6 +10,7 @@ ghost use Rattle.sqlite_wal.specs.Files.{image_at};
 ghost use Rattle.sqlite.specs.Files.{file_state, over_files};
 ghost use Rattle.sqlite.specs.State.{HasCleanDisk};
 ghost use Rattle.reserve_core.specs.NextRun.{IsFound};
+ghost use Rattle.sealer_core.specs.Complaints.{Complains};
 ghost use Rattle.sealer_core.specs.Piping.{HasSealedStream};
 ghost use Rattle.sealer_core.specs.Sealing.{FoldsFiles, Happened, HasSealed, IsWritten, ReservesFilesOnce};
 
@@ -21,19 +22,18 @@ use container_core::Key;
 use ledger_core::{FromRead, Sink, Source, ToWrite};
 use sealer_core::{
     LedgerFile, MAX_BYTES, MAX_DEPTH, MAX_LANES, MAX_WINDOW, MAX_WORKERS, Outs, PipeOptions,
-    SealOptions, SealingFolder, pipe_all, seal_all,
+    Report, SealOptions, SealingFolder, pipe_all, seal_all,
 };
 use sqlite::{FileFrom, FileStore, Start, Wary};
 use std::io::{Read, Write, sink};
 use std::rt::{Clock, Files};
 use std::sync::Wait;
 use std::thread::Threads;
-use system_files::{
-    LedgerFault, LedgerPath, SystemFiles, close_ledger, may_open, new_journal, open_ledger,
-};
+use system_files::{OwnPaths, StandardInput, SystemFiles, new_journal};
+use system_ledger::{LedgerFault, LedgerPath, close_ledger, may_open, open_ledger};
 
-/// What a run that seals begins with, in this order: the key file is read, it is looked whether there is a ledger
-/// file, and the journal is created. A fault is printed, and its status answered.
+/// What a run that seals begins with, in this order: the key file is read, the journal is created, and it is looked
+/// whether the ledger file may be opened. A fault is printed, and its status answered.
 fn begin<R: Files + AllocGlobal + Eprint>(
     rt: &R,
     key: &str,
@@ -44,12 +44,13 @@ fn begin<R: Files + AllocGlobal + Eprint>(
         Ok(key) => key,
         Err(fault) => return Err(complain(rt, "key", fault)),
     };
-    if let Err(fault) = may_open(rt, ledger) {
-        return Err(complain(rt, "ledger", fault));
-    }
-    match new_journal(rt, journal, ledger.path) {
-        Ok(journal) => Ok((key, journal)),
-        Err(fault) => Err(complain(rt, "journal", fault)),
+    let journal = match new_journal(rt, journal, ledger.path) {
+        Ok(journal) => journal,
+        Err(fault) => return Err(complain(rt, "journal", fault)),
+    };
+    match may_open(rt, ledger) {
+        Ok(()) => Ok((key, journal)),
+        Err(fault) => Err(complain(rt, "ledger", fault)),
     }
 }
 
@@ -78,14 +79,15 @@ pub(crate) fn seal<
 
 // Seals what is asked for, with the outputs in this folder.
 fn seal_to<
+    'r,
     R: Files + AllocGlobal + Clock + Eprint + Threads + Wait + Sync,
     O: Write + Drop,
     E: Write + Drop,
 >(
-    rt: &R,
+    rt: &'r R,
     host: &HostRuntime,
-    request: &SealRequest<'_, '_>,
-    folder: SystemFiles<'_, '_, R>,
+    request: &SealRequest<'_, 'r>,
+    folder: SystemFiles<'_, 'r, R>,
     streams: Streams<O, E>,
 ) -> u8
     requires files { 0 < length request.now.files.now }
@@ -95,6 +97,12 @@ fn seal_to<
     requires max_bytes { request.now.max_bytes ≤ MAX_BYTES }
 {
     let mut folder = folder;
+    // What is sealed of a ledger is a copy of it.
+    folder.keep_out(OwnPaths {
+        ledger: request.ledger,
+        key: request.key,
+        journal: request.journal,
+    });
     let progress = folder.progress;
     let ledger = LedgerPath {
         path: request.ledger,
@@ -169,6 +177,11 @@ fn pipe_to<
         Ok(begun) => begun,
         Err(status) => return status,
     };
+    let own = OwnPaths {
+        ledger: request.ledger,
+        key: request.key,
+        journal: request.journal,
+    };
     let options = PipeOptions {
         device: request.device,
         workers: request.workers,
@@ -187,7 +200,7 @@ fn pipe_to<
         &key,
         &ledger,
         Wary,
-        &mut FromRead(input),
+        &mut FromRead(StandardInput::new(rt, input, own)),
         &mut ToWrite(streams.output),
         &options,
         &mut out,
@@ -206,9 +219,9 @@ fn seal_from<
     R: AllocGlobal + Threads + Wait + Sync,
     S: Start,
     F: SealingFolder,
-    L: Sink + Drop,
-    E: Sink + Drop,
-    J: Sink + Drop,
+    L: Report + Drop,
+    E: Report + Drop,
+    J: Report + Drop,
 >(
     rt: &R,
     host: &HostRuntime,
@@ -247,6 +260,9 @@ fn seal_from<
         out.old.journal out.new.journal
         × (r.0 ≡ (if written then told else 2))))) }
     ensures complaint { IfOk result (λ r. r.0 ≢ 2 → out.new.faults ≡ out.old.faults) }
+    // Standard error takes one complaint, or a beginning of one, or nothing.
+    ensures complains { IfOk result (λ r. (out.new.faults ≡ out.old.faults)
+        ⊎ Complains (E.taken out.old.faults) (E.taken out.new.faults)) }
     // The ledger file can't be used: no input or output was touched, no line and no journal written.
     ensures unopened { OnErr result ((folder.new ≡ folder.old) × (out.new ≡ out.old)) }
 {
@@ -262,9 +278,9 @@ fn pipe_from<
     S: Start,
     R: Source,
     W: Sink,
-    L: Sink + Drop,
-    E: Sink + Drop,
-    J: Sink + Drop,
+    L: Report + Drop,
+    E: Report + Drop,
+    J: Report + Drop,
 >(
     rt: &T,
     host: &HostRuntime,
@@ -282,12 +298,14 @@ fn pipe_from<
     ensures status { IfOk result (λ r. r.0 ≤ 2) }
     // The ledger file was opened as it was found, and at most one range appended to it. Then nothing was read or
     // written; or the stream was sealed over a range of one number that was reserved there and that the file has
-    // without its log, with one legal history, which the journal tells.
+    // without its log, with one legal history, which the journal tells. On standard error there is a complaint, or the
+    // stream's line and behind it at most a complaint, each of them perhaps cut short.
     ensures run { IfOk result (λ r. (keeper : _)
         × (HasCleanDisk (file_state keeper) → IsFound over_files (image_at S.Start) keeper)
         × ReservesFilesOnce LedgerFile.Kept LedgerFile.Folded (sha256 key.now) options.now.device 1
         (LedgerFile.Kept keeper) r.1
-        × (((r.0 ≡ 2) × (reader.new ≡ reader.old) × (writer.new ≡ writer.old) × (out.new.journal ≡ out.old.journal))
+        × (((r.0 ≡ 2) × (reader.new ≡ reader.old) × (writer.new ≡ writer.old) × (out.new.journal ≡ out.old.journal)
+        × Complains (E.taken out.old.faults) (E.taken out.new.faults))
         ⊎ ((range : Numbers) × (history : List Entry) × (told : ℕ) × (written : Bool) × (lines : Option (List ℕ))
         × (failures : Option ℕ)
         × FoldsFiles LedgerFile.Kept LedgerFile.Folded (sha256 key.now) options.now.device 1 (LedgerFile.Kept keeper)
@@ -299,7 +317,8 @@ fn pipe_from<
         (terms_of range 1) history told (E.taken out.old.faults) lines (E.failures out.old.faults) failures
         × IsWritten J.taken (journal_text (terms_of range 1) history) written out.old.journal out.new.journal
         × (r.0 ≡ (if written then told else 2))
-        × (written ≡ true → (E.taken out.new.faults ≡ lines) × (E.failures out.new.faults ≡ failures))))) }
+        × (written ≡ true → (E.taken out.new.faults ≡ lines) × (E.failures out.new.faults ≡ failures))
+        × (written ≡ false → Complains lines (E.taken out.new.faults))))) }
     // The ledger file can't be used: nothing was read or written, no line and no journal.
     ensures unopened { OnErr result ((reader.new ≡ reader.old) × (writer.new ≡ writer.old) × (out.new ≡ out.old)) }
 {

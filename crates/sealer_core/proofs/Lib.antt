@@ -1,6 +1,7 @@
 mod Apart
 pub mod Calls
 pub mod Chunks
+pub mod Complaining
 pub mod Finished
 pub mod Groups
 pub mod Happened

@@ -1,3 +1,4 @@
+pub mod Complaints
 pub mod Group
 pub mod Piping
 pub mod Sealing

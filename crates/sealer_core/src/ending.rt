@@ -7,7 +7,8 @@ ghost use Rattle.ledger_core.specs.Closing.{AreAllSeats, IsWhole};
 ghost use Rattle.sealer_core.specs.Sealing.{IsWritten};
 
 use crate::trouble::RunFault;
-use ledger_core::{Failed, Journal, Ledger, Seat, Sink, write_all};
+use command_core::Report;
+use ledger_core::{Failed, Journal, Ledger, Seat};
 use std::alloc::Global;
 
 // Lets the seats meet, twice round in their order.
@@ -18,7 +19,7 @@ fn meet(ledger: Ledger, mut seats: Vec<Seat>)
     ledger.meet_all(seats.as_mut_slice());
 }
 
-fn write_text<J: Sink>(alloc: Global, journal: &Journal, writer: &mut J) -> Result<(), RunFault>
+fn write_text<J: Report>(alloc: Global, journal: &Journal, writer: &mut J) -> Result<(), RunFault>
     ensures ok { OnOk result (Appends (J.taken writer.old) (J.taken writer.new)
         (journal_text journal.now.terms journal.now.history)) }
     ensures err { OnErr result (AppendsFront (J.taken writer.old) (J.taken writer.new)
@@ -29,14 +30,14 @@ fn write_text<J: Sink>(alloc: Global, journal: &Journal, writer: &mut J) -> Resu
     let Ok(text) = journal.text(alloc) else {
         return Err(RunFault::NoJournal);
     };
-    match write_all(writer, text.as_bytes()) {
+    match writer.print(text.as_bytes()) {
         Ok(()) => Ok(()),
         Err(Failed) => Err(RunFault::JournalCut),
     }
 }
 
 // Closes the ledger, whose seats then meet, and writes the journal.
-fn write_journal<J: Sink>(
+fn write_journal<J: Report>(
     alloc: Global,
     ledger: Ledger,
     seats: Vec<Seat>,
@@ -59,7 +60,7 @@ fn write_journal<J: Sink>(
 }
 
 /// Ends a ledger: its seats meet, with or without a journal, and the journal is written where one was asked for.
-pub(crate) fn end_ledger<J: Sink>(
+pub(crate) fn end_ledger<J: Report>(
     alloc: Global,
     ledger: Ledger,
     seats: Vec<Seat>,

@@ -17,11 +17,11 @@ ghost use Rattle.sealer_core.specs.Sealing.{operations_of};
 use crate::lane::{end_output, fault_of, give_up, seal_file};
 use crate::prepare::{Prepared, prepare_group};
 use crate::sealing::SealOptions;
-use command_core::{FileFault, FileOutcome, MAX_BYTES, tell};
+use command_core::{FileFault, FileOutcome, MAX_BYTES, Report, tell};
 use container_core::{Key, SealFault, Shape};
 use crew_core::{Free, MAX_LANES, Outcome, seal_batch};
 use front_core::SealingFolder;
-use ledger_core::{Failed, Ledger, Seat, Sink};
+use ledger_core::{Failed, Ledger, Seat};
 use output_core::put_all;
 use std::alloc::Global;
 use std::collections::VecDeque;
@@ -85,7 +85,7 @@ fn end_file<F: SealingFolder>(
 }
 
 // Ends the files of a group in turn, with a line for each. The answer is the status so far.
-fn end_group<F: SealingFolder, L: Sink>(
+fn end_group<F: SealingFolder, L: Report>(
     alloc: Global,
     key: &Key,
     shape: &Shape,
@@ -177,7 +177,7 @@ fn meet_seats(ledger: &Ledger, seats: &mut [Seat])
 }
 
 // Tells of each file that memory was refused before anything was done with it.
-fn refuse_group<L: Sink>(alloc: Global, names: &[&str], lines: &mut L, start: u8) -> u8
+fn refuse_group<L: Report>(alloc: Global, names: &[&str], lines: &mut L, start: u8) -> u8
     ensures { (before : List FileLine) (first : Option (List ℕ)) (count : Option ℕ)
         → AreTold start before first (L.taken lines.old) count (L.failures lines.old)
         → AreTold result (before ++ refused_lines (map (λ name. name.now) names.now)) first (L.taken lines.new) count
@@ -192,7 +192,7 @@ fn refuse_group<L: Sink>(alloc: Global, names: &[&str], lines: &mut L, start: u8
 }
 
 // Seals the files of a group, of which there are at most as many as seats. The answer is the status so far.
-fn seal_group<T: Threads + Wait + Sync, F: SealingFolder, L: Sink>(
+fn seal_group<T: Threads + Wait + Sync, F: SealingFolder, L: Report>(
     rt: &T,
     alloc: Global,
     key: &Key,
@@ -233,7 +233,7 @@ fn seal_group<T: Threads + Wait + Sync, F: SealingFolder, L: Sink>(
 }
 
 /// Seals the files in groups of as many as there are seats, with a line for each. The answer is the status so far.
-pub(crate) fn seal_groups<T: Threads + Wait + Sync, F: SealingFolder, L: Sink>(
+pub(crate) fn seal_groups<T: Threads + Wait + Sync, F: SealingFolder, L: Report>(
     rt: &T,
     alloc: Global,
     key: &Key,

@@ -20,7 +20,8 @@ pub use crate::sealing::{SealOptions, seal_all};
 pub use crate::theorem::{a_call_is_a_run, no_nonce_is_used_twice, what_was_opened_was_sealed};
 pub use command_core::{
     Facts, FileFault, FileOutcome, Folder, FolderFault, KeyFault, Line, MAX_BYTES,
-    MAX_OPENED_BYTES, OpenOptions, OpeningFolder, Outs, Plaintext, open_all, read_key, verify_all,
+    MAX_OPENED_BYTES, OpenOptions, OpeningFolder, Outs, Plaintext, Report, open_all, read_key,
+    verify_all,
 };
 pub use crew_core::{MAX_DEPTH, MAX_LANES, MAX_WINDOW, MAX_WORKERS};
 pub use engine_core::{

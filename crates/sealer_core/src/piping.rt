@@ -1,6 +1,6 @@
 //! The command that seals a stream: one number is reserved, and what a reader gives is sealed under it as it comes.
 ghost use Rattle.std.specs.Prelude.{◌≡◌, ◌≢◌, ◌⊎◌, ℕ, Bool, Option, List, [], ◌<◌, ◌≤◌, IfOk, IfErr, is_ok, Ok};
-ghost use Rattle.std.specs.Prelude.{if◌then◌else◌, true};
+ghost use Rattle.std.specs.Prelude.{if◌then◌else◌, true, false};
 ghost use Rattle.sha2.specs.Sha256.{sha256};
 ghost use Rattle.sqlite.specs.Held.{Held};
 ghost use Rattle.journal_core.specs.declared.entry.Entry.{Entry};
@@ -9,6 +9,7 @@ ghost use Rattle.journal_core.specs.Range.{IsLawfulRange, Numbers};
 ghost use Rattle.journal_core.specs.Text.{journal_text};
 ghost use Rattle.ledger_core.specs.Closing.{AreAllSeats};
 ghost use Rattle.ledger_core.specs.Shared.{fresh_seats, IsSameSeat};
+ghost use Rattle.command_core.specs.Printing.{Complains};
 ghost use Rattle.command_core.specs.Session.{IsShut};
 ghost use Rattle.front_core.specs.Range.{StandsIn};
 ghost use Rattle.sealer_core.specs.Piping.{HasSealedStream, IsPiped};
@@ -18,12 +19,12 @@ use crate::ending::end_ledger;
 use crate::lane::{issue_to_file, settle_of_file};
 use crate::sealing::open_ledger;
 use crate::trouble::{RunFault, complain};
-use command_core::{FileFault, FileOutcome, Outs, tell};
+use command_core::{FileFault, FileOutcome, Outs, Report, tell};
 use container_core::{Key, Shape};
 use crew_core::{Free, MAX_DEPTH, MAX_WORKERS};
 use engine_core::run_pipe;
 use front_core::SealingStream;
-use ledger_core::{Device, Ledger, Seat, Sink, Source};
+use ledger_core::{Device, Ledger, Seat, Source};
 use reserve_core::{Fold, LedgerFile};
 use std::alloc::Global;
 use std::sync::Wait;
@@ -136,7 +137,7 @@ fn pipe_alone<T: Threads + Wait + Sync, S: Fold, R: Source, W: SealingStream>(
 
 // Seals what a reader gives over a new ledger, tells its line, and ends the ledger. The answer is the status of the
 // line, and how the ledger ended.
-fn pipe_over<T: Threads + Wait + Sync, S: Fold, R: Source, W: SealingStream, E: Sink, J: Sink>(
+fn pipe_over<T: Threads + Wait + Sync, S: Fold, R: Source, W: SealingStream, E: Report, J: Report>(
     rt: &T,
     alloc: Global,
     key: &Key,
@@ -197,9 +198,9 @@ pub fn pipe_all<
     S: Fold,
     R: Source,
     W: SealingStream,
-    L: Sink + Drop,
-    E: Sink + Drop,
-    J: Sink + Drop,
+    L: Report + Drop,
+    E: Report + Drop,
+    J: Report + Drop,
 >(
     rt: &T,
     alloc: Global,
@@ -216,10 +217,10 @@ pub fn pipe_all<
     requires shut { IsShut (W.bound writer.old) (W.taken writer.old) }
     ensures status { result ≤ 2 }
     // Nothing was read or written; or the stream was sealed over a range of one number that was reserved, in a ledger
-    // file that has it without its log, with one legal history, which the journal tells. Behind the line there is at
-    // most the journal's fault.
+    // file that has it without its log, with one legal history, which the journal tells. On standard error there is a
+    // complaint, or the stream's line and behind it at most a complaint, each of them perhaps cut short.
     ensures run { ((result ≡ 2) × (reader.new ≡ reader.old) × (writer.new ≡ writer.old)
-        × (out.new.journal ≡ out.old.journal))
+        × (out.new.journal ≡ out.old.journal) × Complains (E.taken out.old.faults) (E.taken out.new.faults))
         ⊎ ((range : Numbers) × (history : List Entry) × (told : ℕ) × (written : Bool) × (lines : Option (List ℕ))
         × (failures : Option ℕ)
         × FoldsARange S.Store LedgerFile.Kept LedgerFile.Folded S.is_folded (sha256 key.now) options.now.device 1
@@ -231,7 +232,8 @@ pub fn pipe_all<
         (terms_of range 1) history told (E.taken out.old.faults) lines (E.failures out.old.faults) failures
         × IsWritten J.taken (journal_text (terms_of range 1) history) written out.old.journal out.new.journal
         × (result ≡ (if written then told else 2))
-        × (written ≡ true → (E.taken out.new.faults ≡ lines) × (E.failures out.new.faults ≡ failures))) }
+        × (written ≡ true → (E.taken out.new.faults ≡ lines) × (E.failures out.new.faults ≡ failures))
+        × (written ≡ false → Complains lines (E.taken out.new.faults))) }
     ensures output { out.new.lines ≡ out.old.lines }
     // At most one range is appended, and a crash leaves the lists from before or those with it.
     ensures once { ReservesOnce S.Store LedgerFile.Kept LedgerFile.Folded S.is_left (sha256 key.now)

@@ -12,6 +12,7 @@ ghost use Rattle.journal_core.specs.Range.{IsLawfulRange, Numbers};
 ghost use Rattle.journal_core.specs.Text.{journal_text};
 ghost use Rattle.ledger_core.specs.Closing.{AreAllSeats};
 ghost use Rattle.ledger_core.specs.Shared.{fresh_seats};
+ghost use Rattle.command_core.specs.Printing.{Complains};
 ghost use Rattle.front_core.specs.Range.{StandsIn};
 ghost use Rattle.reserve_core.specs.Lasting.{StillLast};
 ghost use Rattle.sealer_core.specs.Sealing.{AppendsOnce, AreLawful, CrashesAround, FoldsARange, Happened, HasSealed};
@@ -20,11 +21,11 @@ ghost use Rattle.sealer_core.specs.Sealing.{IsReserved, IsWritten, ReservesOnce}
 use crate::ending::end_ledger;
 use crate::group::seal_groups;
 use crate::trouble::{RunFault, complain};
-use command_core::{MAX_BYTES, Outs};
+use command_core::{MAX_BYTES, Outs, Report};
 use container_core::{Key, Shape};
 use crew_core::{MAX_LANES, MAX_WINDOW, MAX_WORKERS};
 use front_core::SealingFolder;
-use ledger_core::{Device, Ledger, Range, Seat, Sink};
+use ledger_core::{Device, Ledger, Range, Seat};
 use reserve_core::{Fold, Keeper, LedgerFile, ReserveFault};
 use sqlite::Alter;
 use std::alloc::Global;
@@ -131,7 +132,7 @@ pub(crate) fn open_ledger<S: Fold>(
 
 // Seals the files over a new ledger, of whose range the ledger file has all numbers for good, and ends that. The answer
 // is the status of the lines, and how the ledger ended.
-fn work_ledger<T: Threads + Wait + Sync, S: Fold, F: SealingFolder, W: Sink, J: Sink>(
+fn work_ledger<T: Threads + Wait + Sync, S: Fold, F: SealingFolder, W: Report, J: Report>(
     rt: &T,
     alloc: Global,
     key: &Key,
@@ -181,9 +182,9 @@ pub fn seal_all<
     T: Threads + Wait + Sync,
     S: Fold,
     F: SealingFolder,
-    L: Sink + Drop,
-    E: Sink + Drop,
-    J: Sink + Drop,
+    L: Report + Drop,
+    E: Report + Drop,
+    J: Report + Drop,
 >(
     rt: &T,
     alloc: Global,
@@ -216,6 +217,9 @@ pub fn seal_all<
         out.old.journal out.new.journal
         × (result ≡ (if written then told else 2))) }
     ensures complaint { result ≢ 2 → out.new.faults ≡ out.old.faults }
+    // Standard error takes one complaint, or a beginning of one, or nothing.
+    ensures complains { (out.new.faults ≡ out.old.faults)
+        ⊎ Complains (E.taken out.old.faults) (E.taken out.new.faults) }
     // At most one range is appended, and a crash leaves the lists from before or those with it: up to the fold, and of
     // what a fold left.
     ensures once { ReservesOnce S.Store LedgerFile.Kept LedgerFile.Folded S.is_left (sha256 key.now)

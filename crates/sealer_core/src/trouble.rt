@@ -1,29 +1,52 @@
 //! Why a run that seals ended with status 2: the lines on standard error.
-use ledger_core::{Sink, write_all};
+ghost use Rattle.std.specs.Prelude.{Some};
+ghost use Rattle.command_core.specs.Printing.{Complains};
+ghost use Rattle.sealer_core.specs.Complaints.{complaint};
+
+use command_core::Report;
+use ledger_core::Failed;
 use reserve_core::ReserveFault;
 use std::alloc::Global;
-use thiserror::Error;
+use std::error::Error;
+use std::fmt;
 
 /// Why a run that seals ended with status 2. The texts are those that the program prints.
-#[derive(Clone, Copy, PartialEq, Eq, Debug, Error)]
+#[derive(Clone, Copy, PartialEq, Eq, Debug)]
 pub(crate) enum RunFault {
     /// No range was reserved, or one was and the log could not be copied into the ledger file. No file was touched.
-    #[error("ledger: {0}")]
     Unreserved(ReserveFault),
     /// Memory for the shared ledger was refused. A range was reserved and is given up; no file was touched.
-    #[error("ledger: out of memory")]
     NoLedger,
     /// Memory for the journal was refused. The files were worked.
-    #[error("journal: out of memory")]
     NoJournal,
     /// The journal could not be written whole. The files were worked.
-    #[error("journal: write failed")]
     JournalCut,
 }
 
-// Writes the fault's line. Where memory for its text is refused, or the write fails, the exit status alone tells.
-pub(crate) fn complain<W: Sink>(alloc: Global, faults: &mut W, fault: RunFault) {
-    if let Ok(text) = format!(in alloc; "{fault}\n") {
-        let _ = write_all(faults, text.as_bytes());
+impl fmt::Display for RunFault {
+    ghost output = { λ fault. Some (complaint fault) };
+
+    fn fmt<W: fmt::Write>(&self, f: &mut fmt::Formatter<W>) -> fmt::Result {
+        match *self {
+            RunFault::Unreserved(fault) => write!(f, "ledger: {fault}"),
+            RunFault::NoLedger => write!(f, "ledger: out of memory"),
+            RunFault::NoJournal => write!(f, "journal: out of memory"),
+            RunFault::JournalCut => write!(f, "journal: write failed"),
+        }
+    }
+}
+
+impl Error for RunFault {}
+
+// Prints the fault's line. Where memory for its text is refused, or the write fails, the exit status alone tells.
+pub(crate) fn complain<W: Report>(alloc: Global, faults: &mut W, fault: RunFault)
+    ensures { Complains (W.taken faults.old) (W.taken faults.new) }
+{
+    let Ok(text) = format!(in alloc; "{fault}\n") else {
+        return;
+    };
+    match faults.print(text.as_bytes()) {
+        Ok(()) => {}
+        Err(Failed) => {}
     }
 }

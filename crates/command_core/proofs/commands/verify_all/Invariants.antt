@@ -7,6 +7,6 @@ abbrev pub invariant-loop-name : goal.invariant-loop-name
 invariant-loop-name g l =
     AreWorked (λ name. IsOfVerifying l.options.show) (Verifying l.key l.options.max_bytes (asked_label l.options))
     (map (λ name. name.now) (take l.name-index l.options.files.now)) l.status
-    (g.L.Sink.taken l.initial.lines) (g.L.Sink.taken l.lines) (g.L.Sink.failures l.initial.lines)
-    (g.L.Sink.failures l.lines)
+    (g.L.Report.taken l.initial.lines) (g.L.Report.taken l.lines) (g.L.Report.failures l.initial.lines)
+    (g.L.Report.failures l.lines)
     (g.F.Folder.told l.initial.folder) (g.F.Folder.told l.folder)

@@ -18,7 +18,7 @@ invariant-loop-file g l = record {
   session : AreSettled (sha256 l.key) l.ledger.terms.range (operations_of l.seats) (g.F.Folder.session l.folder);
   ending : AreEnding (λ lines voids. Does (EndsSoFar g.F.Writer.Output.taken l.initial.files.items l.files.items l.initial.outcomes.items l.outcomes.items lines voids)
       (g.F.Folder.told l.initial.folder) (g.F.Folder.told l.folder)) l.initial.files.items l.files.items l.initial.outcomes.items l.outcomes.items (operations_of l.initial.seats) (operations_of l.seats) l.start l.status
-      (g.L.Sink.taken l.initial.lines) (g.L.Sink.taken l.lines) (g.L.Sink.failures l.initial.lines) (g.L.Sink.failures l.lines);
+      (g.L.Report.taken l.initial.lines) (g.L.Report.taken l.lines) (g.L.Report.failures l.initial.lines) (g.L.Report.failures l.lines);
 }
 
 abbrev pub decreases-loop-file : goal.decreases-loop-file

@@ -12,7 +12,7 @@ use Rattle.sealer_core.proofs.group.seal_groups.Goals as goal
 
 pub loop-done-init : goal.loop-done-init
 loop-done-init g c =
-    let none = nothing_sealed (Happened c.args.key.now c.args.options.now.shape.now c.args.options.now.max_bytes c.args.ledger.now.terms.range.device (g.F.Folder.told c.args.folder.now) (g.F.Folder.told c.args.folder.now)) (length c.args.seats.now) _ (g.L.Sink.taken c.args.lines.now) (g.L.Sink.failures c.args.lines.now)
+    let none = nothing_sealed (Happened c.args.key.now c.args.options.now.shape.now c.args.options.now.max_bytes c.args.ledger.now.terms.range.device (g.F.Folder.told c.args.folder.now) (g.F.Folder.told c.args.folder.now)) (length c.args.seats.now) _ (g.L.Report.taken c.args.lines.now) (g.L.Report.failures c.args.lines.now)
     (subst (λ (l : List Entry). Accounts [] [] l) (sym c.requires.fresh) accounts_none) (nothing_happened _ _) in record {
       owing = owing_none _ _ c.requires.fresh c.requires.all;
       session = settled_start (sha256 c.args.key.now) c.args.ledger.now.terms.range _ _ c.requires.session;
@@ -47,5 +47,5 @@ pub returns-clause-sealed : goal.returns-clause-sealed
 returns-clause-sealed g c =
     subst (λ (f : List (Bor (List ℕ))). AreSealed (Happened c.args.key.now c.args.options.now.shape.now c.args.options.now.max_bytes c.args.ledger.now.terms.range.device
     (g.F.Folder.told c.args.folder.now) (g.F.Folder.told c.loop-done.folder)) (length c.args.seats.now) (map (λ (name : Bor (List ℕ)). name.now) f) (operations_of c.loop-done.seats) c.loop-done.status
-    (g.L.Sink.taken c.args.lines.now) (g.L.Sink.taken c.loop-done.lines) (g.L.Sink.failures c.args.lines.now) (g.L.Sink.failures c.loop-done.lines))
+    (g.L.Report.taken c.args.lines.now) (g.L.Report.taken c.loop-done.lines) (g.L.Report.failures c.args.lines.now) (g.L.Report.failures c.loop-done.lines))
     (take_all c.loop-done.done c.args.options.now.files.now c.loop-done-test.false) c.loop-done.invariant.sealed.0

@@ -12,7 +12,7 @@ invariant-loop-done g l = record {
   count : length l.seats ≡ length l.initial.seats;
   within : l.done ≤ length l.options.files.now;
   sealed : (s : AreSealed (Happened l.key l.options.shape.now l.options.max_bytes l.ledger.terms.range.device (g.F.Folder.told l.initial.folder) (g.F.Folder.told l.folder)) (length l.initial.seats) (map (λ name. name.now) (take l.done l.options.files.now)) (operations_of l.seats) l.status
-      (g.L.Sink.taken l.initial.lines) (g.L.Sink.taken l.lines) (g.L.Sink.failures l.initial.lines) (g.L.Sink.failures l.lines))
+      (g.L.Report.taken l.initial.lines) (g.L.Report.taken l.lines) (g.L.Report.failures l.initial.lines) (g.L.Report.failures l.lines))
       × (l.done < length l.options.files.now → All (λ group. length group ≡ length l.initial.seats) s.worked.groups);
 }
 

@@ -1,4 +1,4 @@
-use Rattle.std.proofs.Common.{◌≡◌, Bool, true, false, length, map, is_ok, inr, refl, ap, subst}
+use Rattle.std.proofs.Common.{◌≡◌, Bool, true, false, length, map, is_ok, inl, inr, refl, ap, subst}
 use Rattle.journal_core.specs.declared.terms.Terms.{Terms}
 use Rattle.journal_core.specs.Journal.{terms_of}
 use Rattle.journal_core.specs.Text.{journal_text}
@@ -13,10 +13,10 @@ returns-in-Ok-ended-clause-run g c =
     let told = c.work_ledger-told.result.0 in
     let (history, sealed, written) = c.work_ledger-told.ensures in
     let terms : ledger.terms ≡ terms_of range c.args.options.now.lanes = ap (terms_of range) c.in-Ok.ensures.opened.0 in
-    let Written : Terms → Bool → Type 0 = λ t ok. IsWritten g.J.Sink.taken (journal_text t history) ok c.args.out.now.journal c.work_ledger-told.new.journal in
+    let Written : Terms → Bool → Type 0 = λ t ok. IsWritten g.J.Report.taken (journal_text t history) ok c.args.out.now.journal c.work_ledger-told.new.journal in
     let Sealed : Terms → Type 0 = λ t. HasSealed (Happened c.args.key.now c.args.options.now.shape.now c.args.options.now.max_bytes range.device (g.F.Folder.told c.args.folder.now) (g.F.Folder.told c.work_ledger-told.new.folder)) (map (λ name. name.now) c.args.options.now.files.now) t history told
-    (g.L.Sink.taken c.args.out.now.lines) (g.L.Sink.taken c.work_ledger-told.new.lines)
-    (g.L.Sink.failures c.args.out.now.lines) (g.L.Sink.failures c.work_ledger-told.new.lines) in
+    (g.L.Report.taken c.args.out.now.lines) (g.L.Report.taken c.work_ledger-told.new.lines)
+    (g.L.Report.failures c.args.out.now.lines) (g.L.Report.failures c.work_ledger-told.new.lines) in
     let ok : is_ok c.work_ledger-told.result.1 ≡ true = ap is_ok c.in-Ok-ended.is in
     inr (range, history, told, true, c.in-Ok.ensures.reserved, c.in-Ok.ensures.lawful, subst Sealed terms sealed, subst (λ t. Written t true) terms (subst (Written ledger.terms) ok written), refl)
 
@@ -27,12 +27,18 @@ returns-in-Err-ended-clause-run g c =
     let told = c.work_ledger-told.result.0 in
     let (history, sealed, written) = c.work_ledger-told.ensures in
     let terms : ledger.terms ≡ terms_of range c.args.options.now.lanes = ap (terms_of range) c.in-Ok.ensures.opened.0 in
-    let Written : Terms → Bool → Type 0 = λ t ok. IsWritten g.J.Sink.taken (journal_text t history) ok c.args.out.now.journal c.work_ledger-told.new.journal in
+    let Written : Terms → Bool → Type 0 = λ t ok. IsWritten g.J.Report.taken (journal_text t history) ok c.args.out.now.journal c.work_ledger-told.new.journal in
     let Sealed : Terms → Type 0 = λ t. HasSealed (Happened c.args.key.now c.args.options.now.shape.now c.args.options.now.max_bytes range.device (g.F.Folder.told c.args.folder.now) (g.F.Folder.told c.work_ledger-told.new.folder)) (map (λ name. name.now) c.args.options.now.files.now) t history told
-    (g.L.Sink.taken c.args.out.now.lines) (g.L.Sink.taken c.work_ledger-told.new.lines)
-    (g.L.Sink.failures c.args.out.now.lines) (g.L.Sink.failures c.work_ledger-told.new.lines) in
+    (g.L.Report.taken c.args.out.now.lines) (g.L.Report.taken c.work_ledger-told.new.lines)
+    (g.L.Report.failures c.args.out.now.lines) (g.L.Report.failures c.work_ledger-told.new.lines) in
     let ok : is_ok c.work_ledger-told.result.1 ≡ false = ap is_ok c.in-Err-ended.is in
     inr (range, history, told, false, c.in-Ok.ensures.reserved, c.in-Ok.ensures.lawful, subst Sealed terms sealed, subst (λ t. Written t false) terms (subst (Written ledger.terms) ok written), refl)
+
+pub returns-in-Ok-ended-clause-complains : goal.returns-in-Ok-ended-clause-complains
+returns-in-Ok-ended-clause-complains g c = inl refl
+
+pub returns-in-Err-ended-clause-complains : goal.returns-in-Err-ended-clause-complains
+returns-in-Err-ended-clause-complains g c = inr c.complain-in-Err-ended.ensures
 
 pub work_ledger-told-requires-clause-stands : goal.work_ledger-told-requires-clause-stands
 work_ledger-told-requires-clause-stands g c κs within =

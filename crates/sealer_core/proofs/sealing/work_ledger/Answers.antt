@@ -20,6 +20,6 @@ returns g c =
           (subst (λ (s : List SeatView). IsWhole c.args.ledger.terms s history) back whole)
           (subst (λ n. AreSealed (Happened c.args.key.now c.args.options.now.shape.now c.args.options.now.max_bytes c.args.ledger.terms.range.device (g.F.Folder.told c.args.folder.now) (g.F.Folder.told c.seal_groups-told.new.folder))
           n (map (λ name. name.now) c.args.options.now.files.now) (operations_of seats) c.seal_groups-told.result
-          (g.W.Sink.taken c.args.lines.now) (g.W.Sink.taken c.seal_groups-told.new.lines) (g.W.Sink.failures c.args.lines.now) (g.W.Sink.failures c.seal_groups-told.new.lines)) count (rw c.start.ensures.told at c.seal_groups-told.ensures.sealed)),
+          (g.W.Report.taken c.args.lines.now) (g.W.Report.taken c.seal_groups-told.new.lines) (g.W.Report.failures c.args.lines.now) (g.W.Report.failures c.seal_groups-told.new.lines)) count (rw c.start.ensures.told at c.seal_groups-told.ensures.sealed)),
       written,
     )

@@ -1,0 +1,23 @@
+-- What was given on the command line: of what a parse found, by the name of an option.
+use Rattle.std.specs.Prelude.{◌≡◌, ℕ, Bool, List, [], Option, Some, None, codes, true, false, option_map, unwrap_or}
+use Rattle.std.specs.Str.Parse.{digits_value, without_leading_plus}
+use Rattle.clap.specs.Matches.{found_of, matched_of, one_text, raw_values}
+use Rattle.clap.specs.declared.parser.matches.ArgMatches.{ArgMatches}
+
+-- the number that a text writes in base ten, where a plus may stand first
+abbrev pub number_of : List ℕ → ℕ
+number_of text = digits_value 10 (without_leading_plus text)
+
+-- the number that was given, where one was
+abbrev pub number_given : ArgMatches → List ℕ → Option ℕ
+number_given matches option = option_map number_of (one_text (found_of matches) option)
+
+-- a flag is true where it was given, and false where it wasn't: a parse finds one of these two words, or nothing
+pub record IsFlag (matches : ArgMatches) (flag : List ℕ) (value : Bool) : Type 0 where
+  pub given : one_text (found_of matches) flag ≡ Some (codes "true") → value ≡ true
+  pub other : one_text (found_of matches) flag ≡ Some (codes "false") → value ≡ false
+  pub without : one_text (found_of matches) flag ≡ None → value ≡ false
+
+-- the files that were given
+abbrev pub files_given : ArgMatches → List (List ℕ)
+files_given matches = unwrap_or (option_map raw_values (matched_of (found_of matches) (codes "FILE"))) []

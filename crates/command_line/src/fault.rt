@@ -1,0 +1,37 @@
+//! Why the words of a command are a fault of usage, though its parser took them.
+use thiserror::Error as ThisError;
+
+/// Why the words of a command, which its parser took, are still a fault of usage.
+#[derive(Clone, Copy, PartialEq, Eq, Debug, ThisError)]
+pub enum UsageFault {
+    /// Never: the parser takes no words without these arguments.
+    #[error("an argument is missing")]
+    Missing,
+    /// Never: the parser takes no number out of its range.
+    #[error("a number is out of range")]
+    OutOfRange,
+    /// More than one lane, and more than one worker.
+    #[error("lanes and workers cannot both be above 1")]
+    LanesAndWorkers,
+    /// A label of more than 255 bytes.
+    #[error("label too long")]
+    LabelTooLong,
+    /// There are no files: none stands on the command line, and the list has none.
+    #[error("no files")]
+    NoFiles,
+    /// A name in the list of files is empty.
+    #[error("a name in the list is empty")]
+    EmptyName,
+    /// The list of files isn't UTF-8.
+    #[error("the list is no text")]
+    ListNoText,
+    /// The list of files can't be read. The program tells it; no request does.
+    #[error("cannot read the list")]
+    CannotReadList,
+    /// Memory was refused for the names.
+    #[error("out of memory")]
+    OutOfMemory,
+    /// A container would be written to a terminal, and that wasn't asked for. The program tells it; no request does.
+    #[error("standard output is a terminal")]
+    Terminal,
+}
