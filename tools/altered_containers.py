@@ -5,8 +5,8 @@ as they should be.
     altered_containers.py [--self-check]
 
 The containers hold zero bytes, two chunks and one byte more, under the key 00 01 .. 1f, device 1, file 0: one of
-version 1, and of version 2 those with labels of 0, 1 and 255 bytes at the exponents 12, 16 and 20, all made by
-tools/seal_container.py. The answers are rules written by hand from docs/FORMATS.md; before the program is asked,
+version 1, and of version 2 those with labels of 0, 1 and 255 bytes at the exponents 12, 16 and 20; and one has 1,100
+chunks. All are made by tools/seal_container.py. The answers are rules written by hand from docs/FORMATS.md; before the program is asked,
 tools/open_container.py, another reading of that text, has to give the same. With --self-check that is all, and no
 program is needed.
 
@@ -154,6 +154,14 @@ def altered(shape):
             yield f"{shape.name}-{name}", container, answer
 
 
+def late():
+    """A container of 1,100 chunks, as it is and with a bit of chunk 1,060 changed."""
+    plain, place = bytes(1_099 * 4_096 + 1), 25 + 1_060 * 4_112
+    whole = sealed(key, 1, 0, plain, exponent=12, label=b"")
+    yield "many-chunks", whole, len(plain)
+    yield "late-chunk-changed", whole[:place] + bytes([whole[place] ^ 1]) + whole[place + 1:], forged(1_060)
+
+
 def groups(containers):
     """The containers in groups of at most FOLDER bytes."""
     group, size = [], 0
@@ -210,9 +218,10 @@ def program_differs(group):
 
 def main():
     shapes = [Shape(), *(Shape(exponent, bytes(range(label))) for exponent in (12, 16, 20) for label in (0, 1, 255))]
+    kinds = [*(lambda shape=shape: altered(shape) for shape in shapes), late]
     bad = count = 0
-    for shape in shapes:
-        for name, container, answer in altered(shape):
+    for kind in kinds:
+        for name, container, answer in kind():
             count += 1
             bad += reader_differs(name, container, answer)
     if bad:
@@ -220,7 +229,7 @@ def main():
     if sys.argv[1:] == ["--self-check"]:
         print(f"altered_containers: {count} answers of open_container.py as they should be")
         return
-    bad = sum(program_differs(group) for shape in shapes for group in groups(altered(shape)))
+    bad = sum(program_differs(group) for kind in kinds for group in groups(kind()))
     if bad:
         sys.exit(1)
     print(f"altered_containers: {3 * count} answers as they should be")

@@ -1,9 +1,9 @@
 #!/bin/bash
-# Seals a handful of files with the built program, and opens them with tools/open_container.py, which knows docs/FORMATS.md alone.
+# Seals a handful of files with the built program, crates/sealer/out/sealer or $SEALER, and opens them with tools/open_container.py, which knows docs/FORMATS.md alone.
 # Where Python's package `cryptography` isn't there it says so and ends well, and under CI it fails.
 set -eu
 cd "$(dirname "$0")/.."
-sealer=$PWD/crates/sealer/out/sealer
+sealer=$(realpath "${SEALER:-crates/sealer/out/sealer}")
 reader=$PWD/tools/open_container.py
 if ! python3 -c 'import cryptography' 2>/dev/null; then
     echo "check_containers: skipped, Python's package cryptography isn't there"

@@ -29,7 +29,7 @@ SECTIONS = {
 }
 # What isn't of the sources: the parser's text where memory is refused; its others and the loader's, which only the section on faults has.
 OF_PARSER = "error: out of memory"
-IN_SECTION_ALONE = {"error: ..", "this machine lacks a feature of x86-64-v3"}
+IN_SECTION_ALONE = {"error: ..", "this machine lacks a feature of x86-64-v2", "this machine lacks a feature of x86-64-v3"}
 # The headings of the tables of texts, and which texts these are.
 HEADINGS = {
     "FAULT": "failed",

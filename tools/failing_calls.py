@@ -3,7 +3,8 @@
 
 By one worker and by two, each call behind the opening of the key file (for `audit` behind the first read of its input) fails with EIO,
 ENOSPC and EINTR, those on memory with ENOMEM, and the program is killed at each. And of `open` and of `seal` each write of an output fails,
-or the file takes no more than so many bytes, while its removal fails too, or doesn't. After an error: a status and a text of docs/MANUAL.md, which fit the lines; an output is there whole or not at all,
+or the file takes no more than so many bytes, while its removal fails too, or doesn't. Under `--progress` each read of a FILE by `seal`, `open` and
+`verify` fails, and so does standard output. After an error: a status and a text of docs/MANUAL.md, which fit the lines; an output is there whole or not at all,
 and not where its line says that it failed (but where its removal failed too); no input is altered, and no other file is there. After a kill:
 what has a line is whole.
 
@@ -29,7 +30,7 @@ HANG, ENOUGH = 60, 10
 TEXTS = re.compile(r"usage: out of memory|error: out of memory|key: (cannot open|read failed)|audit: (read failed|write failed|out of memory)")
 FAULT = re.compile(r"failed (\S+): (cannot open|cannot create|read failed|write failed|out of memory)")
 ON_FILES = (
-    "openat read pread64 readv write pwrite64 writev fsync fdatasync ftruncate lseek statx newfstatat fstat close fadvise64 readlink unlink"
+    "openat read pread64 readv write pwrite64 writev fsync fdatasync ftruncate lseek statx newfstatat fstat close fadvise64 readlink link unlink"
     " unlinkat rename fchmod fchown fcntl poll ioctl"
 ).split()
 FAULTS = {call: ("error=EIO", "error=ENOSPC", "error=EINTR") for call in ON_FILES}
@@ -61,7 +62,7 @@ class Way:
         self.name, self.words, self.given = name, WAYS[name], given
         self.count, self.bad, self.shown = 0, [], Counter()
 
-    def run(self, *strace, most=resource.RLIM_INFINITY):
+    def run(self, *strace, most=resource.RLIM_INFINITY, output=subprocess.PIPE):
         """One run under strace, with the files as they were given, where no file takes more than so many bytes. The answer is status, lines
         and texts."""
         for name in os.listdir("."):
@@ -74,8 +75,8 @@ class Way:
             narrow = lambda: resource.setrlimit(resource.RLIMIT_FSIZE, (most, most))
             # Python ignores SIGXFSZ, and so does the program then.
             more = {"restore_signals": False, "preexec_fn": narrow} if most != resource.RLIM_INFINITY else {}
-            ran = subprocess.run(words, stdin=journal, capture_output=True, timeout=HANG, **more)
-        return ran.returncode, ran.stdout.decode(errors="replace").splitlines(), ran.stderr.decode(errors="replace").splitlines()
+            ran = subprocess.run(words, stdin=journal, stdout=output, stderr=subprocess.PIPE, timeout=HANG, **more)
+        return ran.returncode, (ran.stdout or b"").decode(errors="replace").splitlines(), ran.stderr.decode(errors="replace").splitlines()
 
     def calls(self):
         """How often a thread makes each call at most, before the work begins and in all."""
@@ -146,6 +147,11 @@ class Way:
             if name in self.given:
                 if not os.path.exists(name) or read(name) != self.given[name]:
                     yield f"{name} is altered"
+            elif name.endswith(".part") and killed:
+                # It holds a beginning of an output, or all of it, and has that one's name too.
+                held = read(name)
+                if not any(PLAIN[output].startswith(held) for output in outputs):
+                    yield f"{name} is of no output"
             elif name not in outputs:
                 yield f"leaves {name}"
             else:
@@ -154,7 +160,7 @@ class Way:
                 if os.path.exists(name):
                     if failed:
                         yield f"{name} is there"
-                    if read(name) != PLAIN[name] and (opened or not killed):
+                    if read(name) != PLAIN[name]:
                         yield f"{name} is not whole"
                 elif opened:
                     yield f"no {name}"
@@ -179,6 +185,14 @@ def worked(asked):
     return way.count, way.bad, way.shown
 
 
+def left_of(output):
+    """The bytes of an output that isn't whole, which doesn't have its name."""
+    parts = [name for name in os.listdir(".") if name.endswith(".part")]
+    if os.path.exists(output) or len(parts) > 1:
+        return b"more than a part"
+    return read(parts[0]) if parts else None
+
+
 def removals(given, ledger):
     """A write of an output fails, and its removal too: the line tells, and what is left is a beginning of it."""
     count, bad = 0, []
@@ -192,26 +206,57 @@ def removals(given, ledger):
         way = Way("audit", files)
         way.words = words
         told = (1, [f"failed {words[-1]}: write failed"], [])
-        unremoved = ["-o", "/dev/null", "-e", "trace=write,unlink,unlinkat", "-e", "inject=unlink,unlinkat:error=EIO"]
-        for n in range(1, 200):
-            # by name, so that the writes of ledger and lines aren't counted
-            by_name = ["-P", output, "-P", os.path.abspath(output)]
-            answer = way.run(*unremoved, *by_name, "-e", f"inject=write:error=EIO:when={n}")
-            if answer[0] == 0:
-                break
+        # the first removal is of the name that tells whether files can have two
+        unremoved = ["-o", "/dev/null", "-e", "trace=write,unlink,unlinkat", "-e", "inject=unlink,unlinkat:error=EIO:when=2+"]
+        trace = f"../trace {name} removals"
+        way.run("-o", trace, "-y", "-e", "trace=write")
+        # not the writes of ledger and lines
+        writes = [".part>" in line for line in read(trace).decode(errors="replace").splitlines() if " write(" in line]
+        turns = [n for n, is_output in enumerate(writes, 1) if is_output]
+        for n in turns:
+            answer = way.run(*unremoved, "-e", f"inject=write:error=EIO:when={n}")
             count += 1
-            left = read(output) if os.path.exists(output) else None
+            left = left_of(output)
             if answer != told or left is None or left == whole or not whole.startswith(left):
                 bad.append(f"{name}, write {n} and removal: {answer}, {left and len(left)} bytes left")
-        if n in (1, 199):
-            bad.append(f"{name}: {n - 1} writes of its output failed")
+        if not turns:
+            bad.append(f"{name}: no write of its output failed")
         for most in lengths:
             for strace, rest in ((unremoved, whole[:most]), (["-o", "/dev/null"], None)):
                 count += 1
                 answer = way.run(*strace, most=most)
-                left = read(output) if os.path.exists(output) else None
+                left = left_of(output)
                 if answer != told or left != rest:
                     bad.append(f"{name}, {most} bytes, {'' if rest is None else 'not '}removed: {answer}, {left and len(left)} bytes left")
+    return count, bad
+
+
+def under_progress(given, ledger):
+    """Where it is shown how far a run is, a read of its FILE fails, and then its line."""
+    count, bad = 0, []
+    ways = {
+        "seal": (["--ledger", "ledger", "--device", "1"], {"long": PLAIN["long"], **ledger}, "long", "long.stm", "sealed"),
+        "open": ([], given, "long.stm", "long", "opened"),
+        "verify": ([], given, "long.stm", None, "good"),
+    }
+    for command, (more, files, name, output, word) in ways.items():
+        way = Way("audit", files)
+        way.words = [command, "--key", key, "--progress=always", *more, name]
+        reads = ["-o", "/dev/null", "-P", os.path.abspath(name), "-e", "trace=read"]
+        for n in range(1, 200):
+            status, lines, _ = way.run(*reads, "-e", f"inject=read:error=EIO:when={n}")
+            if status == 0 and len(lines) == 1 and lines[0].startswith(f"{word} {name} ") and n > 3:
+                break
+            count += 1
+            if (status, lines) != (1, [f"failed {name}: read failed"]) or output and os.path.exists(output):
+                bad.append(f"{command} under --progress, read {n}: status {status}, {lines}")
+        else:
+            bad.append(f"{command} under --progress: every read fails")
+        with open("/dev/full", "wb") as full:
+            status, _, _ = way.run("-o", "/dev/null", "-e", "trace=none", output=full)
+        count += 1
+        if status != 2:
+            bad.append(f"{command} under --progress, a line that fails: status {status}")
     return count, bad
 
 
@@ -234,7 +279,11 @@ def main():
         # The next one on that ledger.
         os.remove("long.stm")
         subprocess.run([*words, "long"], stdout=subprocess.DEVNULL, check=True)
-        count, bad = removals({**given, "long.stm": read("long.stm")}, ledger)
+        given_again = {**given, "long.stm": read("long.stm")}
+        count, bad = removals(given_again, ledger)
+        shown_count, shown_bad = under_progress(given_again, ledger)
+        count += shown_count
+        bad += shown_bad
         os.chdir("/")
         asked = [(name, given if name != "audit" else {}, shared, i, processors) for name in WAYS for i in range(processors)]
         shown = Counter()

@@ -71,7 +71,7 @@ done
 avx2=$(/lib64/ld-linux-x86-64.so.2 --help 2>/dev/null | grep -c 'x86-64-v3 (supported')
 case $program in
     *-v3) echo "this processor has AVX2: the program is $program" ;;
-    *) echo "the program is $program$([ "$avx2" = 0 ] || echo "; a build for AVX2, by tools/build.py x86-64-v3, is faster here")" ;;
+    *) echo "the program is $program$([ "$avx2" = 0 ] || echo "; a build for this processor, by tools/build.py, is faster")" ;;
 esac
 
 # What goes where: a mode, a file, and its name below PREFIX.

@@ -27,7 +27,7 @@ NEVER = (
     ("open", "FileFault", "OutOfMemory NoNumber Unsealed", "IsOfOpening leaves them out"),
     ("verify", "FileFault", "NoSuffix OutputExists CannotCreate OutOfMemory NoNumber Unsealed", "IsOfVerifying leaves them out"),
     ("verify", "OpenFault", "Write", "IsOfVerifying leaves it out"),
-    ("seal pipe open verify", "UsageFault", "Missing", "the parser takes no words without these arguments"),
+    ("seal pipe open verify", "UsageFault", "Missing OutOfRange", "the parser takes no words without these arguments, and no other numbers"),
     ("pipe open verify", "UsageFault", "LanesAndWorkers", "there is no --lanes"),
     ("seal open verify", "UsageFault", "Terminal", "no container goes to standard output"),
     ("pipe", "UsageFault", "NoFiles EmptyName ListNoText CannotReadList", "there are no FILEs"),
@@ -64,7 +64,7 @@ ARM = r"\b[A-Z]\w*::([A-Z]\w*)(?: \{[^}]*\}|\([^=]*?\))? =>"
 
 def read_sources():
     """The code of the crates that the program is made of, less its comments."""
-    files = [it for it in sorted((TOP / "crates").glob("*/src/**/*.rt")) if not re.search(r"_(tests|bench|memory)/", str(it))]
+    files = [it for it in sorted((TOP / "crates").glob("*/src/**/*.rt")) if not re.search(r"crates/(\w+_(tests|memory)|bench)/", str(it))]
     return re.sub(r"^\s*//.*\n", "", "".join(it.read_text(encoding="utf-8") for it in files), flags=re.M)
 
 

@@ -14,6 +14,9 @@ command -v sqlite3 >/dev/null || missing="$missing sqlite3"
 python3 -c 'import cryptography' 2>/dev/null || missing="$missing cryptography"
 has() { case " $missing " in *" $1 "*) return 1 ;; esac; }
 
+# parts FOLDER: the outputs there that aren't whole
+parts() { find "$1" -maxdepth 1 -name '.*.part'; }
+
 # as_user COMMAND..: as a user whom modes bind, where the tests are run as root
 as_user() { if [ "$(id -u)" = 0 ]; then setpriv --reuid=65534 --regid=65534 --clear-groups "$@"; else "$@"; fi; }
 
@@ -185,12 +188,13 @@ is the-files-are-worked cmp -s files/second numbers.plain
 "$sealer" verify --key "$key" files/numbers.stm files/none 2> err >&-; status=$?; : > out
 wants closed-verify 2 '' ''
 
-# Programs that race for one output: one makes it.
+# Programs that race for one output: one makes it. The others find it there as they begin, or as they end.
 fresh
 for racer in 1 2 3 4 5 6; do "$sealer" open --key "$key" files/numbers.stm > "race.$racer" & done
 wait
-is one-wins-the-race test "$(cat race.* | sort | uniq -c | tr -s ' ' | tr '\n' ';')" = \
-    ' 5 failed files/numbers.stm: output exists; 1 opened files/numbers.stm bytes 1492;'
+is one-wins-the-race test "$(sed 's/output exists$/write failed/' race.* | sort | uniq -c | tr -s ' ' | tr '\n' ';')" = \
+    ' 5 failed files/numbers.stm: write failed; 1 opened files/numbers.stm bytes 1492;'
+is no-part-is-left test -z "$(parts files)"
 
 # Outputs in a folder, under the last name of each FILE.
 fresh
@@ -234,13 +238,26 @@ wants verify-has-no-into 2 '' "begins error: unexpected argument '--into' found"
 # Outputs on the disk: the calls, in their order, and what a failing one leaves.
 fresh
 if command -v strace >/dev/null; then
-    synced() { strace -f -y -e trace=openat,fsync,write -o calls "$@" > out 2> err; status=$?; }
+    traced() { strace -f -y -e trace=openat,fsync,write,link,linkat,rename,renameat,renameat2,unlink -o calls "$@" > out 2> err; status=$?; }
+    # made FOLDER NAME: what the last such run did for an output: a part, its bytes on the disk, its name, the part's gone, the folder, the line
+    made() {
+        sed -n "s|.*openat([^,]*, \"$1/\.[0-9a-f]\{32\}\.part\".*|created|p; s|.*fsync([0-9]*<.*/$1/\.[0-9a-f]\{32\}\.part>) *= 0|part|p
+            s|.* link(\"$1/\.[0-9a-f]\{32\}\.part\", \"$1/$2\") *= 0|named|p; s|.*unlink(\"$1/\.[0-9a-f]\{32\}\.part\") *= 0|removed|p
+            s|.*fsync([0-9]*<.*/$1>) *= 0|folder|p; s|.*write(1<.*|told|p; s|.*rename.*|renamed|p" calls | tr '\n' ' '
+    }
     mkdir files/to files/into
-    synced "$sealer" open --key "$key" --sync --into files/to files/numbers.stm
+    traced "$sealer" open --key "$key" --sync --into files/to files/numbers.stm
     wants sync-open 0 'opened files/numbers.stm bytes 1492' ''
-    is sync-comes-before-the-line test "$(sed -n 's/.*openat([^,]*, "files\/to\/numbers".*/created/p; s/.*fsync([0-9]*<.*\/files\/\([^>]*\)>) *= 0/\1/p; s/.*write(1<.*/told/p' calls | tr '\n' ' ')" = 'created to/numbers to told '
-    synced "$sealer" open --key "$key" --into files/into files/numbers.stm
+    is sync-comes-before-the-line test "$(made files/to numbers)" = 'created part named removed folder told '
+    traced "$sealer" open --key "$key" --into files/into files/numbers.stm
     is no-sync-unasked test "$(grep -c fsync calls)" = 0
+    is name-comes-at-the-end test "$(made files/into numbers)" = 'created named removed told '
+    cp numbers.plain files/a
+    traced "$sealer" seal --key "$key" --ledger files/l --device 1 --sync --into files/to files/a
+    is sync-comes-before-the-line-of-seal test "$(made files/to a.stm)" = 'created part named removed folder told '
+    traced "$sealer" seal --key "$key" --ledger files/l --device 1 --into files/into files/a
+    is name-comes-at-the-end-of-seal test "$(made files/into a.stm)" = 'created named removed told '
+    rm files/a
     for which in 1 2; do
         strace -f -e trace=fsync -e inject=fsync:error=EIO:when=$which -o calls "$sealer" open --key "$key" --sync files/numbers.stm > out 2> err
         status=$?
@@ -250,14 +267,15 @@ if command -v strace >/dev/null; then
     for lanes in 1 2; do
         cp numbers.plain files/a
         cp numbers.plain files/b
-        strace -f -P "$PWD/files/a.stm" -e trace=fsync -e inject=fsync:error=EIO -o calls "$sealer" seal --key "$key" --ledger files/new$lanes \
-            --device 1 --lanes $lanes --sync --journal files/journal$lanes files/a files/b > out 2> err
+        # the folder's is behind the file's, and no name is known before: all but the first file's output goes elsewhere
+        mkdir "files/synced$lanes"
+        strace -f -P "$PWD/files/synced$lanes" -e trace=fsync -e inject=fsync:error=EIO:when=1 -o calls "$sealer" seal --key "$key" \
+            --ledger files/new$lanes --into "files/synced$lanes" --device 1 --lanes $lanes --sync --journal files/journal$lanes files/a files/b > out 2> err
         status=$?
         wants "sync-fails-of-seal by $lanes" 1 'failed files/a: write failed
 sealed files/b file 1 bytes 1492' ''
         is "what-isn't-on-the-disk-is-void by $lanes" test "$(grep -c ' void 0$' files/journal$lanes) $(grep -c ' sealed 1$' files/journal$lanes)" = '1 1'
-        is "no-container-is-left by $lanes" no test -e files/a.stm
-        rm files/b.stm
+        is "no-container-is-left by $lanes" test "$(ls -A "files/synced$lanes")" = b.stm
     done
     # How many threads are started: a group has a lane for each of its files that are worth one, the caller's thread among them.
     fresh
@@ -296,16 +314,56 @@ wants verify-has-no-sync 2 '' "begins error: unexpected argument '--sync' found"
 fresh
 mkfifo files/waits
 other_comes() {
-    for _ in $(seq 200); do [ ! -e files/waits.stm ] || break; sleep 0.05; done
-    rm files/waits.stm
+    for _ in $(seq 200); do [ -z "$(parts files)" ] || break; sleep 0.05; done
+    part=$(parts files)
+    rm "$part"
+    echo theirs > "$part"
     echo theirs > files/waits.stm
     head -c 100 /dev/zero
 }
-export -f other_comes
+export -f other_comes parts
 timeout 60 bash -c 'other_comes > files/waits' & run seal --key "$key" --ledger files/ledger --device 1 --max-bytes 50 files/waits
 wait
 wants another-has-its-name 1 'failed files/waits: too long' ''
-is what-another-made-stays test "$(cat files/waits.stm)" = theirs
+is what-another-made-stays test "$(cat files/waits.stm $(parts files) | tr '\n' ' ')" = 'theirs theirs '
+
+# A file that gets an output's name before the output is whole stays, and the output gets no name.
+fresh
+mkfifo files/late
+name_is_taken() {
+    for _ in $(seq 200); do [ -z "$(parts files)" ] || break; sleep 0.05; done
+    echo theirs > files/late.stm
+    head -c 100 /dev/zero
+}
+export -f name_is_taken parts
+timeout 60 bash -c 'name_is_taken > files/late' & run seal --key "$key" --ledger files/ledger --device 1 files/late
+wait
+wants name-is-taken 1 'failed files/late: write failed' ''
+is the-name-stays-anothers test "$(cat files/late.stm) $(parts files)" = 'theirs '
+
+# A folder from which no name can be removed, found out at once, or as an output is whole: it is named, and a part's name stays.
+fresh
+mkdir files/to
+if command -v strace >/dev/null; then
+    cp numbers.plain files/a
+    for n in 1 2; do
+        # the first removal is that of the second name that is tried
+        strace -f -o calls -e trace=unlink -e inject=unlink:error=EPERM:when=$n+ "$sealer" seal --key "$key" --ledger files/ledger --device $n --into files/to files/a \
+            > out 2> err
+        status=$?
+        wants "name-that-stays $n" 0 'sealed files/a file 0 bytes 1492' ''
+        run verify --key "$key" files/to/a.stm
+        wants "name-that-stays-verify $n" 0 'good files/to/a.stm bytes 1492' ''
+        is "parts-that-stay $n" test "$(parts files/to | wc -l)" = $((3 - n))
+        rm -r files/to
+        mkdir files/to
+    done
+    # Without hard links an output has its name from the beginning, and nothing else is left.
+    strace -f -o calls -e trace=link -e inject=link:error=EPERM "$sealer" seal --key "$key" --ledger files/ledger --device 3 --into files/to files/a > out 2> err
+    status=$?
+    wants no-links 0 'sealed files/a file 0 bytes 1492' ''
+    is no-links-no-part test "$(ls -A files/to)" = a.stm
+fi
 
 # How far a run is: one line on standard error, which is gone at the end. What stands in the pipe comes slowly, and has no size.
 fresh
@@ -749,15 +807,22 @@ cp life/more life/text
 run seal --key "$key" --ledger life/text --device 1 --journal life/empty.journal life/waits
 wants ledger-no-database 2 '' 'ledger: cannot open'
 is the-created-journal-stays-empty test -e life/empty.journal -a ! -s life/empty.journal
-# What fails: there is no ledger, or its log alone. Nothing is made.
+# What fails: there is no ledger, or its log alone. Nothing is made but the journal, which comes before the look.
+begun() { # NAME: the run created its journal, and wrote nothing there
+    is "$1" test -e life/never.journal -a ! -s life/never.journal
+}
 run seal --key "$key" --ledger life/never --no-new-ledger --device 1 --journal life/never.journal life/waits
 wants ledger-not-there 2 '' 'ledger: not there'
 is no-ledger-was-made no test -e life/never
+begun the-journal-was-created
+run seal --key "$key" --ledger life/never --no-new-ledger --device 1 --journal life/never.journal life/waits
+wants the-journal-comes-before-the-ledger 2 '' 'journal: output exists'
+rm life/never.journal
 : > life/never
 run seal --key "$key" --ledger life/never --no-new-ledger --device 1 --journal life/never.journal life/waits
 wants ledger-empty-is-none 2 '' 'ledger: not there'
 is the-empty-ledger-stays no test -s life/never
-is no-journal-was-made no test -e life/never.journal
+rm life/never.journal
 run seal --key "$key" --ledger life/no/ledger --no-new-ledger --device 1 life/waits
 wants ledger-not-there-without-a-folder 2 '' 'ledger: not there'
 run seal --key "$key" --ledger life/more/ledger --no-new-ledger --device 1 life/waits
@@ -771,7 +836,8 @@ for bytes in none 0 1; do
     wants "log-of-no-ledger $bytes" 2 '' 'ledger: cannot open'
     is "the-log-stays $bytes" cmp -s life/lost-wal life/kept-wal
     is "the-ledger-stays $bytes" test "$([ -e life/lost ] && wc -c < life/lost || echo none)" = $bytes
-    is "no-journal-beside-a-log $bytes" no test -e life/never.journal
+    begun "the-journal-beside-a-log $bytes"
+    rm life/never.journal
 done
 mkdir life/links
 ln -s ../lost life/links/lost
@@ -953,6 +1019,9 @@ is held-by-a-link test "$status $(wc -l < out)" = '0 3'
 printf x > life/held/l-journal
 holds life/held/l
 wants held-with-a-journal 2 '' 'ledger: cannot open'
+head -c 512 /dev/zero > life/held/l-journal
+holds life/held/l
+is held-with-a-journal-of-zeros test "$status" = 0
 : > life/held/l-journal
 holds life/held/l
 is held-with-an-empty-journal test "$status" = 0
@@ -1154,7 +1223,7 @@ wants lanes-again 1 'failed life/lanes/1: output exists
 failed life/lanes/2.plain: too long
 sealed life/lanes/1.plain file 10 bytes 3893' ''
 is lanes-no-output no test -e life/lanes/2.plain.stm
-# A FILE that is the output of another: one lane seals the finished container, two find it empty.
+# A FILE that is the output of another: one lane seals the finished container, two don't find it.
 cp life/numbers life/lanes/a
 cp life/numbers life/lanes/b
 by_lanes 1 life/lanes/a life/lanes/a.stm
@@ -1163,11 +1232,10 @@ wants one-lane-of-an-output 0 'sealed life/lanes/a bytes 1492
 sealed life/lanes/a.stm bytes 1532' ''
 by_lanes 2 life/lanes/b life/lanes/b.stm
 unnumbered
-wants lanes-of-an-output 0 'sealed life/lanes/b bytes 1492
-sealed life/lanes/b.stm bytes 0' ''
-run verify --key "$key" life/lanes/b.stm life/lanes/b.stm.stm
-wants lanes-verify-an-output 0 'good life/lanes/b.stm bytes 1492
-good life/lanes/b.stm.stm bytes 0' ''
+wants lanes-of-an-output 1 'sealed life/lanes/b bytes 1492
+failed life/lanes/b.stm: cannot open' ''
+run verify --key "$key" life/lanes/b.stm
+wants lanes-verify-an-output 0 'good life/lanes/b.stm bytes 1492' ''
 # What fails in a group: inputs, outputs, standard output.
 by_lanes 3 --max-bytes 1491 life/folder life/mem life/zero life/numbers.plain /proc/version
 wants lanes-faults 1 'failed life/folder: cannot open
@@ -1325,7 +1393,7 @@ mkfifo life/pipe
 exec 8<> life/pipe
 "$sealer" seal --key "$key" --ledger life/busy --device 1 life/pipe > first 2> first.err &
 first=$!
-for _ in $(seq 200); do [ -e life/pipe.stm ] && break; sleep 0.05; done
+for _ in $(seq 200); do [ -n "$(parts life)" ] && break; sleep 0.05; done
 cp life/numbers life/second
 run seal --key "$key" --ledger life/busy --device 1 life/second
 wants busy 2 '' 'ledger: cannot open'
@@ -1337,8 +1405,66 @@ is killed-said-nothing test ! -s first
 run seal --key "$key" --ledger life/busy --device 1 life/second
 wants behind-the-killed 0 'sealed life/second file 1 bytes 1492' ''
 run verify --key "$key" life/pipe.stm life/second.stm
-wants killed-output 1 'failed life/pipe.stm: header cut short
+wants killed-output 1 'failed life/pipe.stm: cannot open
 good life/second.stm bytes 1492' ''
+is killed-left-a-part test "$(parts life | wc -l)" = 1
+rm "$(parts life)"
+
+# A run's own files are no FILEs, by whatever name, and no number is issued for them.
+fresh
+mkdir files/own
+cp "$key" files/own/key
+run seal --key files/own/key --ledger files/own/ledger --device 1 files/numbers.stm
+ln -s own/ledger files/link
+ln files/own/key files/same-key
+: > files/own/ledger-journal
+: > files/own/ledger-shm
+cp numbers.plain files/a
+own=(files/own/ledger files/own/ledger-wal files/own/ledger-journal files/own/ledger-shm files/own/key files/own/journal files/link
+    "$PWD/files/own/../own/ledger" files/same-key)
+refused() { printf 'failed %s: cannot open\n' "${own[@]}"; }
+first=1
+for options in '--lanes 1' '--lanes 2' '--workers 2' '--lanes 1 --progress=always'; do
+    # shellcheck disable=SC2086
+    run seal --key files/own/key --ledger files/own/ledger --device 1 --journal files/own/journal $options "${own[@]}" files/a
+    wants "own-files $options" 1 "$(refused)
+sealed files/a file $first bytes 1492" 'begins '
+    is "own-files-no-number $options" test "$(grep -c ' issue ' files/own/journal)" = 1
+    is "own-files-no-container $options" test "$(find files -name '*.stm' | sort | tr '\n' ' ')" = 'files/a.stm files/numbers.stm files/numbers.stm.stm '
+    first=$((first + 10))
+    rm files/a.stm files/own/journal
+done
+for name in own/ledger own/ledger-wal own/ledger-journal own/ledger-shm own/key link same-key; do
+    run pipe --key files/own/key --ledger files/own/ledger --device 1 < "files/$name"
+    # the header comes before the first read
+    wants "own-files-pipe $name" 1 'begins STRMSEAL' 'failed -: read failed'
+done
+run pipe --key files/own/key --ledger files/own/ledger --device 1 < files/a
+is own-files-pipe-another test "$status $(wc -c < out)" = '0 1532'
+
+# A tree with its ledger in it: sealed, lost, opened and sealed again. No container has a ledger.
+fresh
+mkdir files/home files/vault
+cp numbers.plain files/home/a
+seal_tree() {
+    find files/home -type f | sort > names
+    run seal --key "$key" --ledger files/home/ledger --device "$1" --into files/vault --files-from names
+}
+for device in 1 2; do
+    # this run makes the ledger, and the next one finds it in the tree
+    seal_tree $device
+    wants "tree $device" 0 'sealed files/home/a file 0 bytes 1492' ''
+    rm files/vault/*
+    seal_tree $device
+    wants "tree-with-its-ledger $device" 1 'sealed files/home/a file 1 bytes 1492
+failed files/home/ledger: cannot open
+failed files/home/ledger-wal: cannot open' ''
+    rm -r files/home
+    mkdir files/home
+    run open --key "$key" --into files/home files/vault/*
+    is "tree-without-its-ledger $device" test "$status $(ls -A files/home)" = '0 a'
+    rm files/vault/*
+done
 
 # Two runs at once on one ledger that isn't there yet: no number is given twice, and one that is refused says so.
 for i in 1 2 3 4 5 6 7 8 9 10; do
@@ -1412,12 +1538,13 @@ for window in 1 16 none; do
     head -c 196609 /dev/zero >&8
     written=0
     [ "$window" = 1 ] && written=$((24 + 2 * 65552))
-    for _ in $(seq 200); do [ "$(stat -c %s "$pipe.stm" 2>/dev/null)" = "$written" ] && break; sleep 0.05; done
+    for _ in $(seq 200); do [ "$(stat -c %s "$(parts life/windows)" 2>/dev/null)" = "$written" ] && break; sleep 0.05; done
     sleep 0.5
-    is "window-$window-held" test "$(stat -c %s "$pipe.stm")" = "$written"
+    is "window-$window-held" test "$(stat -c %s "$(parts life/windows)")" = "$written"
     kill -9 "$held"
     wait "$held" 2>/dev/null
     exec 8>&-
+    rm "$(parts life/windows)"
 done
 
 # A file of 4 GiB (with no block on the disk) is sealed and verified in 256 MiB of addresses, where there is room for its container: on
@@ -1441,6 +1568,21 @@ if [ -n "$large" ]; then
 else
     echo 'left out: a file of 4 GiB, since neither the folder of temporary files nor free memory has room for its container'
     [ -z "${CI:-}" ] || bad=1
+fi
+
+# A file of 1 GiB is opened, whose plaintext is in memory until all of it was checked.
+if [ "${free:-0}" -gt 4000000 ] && [ "$(df --output=avail -B 1M . | tail -n 1)" -gt 3000 ]; then
+    fresh
+    truncate -s 1G files/zeros
+    run seal --key "$key" --ledger files/ledger --device 1 --max-bytes 1073741824 files/zeros
+    wants gigabyte 0 'sealed files/zeros file 0 bytes 1073741824' ''
+    mv files/zeros zeros.plain
+    run open --key "$key" --max-bytes 1073741824 files/zeros.stm
+    wants gigabyte-opened 0 'opened files/zeros.stm bytes 1073741824' ''
+    is plaintext-of-a-gigabyte cmp -s files/zeros zeros.plain
+    rm -f files/zeros files/zeros.stm zeros.plain
+else
+    echo 'left out: the opening of a file of 1 GiB, since there are no 4 GB of free memory, or no 3 GB of room'
 fi
 
 # Files of more than 64 MiB by two lanes: each is a job of its own, whole in memory.

@@ -38,7 +38,8 @@ TEXTS = re.compile(
     r"usage: (an argument is no text|out of memory|cannot read the list)|error: out of memory|key: cannot open|journal: (cannot create|out of memory)"
     r"|ledger: (cannot open|store failed|out of memory)|audit: out of memory"
 )
-FAULT = re.compile(r"failed (\S+): (out of memory|cannot open|cannot create)")
+# Where memory is refused as a stream's own files are looked up, its input isn't read.
+FAULT = re.compile(r"failed (\S+): (out of memory|cannot open|cannot create)|failed -: read failed")
 DONE = re.compile(r"sealed (\S+) file ([0-9]+) bytes ([0-9]+)|(?:opened|good) (\S+) bytes ([0-9]+)|legal: .*|key [0-9a-f]{14} device .*")
 # What some run has to say.
 WANTED = (

@@ -12,7 +12,8 @@ Then it is killed as it makes a ledger, at each of its calls on files: the next 
 output, and of the ledger's two files the log is deleted, cut at 20 lengths, has one bit flipped at 50 places, or is another ledger's, without
 pages and with them: the next run gives a number that no run had, or ends with `ledger: cannot open` and leaves the file as it was; the latter where the
 file is lost or emptied. So it does where the file itself is cut at each page and about its ends, has a page of zeros, or one behind it, with its
-log and without.
+log and without. And of a ledger with two keys and two devices, the log of a killed run is put back after two more runs of its key and device:
+the next run gives a number that none of them had, or is refused.
 
 Prints 'N stops as they should be', or what differs. Needs strace, and Python's package `cryptography`; where one isn't there it says so and ends
 well, and under CI it fails.
@@ -51,7 +52,7 @@ TEXTS = re.compile(
 )
 LINES = re.compile(r"sealed \S+ file [0-9]+ bytes [0-9]+|failed \S+: (cannot open|cannot create|read failed|write failed|out of memory)")
 # The calls that are made to fail, and how.
-ON_FILES = "openat read pread64 write pwrite64 fsync fdatasync ftruncate statx newfstatat close fadvise64 readlink getcwd fchmod fchown fcntl ioctl".split()
+ON_FILES = "openat read pread64 write pwrite64 fsync fdatasync ftruncate statx newfstatat close fadvise64 readlink getcwd fchmod fchown fcntl ioctl link unlink".split()
 ON_MEMORY = ["mmap", "mremap", "munmap", "mprotect", "madvise", "clone3"]
 # The program is killed at these too, and that is all: they are the loader's and the threads', and neither on files nor on memory.
 OTHERS = "execve access arch_prctl set_tid_address set_robust_list rseq prlimit64 getrandom futex rt_sigaction rt_sigprocmask exit exit_group".split()
@@ -98,16 +99,20 @@ def ran(way, strace, **more):
 
 def clear():
     for name in os.listdir("."):
-        if name.endswith(".stm") or name == "journal":
+        if name.endswith((".stm", ".part")) or name == "journal":
             os.remove(name)
 
 
 def take(what):
-    """The outputs that lie there, whole or in part, have prefixes that no container had."""
+    """The outputs that lie there, whole or in part, have prefixes that no container had. One file can have two names."""
+    seen = set()
     for name in sorted(os.listdir(".")):
-        if name.endswith(".stm"):
+        if name.endswith((".stm", ".part")):
             with open(name, "rb") as file:
-                begin = file.read(17)
+                begin, number = file.read(17), os.fstat(file.fileno()).st_ino
+            if number in seen:
+                continue
+            seen.add(number)
             if len(begin) == 17:
                 if begin[10:] in given:
                     differs(f"{what}: {name} has the number of {given[begin[10:]]}")
@@ -176,6 +181,15 @@ def stopped(way, call, n, how):
                 audit = subprocess.run([sealer, "audit"], stdin=journal, capture_output=True, text=True, timeout=60)
             if audit.returncode != 0 or ", 0 open, " not in audit.stdout:
                 differs(f"{what}: the journal is {audit.stdout.strip()}")
+        for name in os.listdir(".") if way in WAYS else ():
+            if name.endswith(".part"):
+                differs(f"{what}: {name} is left")
+    elif way in WAYS:
+        for name in ("a.stm", "b.stm"):
+            if os.path.exists(name):
+                check = subprocess.run([sealer, "verify", "--key", key, name], capture_output=True, text=True, timeout=60)
+                if check.returncode != 0:
+                    differs(f"{what}: {name} is there: {check.stdout.strip()}")
     take(what)
     after = subprocess.run(command("one lane", ["c"]), capture_output=True, text=True, timeout=60)
     if after.returncode != 0 or not after.stdout.startswith("sealed c file "):
@@ -273,7 +287,7 @@ def altered_ledgers():
         if lost:
             os.remove("ledger")
         run = subprocess.run(command("one lane", ["c"]), capture_output=True, text=True, timeout=60)
-        if (run.returncode, run.stderr) != (2, "ledger: cannot open\n") or os.path.exists("journal"):
+        if (run.returncode, run.stderr) != (2, "ledger: cannot open\n") or not os.path.exists("journal") or os.path.getsize("journal"):
             differs(f"{what}: status {run.returncode}, {run.stdout}{run.stderr}")
         clear()
     for what, bytes_of_log in logs:
@@ -305,6 +319,59 @@ def altered_ledgers():
             elif run.returncode != 2 or run.stderr not in ("ledger: cannot open\n", "ledger: not a ledger\n") or left != bytes_of_file:
                 differs(f"the ledger {what}, with {which}: status {run.returncode}, {run.stderr}")
             clear()
+    logs_put_back()
+
+
+def seals_c(key_file, device):
+    """A run of one file under a key and device. The answer is its number, or what it said where it was refused."""
+    run = subprocess.run(seal_c(key_file, device), capture_output=True, text=True, timeout=60)
+    answer = number_in("c.stm") if run.returncode == 0 else f"status {run.returncode}, {run.stderr}"
+    clear()
+    return answer
+
+
+def seal_c(key_file, device):
+    return [sealer, "seal", "--key", key_file, "--ledger", "ledger", "--device", device, "c"]
+
+
+def logs_put_back():
+    """Of a ledger with two keys and two devices, the log of a killed run is put back after two more of its key and device.
+
+    The next run is refused, or gives a number that none had; of each key and device some log would take numbers back."""
+    global stops
+    with open("another key", "w", encoding="ascii") as file:
+        file.write(KEY[::-1].hex())
+    for name in ("ledger", "ledger-wal"):
+        if os.path.exists(name):
+            os.remove(name)
+    owners = [(key_file, device) for key_file in (key, "another key") for device in ("1", "2")]
+    for owner in owners:
+        seals_c(*owner)
+    before = files_of_ledger()
+    for owner in owners:
+        refused = 0
+        for n in range(1, 30):
+            put(*before)
+            words = ["strace", "-o", "/dev/null", "-e", "trace=fdatasync", "-e", f"inject=fdatasync:signal=KILL:when={n}"]
+            killed = subprocess.run([*words, *seal_c(*owner)], capture_output=True).returncode
+            clear()
+            log = files_of_ledger()[1]
+            if killed == 0:
+                break
+            if len(log) <= 56:
+                continue
+            stops += 1
+            seals_c(*owner)
+            last = seals_c(*owner)
+            ledger = files_of_ledger()[0]
+            put(ledger, log)
+            answer = seals_c(*owner)
+            if answer == "status 2, ledger: cannot open\n" and files_of_ledger()[0] == ledger:
+                refused += 1
+            elif not isinstance(answer, int) or answer <= last:
+                differs(f"device {owner[1]} of {owner[0]}, the log put back ({n}): {answer} after {last}")
+        if not refused:
+            differs(f"device {owner[1]} of {owner[0]}: no log takes numbers back")
 
 
 def first_runs():
@@ -318,7 +385,7 @@ def first_runs():
                     os.remove(name)
             words = ["strace", "-f", "-qq", "-o", "/dev/null", "-e", f"trace={call}", "-e", f"inject={call}:signal=KILL:when={n}"]
             run = subprocess.run([*words, *command("one lane", ["b"])], capture_output=True)
-            used = os.path.exists("b.stm") and os.path.getsize("b.stm") >= 17
+            used = any(name.endswith((".stm", ".part")) and os.path.getsize(name) >= 17 for name in os.listdir("."))
             clear()
             if run.returncode == 0:
                 break
