@@ -1,11 +1,12 @@
 #!/usr/bin/env python3
-"""check_manual.py [PROGRAM]: holds `--help` of the built program, man/sealer.1 and docs/MANUAL.md against one another.
+"""check_manual.py [PROGRAM]: compares `--help` of the built program, man/sealer.1 and docs/MANUAL.md with one another.
 
 Compared of each command: that all three have it, its options with the word for their value, which of them are required,
-the ranges and the defaults that --help gives; of the two documents the synopsis too, which is held against the options.
+the ranges and the defaults that --help gives; of the two documents the synopsis too, which is compared with the options.
 The texts of faults, and the lines of files, journals and ledgers, are those that the program can print by its sources
-(printed_texts.py): none else, and all of them, of each command in the manual's tables, and in its section on faults and the page.
-README.md is short, and no link between the documents leads nowhere. Prints what differs, with status 1, or how much was compared.
+(printed_texts.py): none else, and all of them. The manual has each of them once, with just the commands that print it.
+README.md and the manual are short, and no link between the documents leads nowhere. Prints what differs, with status 1, or how
+much was compared.
 """
 import re
 import subprocess
@@ -17,28 +18,25 @@ import printed_texts
 
 TOP = Path(__file__).resolve().parent.parent
 PROGRAM = TOP / "crates/sealer/out/sealer"
-# What --help has in every command; the documents tell of it once.
+# What --help has in every command; the documents say it once.
 HELP = "help"
-# The commands that a section of the manual tells of.
-SECTIONS = {
-    "Sealing": ["seal"],
-    "Sealing a stream": ["pipe"],
-    "Opening and verifying": ["open", "verify"],
-    "Auditing": ["audit"],
-    "What a ledger holds": ["ledger"],
+# The manual's tables, by the word that begins their heading.
+OPTIONS, LINES, TEXTS = "option", "line", "text"
+# The heading of the column of commands, and the word for all of them there.
+COMMANDS, ALL = "commands", "all"
+# How many lines a document may have.
+LONGEST = {"README.md": 110, "docs/MANUAL.md": 420}
+# The columns of README.md at most.
+WIDEST = 140
+# What isn't of the sources: the parser's texts, and the loader's.
+OF_NO_SOURCE = {
+    "error: out of memory",
+    "error: ..",
+    "this machine lacks a feature of x86-64-v2",
+    "this machine lacks a feature of x86-64-v3",
 }
-# What isn't of the sources: the parser's text where memory is refused; its others and the loader's, which only the section on faults has.
+# Those that the page has too.
 OF_PARSER = "error: out of memory"
-IN_SECTION_ALONE = {"error: ..", "this machine lacks a feature of x86-64-v2", "this machine lacks a feature of x86-64-v3"}
-# The headings of the tables of texts, and which texts these are.
-HEADINGS = {
-    "FAULT": "failed",
-    "on standard error": "errors",
-    "text, on standard error": "errors",
-    "line on standard output": "lines",
-    "line on standard error": "lines",
-    "it prints on standard output": "lines",
-}
 
 
 class Option:
@@ -123,24 +121,41 @@ def rows_below(text):
             yield [it.strip() for it in line.strip("|").split("|")]
 
 
+def tables_of(text):
+    """The tables of a text of Markdown: the cells of the heading, and those of the rows."""
+    for table in re.findall(r"(?:^\|.*\n)+", text, re.M):
+        heading, _, *rows = rows_below(table)
+        yield heading, rows
+
+
+def named(cell):
+    """The words that a cell has in backticks."""
+    return re.findall(r"`([^`]*)`", cell)
+
+
 def from_manual(text):
-    """The commands of docs/MANUAL.md, and of each its synopsis."""
-    sections = sections_of(text)
+    """The commands of docs/MANUAL.md, and of each its synopsis. A table of options names its commands in a column, or in its heading."""
     commands, lines = {}, {}
-    for section in SECTIONS:
-        body = sections[section]
-        block = re.search(r"```text\n(.*?)```", body, re.S).group(1)
+    for block in re.findall(r"^```text\n(.*?)^```", text, re.M | re.S):
         for name, words in re.findall(r"^sealer (\w+)((?:.|\n )*)", block, re.M):
-            lines[name] = synopsis(words)
-            commands[name] = {}
-            for cells in rows_below(body):
-                option = re.match(r"`--([\w-]+)(?:(?: |\[=)([A-Z]+)\]?)?`$", cells[0])
-                if not option:
-                    continue
-                only = re.match(r"`(\w+)`: ", cells[1])
+            lines[name], commands[name] = synopsis(words), {}
+    for heading, rows in tables_of(text):
+        if heading[0].split(" ")[0] != OPTIONS:
+            continue
+        for cells in rows:
+            names = named(heading[0])
+            if heading[1] == COMMANDS:
+                names = named(cells.pop(1))
+            option = re.match(r"`--([\w-]+)(?:(?: |\[=)([A-Z]+)\]?)?`$", cells[0])
+            if not option or not names:
+                sys.exit(f"docs/MANUAL.md: which option of which command is {cells[0]}?")
+            only = re.match(r"`(\w+)`: ", cells[1])
+            default = re.match(r"[\d,]+$", cells[2])
+            for name in names:
                 if only and only.group(1) != name:
                     continue
-                default = re.match(r"[\d,]+$", cells[2])
+                if option.group(1) in commands.setdefault(name, {}):
+                    sys.exit(f"docs/MANUAL.md: {name} --{option.group(1)}: more than once")
                 commands[name][option.group(1)] = Option(
                     option.group(2),
                     cells[2] == "it is required",
@@ -182,40 +197,23 @@ def from_page(text):
     return commands, lines
 
 
-def sections_of(text):
-    """The sections of the manual, by their headings."""
-    return dict(re.findall(r"^## (.*?)\n(.*?)(?=^## |\Z)", text, re.M | re.S))
-
-
-def tables_of(body):
-    """The tables of a text of Markdown: the cells of the heading, and those of the rows."""
-    for table in re.findall(r"(?:^\|.*\n)+", body, re.M):
-        heading, _, *rows = rows_below(table)
-        yield heading, rows
-
-
-def texts_of(rows):
-    """The texts in the first cells."""
-    return [text for cells in rows for text in re.findall(r"`([^`]*)`", cells[0])]
-
-
 def shape(line):
     """A line with X for what varies."""
     return re.sub(r'"X"', "X", re.sub(r"\b[A-Z]+\b", "X", line)).strip()
 
 
-def differences(where, told, printed, needed=None):
-    """What a document tells and nobody prints; and what is printed, or of that what is needed, and it doesn't tell."""
+def differences(where, told, printed):
+    """What a document has and nobody prints; what is printed, and it doesn't have; and what it has more than once."""
     for it in sorted(set(told) - set(printed)):
         yield f"'{it}': in {where}, and it can't be printed there"
-    for it in sorted(set(printed if needed is None else needed) - set(told)):
+    for it in sorted(set(printed) - set(told)):
         yield f"'{it}': it can be printed, and isn't in {where}"
     for it in sorted({it for it in told if told.count(it) > 1}):
         yield f"'{it}': more than once in {where}"
 
 
 def commands_by_text():
-    """The texts behind `failed NAME: `, each with the commands that print it."""
+    """The texts after `failed NAME: `, each with the commands that print it."""
     commands = {}
     for command in printed_texts.FAULTS:
         for it in printed_texts.faults(command)[0]:
@@ -223,50 +221,48 @@ def commands_by_text():
     return commands
 
 
-def all_errors():
-    """The texts on standard error that stand alone, of all commands."""
-    return {OF_PARSER}.union(*(printed_texts.faults(command)[1] for command in printed_texts.FAULTS))
+def errors_by_text():
+    """The texts on standard error but for `failed -: `, each with the commands that print it."""
+    commands = {it: set(printed_texts.FAULTS) for it in OF_NO_SOURCE}
+    for command in printed_texts.FAULTS:
+        for it in printed_texts.faults(command)[1]:
+            commands.setdefault(it, set()).add(command)
+    return commands
 
 
-def wrong_tables(sections):
-    """What is wrong with the texts in the tables of the manual's sections, but for that on faults."""
-    everywhere, shared = printed_texts.everywhere(), []
-    for section, body in sections.items():
-        told = {kind: [] for kind in HEADINGS.values()}
-        for heading, rows in tables_of(body):
-            if heading[0] in HEADINGS:
-                told[HEADINGS[heading[0]]] += texts_of(rows)
-        failed, errors, lines, needed = set(), set(), set(), set()
-        for command in SECTIONS.get(section, []):
-            failed |= printed_texts.faults(command)[0]
-            errors |= printed_texts.faults(command)[1]
-            lines |= set(printed_texts.lines(command))
-            needed = errors - everywhere
-        if section not in SECTIONS:
-            errors = all_errors()
-            shared += told["errors"]
-        where = f"the manual's section '{section}'"
-        yield from differences(where, told["failed"], failed)
-        yield from differences(where, told["errors"], errors, needed)
-        yield from differences(where, [shape(it) for it in told["lines"]], lines)
-    yield from differences("the manual's sections on all commands", shared, all_errors(), everywhere | {OF_PARSER})
+def lines_by_text():
+    """The lines, with X for what varies, each with the commands that print it."""
+    commands = {}
+    for command in printed_texts.LINES:
+        for it in printed_texts.lines(command):
+            commands.setdefault(it, set()).add(command)
+    return commands
 
 
-def wrong_section(body):
-    """What is wrong with the manual's section on faults."""
-    where, printed_by, told = "the manual's section on faults", commands_by_text(), []
-    for heading, rows in tables_of(body):
-        if heading[1] != "command":
-            told += texts_of(rows)
-            continue
-        yield from differences(where, texts_of(rows), printed_by)
-        everyone = set().union(*printed_by.values())
+def wrong_tables(manual):
+    """What is wrong with the texts and the lines in the tables of the manual: each is there once, with just its commands."""
+    printed = {TEXTS: {**commands_by_text(), **errors_by_text()}, LINES: lines_by_text()}
+    told = {kind: [] for kind in printed}
+    for heading, rows in tables_of(manual):
         for cells in rows:
-            named = everyone if cells[1] == "all" else set(re.findall(r"`(\w+)`", cells[1]))
-            for it in texts_of([cells]):
-                if named != printed_by.get(it, named):
-                    yield f"'{it}': {where} has it of {', '.join(sorted(named))}, and it is of {', '.join(sorted(printed_by[it]))}"
-    yield from differences(where, told, all_errors() | IN_SECTION_ALONE)
+            if heading[0] not in printed:
+                for it in set(named(cells[0])) & printed[TEXTS].keys():
+                    yield f"'{it}': in a table of the manual that isn't one of texts"
+                continue
+            if heading[1] != COMMANDS:
+                yield f"'{cells[0]}': a table of the manual has no column '{COMMANDS}'"
+                continue
+            texts = [shape(it) if heading[0] == LINES else it for it in named(cells[0])]
+            told[heading[0]] += texts
+            commands = set(printed_texts.FAULTS) if cells[1] == ALL else set(named(cells[1]))
+            for it in texts:
+                if it in printed[heading[0]] and commands != printed[heading[0]][it]:
+                    theirs = printed[heading[0]][it]
+                    yield f"'{it}': the manual has it of {', '.join(sorted(commands))}, and it is of {', '.join(sorted(theirs))}"
+            if not texts:
+                yield f"'{cells[0]}': a row of the manual without a text"
+    for kind, texts in told.items():
+        yield from differences(f"the manual's tables of a '{kind}'", texts, printed[kind])
 
 
 def items(text):
@@ -280,7 +276,7 @@ def wrong_page(page):
     part = dict(re.findall(r"^\.Sh (.*?)\n(.*?)(?=^\.Sh |\Z)", page, re.M | re.S))
     failed, errors = part["DIAGNOSTICS"].split("\n.El\n", 1)
     yield from differences("DIAGNOSTICS of man/sealer.1", items(failed), commands_by_text())
-    yield from differences("DIAGNOSTICS of man/sealer.1", items(errors), all_errors())
+    yield from differences("DIAGNOSTICS of man/sealer.1", items(errors), errors_by_text().keys() - OF_NO_SOURCE | {OF_PARSER})
     # its lines of a stream are those of a FILE that is '-'
     lines = {it for command in printed_texts.LINES if command != "pipe" for it in printed_texts.lines(command)}
     yield from differences("OUTPUT of man/sealer.1", [shape(it) for it in items(part["OUTPUT"])], lines)
@@ -332,15 +328,17 @@ def main():
         for word in words:
             if not re.search(rf"(?<![\w-]){re.escape(word)}\b", told):
                 wrong.append(f"{word}: not in {where}")
-    sections = sections_of(manual)
-    wrong += [*printed_texts.unlisted(), *wrong_tables(sections), *wrong_section(sections["What to do at a fault"]), *wrong_page(page)]
-    texts = commands_by_text().keys() | all_errors()
+    wrong += [*printed_texts.unlisted(), *wrong_tables(manual), *wrong_page(page)]
+    texts = commands_by_text().keys() | errors_by_text().keys()
     if compared < 30 or len(texts) < 30:
         wrong.append(f"only {compared} options and {len(texts)} texts were found")
     wrong += broken_links()
-    lines = (TOP / "README.md").read_text(encoding="utf-8").splitlines()
-    if len(lines) > 120 or max(map(len, lines)) > 140:
-        wrong.append(f"README.md has {len(lines)} lines, the longest of {max(map(len, lines))} columns: 120 and 140 are the limits")
+    for name, most in LONGEST.items():
+        lines = (TOP / name).read_text(encoding="utf-8").splitlines()
+        if len(lines) > most:
+            wrong.append(f"{name} has {len(lines)} lines, and {most} are the limit")
+        if name == "README.md" and max(map(len, lines)) > WIDEST:
+            wrong.append(f"{name} has a line of {max(map(len, lines))} columns, and {WIDEST} are the limit")
     for line in wrong:
         print(line)
     if not wrong:
