@@ -7,10 +7,12 @@
 pub mod arguments;
 pub mod fault;
 pub mod given;
+pub mod laws;
 pub mod names;
 mod options;
 pub mod requests;
 pub mod version;
+pub mod words;
 
 pub use crate::arguments::command;
 pub use crate::fault::UsageFault;
@@ -23,3 +25,4 @@ pub use crate::requests::{
     seal_request, showing_asked,
 };
 pub use crate::version::VERSION;
+pub use crate::words::{asks_for_processors, write_out};

@@ -1,0 +1,176 @@
+//! The words of the command line as the parser takes them: a value such as `20G`, `max` or `auto` is written out in
+//! digits. All other words stay, so that the parser alone says which are at fault, and how.
+ghost use Rattle.std.specs.Prelude.{◌≡◌, ◌<◌, ◌≤◌, ◌^◌, ◌==◌, OnOk, IfOk, IfSome, map, option_map, unwrap_or, string_bytes};
+ghost use Rattle.std.specs.List.{before_first, list_any};
+ghost use Rattle.command_line.specs.Words.{asks, inline_number, most_bytes, scaled, stands_for, takes_of, unit_of, word_read};
+ghost use Rattle.command_line.specs.Words.{written_out};
+
+use container_core::{MAX_OPENED, MAX_PLAIN};
+use gate_core::MAX_WORKERS;
+use std::alloc::{AllocError, Global};
+
+/// What the value of an option may be besides a number.
+#[derive(Clone, Copy)]
+pub enum Takes {
+    /// A number with a letter, and `max` for this greatest one.
+    Limit(u64),
+    /// `auto`.
+    Processors,
+    /// Nothing.
+    Numbers,
+}
+
+/// Writes out in digits what stands for a number: of `--max-bytes` and `--max-chunks` a number with K, M, G or T behind
+/// it, for powers of 1,024, and `max`, of `--workers` and `--lanes` `auto`, for as many as there are processors.
+pub fn write_out(
+    alloc: Global,
+    words: &mut Vec<String>,
+    processors: usize,
+) -> Result<(), AllocError>
+    ensures { OnOk result (map string_bytes words.new.items ≡ written_out processors (map string_bytes words.old.items)) }
+{
+    let Some(command) = words.get(1) else {
+        return Ok(());
+    };
+    let most = most_bytes(command.as_str());
+    let mut before = Takes::Numbers;
+    'words: for i in 2..words.len() {
+        let word = words[i].as_str();
+        if word == "--" {
+            return Ok(());
+        }
+        let takes = takes_of(most, word);
+        let read = word_read(alloc, processors, most, before, word)?;
+        if let Some(text) = read {
+            words[i] = text;
+        }
+        before = takes;
+    }
+    Ok(())
+}
+
+/// Whether a word asks for as many as there are processors: it is `auto`, or ends in `=auto`.
+pub fn asks_for_processors(words: &[String]) -> bool
+    ensures { result ≡ list_any (λ word. asks (string_bytes word)) words.now }
+{
+    words.iter().any(|word| asks(word.as_str()))
+}
+
+// Whether this word does.
+fn asks(word: &str) -> bool
+    ensures { result ≡ asks word.now }
+{
+    word == "auto" || word.ends_with("=auto")
+}
+
+// The greatest of --max-bytes.
+#[tactic(auto, unfolding(crate::specs::Words::most_bytes))]
+fn most_bytes(command: &str) -> u64
+    ensures { result ≡ most_bytes command.now }
+{
+    if command == "seal" {
+        MAX_PLAIN
+    } else {
+        MAX_OPENED
+    }
+}
+
+// What the option of this name takes.
+#[tactic(auto, unfolding(crate::specs::Words::takes_of))]
+fn takes_of(most: u64, name: &str) -> Takes
+    ensures { result ≡ takes_of most name.now }
+{
+    match name {
+        "--max-bytes" => Takes::Limit(most),
+        "--max-chunks" => Takes::Limit(u32::MAX as u64),
+        "--workers" | "--lanes" => Takes::Processors,
+        _ => Takes::Numbers,
+    }
+}
+
+// What is read in the place of a word, where it doesn't stay as it is.
+fn word_read(
+    alloc: Global,
+    processors: usize,
+    most: u64,
+    before: Takes,
+    word: &str,
+) -> Result<Option<String>, AllocError>
+    ensures { IfOk result (λ read. unwrap_or (option_map string_bytes read) word.now
+        ≡ word_read processors most before word.now) }
+{
+    if let Some((name, number)) = inline_number(processors, most, word) {
+        let text = format!(in alloc; "{name}={number}")?;
+        return Ok(Some(text));
+    }
+    match stands_for(processors, before, word) {
+        Some(number) => {
+            let text = number.to_string(alloc)?;
+            Ok(Some(text))
+        }
+        None => Ok(None),
+    }
+}
+
+// The name and the number, where a word is an option, an equals sign and a value that stands for a number.
+fn inline_number(processors: usize, most: u64, word: &str) -> Option<(&str, u128)>
+    ensures number { option_map (λ found. found.1) result ≡ inline_number processors most word.now }
+    ensures name { IfSome result (λ found. found.0.now ≡ before_first (λ b. b == 61) word.now) }
+{
+    let Some((name, value)) = word.split_once('=') else {
+        return None;
+    };
+    match stands_for(processors, takes_of(most, name), value) {
+        Some(number) => Some((name, number)),
+        None => None,
+    }
+}
+
+// The number that a value stands for.
+#[tactic(auto, unfolding(crate::specs::Words::stands_for))]
+fn stands_for(processors: usize, takes: Takes, value: &str) -> Option<u128>
+    ensures { result ≡ stands_for processors takes value.now }
+{
+    match takes {
+        Takes::Limit(most) if value == "max" => Some(u128::from(most)),
+        Takes::Limit(_) => scaled(value),
+        Takes::Processors if value == "auto" => {
+            Some(processors.min(MAX_WORKERS as usize).max(1) as u128)
+        }
+        _ => None,
+    }
+}
+
+// What a number with a letter behind it stands for.
+fn scaled(text: &str) -> Option<u128>
+    ensures { result ≡ scaled text.now }
+{
+    let Some(last) = text.len().checked_sub(1) else {
+        return None;
+    };
+    let Some(unit) = unit_of(text.as_bytes()[last]) else {
+        return None;
+    };
+    let Some((digits, _letter)) = text.split_at_checked(last) else {
+        return None;
+    };
+    match digits.parse::<u64>() {
+        Ok(number) => Some(u128::from(number) * u128::from(unit)),
+        Err(_) => None,
+    }
+}
+
+// What a letter stands for.
+fn unit_of(letter: u8) -> Option<u64>
+    ensures unit { result ≡ unit_of letter }
+    ensures small { IfSome result (λ unit. unit ≤ 2 ^ 40) }
+    ensures ascii { IfSome result (λ _. letter < 128) }
+{
+    match letter {
+        b'K' => Some(1 << 10),
+        b'M' => Some(1 << 20),
+        b'G' => Some(1 << 30),
+        b'T' => Some(1 << 40),
+        _ => None,
+    }
+}
