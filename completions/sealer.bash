@@ -23,10 +23,11 @@ _sealer() {
         case $before in
             --key | --ledger | --journal | --files-from) _sealer_files "$current"; return ;;
             --into) mapfile -t COMPREPLY < <(compgen -d -- "$current"); compopt -o filenames 2>/dev/null; return ;;
-            --workers | --lanes) mapfile -t COMPREPLY < <(compgen -W '1 2 4 8 16' -- "$current"); return ;;
+            --workers | --lanes) mapfile -t COMPREPLY < <(compgen -W 'auto 1 2 4 8 16' -- "$current"); return ;;
             --exponent) mapfile -t COMPREPLY < <(compgen -W '12 13 14 15 16 17 18 19 20' -- "$current"); return ;;
             --depth) mapfile -t COMPREPLY < <(compgen -W '1 2 4 8 16 32 64' -- "$current"); return ;;
-            --device | --window | --max-bytes | --max-chunks | --label) return ;;
+            --max-bytes | --max-chunks) mapfile -t COMPREPLY < <(compgen -W max -- "$current"); return ;;
+            --device | --window | --label) return ;;
         esac
     fi
     case $command in

@@ -536,6 +536,47 @@ for value in 4503599626321921 -1; do
 done
 run open --key "$key" --max-bytes 4503599626321920 files/numbers.stm
 wants greatest 0 'opened files/numbers.stm bytes 1492' ''
+# Limits as people write them. What is no such number is refused like any other text, and what is past the greatest by the number that it
+# stands for. No other word is changed.
+for value in 2K +2K 64K 1M 20G 1T 4095T max; do
+    for words in "--max-bytes $value" "--max-bytes=$value"; do
+        run verify --key "$key" $words files/numbers.stm
+        wants "$words" 0 'good files/numbers.stm bytes 1492' ''
+    done
+done
+for value in 1K 0K 0T; do
+    run verify --key "$key" --max-bytes $value files/numbers.stm
+    wants "max-bytes $value" 1 'failed files/numbers.stm: too long' ''
+done
+for value in 1k 1KB 1KiB 1KK K +K -1K max1 MAX auto 1.5G '1 K'; do
+    run verify --key "$key" "--max-bytes=$value" files/numbers.stm
+    wants "max-bytes $value" 2 '' "begins error: invalid value '$value' for '--max-bytes <N>': invalid digit found in string"
+done
+run verify --key "$key" --max-bytes 99999999999999999999K files/numbers.stm
+wants 'max-bytes 99999999999999999999K' 2 '' \
+    "begins error: invalid value '99999999999999999999K' for '--max-bytes <N>': number too large to fit in target type"
+run verify --key "$key" --max-bytes 4096T files/numbers.stm
+wants 'max-bytes 4096T' 2 '' \
+    "begins error: invalid value '4503599627370496' for '--max-bytes <N>': 4503599627370496 is not in 0..=4503599626321920"
+run verify --key "$key" --max-bytes 99999999T files/numbers.stm
+wants 'max-bytes 99999999T' 2 '' \
+    "begins error: invalid value '109951161678088372224' for '--max-bytes <N>': number too large to fit in target type"
+for words in '--workers auto' --workers=auto; do
+    run verify --key "$key" $words files/numbers.stm
+    wants "$words" 0 'good files/numbers.stm bytes 1492' ''
+done
+for value in Auto max 1K autos; do
+    run verify --key "$key" --workers $value files/numbers.stm
+    wants "workers $value" 2 '' "begins error: invalid value '$value' for '--workers <N>': invalid digit found in string"
+done
+run verify --key "$key" --label max files/numbers.stm
+wants label-max 1 'failed files/numbers.stm: another label' ''
+run verify --key "$key" 2K --max-bytes 2K files/numbers.stm -- --workers auto --max-bytes=1K
+wants words-that-stay 1 'failed 2K: cannot open
+good files/numbers.stm bytes 1492
+failed --workers: cannot open
+failed auto: cannot open
+failed --max-bytes=1K: cannot open' ''
 
 # Sealing: a life of a ledger file.
 mkdir life
@@ -1107,6 +1148,35 @@ wants seal-no-file 2 '' 'begins error: the following required arguments were not
   <FILE>...'
 run seal --key "$key" --ledger life/ledger --device 16777215 -- life/waits
 wants greatest-device 0 'sealed life/waits file 0 bytes 1492' ''
+# Limits as people write them, and as many workers or lanes as there are processors.
+mkdir life/limits
+for name in a b c d; do cp numbers.plain life/limits/$name; done
+limited() { run seal --key "$key" --ledger life/limits/ledger --device 1 "$@"; }
+limited --max-bytes 2T life/limits/a
+wants limits-2T 2 '' "begins error: invalid value '2199023255552' for '--max-bytes <N>': 2199023255552 is not in 0..=1099511627776"
+is limits-2T-seals-nothing no test -e life/limits/ledger
+limited --max-bytes 1T --workers auto life/limits/a
+wants limits-1T 0 'sealed life/limits/a file 0 bytes 1492' ''
+limited --max-bytes=max --lanes=auto life/limits/b life/limits/c
+unnumbered
+wants limits-max 0 'sealed life/limits/b bytes 1492
+sealed life/limits/c bytes 1492' ''
+limited --max-bytes 1K --lanes auto life/limits/d
+wants limits-1K 1 'failed life/limits/d: too long' ''
+# On one processor both are 1.
+first=$(taskset -cp $$ | sed 's/.*: \([0-9]*\).*/\1/')
+taskset -c "$first" "$sealer" seal --key "$key" --ledger life/limits/ledger --device 2 --lanes auto --workers auto life/limits/d > out 2> err; status=$?
+wants limits-of-one-processor 0 'sealed life/limits/d file 0 bytes 1492' ''
+rm life/limits/*.stm
+for words in '--max-chunks max' '--max-chunks=64K' '--max-chunks 1K --exponent 12 --workers auto'; do
+    "$sealer" pipe --key "$key" --ledger life/limits/ledger --device 3 $words < life/more > life/limits/stream.stm 2> err; status=$?; : > out
+    unnumbered_line=$(sed 's/ file [0-9]* bytes / bytes /' err)
+    is "limits of a stream, $words" test "$status $unnumbered_line" = "0 sealed - bytes $(wc -c < life/more)"
+done
+run pipe --key "$key" --ledger life/limits/ledger --device 3 --max-chunks 0K < numbers.plain
+wants limits-0K-of-a-stream 2 '' "begins error: invalid value '0' for '--max-chunks <N>': 0 is not in 1..=4294967295"
+run pipe --key "$key" --ledger life/limits/ledger --device 3 --max-chunks 4G < numbers.plain
+wants limits-4G-of-a-stream 2 '' "begins error: invalid value '4294967296' for '--max-chunks <N>': 4294967296 is not in 1..=4294967295"
 
 # Version 2: chunk sizes and labels. The bytes are those of tools/seal_container.py, which knows docs/FORMATS.md alone.
 mkdir life/shapes

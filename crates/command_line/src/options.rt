@@ -71,7 +71,8 @@ pub(crate) static KEY_ROWS: [Row; 2] = [
             most: MAX_WORKERS,
             absent: Absent::Default("1"),
         },
-        help: "Workers on one file or stream, side by side, 1 to 16",
+        help: "Workers on one file or stream, side by side, 1 to 16, or auto:\n\
+            as many as there are processors",
     },
 ];
 
@@ -130,7 +131,8 @@ pub(crate) static OPEN_ROWS: [Row; 2] = [
             default: "1073741824",
         },
         help: "A FILE of more plaintext bytes is refused,\n\
-            0 to 4503599626321920",
+            0 to 4503599626321920, or max; N may end in K, M, G or T,\n\
+            powers of 1024",
     },
     Row {
         name: "label",
@@ -188,7 +190,8 @@ pub(crate) static SEAL_ROWS: [Row; 3] = [
             default: "1073741824",
         },
         help: "A FILE of more plaintext bytes is refused,\n\
-            0 to 1099511627776",
+            0 to 1099511627776, or max; N may end in K, M, G or T,\n\
+            powers of 1024",
     },
     Row {
         name: "lanes",
@@ -197,7 +200,7 @@ pub(crate) static SEAL_ROWS: [Row; 3] = [
             most: MAX_LANES,
             absent: Absent::Default("1"),
         },
-        help: "Files sealed side by side at most, 1 to 16;\n\
+        help: "Files sealed side by side at most, 1 to 16, or auto;\n\
             above 1 only with one worker",
     },
     Row {
@@ -231,7 +234,8 @@ pub(crate) static PIPE_ROWS: [Row; 3] = [
             absent: Absent::Default("16384"),
         },
         help: "A stream of more chunks is refused where the next one begins,\n\
-            1 to 4294967295",
+            1 to 4294967295, or max; N may end in K, M, G or T,\n\
+            powers of 1024",
     },
     Row {
         name: "force-terminal",

@@ -15,7 +15,7 @@ use crate::ledger::tell_ledger;
 use crate::opening::{Reading, open};
 use crate::sealing::{pipe, seal};
 use clap::{ArgMatches, Error};
-use command_line::command;
+use command_line::{asks_for_processors, command, write_out};
 use ledger_core::{FromRead, ToWrite};
 use sealer_core::run_audit;
 use std::alloc::Global;
@@ -24,6 +24,7 @@ use std::io::{IsTerminal, Read, Write};
 use std::process::ExitCode;
 use std::rt::{Clock, Env, Files};
 use std::sync::Wait;
+use std::thread;
 use std::thread::Threads;
 use system_files::stand_ins;
 
@@ -69,19 +70,41 @@ enum OverFiles {
     Read(Reading),
 }
 
-/// The words of the command line. A fault is printed.
-fn words_of<R: Env + AllocGlobal + Eprint>(rt: &R) -> Option<Vec<String>> {
+/// The words of the command line, with their numbers in digits. A fault is printed.
+fn words_of<R: Env + AllocGlobal + Eprint + Threads>(rt: &R) -> Option<Vec<String>> {
     let Ok(arguments) = std::env::args(rt) else {
         let _ = eprintln!(rt; "usage: an argument is no text");
         return None;
     };
     let words: Result<Vec<String>, _> = arguments.collect(rt.alloc());
-    match words {
-        Ok(words) => Some(words),
-        Err(_) => {
-            let _ = eprintln!(rt; "usage: out of memory");
-            None
-        }
+    let words = match words {
+        Ok(words) => in_digits(rt, words),
+        Err(_) => None,
+    };
+    if words.is_none() {
+        let _ = eprintln!(rt; "usage: out of memory");
+    }
+    words
+}
+
+/// The words with their numbers in digits, unless memory is refused.
+fn in_digits<R: AllocGlobal + Threads>(rt: &R, words: Vec<String>) -> Option<Vec<String>> {
+    let mut words = words;
+    let processors = processors_for(rt, words.as_slice());
+    match write_out(rt.alloc(), &mut words, processors) {
+        Ok(()) => Some(words),
+        Err(_) => None,
+    }
+}
+
+/// How many processors this run may use: it is looked up only where a word asks for it.
+fn processors_for<R: Threads>(rt: &R, words: &[String]) -> usize {
+    if !asks_for_processors(words) {
+        return 1;
+    }
+    match thread::available_parallelism(rt) {
+        Ok(processors) => processors.get(),
+        Err(_) => 1,
     }
 }
 
