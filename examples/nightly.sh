@@ -11,7 +11,7 @@ rm -f "$state/snapshot.new" "$out"/*.tar.stm.part                               
 [ ! -f "$state/snapshot" ] || cp "$state/snapshot" "$state/snapshot.new"
 { tar -C "$tree" --listed-incremental="$state/snapshot.new" -c . || [ $? = 1 ]; } |     # 1: a file changed as it was read
     sealer pipe --key "$key" --ledger "$state/ledger" --no-new-ledger --device "$(< "$state/device")" \
-        --max-chunks 4294967295 --label "$name" > "$out/$name.part"
-sealer verify --key "$key" --label "$name" --max-bytes 4503599626321920 "$out/$name.part"
+        --max-chunks max --label "$name" > "$out/$name.part"
+sealer verify --key "$key" --label "$name" --max-bytes max "$out/$name.part"
 mv "$out/$name.part" "$out/$name" && sync "$out/$name" "$out"
 echo "$name" >> "$state/archives" && mv "$state/snapshot.new" "$state/snapshot"
