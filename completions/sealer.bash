@@ -34,13 +34,13 @@ _sealer() {
         '') words='seal pipe open verify audit ledger help --help -h --version -V' ;;
         seal)
             words='--key --ledger --no-new-ledger --device --workers --lanes --window --exponent --label --max-bytes
-                --journal --into --sync --files-from --null --progress --help -h'
+                --journal --into --skip-existing --sync --files-from --null --progress --help -h'
             ;;
         pipe)
             words='--key --ledger --no-new-ledger --device --workers --depth --max-chunks --exponent --label --journal
                 --force-terminal --help -h'
             ;;
-        open) words='--key --label --workers --max-bytes --into --sync --files-from --null --progress --help -h' ;;
+        open) words='--key --label --workers --max-bytes --into --skip-existing --sync --files-from --null --progress --help -h' ;;
         verify) words='--key --label --show --workers --max-bytes --files-from --null --progress --help -h' ;;
         audit) words='--help -h' ;;
         ledger) words='--ledger --help -h' ;;

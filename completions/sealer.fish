@@ -21,12 +21,13 @@ complete -c sealer -n $keyed -l workers -x -a 'auto 1 2 4 8 16' -d 'Workers on o
 complete -c sealer -n $over_files -l max-bytes -x -a max -d 'A FILE of more plaintext bytes is refused'
 complete -c sealer -n $keyed -l label -x -d 'The label, which is not secret'
 complete -c sealer -n $over_files -l files-from -rF -d 'A list of further FILEs, one a line'
-complete -c sealer -n $over_files -l null -d 'In that list a NUL byte stands behind each FILE'
-complete -c sealer -n $over_files -l progress -a 'terminal always' -d 'Tell how far the run is'
+complete -c sealer -n $over_files -l null -d 'FILEs in that list end with a NUL byte'
+complete -c sealer -n $over_files -l progress -a 'terminal always' -d 'Show progress'
 complete -c sealer -n '__fish_seen_subcommand_from seal verify' -F
 complete -c sealer -n '__fish_seen_subcommand_from open' -k -xa '(__fish_complete_suffix .stm)'
 
-complete -c sealer -n '__fish_seen_subcommand_from seal open' -l sync -d 'Tell a line only once its output is on the disk'
+complete -c sealer -n '__fish_seen_subcommand_from seal open' -l skip-existing -d 'Skip each FILE whose output exists'
+complete -c sealer -n '__fish_seen_subcommand_from seal open' -l sync -d 'Sync each output before its line is printed'
 complete -c sealer -n '__fish_seen_subcommand_from seal open' -l into -xa '(__fish_complete_directories)' -d 'Put the outputs into this folder'
 
 complete -c sealer -n '__fish_seen_subcommand_from verify' -l show -d 'Print what the header says'

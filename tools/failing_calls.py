@@ -6,7 +6,7 @@ ENOSPC and EINTR, those on memory with ENOMEM, and the program is killed at each
 or the file takes no more than so many bytes, while its removal fails too, or doesn't. Under `--progress` each read of a FILE by `seal`, `open` and
 `verify` fails, and so does standard output. After an error: a status and a text of docs/MANUAL.md, which fit the lines; an output is there whole or not at all,
 and not where its line says that it failed (but where its removal failed too); no input is altered, and no other file is there. After a kill:
-what has a line is whole.
+what has a line is whole, and the same `open` with `--skip-existing` opens the rest.
 
 Prints 'N failing calls as they should be', or what differs. Needs strace; where it isn't there it says so and ends well, and under CI it
 fails. The program is crates/sealer/out/sealer, or $SEALER.
@@ -120,6 +120,8 @@ class Way:
             return
         wrong = list(self.wrong(call, how, status, lines, texts)) if how != "signal=KILL" else []
         wrong += self.wrong_files(lines, how == "signal=KILL")
+        if how == "signal=KILL" and self.words[0] == "open":
+            wrong += self.not_repaired()
         self.shown[call, status] += 1
         if wrong:
             self.bad.append(f"{what}: {', '.join(wrong)}: status {status}, {lines} {texts}")
@@ -164,6 +166,12 @@ class Way:
                         yield f"{name} is not whole"
                 elif opened:
                     yield f"no {name}"
+
+    def not_repaired(self):
+        """What the same command leaves undone after a kill, with --skip-existing."""
+        again = subprocess.run([sealer, *self.words, "--skip-existing"], capture_output=True, timeout=HANG)
+        if again.returncode != 0 or any(not os.path.exists(name) or read(name) != PLAIN[name] for name in PLAIN):
+            yield f"with --skip-existing status {again.returncode}, {again.stdout.decode(errors='replace').splitlines()}"
 
 
 def worked(asked):

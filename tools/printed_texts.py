@@ -1,6 +1,6 @@
 """What the program can print of itself, by its sources: the faults of each command, and its lines.
 
-A fault stands behind `failed NAME: `, or behind a subject on standard error. Its texts are those of the types in FAULTS, which are read
+A fault comes after `failed NAME: `, or after a subject on standard error. Its texts are those of the types in FAULTS, which are read
 from the sources, less what NEVER says; a number in a text is N. The parser's own texts, of usage and of help, aren't among them.
 """
 import functools
@@ -55,6 +55,8 @@ LINES = {
     "audit": ["Verdict::Legal", "Verdict::Malformed", "Verdict::Illegal"],
     "ledger": ["Holding::"],
 }
+# The line of a FILE that is kept, which print_kept writes.
+KEPT = r'"(kept \{name\})\\n"'
 # The types that are written by the code of another one.
 WRITTEN_BY = {"FileOutcome": "Line"}
 # What prints, but for `eprintln!(RUNTIME; TEXT)` with a name alone for the runtime.
@@ -143,6 +145,8 @@ def faults(command):
 
 def lines(command):
     """The lines of a command, with X for what varies."""
+    if command in ("seal", "open"):
+        yield only(KEPT, "the line of a FILE that is kept").replace("{name}", "X")
     for it in LINES[command]:
         name, variant = it.split("::")
         for line in texts_by_variant(name)[variant].split("\\n"):

@@ -235,6 +235,64 @@ is nothing-at-the-root no test -e /numbers
 run verify --key "$key" --into files/into files/numbers.stm
 wants verify-has-no-into 2 '' "begins error: unexpected argument '--into' found"
 
+# FILEs whose outputs exist are kept, and no number is spent for them: so a run that was cut short is repaired by the same command.
+fresh
+mkdir files/into
+printf 1 > files/a
+printf 22 > files/b
+printf 333 > files/c
+seals() { run seal --key "$key" --ledger files/ledger --device 1 "$@"; }
+seals files/b
+wants first-night 0 'sealed files/b file 0 bytes 2' ''
+seals --skip-existing files/a files/b files/c files/none
+wants kept 1 'kept files/b
+sealed files/a file 1 bytes 1
+sealed files/c file 2 bytes 3
+failed files/none: cannot open' ''
+seals --skip-existing files/c files/b
+wants all-kept 0 'kept files/c
+kept files/b' ''
+run ledger --ledger files/ledger
+is no-number-for-the-kept grep -q ' ranges 2 given 4 left ' out
+run seal --key none --ledger none/ledger --device 1 --skip-existing files/a
+wants kept-without-a-ledger 0 'kept files/a' ''
+seals files/a
+wants not-asked-to-keep 1 'failed files/a: output exists' ''
+seals --skip-existing --into files/into files/a files/b
+wants not-in-that-folder 0 'sealed files/a file 5 bytes 1
+sealed files/b file 6 bytes 2' ''
+rm files/into/a.stm
+seals --skip-existing --into files/into --lanes 2 files/a files/b
+wants kept-in-that-folder 0 'kept files/b
+sealed files/a file 7 bytes 1' ''
+mkdir files/d
+cp files/a files/d
+run seal --key none --ledger none --device 1 --skip-existing --into files/into files/a files/d/a
+wants kept-of-one-name 2 '' 'usage: two FILEs have one last name'
+printf '%s\n' files/b files/d/a | "$sealer" seal --key "$key" --ledger files/ledger --device 1 --skip-existing --files-from - files/a > out 2> err; status=$?
+wants kept-of-a-list 0 'kept files/a
+kept files/b
+sealed files/d/a file 8 bytes 1' ''
+ln -s nowhere files/d/b.stm
+cp files/b files/d/b
+seals --skip-existing files/d/b
+wants kept-behind-a-link 0 'kept files/d/b' ''
+rm files/d/b.stm
+"$sealer" seal --key "$key" --ledger files/ledger --device 1 --skip-existing files/a files/d/b > /dev/full 2> err; status=$?; : > out
+wants kept-line-is-not-written 2 '' ''
+is nothing-behind-it-is-sealed no test -e files/d/b.stm
+run open --key "$key" --skip-existing files/numbers.stm files/a.stm files/numbers
+wants open-kept 1 'kept files/a.stm
+opened files/numbers.stm bytes 1492
+failed files/numbers: name does not end in .stm' ''
+run open --key none --skip-existing files/numbers.stm
+wants open-all-kept 0 'kept files/numbers.stm' ''
+is it-stays cmp -s files/numbers numbers.plain
+run verify --key "$key" --skip-existing files/a.stm
+wants verify-keeps-nothing 2 '' "begins error: unexpected argument '--skip-existing' found"
+run pipe --key "$key" --ledger files/ledger --device 1 --skip-existing < files/a
+wants pipe-keeps-nothing 2 '' "begins error: unexpected argument '--skip-existing' found"
+
 # Outputs on the disk: the calls, in their order, and what a failing one leaves.
 fresh
 if command -v strace >/dev/null; then

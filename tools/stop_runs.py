@@ -190,6 +190,11 @@ def stopped(way, call, n, how):
                 check = subprocess.run([sealer, "verify", "--key", key, name], capture_output=True, text=True, timeout=60)
                 if check.returncode != 0:
                     differs(f"{what}: {name} is there: {check.stdout.strip()}")
+        again = [sealer, "seal", "--key", key, "--ledger", "ledger", "--device", "1", "--skip-existing", "a", "b"]
+        repaired = subprocess.run(again, capture_output=True, text=True, timeout=60)
+        check = subprocess.run([sealer, "verify", "--key", key, "a.stm", "b.stm"], capture_output=True, text=True, timeout=60)
+        if repaired.returncode != 0 or check.returncode != 0:
+            differs(f"{what}: --skip-existing has status {repaired.returncode}, prints {repaired.stdout}{repaired.stderr}, and then {check.stdout}")
     take(what)
     after = subprocess.run(command("one lane", ["c"]), capture_output=True, text=True, timeout=60)
     if after.returncode != 0 or not after.stdout.startswith("sealed c file "):

@@ -107,12 +107,17 @@ pub(crate) static FILE_ROWS: [Row; 4] = [
 ];
 
 /// What `seal` and `open` take besides: of their outputs.
-pub(crate) static OUTPUT_ROWS: [Row; 2] = [
+pub(crate) static OUTPUT_ROWS: [Row; 3] = [
     Row {
         name: "into",
         takes: Takes::Folder,
         help: "Put the outputs into this folder, each under the last name of its FILE;\n\
             no two may be the same",
+    },
+    Row {
+        name: "skip-existing",
+        takes: Takes::Nothing,
+        help: "Keep each FILE whose output exists, and work only the others",
     },
     Row {
         name: "sync",

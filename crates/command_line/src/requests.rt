@@ -66,6 +66,8 @@ pub struct SealRequest<'m, 'a> {
     pub shape: Shape,
     /// The folder into which the outputs go, where one is asked for.
     pub into: Option<&'a str>,
+    /// Whether files whose outputs exist are kept.
+    pub skip: bool,
     /// Whether a line comes only once its output and the name of that are on the disk.
     pub sync: bool,
 }
@@ -99,6 +101,7 @@ pub fn seal_request<'m, 'a>(
         ≡ unwrap_or (number_given matches.now (codes "max-bytes")) DEFAULT_MAX_BYTES) }
     ensures into { IfOk result (λ request. option_map (λ into. into.now) request.into
         ≡ first_value (found_of matches.now) (codes "into")) }
+    ensures skip { IfOk result (λ request. IsFlag matches.now (codes "skip-existing") request.skip) }
     ensures sync { IfOk result (λ request. IsFlag matches.now (codes "sync") request.sync) }
 
     ensures shape { IfOk result (λ request. request.shape ≡ shape_asked (number_given matches.now (codes "exponent"))
@@ -141,6 +144,7 @@ pub fn seal_request<'m, 'a>(
         journal: matches.get_str("journal"),
         shape,
         into: matches.get_str("into"),
+        skip: matches.get_flag("skip-existing"),
         sync: matches.get_flag("sync"),
     })
 }
@@ -231,6 +235,8 @@ pub struct OpenRequest<'m, 'a> {
     pub show: bool,
     /// The folder into which the outputs go, where one is asked for. `verify` has no such option.
     pub into: Option<&'a str>,
+    /// Whether files whose outputs exist are kept. `verify` has no such option.
+    pub skip: bool,
     /// Whether a line comes only once its output and the name of that are on the disk. `verify` has no such option.
     pub sync: bool,
 }
@@ -255,6 +261,7 @@ pub fn open_request<'m, 'a>(
     ensures show { IfOk result (λ request. IsFlag matches.now (codes "show") request.show) }
     ensures into { IfOk result (λ request. option_map (λ into. into.now) request.into
         ≡ first_value (found_of matches.now) (codes "into")) }
+    ensures skip { IfOk result (λ request. IsFlag matches.now (codes "skip-existing") request.skip) }
     ensures sync { IfOk result (λ request. IsFlag matches.now (codes "sync") request.sync) }
     ensures too_long { result ≡ Err UsageFault.LabelTooLong
         → IfSome (first_value (found_of matches.now) (codes "label")) (λ label. MAX_LABEL < length label) }
@@ -281,6 +288,7 @@ pub fn open_request<'m, 'a>(
         label,
         show: matches.get_flag("show"),
         into: matches.get_str("into"),
+        skip: matches.get_flag("skip-existing"),
         sync: matches.get_flag("sync"),
     })
 }

@@ -1,7 +1,7 @@
 //! What a run needs before its files: the key, the list of their names, where their outputs go, and on what it tells.
-ghost use Rattle.std.specs.Prelude.{◌<◌, IfOk, IfSome};
+ghost use Rattle.std.specs.Prelude.{◌<◌, ◌≡◌, IfOk, IfSome};
 
-use crate::Streams;
+use crate::{Streams, Terminals};
 use clap::ArgMatches;
 use command_line::{ListRequest, Showing, UsageFault, files_of, list_request, showing_asked};
 use container_core::Key;
@@ -10,7 +10,7 @@ use sealer_core::{KeyFault, Outs, read_key};
 use std::alloc::Global;
 use std::io::{ErrorKind, Read, Write};
 use std::rt::{Clock, Files};
-use system_files::{PlaceFault, Progress, SystemFiles, Told, are_apart, open_unbuffered};
+use system_files::{Progress, Told, open_unbuffered};
 
 /// The key in the file of this path.
 pub(crate) fn key_of<R: Files + AllocGlobal>(rt: &R, path: &str) -> Result<Key, KeyFault> {
@@ -75,39 +75,41 @@ pub(crate) fn names_of<'n>(
     }
 }
 
-/// The folder of a run whose outputs go into another one, where one is asked for. Then no two of the files may have one
-/// last name.
-pub(crate) fn outputs_of<'p, 'r, R: Files + AllocGlobal + Clock + Eprint>(
-    rt: &'r R,
-    into: Option<&'r str>,
-    files: &[&str],
-    sync: bool,
-    progress: Option<&'p Progress<'r, R>>,
-) -> Result<SystemFiles<'p, 'r, R>, PlaceFault> {
-    if into.is_some() {
-        are_apart(rt.alloc(), files)?;
-    }
-    Ok(SystemFiles::new(rt, into, sync, progress))
-}
-
 /// What a run over files tells on: what was drawn of how far it is is taken away before each line.
 pub(crate) fn outs_of<'p, 'r, R: Files + Clock + Eprint, O: Write + Drop, E: Write + Drop>(
     streams: Streams<O, E>,
     progress: Option<&'p Progress<'r, R>>,
     journal: Option<ToWrite<R::File>>,
-) -> Outs<ToWrite<Told<'p, 'r, R, O>>, ToWrite<Told<'p, 'r, R, E>>, ToWrite<R::File>> {
+) -> Outs<ToWrite<Told<'p, 'r, R, O>>, ToWrite<Told<'p, 'r, R, E>>, ToWrite<R::File>>
+    ensures lines { result.lines.0.writer ≡ streams.output.0 }
+{
     Outs {
         lines: ToWrite(Told {
-            writer: streams.output,
+            writer: streams.output.0,
             progress,
             of_files: true,
         }),
         faults: ToWrite(Told {
-            writer: streams.errors,
+            writer: streams.errors.0,
             progress,
             of_files: false,
         }),
         journal,
+    }
+}
+
+/// The streams of what a run over files told on.
+pub(crate) fn streams_of<R: Files + Clock + Eprint, O: Write + Drop, E: Write + Drop>(
+    out: Outs<ToWrite<Told<'_, '_, R, O>>, ToWrite<Told<'_, '_, R, E>>, ToWrite<R::File>>,
+    terminals: Terminals,
+) -> Streams<O, E>
+    ensures output { result.output.0 ≡ out.entry.lines.0.writer }
+{
+    let (ToWrite(lines), ToWrite(faults)) = (out.lines, out.faults);
+    Streams {
+        output: ToWrite(lines.writer),
+        errors: ToWrite(faults.writer),
+        terminals,
     }
 }
 

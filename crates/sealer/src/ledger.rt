@@ -1,8 +1,8 @@
 //! The command that tells what a ledger file holds.
 
-use crate::complain;
+use crate::{Streams, complain};
 use clap::ArgMatches;
-use ledger_core::{Sink, ToWrite, write_all};
+use ledger_core::{Sink, write_all};
 use std::alloc::Global;
 use std::io::Write;
 use std::rt::Files;
@@ -21,20 +21,22 @@ enum TellFault {
 }
 
 /// Tells what a ledger file holds: a line for each key and device. It changes no byte.
-pub(crate) fn tell_ledger<R: Files + AllocGlobal + Eprint, O: Write + Drop>(
+pub(crate) fn tell_ledger<R: Files + AllocGlobal + Eprint, O: Write + Drop, E: Write + Drop>(
     rt: &R,
     matches: &ArgMatches<'_>,
-    output: O,
-) -> u8 {
+    streams: Streams<O, E>,
+) -> (u8, Streams<O, E>) {
     let path = matches.get_str("ledger").unwrap_or("");
     let held = match read_holdings(rt, path) {
         Ok(held) => held,
-        Err(fault) => return complain(rt, "ledger", fault),
+        Err(fault) => return (complain(rt, "ledger", fault), streams),
     };
-    match tell_all(rt.alloc(), held.as_slice(), &mut ToWrite(output)) {
+    let mut streams = streams;
+    let status = match tell_all(rt.alloc(), held.as_slice(), &mut streams.output) {
         Ok(()) => 0,
         Err(fault) => complain(rt, "ledger", fault),
-    }
+    };
+    (status, streams)
 }
 
 // Writes the lines.

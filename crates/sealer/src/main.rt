@@ -5,7 +5,17 @@
 //! ledger or the journal file, or of the program's own reading and writing.
 #![tactic(auto)]
 
+ghost use Rattle.std.specs.Prelude.{◌≡◌, ◌⊎◌, ◌∷◌, ◌++◌, ℕ, IfSome, List, Some, [], codes};
+ghost use Rattle.clap.specs.Matches.{subcommand_name_of};
+ghost use Rattle.io_core.specs.Streams.{Appends};
+ghost use Rattle.journal_core.specs.declared.verdict.Verdict.{Verdict};
+ghost use Rattle.ledger_core.specs.Verdict.{IsVerdict, verdict_text};
+ghost use Rattle.engine_core.specs.Status.{status_of};
+ghost use Rattle.clap.specs.declared.parser.matches.ArgMatches.{ArgMatches};
+ghost use Rattle.sealer.specs.Status.{IsStatusOf, IsStatusOver};
+
 mod files;
+mod kept;
 mod ledger;
 mod opening;
 mod sealing;
@@ -40,12 +50,14 @@ fn main(rt: HostRuntime) -> ExitCode {
     let status = match parse(rt.alloc(), words.as_slice()) {
         Ok(matches) => {
             let streams = Streams {
-                output_terminal: rt.stdout().is_terminal(),
-                output: rt.stdout(),
-                errors_terminal: rt.stderr().is_terminal(),
-                errors: rt.stderr(),
+                output: ToWrite(rt.stdout()),
+                errors: ToWrite(rt.stderr()),
+                terminals: Terminals {
+                    output: rt.stdout().is_terminal(),
+                    errors: rt.stderr().is_terminal(),
+                },
             };
-            run(&rt, &rt, &matches, rt.stdin(), streams)
+            run(&rt, &rt, &matches, rt.stdin(), streams).0
         }
         Err(error) => told(&rt, &error),
     };
@@ -55,12 +67,16 @@ fn main(rt: HostRuntime) -> ExitCode {
 /// The streams that a run writes.
 #[derive(Drop)]
 pub(crate) struct Streams<O: Write + Drop, E: Write + Drop> {
-    pub(crate) output: O,
-    /// Whether `output` is a terminal.
-    pub(crate) output_terminal: bool,
-    pub(crate) errors: E,
-    /// Whether `errors` is a terminal.
-    pub(crate) errors_terminal: bool,
+    pub(crate) output: ToWrite<O>,
+    pub(crate) errors: ToWrite<E>,
+    pub(crate) terminals: Terminals,
+}
+
+/// Which of the streams are terminals.
+#[derive(Clone, Copy)]
+pub(crate) struct Terminals {
+    pub(crate) output: bool,
+    pub(crate) errors: bool,
 }
 
 /// A command over files.
@@ -122,18 +138,39 @@ fn told<R: Print + Eprint>(rt: &R, error: &Error) -> u8 {
 }
 
 /// Prints what of the run is at fault, and why, on standard error. The answer is the status.
-pub(crate) fn complain<R: Eprint, F: Display + Drop>(rt: &R, subject: &str, fault: F) -> u8 {
+pub(crate) fn complain<R: Eprint, F: Display + Drop>(rt: &R, subject: &str, fault: F) -> u8
+    ensures status { result ≡ FAULT }
+{
     let _ = eprintln!(rt; "{subject}: {fault}");
     FAULT
 }
 
-/// Runs the command that was asked for. `host` is the runtime too: a ledger file is opened by it alone.
+/// Runs the command that was asked for. `host` is the runtime too: a ledger file is opened by it alone. The answer is the
+/// status, with the streams.
 fn run<
     R: Files + AllocGlobal + Clock + Eprint + Threads + Wait + Sync,
     I: Read + Drop,
     O: Write + Drop,
     E: Write + Drop,
->(rt: &R, host: &HostRuntime, matches: &ArgMatches<'_>, input: I, streams: Streams<O, E>) -> u8 {
+>(
+    rt: &R,
+    host: &HostRuntime,
+    matches: &ArgMatches<'_>,
+    input: I,
+    streams: Streams<O, E>,
+) -> (u8, Streams<O, E>)
+    ensures files { (subcommand_name_of matches.now ≡ Some (codes "seal"))
+        ⊎ (subcommand_name_of matches.now ≡ Some (codes "open"))
+        ⊎ (subcommand_name_of matches.now ≡ Some (codes "verify"))
+        → (asked : ArgMatches) × (names : List (List ℕ)) × IsStatusOver asked result.0 names
+        (O.contents streams.output.0) (O.contents result.1.output.0) }
+    ensures stream { subcommand_name_of matches.now ≡ Some (codes "pipe")
+        → IsStatusOf result.0 (codes "-" ∷ []) (E.contents streams.errors.0) (E.contents result.1.errors.0) }
+    ensures verdict { subcommand_name_of matches.now ≡ Some (codes "audit")
+        → (result.0 ≡ FAULT) ⊎ ((verdict : Verdict) × (result.0 ≡ status_of verdict)
+        × IfSome (I.remaining input) (λ journal. IsVerdict journal verdict)
+        × Appends (O.contents streams.output.0) (O.contents result.1.output.0) (verdict_text verdict ++ 10 ∷ [])) }
+{
     match matches.subcommand() {
         Some(("seal", asked)) => over_files(rt, host, OverFiles::Seal, asked, input, streams),
         Some(("pipe", asked)) => pipe(rt, host, asked, input, streams),
@@ -145,9 +182,9 @@ fn run<
             let verify = OverFiles::Read(Reading::Verify);
             over_files(rt, host, verify, asked, input, streams)
         }
-        Some(("ledger", asked)) => tell_ledger(rt, asked, streams.output),
-        Some(("audit", _)) => audit_input(rt, rt.alloc(), input, streams.output),
-        _ => FAULT,
+        Some(("ledger", asked)) => tell_ledger(rt, asked, streams),
+        Some(("audit", _)) => audit_input(rt, input, streams),
+        _ => (FAULT, streams),
     }
 }
 
@@ -164,29 +201,37 @@ fn over_files<
     matches: &ArgMatches<'_>,
     input: I,
     streams: Streams<O, E>,
-) -> u8 {
+) -> (u8, Streams<O, E>)
+    ensures status { (names : List (List ℕ)) × IsStatusOver matches.now result.0 names
+        (O.contents streams.output.0) (O.contents result.1.output.0) }
+{
     let list = match read_list(rt, matches, input) {
         Ok(list) => list,
-        Err(fault) => return complain(rt, "usage", fault),
+        Err(fault) => return (complain(rt, "usage", fault), streams),
     };
     match names_of(rt.alloc(), matches, &list) {
         Ok(names) => match command {
             OverFiles::Seal => seal(rt, host, matches, names.as_slice(), streams),
             OverFiles::Read(reading) => open(rt, reading, matches, names.as_slice(), streams),
         },
-        Err(fault) => complain(rt, "usage", fault),
+        Err(fault) => (complain(rt, "usage", fault), streams),
     }
 }
 
-/// Audits an input. A fault is printed on standard error, with status 2.
-fn audit_input<R: Eprint, I: Read + Drop, O: Write + Drop>(
+/// Audits an input. A fault is printed on standard error, with status 2. The answer is the status, with the streams.
+fn audit_input<R: AllocGlobal + Eprint, I: Read + Drop, O: Write + Drop, E: Write + Drop>(
     rt: &R,
-    alloc: Global,
     input: I,
-    output: O,
-) -> u8 {
-    match run_audit(alloc, &mut FromRead(input), &mut ToWrite(output)) {
+    streams: Streams<O, E>,
+) -> (u8, Streams<O, E>)
+    ensures verdict { (result.0 ≡ FAULT) ⊎ ((verdict : Verdict) × (result.0 ≡ status_of verdict)
+        × IfSome (I.remaining input) (λ journal. IsVerdict journal verdict)
+        × Appends (O.contents streams.output.0) (O.contents result.1.output.0) (verdict_text verdict ++ 10 ∷ [])) }
+{
+    let mut streams = streams;
+    let status = match run_audit(rt.alloc(), &mut FromRead(input), &mut streams.output) {
         Ok(status) => status,
         Err(fault) => complain(rt, "audit", fault),
-    }
+    };
+    (status, streams)
 }

@@ -1,16 +1,21 @@
 //! The commands that open and verify.
-ghost use Rattle.std.specs.Prelude.{◌<◌, ◌≤◌, length};
+ghost use Rattle.std.specs.Prelude.{◌<◌, ◌≤◌, ◌≡◌, length, map, option_map};
+ghost use Rattle.command_core.specs.Work.{AreWorked, IsOfOpening, IsOfVerifying, Opening, Verifying};
+ghost use Rattle.sealer.specs.Status.{IsStatusOf, IsStatusOver};
 
-use crate::files::{clear, key_of, outputs_of, outs_of, progress_of};
+use crate::files::{clear, key_of, outs_of, progress_of, streams_of};
+use crate::kept::worked_of;
 use crate::{Streams, complain};
 use clap::ArgMatches;
 use command_line::{OpenRequest, open_request};
-use container_core::MAX_OPENED;
-use sealer_core::{MAX_WORKERS, OpenOptions, open_all, verify_all};
+use container_core::{Key, MAX_OPENED};
+use sealer_core::{
+    Folder, MAX_WORKERS, OpenOptions, OpeningFolder, Outs, Report, open_all, verify_all,
+};
 use std::io::Write;
 use std::rt::{Clock, Files};
 use std::thread::Threads;
-use system_files::SystemFiles;
+use system_files::{Makes, SystemFiles};
 
 /// What becomes of the plaintext of containers.
 #[derive(Clone, Copy)]
@@ -21,7 +26,7 @@ pub(crate) enum Reading {
     Verify,
 }
 
-/// Opens or verifies the files of these names.
+/// Opens or verifies the files of these names. The answer is the status, with the streams.
 pub(crate) fn open<
     R: Files + AllocGlobal + Clock + Eprint + Threads + Sync,
     O: Write + Drop,
@@ -32,16 +37,30 @@ pub(crate) fn open<
     matches: &ArgMatches<'_>,
     names: &[&str],
     streams: Streams<O, E>,
-) -> u8 {
+) -> (u8, Streams<O, E>)
+    ensures status { IsStatusOver matches.now result.0 (map (λ name. name.now) names.now)
+        (O.contents streams.output.0) (O.contents result.1.output.0) }
+{
     let request = match open_request(matches, names) {
         Ok(request) => request,
-        Err(fault) => return complain(rt, "usage", fault),
+        Err(fault) => return (complain(rt, "usage", fault), streams),
     };
-    let progress = progress_of(rt, matches, names, streams.errors_terminal);
-    match outputs_of(rt, request.into, names, request.sync, progress.as_ref()) {
-        Ok(folder) => open_to(rt, reading, &request, folder, streams),
-        Err(fault) => complain(rt, "usage", fault),
+    let mut streams = streams;
+    let (skip, into) = (request.skip, request.into);
+    let files = match worked_of(rt, Makes::Plaintext, skip, into, names, &mut streams.output) {
+        Ok(files) => files,
+        Err(status) => return (status, streams),
+    };
+    if files.is_empty() {
+        return (0, streams);
     }
+    let request = OpenRequest {
+        files: files.as_slice(),
+        ..request
+    };
+    let progress = progress_of(rt, matches, request.files, streams.terminals.errors);
+    let folder = SystemFiles::new(rt, request.into, request.sync, progress.as_ref());
+    open_to(rt, reading, &request, folder, streams)
 }
 
 // Opens or verifies what is asked for, with the outputs in this folder.
@@ -55,29 +74,84 @@ fn open_to<
     request: &OpenRequest<'_, '_>,
     folder: SystemFiles<'_, '_, R>,
     streams: Streams<O, E>,
-) -> u8
+) -> (u8, Streams<O, E>)
     requires files { 0 < length request.now.files.now }
     requires workers { (0 < request.now.workers) × (request.now.workers ≤ MAX_WORKERS) }
     requires max_bytes { request.now.max_bytes ≤ MAX_OPENED }
+    ensures status { IsStatusOf result.0 (map (λ name. name.now) request.now.files.now) (O.contents streams.output.0)
+        (O.contents result.1.output.0) }
 {
     let mut folder = folder;
     let progress = folder.progress;
     let key = match key_of(rt, request.key) {
         Ok(key) => key,
-        Err(fault) => return complain(rt, "key", fault),
+        Err(fault) => return (complain(rt, "key", fault), streams),
     };
-    let options = OpenOptions {
+    let terminals = streams.terminals;
+    let mut out = outs_of(streams, progress, None);
+    let status = match reading {
+        Reading::Open => open_files(rt, &key, &mut folder, request, &mut out),
+        Reading::Verify => verify_files(rt, &key, &mut folder, request, &mut out),
+    };
+    clear(progress);
+    (status, streams_of(out, terminals))
+}
+
+// Opens the files that are asked for.
+fn open_files<
+    R: AllocGlobal + Threads + Sync,
+    F: OpeningFolder,
+    L: Report + Drop,
+    E: Report + Drop,
+    J: Report + Drop,
+>(rt: &R, key: &Key, folder: &mut F, request: &OpenRequest<'_, '_>, out: &mut Outs<L, E, J>) -> u8
+    requires files { 0 < length request.now.files.now }
+    requires workers { (0 < request.now.workers) × (request.now.workers ≤ MAX_WORKERS) }
+    requires max_bytes { request.now.max_bytes ≤ MAX_OPENED }
+    ensures files { AreWorked IsOfOpening
+        (Opening key.now request.now.max_bytes (option_map (λ b. b.now) request.now.label))
+        (map (λ name. name.now) request.now.files.now) result
+        (L.taken out.old.lines) (L.taken out.new.lines) (L.failures out.old.lines) (L.failures out.new.lines)
+        (F.told folder.old) (F.told folder.new) }
+    ensures others { (out.new.faults ≡ out.old.faults) × (out.new.journal ≡ out.old.journal) }
+{
+    open_all(rt, rt.alloc(), key, folder, &options_of(request), out)
+}
+
+// Verifies the files that are asked for.
+fn verify_files<
+    R: AllocGlobal + Threads + Sync,
+    F: Folder,
+    L: Report + Drop,
+    E: Report + Drop,
+    J: Report + Drop,
+>(rt: &R, key: &Key, folder: &mut F, request: &OpenRequest<'_, '_>, out: &mut Outs<L, E, J>) -> u8
+    requires files { 0 < length request.now.files.now }
+    requires workers { (0 < request.now.workers) × (request.now.workers ≤ MAX_WORKERS) }
+    requires max_bytes { request.now.max_bytes ≤ MAX_OPENED }
+    ensures files { AreWorked (λ name. IsOfVerifying request.now.show)
+        (Verifying key.now request.now.max_bytes (option_map (λ b. b.now) request.now.label))
+        (map (λ name. name.now) request.now.files.now) result
+        (L.taken out.old.lines) (L.taken out.new.lines) (L.failures out.old.lines) (L.failures out.new.lines)
+        (F.told folder.old) (F.told folder.new) }
+    ensures others { (out.new.faults ≡ out.old.faults) × (out.new.journal ≡ out.old.journal) }
+{
+    verify_all(rt, rt.alloc(), key, folder, &options_of(request), out)
+}
+
+// What is asked of the files.
+fn options_of<'q>(request: &'q OpenRequest<'_, '_>) -> OpenOptions<'q>
+    ensures files { result.files.now ≡ request.now.files.now }
+    ensures workers { result.workers ≡ request.now.workers }
+    ensures max_bytes { result.max_bytes ≡ request.now.max_bytes }
+    ensures label { option_map (λ b. b.now) result.label ≡ option_map (λ b. b.now) request.now.label }
+    ensures show { result.show ≡ request.now.show }
+{
+    OpenOptions {
         files: request.files,
         workers: request.workers,
         max_bytes: request.max_bytes,
         label: request.label,
         show: request.show,
-    };
-    let mut out = outs_of(streams, progress, None);
-    let status = match reading {
-        Reading::Open => open_all(rt, rt.alloc(), &key, &mut folder, &options, &mut out),
-        Reading::Verify => verify_all(rt, rt.alloc(), &key, &mut folder, &options, &mut out),
-    };
-    clear(progress);
-    status
+    }
 }

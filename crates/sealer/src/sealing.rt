@@ -1,6 +1,6 @@
 //! The commands that seal: what a run begins with, and the ledger file over which it seals.
 ghost use Rattle.std.specs.Prelude.{◌≡◌, ◌⊎◌, ◌<◌, ◌≤◌, ℕ, Bool, List, Option, length, map, true, ◌≢◌, IfOk, IfSome};
-ghost use Rattle.std.specs.Prelude.{[], false, OnErr, if◌then◌else◌};
+ghost use Rattle.std.specs.Prelude.{[], ◌∷◌, codes, false, IfErr, OnErr, if◌then◌else◌};
 ghost use Rattle.sha2.specs.Sha256.{sha256};
 ghost use Rattle.journal_core.specs.declared.entry.Entry.{Entry};
 ghost use Rattle.journal_core.specs.Journal.{terms_of};
@@ -13,9 +13,11 @@ ghost use Rattle.reserve_core.specs.NextRun.{IsFound};
 ghost use Rattle.sealer_core.specs.Complaints.{Complains};
 ghost use Rattle.sealer_core.specs.Piping.{HasSealedStream};
 ghost use Rattle.sealer_core.specs.Sealing.{FoldsFiles, Happened, HasSealed, IsWritten, ReservesFilesOnce};
+ghost use Rattle.sealer.specs.Status.{IsStatusOf, IsStatusOver};
 
-use crate::files::{clear, key_of, outputs_of, outs_of, progress_of};
-use crate::{Streams, complain};
+use crate::files::{clear, key_of, outs_of, progress_of, streams_of};
+use crate::kept::worked_of;
+use crate::{FAULT, Streams, complain};
 use clap::ArgMatches;
 use command_line::{PipeRequest, SealRequest, UsageFault, pipe_request, seal_request};
 use container_core::Key;
@@ -29,7 +31,7 @@ use std::io::{Read, Write, sink};
 use std::rt::{Clock, Files};
 use std::sync::Wait;
 use std::thread::Threads;
-use system_files::{OwnPaths, StandardInput, SystemFiles, new_journal};
+use system_files::{Makes, OwnPaths, StandardInput, SystemFiles, new_journal};
 use system_ledger::{LedgerFault, LedgerPath, close_ledger, may_open, open_ledger};
 
 /// What a run that seals begins with, in this order: the key file is read, the journal is created, and it is looked
@@ -39,7 +41,9 @@ fn begin<R: Files + AllocGlobal + Eprint>(
     key: &str,
     ledger: &LedgerPath<'_>,
     journal: Option<&str>,
-) -> Result<(Key, Option<ToWrite<R::File>>), u8> {
+) -> Result<(Key, Option<ToWrite<R::File>>), u8>
+    ensures status { IfErr result (λ status. status ≡ FAULT) }
+{
     let key = match key_of(rt, key) {
         Ok(key) => key,
         Err(fault) => return Err(complain(rt, "key", fault)),
@@ -54,7 +58,7 @@ fn begin<R: Files + AllocGlobal + Eprint>(
     }
 }
 
-/// Seals the files of these names.
+/// Seals the files of these names. The answer is the status, with the streams.
 pub(crate) fn seal<
     R: Files + AllocGlobal + Clock + Eprint + Threads + Wait + Sync,
     O: Write + Drop,
@@ -65,16 +69,30 @@ pub(crate) fn seal<
     matches: &ArgMatches<'_>,
     names: &[&str],
     streams: Streams<O, E>,
-) -> u8 {
+) -> (u8, Streams<O, E>)
+    ensures status { IsStatusOver matches.now result.0 (map (λ name. name.now) names.now)
+        (O.contents streams.output.0) (O.contents result.1.output.0) }
+{
     let request = match seal_request(matches, names) {
         Ok(request) => request,
-        Err(fault) => return complain(rt, "usage", fault),
+        Err(fault) => return (complain(rt, "usage", fault), streams),
     };
-    let progress = progress_of(rt, matches, names, streams.errors_terminal);
-    match outputs_of(rt, request.into, names, request.sync, progress.as_ref()) {
-        Ok(folder) => seal_to(rt, host, &request, folder, streams),
-        Err(fault) => complain(rt, "usage", fault),
+    let mut streams = streams;
+    let (skip, into) = (request.skip, request.into);
+    let files = match worked_of(rt, Makes::Container, skip, into, names, &mut streams.output) {
+        Ok(files) => files,
+        Err(status) => return (status, streams),
+    };
+    if files.is_empty() {
+        return (0, streams);
     }
+    let request = SealRequest {
+        files: files.as_slice(),
+        ..request
+    };
+    let progress = progress_of(rt, matches, request.files, streams.terminals.errors);
+    let folder = SystemFiles::new(rt, request.into, request.sync, progress.as_ref());
+    seal_to(rt, host, &request, folder, streams)
 }
 
 // Seals what is asked for, with the outputs in this folder.
@@ -89,12 +107,14 @@ fn seal_to<
     request: &SealRequest<'_, 'r>,
     folder: SystemFiles<'_, 'r, R>,
     streams: Streams<O, E>,
-) -> u8
+) -> (u8, Streams<O, E>)
     requires files { 0 < length request.now.files.now }
     requires workers { (0 < request.now.workers) × (request.now.workers ≤ MAX_WORKERS) }
     requires window { (0 < request.now.window) × (request.now.window ≤ MAX_WINDOW) }
     requires lanes { (0 < request.now.lanes) × (request.now.lanes ≤ MAX_LANES) }
     requires max_bytes { request.now.max_bytes ≤ MAX_BYTES }
+    ensures status { IsStatusOf result.0 (map (λ name. name.now) request.now.files.now) (O.contents streams.output.0)
+        (O.contents result.1.output.0) }
 {
     let mut folder = folder;
     // What is sealed of a ledger is a copy of it.
@@ -104,56 +124,51 @@ fn seal_to<
         journal: request.journal,
     });
     let progress = folder.progress;
-    let ledger = LedgerPath {
-        path: request.ledger,
-        may_make: request.may_make,
-    };
-    let (key, journal) = match begin(rt, request.key, &ledger, request.journal) {
-        Ok(begun) => begun,
-        Err(status) => return status,
-    };
-    let options = SealOptions {
-        device: request.device,
-        files: request.files,
-        workers: request.workers,
-        lanes: request.lanes,
-        window: request.window,
-        max_bytes: request.max_bytes,
-        shape: &request.shape,
-    };
-    let mut out = outs_of(streams, progress, journal);
-    match seal_from(
+    let (key, journal) = match begin(
         rt,
-        host,
-        &key,
-        &ledger,
-        Wary,
-        &mut folder,
-        &options,
-        &mut out,
+        request.key,
+        &ledger_of(request.ledger, request.may_make),
+        request.journal,
     ) {
+        Ok(begun) => begun,
+        Err(status) => return (status, streams),
+    };
+    let terminals = streams.terminals;
+    let mut out = outs_of(streams, progress, journal);
+    let status = match seal_from(rt, host, &key, request, Wary, &mut folder, &mut out) {
         Ok((status, file)) => {
             close_ledger(file);
             clear(progress);
             status
         }
         Err(fault) => complain(rt, "ledger", fault),
-    }
+    };
+    (status, streams_of(out, terminals))
 }
 
-/// Seals the input, and writes the container to the output, unless that is a terminal and this wasn't asked for.
+/// Seals the input, and writes the container to the output, unless that is a terminal and this wasn't asked for. The
+/// answer is the status, with the streams.
 pub(crate) fn pipe<
     R: Files + AllocGlobal + Eprint + Threads + Wait + Sync,
     I: Read + Drop,
     O: Write + Drop,
     E: Write + Drop,
->(rt: &R, host: &HostRuntime, matches: &ArgMatches<'_>, input: I, streams: Streams<O, E>) -> u8 {
+>(
+    rt: &R,
+    host: &HostRuntime,
+    matches: &ArgMatches<'_>,
+    input: I,
+    streams: Streams<O, E>,
+) -> (u8, Streams<O, E>)
+    ensures status { IsStatusOf result.0 (codes "-" ∷ []) (E.contents streams.errors.0)
+        (E.contents result.1.errors.0) }
+{
     let request = match pipe_request(matches) {
         Ok(request) => request,
-        Err(fault) => return complain(rt, "usage", fault),
+        Err(fault) => return (complain(rt, "usage", fault), streams),
     };
-    if streams.output_terminal && !request.to_terminal {
-        return complain(rt, "usage", UsageFault::Terminal);
+    if streams.terminals.output && !request.to_terminal {
+        return (complain(rt, "usage", UsageFault::Terminal), streams);
     }
     pipe_to(rt, host, &request, input, streams)
 }
@@ -164,45 +179,49 @@ fn pipe_to<
     I: Read + Drop,
     O: Write + Drop,
     E: Write + Drop,
->(rt: &R, host: &HostRuntime, request: &PipeRequest<'_>, input: I, streams: Streams<O, E>) -> u8
+>(
+    rt: &R,
+    host: &HostRuntime,
+    request: &PipeRequest<'_>,
+    input: I,
+    streams: Streams<O, E>,
+) -> (u8, Streams<O, E>)
     requires workers { (0 < request.now.workers) × (request.now.workers ≤ MAX_WORKERS) }
     requires depth { (0 < request.now.depth) × (request.now.depth ≤ MAX_DEPTH) }
     requires most { 0 < request.now.max_chunks }
+    ensures status { IsStatusOf result.0 (codes "-" ∷ []) (E.contents streams.errors.0)
+        (E.contents result.1.errors.0) }
 {
-    let ledger = LedgerPath {
-        path: request.ledger,
-        may_make: request.may_make,
-    };
+    let ledger = ledger_of(request.ledger, request.may_make);
     let (key, journal) = match begin(rt, request.key, &ledger, request.journal) {
         Ok(begun) => begun,
-        Err(status) => return status,
+        Err(status) => return (status, streams),
     };
     let own = OwnPaths {
         ledger: request.ledger,
         key: request.key,
         journal: request.journal,
     };
-    let options = PipeOptions {
-        device: request.device,
-        workers: request.workers,
-        depth: request.depth,
-        max_chunks: request.max_chunks,
-        shape: &request.shape,
-    };
+    let Streams {
+        output,
+        errors,
+        terminals,
+    } = streams;
+    let mut output = output;
     let mut out = Outs {
         lines: ToWrite(sink()),
-        faults: ToWrite(streams.errors),
+        faults: errors,
         journal,
     };
-    match pipe_from(
+    let mut input = FromRead(StandardInput::new(rt, input, own));
+    let status = match pipe_from(
         rt,
         host,
         &key,
-        &ledger,
+        request,
         Wary,
-        &mut FromRead(StandardInput::new(rt, input, own)),
-        &mut ToWrite(streams.output),
-        &options,
+        &mut input,
+        &mut output,
         &mut out,
     ) {
         Ok((status, file)) => {
@@ -210,10 +229,24 @@ fn pipe_to<
             status
         }
         Err(fault) => complain(rt, "ledger", fault),
-    }
+    };
+    let streams = Streams {
+        output,
+        errors: out.faults,
+        terminals,
+    };
+    (status, streams)
 }
 
-/// Opens this ledger file, and seals the files under a range that is reserved there. The answer is the status, with the
+// The ledger file of this path, which is made where there is none and that was asked for.
+fn ledger_of(path: &str, may_make: bool) -> LedgerPath<'_>
+    ensures path { result.path.now ≡ path.now }
+    ensures may_make { result.may_make ≡ may_make }
+{
+    LedgerPath { path, may_make }
+}
+
+/// Opens the ledger file that is asked for, and seals the files under a range that is reserved there. The answer is the status, with the
 /// ledger file. `S` stands for what the ledger file and its log hold.
 fn seal_from<
     R: AllocGlobal + Threads + Wait + Sync,
@@ -226,37 +259,37 @@ fn seal_from<
     rt: &R,
     host: &HostRuntime,
     key: &Key,
-    ledger: &LedgerPath<'_>,
+    request: &SealRequest<'_, '_>,
     start: S,
     folder: &mut F,
-    options: &SealOptions,
     out: &mut Outs<L, E, J>,
 ) -> Result<(u8, LedgerFile<FileStore<FileFrom<S>>>), LedgerFault>
-    requires files { 0 < length options.now.files.now }
-    requires workers { (0 < options.now.workers) × (options.now.workers ≤ MAX_WORKERS) }
-    requires window { (0 < options.now.window) × (options.now.window ≤ MAX_WINDOW) }
-    requires lanes { (0 < options.now.lanes) × (options.now.lanes ≤ MAX_LANES) }
-    requires max_bytes { options.now.max_bytes ≤ MAX_BYTES }
+    requires files { 0 < length request.now.files.now }
+    requires workers { (0 < request.now.workers) × (request.now.workers ≤ MAX_WORKERS) }
+    requires window { (0 < request.now.window) × (request.now.window ≤ MAX_WINDOW) }
+    requires lanes { (0 < request.now.lanes) × (request.now.lanes ≤ MAX_LANES) }
+    requires max_bytes { request.now.max_bytes ≤ MAX_BYTES }
     requires idle { IfSome (F.session folder.old) (λ session. session.begun ≡ []) }
     ensures status { IfOk result (λ r. r.0 ≤ 2) }
     // The ledger file was opened as it was found, and at most one range appended to it. Then no output was touched;
     // or the files were sealed over a range that was reserved there and that the file has without its log, with one
     // legal history, which the journal tells.
     ensures run { IfOk result (λ r. (keeper : _)
-        × (HasCleanDisk (file_state keeper) → IsFound over_files (image_at S.Start) keeper)
-        × ReservesFilesOnce LedgerFile.Kept LedgerFile.Folded (sha256 key.now) options.now.device
-        (length options.now.files.now) (LedgerFile.Kept keeper) r.1
+        × (HasCleanDisk (file_state keeper) → (it : IsFound over_files (image_at S.Start) keeper)
+        × (request.now.may_make ≡ false → (file_state it.connection).now.schema.tables ≢ []))
+        × ReservesFilesOnce LedgerFile.Kept LedgerFile.Folded (sha256 key.now) request.now.device
+        (length request.now.files.now) (LedgerFile.Kept keeper) r.1
         × (((r.0 ≡ 2) × (folder.new ≡ folder.old) × (out.new.lines ≡ out.old.lines)
         × (out.new.journal ≡ out.old.journal))
         ⊎ ((range : Numbers) × (history : List Entry) × (told : ℕ) × (written : Bool)
-        × FoldsFiles LedgerFile.Kept LedgerFile.Folded (sha256 key.now) options.now.device
-        (length options.now.files.now) (LedgerFile.Kept keeper) r.1 range
+        × FoldsFiles LedgerFile.Kept LedgerFile.Folded (sha256 key.now) request.now.device
+        (length request.now.files.now) (LedgerFile.Kept keeper) r.1 range
         × IsLawfulRange range
-        × HasSealed (Happened key.now options.now.shape.now options.now.max_bytes range.device
+        × HasSealed (Happened key.now request.now.shape request.now.max_bytes range.device
         (F.told folder.old) (F.told folder.new))
-        (map (λ name. name.now) options.now.files.now) (terms_of range options.now.lanes) history told
+        (map (λ name. name.now) request.now.files.now) (terms_of range request.now.lanes) history told
         (L.taken out.old.lines) (L.taken out.new.lines) (L.failures out.old.lines) (L.failures out.new.lines)
-        × IsWritten J.taken (journal_text (terms_of range options.now.lanes) history) written
+        × IsWritten J.taken (journal_text (terms_of range request.now.lanes) history) written
         out.old.journal out.new.journal
         × (r.0 ≡ (if written then told else 2))))) }
     ensures complaint { IfOk result (λ r. r.0 ≢ 2 → out.new.faults ≡ out.old.faults) }
@@ -266,12 +299,21 @@ fn seal_from<
     // The ledger file can't be used: no input or output was touched, no line and no journal written.
     ensures unopened { OnErr result ((folder.new ≡ folder.old) × (out.new ≡ out.old)) }
 {
-    let mut file = open_ledger(host, ledger, start)?;
-    let status = seal_all(rt, rt.alloc(), key, &mut file, folder, options, out);
+    let options = SealOptions {
+        device: request.device,
+        files: request.files,
+        workers: request.workers,
+        lanes: request.lanes,
+        window: request.window,
+        max_bytes: request.max_bytes,
+        shape: &request.shape,
+    };
+    let mut file = open_ledger(host, &ledger_of(request.ledger, request.may_make), start)?;
+    let status = seal_all(rt, rt.alloc(), key, &mut file, folder, &options, out);
     Ok((status, file))
 }
 
-/// Opens this ledger file, and seals a stream under a range of one number that is reserved there. The answer is the
+/// Opens the ledger file that is asked for, and seals a stream under a range of one number that is reserved there. The answer is the
 /// status, with the ledger file. `S` stands for what the ledger file and its log hold.
 fn pipe_from<
     T: AllocGlobal + Threads + Wait + Sync,
@@ -285,33 +327,33 @@ fn pipe_from<
     rt: &T,
     host: &HostRuntime,
     key: &Key,
-    ledger: &LedgerPath<'_>,
+    request: &PipeRequest<'_>,
     start: S,
     reader: &mut R,
     writer: &mut W,
-    options: &PipeOptions,
     out: &mut Outs<L, E, J>,
 ) -> Result<(u8, LedgerFile<FileStore<FileFrom<S>>>), LedgerFault>
-    requires workers { (0 < options.now.workers) × (options.now.workers ≤ MAX_WORKERS) }
-    requires depth { (0 < options.now.depth) × (options.now.depth ≤ MAX_DEPTH) }
-    requires most { 0 < options.now.max_chunks }
+    requires workers { (0 < request.now.workers) × (request.now.workers ≤ MAX_WORKERS) }
+    requires depth { (0 < request.now.depth) × (request.now.depth ≤ MAX_DEPTH) }
+    requires most { 0 < request.now.max_chunks }
     ensures status { IfOk result (λ r. r.0 ≤ 2) }
     // The ledger file was opened as it was found, and at most one range appended to it. Then nothing was read or
     // written; or the stream was sealed over a range of one number that was reserved there and that the file has
     // without its log, with one legal history, which the journal tells. On standard error there is a complaint, or the
     // stream's line and behind it at most a complaint, each of them perhaps cut short.
     ensures run { IfOk result (λ r. (keeper : _)
-        × (HasCleanDisk (file_state keeper) → IsFound over_files (image_at S.Start) keeper)
-        × ReservesFilesOnce LedgerFile.Kept LedgerFile.Folded (sha256 key.now) options.now.device 1
+        × (HasCleanDisk (file_state keeper) → (it : IsFound over_files (image_at S.Start) keeper)
+        × (request.now.may_make ≡ false → (file_state it.connection).now.schema.tables ≢ []))
+        × ReservesFilesOnce LedgerFile.Kept LedgerFile.Folded (sha256 key.now) request.now.device 1
         (LedgerFile.Kept keeper) r.1
         × (((r.0 ≡ 2) × (reader.new ≡ reader.old) × (writer.new ≡ writer.old) × (out.new.journal ≡ out.old.journal)
         × Complains (E.taken out.old.faults) (E.taken out.new.faults))
         ⊎ ((range : Numbers) × (history : List Entry) × (told : ℕ) × (written : Bool) × (lines : Option (List ℕ))
         × (failures : Option ℕ)
-        × FoldsFiles LedgerFile.Kept LedgerFile.Folded (sha256 key.now) options.now.device 1 (LedgerFile.Kept keeper)
+        × FoldsFiles LedgerFile.Kept LedgerFile.Folded (sha256 key.now) request.now.device 1 (LedgerFile.Kept keeper)
         r.1 range
         × IsLawfulRange range
-        × HasSealedStream key.now options.now.shape.now options.now.max_chunks
+        × HasSealedStream key.now request.now.shape request.now.max_chunks
         (R.left reader.old) (R.left reader.new) (R.failures reader.old) (R.failures reader.new)
         (W.taken writer.old) (W.taken writer.new) (W.failures writer.old) (W.failures writer.new)
         (terms_of range 1) history told (E.taken out.old.faults) lines (E.failures out.old.faults) failures
@@ -322,7 +364,15 @@ fn pipe_from<
     // The ledger file can't be used: nothing was read or written, no line and no journal.
     ensures unopened { OnErr result ((reader.new ≡ reader.old) × (writer.new ≡ writer.old) × (out.new ≡ out.old)) }
 {
-    let mut file = open_ledger(host, ledger, start)?;
-    let status = pipe_all(rt, rt.alloc(), key, &mut file, reader, writer, options, out);
+    let options = PipeOptions {
+        device: request.device,
+        workers: request.workers,
+        depth: request.depth,
+        max_chunks: request.max_chunks,
+        shape: &request.shape,
+    };
+    let mut file = open_ledger(host, &ledger_of(request.ledger, request.may_make), start)?;
+    let alloc = rt.alloc();
+    let status = pipe_all(rt, alloc, key, &mut file, reader, writer, &options, out);
     Ok((status, file))
 }

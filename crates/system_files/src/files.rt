@@ -8,6 +8,7 @@ use front_core::SealingFolder;
 use ledger_core::{FromRead, Ledger, Seat, ToWrite};
 use path_core::put_below;
 use reserve_core::{Fold, LedgerFile};
+use std::alloc::Global;
 use std::fs;
 use std::fs::{File, OpenFile};
 use std::io::BufReader;
@@ -77,6 +78,17 @@ impl<'p, 'r, R: Files + AllocGlobal + Clock + Eprint> SystemFiles<'p, 'r, R> {
         self.own = Some(own);
         own.has(file)
     }
+}
+
+/// The path of the output of this name: below a folder under its last name, where one is asked for. There is none where
+/// the name has no last one, or memory is refused.
+pub(crate) fn path_of(alloc: Global, into: Option<&str>, name: &str) -> Option<String> {
+    let mut path = String::new(alloc);
+    let is_placed = match into {
+        Some(folder) => put_below(&mut path, folder, name),
+        None => path.push_str(name).is_ok(),
+    };
+    if is_placed { Some(path) } else { None }
 }
 
 /// Why the journal file isn't there. The texts are those that the program prints.
@@ -178,14 +190,9 @@ impl<'p, 'r, R: Files + AllocGlobal + Clock + Eprint> Folder for SystemFiles<'p,
     }
 
     fn create(&mut self, name: &str) -> Result<Self::Writer, FolderFault> {
-        let mut path = String::new(self.rt.alloc());
-        let is_placed = match self.into {
-            Some(folder) => put_below(&mut path, folder, name),
-            None => path.push_str(name).is_ok(),
-        };
-        if !is_placed {
+        let Some(path) = path_of(self.rt.alloc(), self.into, name) else {
             return Err(FolderFault::Failed);
-        }
+        };
         match self.outputs.create(self.rt, path, self.sync) {
             Ok(output) => Ok(ToWrite(output)),
             Err(fault) => Err(fault),

@@ -2,11 +2,13 @@
 #![tactic(auto)]
 
 pub mod files;
+pub mod kept;
 pub mod outputs;
 pub mod own;
 pub mod progress;
 
 pub use crate::files::{JournalFault, SystemFiles, new_journal, open_unbuffered, stand_ins};
+pub use crate::kept::{Makes, Split, print_kept, split_names};
 pub use crate::own::{OwnPaths, StandardInput};
 pub use crate::progress::{Progress, Told};
 pub use path_core::{PlaceFault, are_apart, last_name};

@@ -1,0 +1,43 @@
+//! Which FILEs a run works: all, or with `--skip-existing` those of which what it makes doesn't exist yet.
+ghost use Rattle.std.specs.Prelude.{◌≡◌, ℕ, IfErr, IfOk, List, [], false, map};
+ghost use Rattle.io_core.specs.Streams.{Appends};
+ghost use Rattle.system_files.specs.Kept.{IsSplit, kept_text};
+
+use crate::{FAULT, complain};
+use command_line::UsageFault;
+use ledger_core::Sink;
+use std::rt::Files;
+use system_files::{Makes, are_apart, print_kept, split_names};
+
+/// The FILEs that a run works: of these names all, or with `skip` those of which what it makes doesn't exist yet. A line
+/// is printed for each of the others. A fault is printed, and its status answered: where outputs go into one folder, no two of the FILEs may
+/// have one last name.
+pub(crate) fn worked_of<'n, R: Files + AllocGlobal + Eprint, W: Sink>(
+    rt: &R,
+    makes: Makes,
+    skip: bool,
+    into: Option<&str>,
+    names: &[&'n str],
+    lines: &mut W,
+) -> Result<Vec<&'n str>, u8>
+    ensures kept { IfOk result (λ others. (kept : List (List ℕ))
+        × IsSplit (map (λ name. name.now) names.now) kept (map (λ name. name.now) others.items)
+        × (skip ≡ false → kept ≡ [])
+        × Appends (W.taken lines.old) (W.taken lines.new) (kept_text kept)) }
+    ensures status { IfErr result (λ status. status ≡ FAULT) }
+{
+    if into.is_some() {
+        match are_apart(rt.alloc(), names) {
+            Ok(()) => {}
+            Err(fault) => return Err(complain(rt, "usage", fault)),
+        }
+    }
+    let split = match split_names(rt, makes, skip, into, names) {
+        Ok(split) => split,
+        Err(_) => return Err(complain(rt, "usage", UsageFault::OutOfMemory)),
+    };
+    match print_kept(rt.alloc(), split.kept.as_slice(), lines) {
+        Ok(()) => Ok(split.others),
+        Err(_) => Err(FAULT),
+    }
+}

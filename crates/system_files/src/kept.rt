@@ -1,0 +1,100 @@
+//! FILEs whose outputs exist already: `--skip-existing` keeps these, and works the others.
+ghost use Rattle.std.specs.Prelude.{◌≡◌, IfOk, OnOk, [], false, map};
+ghost use Rattle.io_core.specs.Streams.{Appends};
+ghost use Rattle.system_files.specs.Kept.{IsSplit, kept_text};
+
+use crate::files::path_of;
+use ledger_core::{Failed, Sink, write_all};
+use std::alloc::{AllocError, Global};
+use std::fs;
+use std::rt::Files;
+
+/// What a run makes of a FILE.
+#[derive(Clone, Copy, PartialEq, Eq, Debug)]
+pub enum Makes {
+    /// Its container, under its name and `.stm`.
+    Container,
+    /// Its plaintext, under its name without `.stm`.
+    Plaintext,
+}
+
+/// The names of a run's FILEs: of those that are kept, and of the others, each in order.
+#[derive(Drop)]
+pub struct Split<'n> {
+    pub kept: Vec<&'n str>,
+    pub others: Vec<&'n str>,
+}
+
+/// Splits the names of FILEs: with `skip` those are kept of which what the run makes exists already, in the folder into
+/// which outputs go where one is asked for. Where that can't be told the FILE isn't kept.
+pub fn split_names<'n, R: Files + AllocGlobal>(
+    rt: &R,
+    makes: Makes,
+    skip: bool,
+    into: Option<&str>,
+    names: &[&'n str],
+) -> Result<Split<'n>, AllocError>
+    ensures split { IfOk result (λ split. IsSplit (map (λ name. name.now) names.now)
+        (map (λ name. name.now) split.kept.items) (map (λ name. name.now) split.others.items)) }
+    ensures none { skip ≡ false → IfOk result (λ split. split.kept.items ≡ []) }
+{
+    let mut kept = Vec::new(rt.alloc());
+    let mut others = Vec::new(rt.alloc());
+    for name in names {
+        if is_kept(rt, makes, skip, into, name) {
+            kept.push(*name)?;
+        } else {
+            others.push(*name)?;
+        }
+    }
+    Ok(Split { kept, others })
+}
+
+// Whether the FILE of this name is kept.
+fn is_kept<R: Files + AllocGlobal>(
+    rt: &R,
+    makes: Makes,
+    skip: bool,
+    into: Option<&str>,
+    name: &str,
+) -> bool
+    ensures none { skip ≡ false → result ≡ false }
+{
+    skip && is_made(rt, makes, into, name)
+}
+
+// Whether there is something under the name of what is made of this FILE.
+fn is_made<R: Files + AllocGlobal>(rt: &R, makes: Makes, into: Option<&str>, name: &str) -> bool {
+    match makes {
+        Makes::Container => match format!(in rt.alloc(); "{name}.stm") {
+            Ok(output) => is_there(rt, into, output.as_str()),
+            Err(_) => false,
+        },
+        Makes::Plaintext => match name.strip_suffix(".stm") {
+            Some(output) => is_there(rt, into, output),
+            None => false,
+        },
+    }
+}
+
+// Whether there is something where the output of this name would be.
+fn is_there<R: Files + AllocGlobal>(rt: &R, into: Option<&str>, output: &str) -> bool {
+    match path_of(rt.alloc(), into, output) {
+        Some(path) => fs::symlink_metadata(rt, path.as_str()).is_ok(),
+        None => false,
+    }
+}
+
+/// Prints a line for each FILE that is kept. It fails where a write fails, or memory for a line is refused.
+pub fn print_kept<W: Sink>(alloc: Global, names: &[&str], lines: &mut W) -> Result<(), Failed>
+    ensures ok { OnOk result (Appends (W.taken lines.old) (W.taken lines.new)
+        (kept_text (map (λ name. name.now) names.now))) }
+{
+    for name in names {
+        let Ok(line) = format!(in alloc; "kept {name}\n") else {
+            return Err(Failed);
+        };
+        write_all(lines, line.as_bytes())?;
+    }
+    Ok(())
+}
