@@ -2,7 +2,7 @@
 use Rattle.std.specs.Prelude.{◌≡◌, ◌≢◌, ◌⊎◌, ℕ, List, [], ◌∷◌, ◌++◌, Option, None, Some}
 use Rattle.std.specs.List.{All}
 
--- names one behind the other, each with the separator behind it
+-- names one after the other, each with the separator after it
 abbrev pub ended : ℕ → List (List ℕ) → List ℕ
 ended separator [] = []
 ended separator (name ∷ names) = name ++ separator ∷ ended separator names
@@ -11,7 +11,7 @@ ended separator (name ∷ names) = name ++ separator ∷ ended separator names
 abbrev pub IsName : ℕ → List ℕ → Type 0
 IsName separator name = (name ≢ []) × All (λ byte. byte ≢ separator) name
 
--- what a text lists: each name with the separator behind it, which may be missing behind the last one
+-- what a text lists: each name with the separator after it, which may be missing after the last one
 abbrev pub IsListOf : ℕ → List ℕ → List (List ℕ) → Type 0
 IsListOf separator text names = All (IsName separator) names
     × ((text ≡ ended separator names) ⊎ (text ++ separator ∷ [] ≡ ended separator names))

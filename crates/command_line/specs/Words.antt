@@ -13,12 +13,12 @@ abbrev pub unit_of : ℕ → Option ℕ
 unit_of letter = if letter == 75 then Some (1024 ^ 1) else if letter == 77 then Some (1024 ^ 2)
     else if letter == 71 then Some (1024 ^ 3) else if letter == 84 then Some (1024 ^ 4) else None
 
--- a number of 64 bits in base ten, where a plus may stand first
+-- a number of 64 bits in base ten, where a plus may come first
 abbrev pub is_number : List ℕ → Bool
 is_number text = nat_lt 0 (length (without_leading_plus text))
     && (all_ascii_digits (without_leading_plus text) && nat_lt (number_of text) (2 ^ 64))
 
--- what a number with a letter behind it stands for
+-- what a number with a letter after it stands for
 unfoldable pub scaled : List ℕ → Option ℕ
 scaled text = let digits = take (length text - 1) text in
     if is_number digits then option_map (λ unit. number_of digits * unit) (unit_of (slice_index text (length text - 1))) else None
@@ -42,13 +42,13 @@ unfoldable pub inline_number : ℕ → ℕ → List ℕ → Option ℕ
 inline_number processors most word =
     stands_for processors (takes_of most (before_first (λ b. b == 61) word)) (after_first (λ b. b == 61) word)
 
--- a word behind an option that takes this: an option with its value, that option's value, or as it is
+-- a word after an option that takes this: an option with its value, that option's value, or as it is
 unfoldable pub word_read : ℕ → ℕ → Takes → List ℕ → List ℕ
 word_read processors most before word =
     unwrap_or (option_map (λ n. before_first (λ b. b == 61) word ++ 61 ∷ decimal n) (inline_number processors most word))
     (unwrap_or (option_map decimal (stands_for processors before word)) word)
 
--- the words of a command, each behind an option or not, up to `--`
+-- the words of a command, each after an option or not, up to `--`
 unfoldable pub words_read : ℕ → ℕ → Takes → List (List ℕ) → List (List ℕ)
 words_read processors most before [] = []
 words_read processors most before (word ∷ words) = if bytes_eq word (codes "--") then word ∷ words

@@ -7,48 +7,44 @@ use crate::version::VERSION;
 use clap::{Command, Error};
 use std::alloc::Global;
 
-/// What stands at the end of the program's help.
+/// The end of the program's help.
 const SEALER_HELP: &str =
-    "Exit status: 0 where all is well, 1 where some FILE failed or the journal is not legal,
-2 at any other fault.
-Behind a command, --help tells its options and what it prints.";
+    "Exit status: 0 if all is well, 1 if some FILE failed or the journal is not legal, 2 at any other
+fault. COMMAND --help shows its options and what it prints.";
 
-/// What stands at the end of the help of `open` and `verify`.
+/// The end of the help of `open` and `verify`.
 const FILES_HELP: &str =
-    "A line on standard output tells of each FILE. Exit status: 0 where none failed, 1 where some
-did, 2 where nothing was done, or a line could not be written. open holds a FILE's plaintext in
-memory, verify some megabytes of it.";
+    "Prints a line for each FILE. Exit status: 0 if none failed, 1 if some did, 2 if nothing was done,
+or a line could not be written. open holds a FILE's plaintext in memory, verify some megabytes.";
 
-/// What stands at the end of the help of `seal`.
+/// The end of the help of `seal`.
 const SEAL_HELP: &str =
-    "A line on standard output tells of each FILE. Exit status: 0 where none failed, 1 where some
-did, 2 where standard error tells why, or a line could not be written. By several lanes FILEs are
-held in memory whole; at most 65535 a run.
+    "Prints a line for each FILE. Exit status: 0 if none failed, 1 if some did, 2 if standard error
+says why, or a line could not be written. With several lanes whole FILEs are held in memory. A run
+takes at most 65535.
 
-A key is made by `openssl rand -hex 32`. Back up the key and the sealed files. Keep one ledger file
-for each key and device number, and never use a copy of it, nor one that was restored: where it was
-lost or put back take a new device number, or a new key. Else two files can get one number, and then
-neither is safe.";
+Make a key by `openssl rand -hex 32`. Back up the key and the sealed files. Keep one ledger file for
+each key and device number, and never use a copy or a restored one. If it was lost or rolled back,
+take a new device number or a new key: else two files can get one number, and neither is safe.";
 
-/// What stands at the end of the help of `pipe`.
+/// The end of the help of `pipe`.
 const PIPE_HELP: &str =
-    "What stands on standard input is sealed as it comes, in the memory of --depth chunks, and its
-container written to standard output. One line on standard error tells of it. Exit status: 0 where
-the stream was sealed, 1 where that failed, and then the output is cut short, 2 where standard error
-tells why. The container is opened by open, like a FILE.stm.
+    "Standard input is sealed as it comes, in the memory of --depth chunks, and its container written
+to standard output. Prints one line on standard error. Exit status: 0 if the stream was sealed, 1 if
+not, and then the output is truncated, 2 if standard error says why. open opens the container, like
+a FILE.stm.
 
-As for seal: never use a copy of a ledger file, nor one that was restored.";
+As for seal: never use a copy of a ledger file, nor a restored one.";
 
-/// What stands at the end of the help of `audit`.
+/// The end of the help of `audit`.
 const AUDIT_HELP: &str =
-    "Exit status: 0 where the journal is legal, 1 where it is not, 2 where it could not be read or
-the verdict not be written.";
+    "Exit status: 0 if the journal is legal, 1 if it is not, 2 if it could not be read, or the verdict
+not be written.";
 
-/// What stands at the end of the help of `ledger`.
+/// The end of the help of `ledger`.
 const LEDGER_HELP: &str =
-    "A line on standard output tells of each key, by the beginning of its SHA-256, and device:
-ranges, numbers given, numbers left.
-Exit status: 0 where all were told, 2 where standard error tells why not.";
+    "Prints a line for each key, by the first bytes of its SHA-256, and device: ranges, numbers given,
+numbers left. Exit status: 0 if all were printed, 2 if standard error says why not.";
 
 /// The program's command: `seal`, `pipe`, `open`, `verify`, `audit` and `ledger`.
 pub fn command<'a>(alloc: Global) -> Result<Command<'a>, Error> {
@@ -91,7 +87,7 @@ fn audit_command<'a>(alloc: Global) -> Command<'a> {
 
 fn ledger_command<'a>(alloc: Global) -> Result<Command<'a>, Error> {
     let command = Command::new(alloc, "ledger")
-        .about("Tells what a ledger file holds, and changes nothing")
+        .about("Prints what a ledger file holds, and changes nothing")
         .after_help(LEDGER_HELP);
     with_rows(alloc, command, &HOLDINGS_ROWS)
 }

@@ -16,7 +16,7 @@ pub enum UsageFault {
     /// A label of more than 255 bytes.
     #[error("label too long")]
     LabelTooLong,
-    /// There are no files: none stands on the command line, and the list has none.
+    /// There are no files, neither on the command line nor in the list.
     #[error("no files")]
     NoFiles,
     /// A name in the list of files is empty.
@@ -25,13 +25,13 @@ pub enum UsageFault {
     /// The list of files isn't UTF-8.
     #[error("the list is no text")]
     ListNoText,
-    /// The list of files can't be read. The program tells it; no request does.
+    /// The list of files can't be read. The program reports it; no request does.
     #[error("cannot read the list")]
     CannotReadList,
     /// Memory was refused for the names.
     #[error("out of memory")]
     OutOfMemory,
-    /// A container would be written to a terminal, and that wasn't asked for. The program tells it; no request does.
+    /// A container would be written to a terminal, and that wasn't asked for. The program reports it; no request does.
     #[error("standard output is a terminal")]
     Terminal,
 }

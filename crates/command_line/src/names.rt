@@ -1,5 +1,5 @@
 //! The names of the files of a command: those of the command line, and those of a list, a text with a name a line, or
-//! with a byte 0 behind each.
+//! with a byte 0 after each.
 ghost use Rattle.std.specs.Prelude.{◌≡◌, ◌≢◌, ◌<◌, ◌++◌, ◌∷◌, ℕ, List, [], IfOk};
 ghost use Rattle.std.specs.Prelude.{IfSome, None, Some, codes, length, map};
 ghost use Rattle.std.specs.Prelude.{option_map, true, false};
@@ -16,7 +16,7 @@ use std::alloc::Global;
 pub struct ListRequest<'a> {
     /// Its path, or `-` for standard input.
     pub path: &'a str,
-    /// What stands behind each name.
+    /// What ends each name.
     pub separator: char,
 }
 
@@ -44,7 +44,7 @@ pub fn list_request<'a>(matches: &ArgMatches<'a>) -> Option<ListRequest<'a>>
     }
 }
 
-/// The names of the command line, and behind them those of the list, where there is one. `ListNoText` where the list
+/// The names of the command line, and then those of the list, where there is one. `ListNoText` where the list
 /// isn't UTF-8, `EmptyName` where a name in it is empty.
 pub fn files_of<'n>(
     alloc: Global,
@@ -77,7 +77,7 @@ pub fn files_of<'n>(
     }
 }
 
-/// The names that a text lists, in its order, each with the separator behind it; the last one may stand without.
+/// The names that a text lists, in its order, each with the separator after it; the last one may lack it.
 /// `EmptyName` where one is empty.
 pub fn names_in(alloc: Global, text: &str, separator: char) -> Result<Vec<&str>, UsageFault>
     requires ascii { separator < 128 }
@@ -103,7 +103,7 @@ pub fn names_in(alloc: Global, text: &str, separator: char) -> Result<Vec<&str>,
     }
 }
 
-// What stands before the first separator, and what stands behind it.
+// What comes before the first separator, and what comes after it.
 fn cut(text: &str, separator: char) -> Option<(&str, &str)>
     requires { separator < 128 }
     ensures whole { IfSome result (λ parts. text.now ≡ parts.0.now ++ separator ∷ parts.1.now) }

@@ -16,18 +16,18 @@ enum Takes {
     Folder,
     // A text, which need not be given.
     Text,
-    // A number in a range, and what stands where none is given.
+    // A number in a range, and what it is if none is given.
     Number {
         least: u32,
         most: u32,
         absent: Absent,
     },
-    // A number of bytes up to a greatest, and the one that stands where none is given.
+    // A number of bytes up to a greatest, and the one if none is given.
     Bytes {
         most: i64,
         default: &'static str,
     },
-    // Nothing, or behind `=` one of these words, and the one that stands where nothing is given there.
+    // Nothing, or after `=` one of these words, and the one if nothing is given there.
     Words {
         words: &'static [&'static str],
         absent: &'static str,
@@ -40,11 +40,11 @@ enum Takes {
     FilesUnless(&'static str),
 }
 
-// What stands where a number isn't given.
+// What a number is that isn't given.
 enum Absent {
     // This number.
     Default(&'static str),
-    // Nothing: that it isn't given tells something.
+    // Nothing: that it isn't given means something.
     Nothing,
     // It has to be given.
     Fault,
@@ -81,19 +81,18 @@ pub(crate) static FILE_ROWS: [Row; 4] = [
     Row {
         name: "FILE",
         takes: Takes::FilesUnless("files-from"),
-        help: "The files, whose lines stand in this order",
+        help: "The files; their lines are printed in this order",
     },
     Row {
         name: "files-from",
         takes: Takes::Path { is_required: false },
-        help: "A list of further FILEs, one a line, behind those of the command line;\n\
-            - is standard input",
+        help: "Read further FILEs from a list, one a line, after those of the command\n\
+            line; - is standard input",
     },
     Row {
         name: "null",
         takes: Takes::NothingWithout("files-from"),
-        help: "In the list of --files-from a NUL byte stands behind each FILE,\n\
-            not a line feed",
+        help: "FILEs in the list of --files-from end with a NUL byte, not a line feed",
     },
     Row {
         name: "progress",
@@ -101,7 +100,7 @@ pub(crate) static FILE_ROWS: [Row; 4] = [
             words: &["terminal", "always"],
             absent: "terminal",
         },
-        help: "Tell on standard error how far the run is, where that is a terminal,\n\
+        help: "Show progress on standard error if that is a terminal,\n\
             or always",
     },
 ];
@@ -111,19 +110,18 @@ pub(crate) static OUTPUT_ROWS: [Row; 3] = [
     Row {
         name: "into",
         takes: Takes::Folder,
-        help: "Put the outputs into this folder, each under the last name of its FILE;\n\
+        help: "Put the outputs into this folder, each under the base name of its FILE;\n\
             no two may be the same",
     },
     Row {
         name: "skip-existing",
         takes: Takes::Nothing,
-        help: "Keep each FILE whose output exists, and work only the others",
+        help: "Skip each FILE whose output exists: its line says kept, not failed",
     },
     Row {
         name: "sync",
         takes: Takes::Nothing,
-        help: "Tell the line of a FILE only once its output and the name of that\n\
-            are on the disk",
+        help: "Sync each output and its folder before its line is printed",
     },
 ];
 
@@ -135,15 +133,15 @@ pub(crate) static OPEN_ROWS: [Row; 2] = [
             most: MAX_OPENED as i64,
             default: "1073741824",
         },
-        help: "A FILE of more plaintext bytes is refused,\n\
+        help: "Refuse a FILE of more plaintext bytes,\n\
             0 to 4503599626321920, or max; N may end in K, M, G or T,\n\
             powers of 1024",
     },
     Row {
         name: "label",
         takes: Takes::Text,
-        help: "Only FILEs with this label pass, 0 to 255 bytes of UTF-8;\n\
-            without it no label is looked at",
+        help: "Accept only FILEs with this label, 0 to 255 bytes of UTF-8;\n\
+            without it any label passes",
     },
 ];
 
@@ -151,15 +149,15 @@ pub(crate) static OPEN_ROWS: [Row; 2] = [
 pub(crate) static SHOW_ROWS: [Row; 1] = [Row {
     name: "show",
     takes: Takes::Nothing,
-    help: "Behind the line of a good FILE print its version, bytes of a chunk,\n\
-        device, number and label",
+    help: "After the line of a good FILE print its version, chunk size, device,\n\
+        number and label",
 }];
 
-/// What the command takes that tells what a ledger file holds.
+/// What the command takes that prints what a ledger file holds.
 pub(crate) static HOLDINGS_ROWS: [Row; 1] = [Row {
     name: "ledger",
     takes: Takes::Path { is_required: true },
-    help: "The ledger file, which is read and not changed",
+    help: "The ledger file; it is not changed",
 }];
 
 /// What a command that seals takes besides: its numbers.
@@ -167,12 +165,12 @@ pub(crate) static LEDGER_ROWS: [Row; 3] = [
     Row {
         name: "ledger",
         takes: Takes::Path { is_required: true },
-        help: "The ledger file, which is made where there is none",
+        help: "The ledger file, created if there is none",
     },
     Row {
         name: "no-new-ledger",
         takes: Takes::Nothing,
-        help: "Refuse to make a ledger file: for every run but the first",
+        help: "Create no ledger file: for every run but the first",
     },
     Row {
         name: "device",
@@ -194,7 +192,7 @@ pub(crate) static SEAL_ROWS: [Row; 3] = [
             most: MAX_PLAIN as i64,
             default: "1073741824",
         },
-        help: "A FILE of more plaintext bytes is refused,\n\
+        help: "Refuse a FILE of more plaintext bytes,\n\
             0 to 1099511627776, or max; N may end in K, M, G or T,\n\
             powers of 1024",
     },
@@ -215,8 +213,8 @@ pub(crate) static SEAL_ROWS: [Row; 3] = [
             most: MAX_WINDOW,
             absent: Absent::Nothing,
         },
-        help: "Chunks sealed at a time, 1 to 256; without it 1 MiB,\n\
-            by one worker at most 16; of no effect with several lanes",
+        help: "Chunks sealed at a time, 1 to 256; if not given 1 MiB, with one worker\n\
+            at most 16; no effect with several lanes",
     },
 ];
 
@@ -229,7 +227,7 @@ pub(crate) static PIPE_ROWS: [Row; 3] = [
             most: MAX_DEPTH,
             absent: Absent::Default("16"),
         },
-        help: "Chunks that are read and not yet written, at most, 1 to 64",
+        help: "At most this many chunks are read and not yet written, 1 to 64",
     },
     Row {
         name: "max-chunks",
@@ -238,14 +236,14 @@ pub(crate) static PIPE_ROWS: [Row; 3] = [
             most: u32::MAX,
             absent: Absent::Default("16384"),
         },
-        help: "A stream of more chunks is refused where the next one begins,\n\
+        help: "Refuse a stream of more chunks, once the next one begins,\n\
             1 to 4294967295, or max; N may end in K, M, G or T,\n\
             powers of 1024",
     },
     Row {
         name: "force-terminal",
         takes: Takes::Nothing,
-        help: "Write the container to a terminal too",
+        help: "Write the container even to a terminal",
     },
 ];
 
@@ -273,7 +271,7 @@ pub(crate) static SHAPE_ROWS: [Row; 3] = [
     },
 ];
 
-// A number in a range, with what stands where none is given.
+// A number in a range, with what it is if none is given.
 fn number<'a>(arg: Arg<'a>, least: u32, most: u32, absent: &Absent) -> Arg<'a> {
     let range = i64::from(least)..=i64::from(most);
     let arg = arg.value_parser(value_parser!(u32).range(range));

@@ -20,7 +20,7 @@ use ledger_core::Device;
 /// The exponent of the size of the chunks where a label is given alone: chunks of 65,536 bytes.
 pub const DEFAULT_EXPONENT: u32 = 16;
 
-/// When a run tells on standard error how far it is.
+/// When a run shows on standard error how far it is.
 #[derive(Clone, Copy, PartialEq, Eq, Debug)]
 pub enum Showing {
     /// It doesn't.
@@ -31,7 +31,7 @@ pub enum Showing {
     Always,
 }
 
-/// When a run over files is asked to tell how far it is.
+/// When a run over files is asked to show how far it is.
 pub fn showing_asked(matches: &ArgMatches<'_>) -> Showing
     ensures never { first_value (found_of matches.now) (codes "progress") ≡ None → result ≡ Showing.Never }
     ensures always { first_value (found_of matches.now) (codes "progress") ≡ Some (codes "always")

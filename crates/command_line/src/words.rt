@@ -20,7 +20,7 @@ pub enum Takes {
     Numbers,
 }
 
-/// Writes out in digits what stands for a number: of `--max-bytes` and `--max-chunks` a number with K, M, G or T behind
+/// Writes out in digits what stands for a number: of `--max-bytes` and `--max-chunks` a number with K, M, G or T after
 /// it, for powers of 1,024, and `max`, of `--workers` and `--lanes` `auto`, for as many as there are processors.
 pub fn write_out(
     alloc: Global,
@@ -141,7 +141,7 @@ fn stands_for(processors: usize, takes: Takes, value: &str) -> Option<u128>
     }
 }
 
-// What a number with a letter behind it stands for.
+// What a number with a letter after it stands for.
 fn scaled(text: &str) -> Option<u128>
     ensures { result ≡ scaled text.now }
 {

@@ -1,4 +1,4 @@
-//! What a run needs before its files: the key, the list of their names, where their outputs go, and on what it tells.
+//! What a run needs before its files: the key, the list of their names, where its lines go, and its progress.
 ghost use Rattle.std.specs.Prelude.{◌<◌, ◌≡◌, IfOk, IfSome};
 
 use crate::{Streams, Terminals};
@@ -60,7 +60,7 @@ fn read_whole<I: Read + Drop>(alloc: Global, input: I) -> Result<Vec<u8>, UsageF
     }
 }
 
-/// The names of the command line, and behind them those of the list.
+/// The names of the command line, and then those of the list.
 pub(crate) fn names_of<'n>(
     alloc: Global,
     matches: &'n ArgMatches<'_>,
@@ -75,7 +75,7 @@ pub(crate) fn names_of<'n>(
     }
 }
 
-/// What a run over files tells on: what was drawn of how far it is is taken away before each line.
+/// Where a run over files prints: the line of its progress is taken away before each other line.
 pub(crate) fn outs_of<'p, 'r, R: Files + Clock + Eprint, O: Write + Drop, E: Write + Drop>(
     streams: Streams<O, E>,
     progress: Option<&'p Progress<'r, R>>,
@@ -120,7 +120,7 @@ pub(crate) fn clear<R: Clock + Eprint>(progress: Option<&Progress<'_, R>>) {
     }
 }
 
-/// What tells on standard error how far a run over these files is, where that is asked for. `terminal` tells whether
+/// What shows on standard error how far a run over these files is, where that is asked for. `terminal` says whether
 /// standard error is one.
 pub(crate) fn progress_of<'r, R: Files + Clock + Eprint>(
     rt: &'r R,

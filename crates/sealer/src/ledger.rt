@@ -1,4 +1,4 @@
-//! The command that tells what a ledger file holds.
+//! The command that prints what a ledger file holds.
 
 use crate::{Streams, complain};
 use clap::ArgMatches;

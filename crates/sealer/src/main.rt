@@ -188,7 +188,7 @@ fn run<
     }
 }
 
-/// Seals, opens or verifies the files of the command line, and behind them those of its list.
+/// Seals, opens or verifies the files of the command line, and then those of its list.
 fn over_files<
     R: Files + AllocGlobal + Clock + Eprint + Threads + Wait + Sync,
     I: Read + Drop,

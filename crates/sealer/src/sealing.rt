@@ -340,7 +340,7 @@ fn pipe_from<
     // The ledger file was opened as it was found, and at most one range appended to it. Then nothing was read or
     // written; or the stream was sealed over a range of one number that was reserved there and that the file has
     // without its log, with one legal history, which the journal tells. On standard error there is a complaint, or the
-    // stream's line and behind it at most a complaint, each of them perhaps cut short.
+    // stream's line and after it at most a complaint, each of them perhaps cut short.
     ensures run { IfOk result (λ r. (keeper : _)
         × (HasCleanDisk (file_state keeper) → (it : IsFound over_files (image_at S.Start) keeper)
         × (request.now.may_make ≡ false → (file_state it.connection).now.schema.tables ≢ []))

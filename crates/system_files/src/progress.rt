@@ -1,8 +1,8 @@
-//! The line on standard error that tells how far a run is: files done of all, bytes done, bytes a second, and the time
+//! The line on standard error that shows how far a run is: files done of all, bytes done, bytes a second, and the time
 //! left where the sizes of all files are known.
 //!
 //! It is redrawn at most five times a second, as bytes are read, taken away before a line of the run is told, drawn
-//! again behind it, and taken away at the end. The time begins with the first bytes, which its speed doesn't count. It
+//! again after it, and taken away at the end. The time begins with the first bytes, which its speed doesn't count. It
 //! changes nothing else, and where the clock fails there is none.
 ghost use Rattle.std.specs.Prelude.{◌≡◌};
 
@@ -185,15 +185,14 @@ impl<R: Clock + Eprint, F: Read + Drop> Read for Counted<'_, '_, R, F> {
     }
 }
 
-/// A stream on which a run tells lines: the line that tells how far it is is taken away first, and drawn again behind
-/// it.
+/// A stream on which a run prints lines: the line of its progress is taken away first, and drawn again after it.
 #[derive(Drop)]
 pub struct Told<'p, 'r, R: Clock + Eprint, W: Write + Drop> {
     /// The stream.
     pub writer: W,
     /// What is taken away.
     pub progress: Option<&'p Progress<'r, R>>,
-    /// Whether each line tells of a file.
+    /// Whether each line is that of a file.
     pub of_files: bool,
 }
 
