@@ -1,6 +1,7 @@
 //! The ledger file at a path: whether a run may open it, its opening and closing, and what it holds.
 #![tactic(auto)]
 
+mod begun;
 pub mod holdings;
 pub mod ledger;
 mod log;

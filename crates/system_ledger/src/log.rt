@@ -1,19 +1,11 @@
 //! The log that a database keeps beside its file (PATH-wal), and whether it goes with the file.
+use crate::begun::{WITHOUT_PAGE, has_only_begun};
 use crate::marks::{Mark, keeps_marks};
 use sqlite::{Alter, Connection, Error, ErrorCode, FileStore, Files as DiskFiles, Options, Row};
 use sqlite_disk::{Disk, Memory};
 use std::alloc::{AllocError, Global};
 use std::fs;
 use std::rt::Files;
-
-// Bytes of a log that holds no page yet: its header, and that of a frame.
-const WITHOUT_PAGE: u64 = 32 + 24;
-
-// Where a log's header has the number of its round, and that of a log that was begun with its file. Each copying into
-// the file begins a further round, and the first of these is 0.
-const ROUND: usize = 12;
-
-const BEGUN: [u8; 4] = [0xff; 4];
 
 // The name of the log. It lies where a link to the ledger file leads.
 pub(crate) fn log_beside<R: Files + AllocGlobal>(rt: &R, path: &str) -> Result<String, AllocError> {
@@ -23,14 +15,13 @@ pub(crate) fn log_beside<R: Files + AllocGlobal>(rt: &R, path: &str) -> Result<S
     }
 }
 
-// Whether a log of this length is one that a run left which was killed while it made the file: there is none, it has at
-// most a byte, or it is in its first round and has no page.
+// Whether a log of this length is one that a run left which was cut off while it made the file, or there is none.
 pub(crate) fn log_is_begun<R: Files + AllocGlobal>(rt: &R, log: &str, bytes: Option<u64>) -> bool {
     match bytes {
-        None | Some(0 | 1) => true,
-        Some(bytes) if bytes > WITHOUT_PAGE => false,
+        None => true,
+        Some(bytes) if bytes > WITHOUT_PAGE as u64 => false,
         Some(_) => match fs::read(rt, log) {
-            Ok(header) => header.len() >= ROUND + 4 && header[ROUND..ROUND + 4] == BEGUN[..],
+            Ok(log) => has_only_begun(log.as_slice()),
             Err(_) => false,
         },
     }
@@ -47,7 +38,7 @@ pub(crate) fn log_adds<R: Files + AllocGlobal>(
     bytes: Option<u64>,
 ) -> bool {
     match bytes {
-        Some(bytes) if bytes > WITHOUT_PAGE => {}
+        Some(bytes) if bytes > WITHOUT_PAGE as u64 => {}
         _ => return true,
     }
     let (Ok(db), Ok(log)) = (fs::read(rt, path), fs::read(rt, log)) else {

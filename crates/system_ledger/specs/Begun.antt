@@ -1,0 +1,24 @@
+-- The log beside an empty ledger file, where a run was cut off as it made the two.
+use Rattle.std.specs.Prelude.{◌≡◌, ◌≢◌, ◌⊎◌, ◌≤◌, ℕ, List, length, slice_index, slice_set, take}
+use Rattle.sqlite_wal.specs.Format.{be32, IsSigned}
+use Rattle.sqlite_wal.specs.Recovery.{Passes}
+
+-- no frame of the log has sums that hold, for pages of any size
+abbrev pub HasNoFrame : List ℕ → Type 0
+HasNoFrame log = (page_size i : ℕ) → 512 ≤ page_size → ¬ Passes page_size log i
+
+-- the header's number of its round is that of a log that is made with its file, which no copying of the log begins
+abbrev pub IsOfFirstRound : List ℕ → Type 0
+IsOfFirstRound log = (16 ≤ length log) × (be32 log 12 ≡ 0xffff_ffff)
+
+-- the first byte of a log is written last, once all others are on the disk
+abbrev pub IsShut : List ℕ → Type 0
+IsShut log = slice_index log 0 ≢ 0x37
+
+-- there is a header whose sum holds, but perhaps for the first byte
+abbrev pub HasHeader : List ℕ → Type 0
+HasHeader log = (32 ≤ length log) × IsSigned (slice_set (take 32 log) 0 0x37)
+
+-- It has no room for a frame with a page, and is of the first round, or was cut off in a write of its header.
+abbrev pub HasOnlyBegun : List ℕ → Type 0
+HasOnlyBegun log = (length log ≤ 56) × ((length log ≤ 1) ⊎ (IsOfFirstRound log ⊎ (IsShut log × (¬ HasHeader log))))

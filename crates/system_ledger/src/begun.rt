@@ -1,0 +1,94 @@
+//! The log that a run leaves beside an empty ledger file where it is cut off as it makes the two. The database writes the
+//! log's first byte last, once its others are on the disk, and only then the file; its copies of the log into the file
+//! begin rounds of other numbers.
+ghost use Rattle.std.specs.Prelude.{◌≡◌, ◌+◌, ◌≤◌, ◌↔◌, length, IsTrue};
+ghost use Rattle.sqlite_wal.specs.Format.{be32, stored_sum, IsSigned};
+ghost use Rattle.system_ledger.specs.Begun.{HasHeader, HasNoFrame, HasOnlyBegun, IsOfFirstRound};
+
+use sqlite_wal::checksum_of;
+
+/// Bytes of a log that holds no page yet: its header, and that of a frame.
+pub const WITHOUT_PAGE: usize = 32 + 24;
+
+// Bytes of a log's header, where it has the number of its round, and where its sum.
+const HEADER: usize = 32;
+
+const ROUND: usize = 12;
+
+const SUM: usize = 24;
+
+// The first byte of a log.
+const FIRST: u8 = 0x37;
+
+/// Whether a log beside an empty ledger file was only begun with it, so that no number was ever reserved in the two.
+pub fn has_only_begun(log: &[u8]) -> bool
+    ensures begun { IsTrue result ↔ HasOnlyBegun log.now }
+    ensures no_frame { IsTrue result → HasNoFrame log.now }
+{
+    if log.len() > WITHOUT_PAGE {
+        return false;
+    }
+    if log.len() <= 1 {
+        return true;
+    }
+    if is_of_first_round(log) {
+        return true;
+    }
+    if log[0] == FIRST {
+        return false;
+    }
+    !has_header(log)
+}
+
+// Whether its header has the number of the first round.
+fn is_of_first_round(log: &[u8]) -> bool
+    ensures { IsTrue result ↔ IsOfFirstRound log.now }
+{
+    log.len() >= ROUND + 4 && number_at(log, ROUND) == 0xffff_ffff
+}
+
+// Whether it has a header whose sum holds, but perhaps for the first byte.
+fn has_header(log: &[u8]) -> bool
+    ensures { IsTrue result ↔ HasHeader log.now }
+{
+    if log.len() < HEADER {
+        return false;
+    }
+    let mut header = [0; HEADER];
+    header.copy_from_slice(&log[..HEADER]);
+    header[0] = FIRST;
+    is_signed(&header)
+}
+
+// Whether it begins with the magic number and ends with its sum.
+fn is_signed(header: &[u8; HEADER]) -> bool
+    ensures { IsTrue result ↔ IsSigned header.now }
+{
+    if header[0] != FIRST || header[1] != 0x7f || header[2] != 0x06 {
+        return false;
+    }
+    if header[3] != 0x82 && header[3] != 0x83 {
+        return false;
+    }
+    let sum = checksum_of(header[3] == 0x83, (0, 0), &header[..SUM]);
+    sum == sum_at(header, SUM)
+}
+
+// The sum that is stored there.
+fn sum_at(bytes: &[u8], at: usize) -> (u32, u32)
+    requires { at + 8 ≤ length bytes.now }
+    ensures { result ≡ stored_sum bytes.now at }
+{
+    (number_at(bytes, at), number_at(bytes, at + 4))
+}
+
+// Four bytes as a number, the highest first.
+fn number_at(bytes: &[u8], at: usize) -> u32
+    requires { at + 4 ≤ length bytes.now }
+    ensures { result ≡ be32 bytes.now at }
+{
+    bytes[at] as u32 * 0x100_0000
+        + bytes[at + 1] as u32 * 0x1_0000
+        + bytes[at + 2] as u32 * 0x100
+        + bytes[at + 3] as u32
+}
