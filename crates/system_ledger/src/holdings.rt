@@ -1,6 +1,6 @@
 //! What a ledger file holds: read, and nothing is changed, neither the file nor the log beside it.
 
-use crate::ledger::{LedgerFault, LedgerPath, keeper_over, may_open};
+use crate::ledger::{LedgerFault, LedgerPath, goes_with_log, keeper_over};
 use crate::log::{log_beside, opened};
 use reserve_core::NUMBERS;
 use sqlite::{Alter, Connection, Row};
@@ -54,7 +54,7 @@ pub fn read_holdings<R: Files + AllocGlobal>(
         path,
         may_make: false,
     };
-    may_open(rt, &ledger)?;
+    goes_with_log(rt, &ledger)?;
     match log_beside(rt, path) {
         Ok(log) => match read_alike(rt, path, log.as_str()) {
             Some(read) => held_by(
@@ -67,11 +67,11 @@ pub fn read_holdings<R: Files + AllocGlobal>(
     }
 }
 
-// The bytes of the two files.
+/// The bytes of the two files.
 #[derive(Drop)]
-struct Both {
-    log: Vec<u8>,
-    db: Vec<u8>,
+pub(crate) struct Both {
+    pub(crate) log: Vec<u8>,
+    pub(crate) db: Vec<u8>,
 }
 
 // The two files, where a run could open them, and they were the same when they were read again.
@@ -87,9 +87,9 @@ fn read_alike<R: Files + AllocGlobal>(rt: &R, path: &str, log: &str) -> Option<B
     }
 }
 
-// The two files. What is no database is refused before it is read whole. Where the log has pages the file's first one
-// may be among them.
-fn read_both<R: Files + AllocGlobal>(rt: &R, path: &str, log: &str) -> Option<Both> {
+/// The two files. What is no database is refused before it is read whole. Where the log has pages the file's first one
+/// may be among them.
+pub(crate) fn read_both<R: Files + AllocGlobal>(rt: &R, path: &str, log: &str) -> Option<Both> {
     let log = read_if_there(rt, log).ok()?;
     if log.is_empty() && !begins_as_database(rt, path) {
         return None;
@@ -117,9 +117,9 @@ fn begins_as_database<R: Files>(rt: &R, path: &str) -> bool {
     file.read_exact(&mut front).is_ok() && front == *b"SQLite format 3\0"
 }
 
-// Whether a run could open these files: each has one name and is no folder or device, and no database left something
-// beside it to play back.
-fn is_alone<R: Files + AllocGlobal>(rt: &R, path: &str, log: &str) -> bool {
+/// Whether a run could open these files: each has one name and is no folder or device, and no database left something
+/// beside it to play back.
+pub(crate) fn is_alone<R: Files + AllocGlobal>(rt: &R, path: &str, log: &str) -> bool {
     let Some(base) = log.strip_suffix("-wal") else {
         return false;
     };

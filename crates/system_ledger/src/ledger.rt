@@ -9,6 +9,7 @@ ghost use Rattle.reserve_core.specs.Lasting.{LeavesOnlyThis};
 ghost use Rattle.reserve_core.specs.Reservations.{Holds, Opened, no_lists};
 ghost use Rattle.reserve_core.specs.NextRun.{IsFound};
 
+use crate::foreign::may_be_ledger;
 use crate::holdings::begins_with_zero;
 use crate::log::{log_adds, log_beside, log_is_begun};
 use reserve_core::{Keeper, LedgerFile, ReserveFault};
@@ -44,7 +45,7 @@ pub struct LedgerPath<'a> {
     pub may_make: bool,
 }
 
-/// Whether a run may open this ledger file, before anything is opened or made.
+/// Whether a run may open this ledger file, before anything is opened to be written, or made.
 ///
 /// `CannotOpen` comes for a log (PATH-wal) that doesn't go with the file: beside no file any that isn't empty, and
 /// beside an empty file any but one that was only begun, since that file was lost or put elsewhere, and the database
@@ -52,10 +53,32 @@ pub struct LedgerPath<'a> {
 /// device than without it, as far as the file alone is a ledger, or for which memory to tell this is refused.
 /// `NotThere` comes where there is no file, or an empty one, and none may be made. A file of a single 0 counts as
 /// empty, since the database begins its file so; one of another byte is no database.
+///
+/// Of a file that isn't empty the tables are looked at, as far as it and its log can be read: what is no database is
+/// `CannotOpen`, one of something else `NotLedger`, and one without tables `NotThere` where none may be made.
 pub fn may_open<R: Files + AllocGlobal>(
     rt: &R,
     ledger: &LedgerPath<'_>,
 ) -> Result<(), LedgerFault> {
+    match goes_with_log(rt, ledger)? {
+        Some(files) => may_be_ledger(rt, ledger, &files),
+        None => Ok(()),
+    }
+}
+
+/// A ledger file that isn't empty, and its log.
+#[derive(Drop)]
+pub(crate) struct Lengths {
+    pub(crate) log: String,
+    pub(crate) file_bytes: u64,
+    pub(crate) log_bytes: u64,
+}
+
+/// Whether the log goes with the file, or there is none and one may be made. `None` is that the file is empty.
+pub(crate) fn goes_with_log<R: Files + AllocGlobal>(
+    rt: &R,
+    ledger: &LedgerPath<'_>,
+) -> Result<Option<Lengths>, LedgerFault> {
     let path = ledger.path;
     let Ok(log) = log_beside(rt, path) else {
         return Err(LedgerFault::CannotOpen);
@@ -78,8 +101,15 @@ pub fn may_open<R: Files + AllocGlobal>(
     if !goes_with_it {
         return Err(LedgerFault::CannotOpen);
     }
-    if ledger.may_make || !is_new {
-        Ok(())
+    if !is_new {
+        return Ok(Some(Lengths {
+            log,
+            file_bytes: file_bytes.unwrap_or(0),
+            log_bytes: log_bytes.unwrap_or(0),
+        }));
+    }
+    if ledger.may_make {
+        Ok(None)
     } else {
         Err(LedgerFault::NotThere)
     }

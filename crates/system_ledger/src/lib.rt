@@ -2,6 +2,7 @@
 #![tactic(auto)]
 
 mod begun;
+mod foreign;
 pub mod holdings;
 pub mod ledger;
 mod log;

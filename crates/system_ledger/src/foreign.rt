@@ -1,0 +1,141 @@
+//! Somebody else's database, where a ledger file is asked for: it is refused before anything is made beside it and before
+//! it is opened by what writes.
+
+use crate::begun::WITHOUT_PAGE;
+use crate::holdings::{is_alone, read_both};
+use crate::ledger::{LedgerFault, LedgerPath, Lengths, keeper_over};
+use crate::log::opened;
+use sqlite::{Alter, Connection};
+use std::alloc::Global;
+use std::fs::OpenOptions;
+use std::io::Read;
+use std::rt::Files;
+
+// Bytes of the largest page that a database can have, and of the longest file that is read in memory where its first
+// page is enough to refuse it.
+const PAGE: usize = 1 << 16;
+
+const READ: u64 = 1 << 24;
+
+// Bytes of the smallest page on which the four entries of a ledger's tables and keys have room in every form.
+const ROOMY: usize = 1 << 12;
+
+// Where the database's header ends and the first page's own begins, with its kind, and the number of its entries.
+const KIND: usize = 100;
+
+const ENTRIES: usize = 103;
+
+const LEAF: u8 = 0x0d;
+
+const INNER: u8 = 0x05;
+
+// What the first page says of the tables, where no log has another.
+#[derive(Clone, Copy, PartialEq, Eq)]
+enum Front {
+    // They are a ledger's two, with their keys.
+    Ledger,
+    // There are others.
+    Other,
+    // It doesn't say.
+    Unclear,
+}
+
+/// Whether the tables of a file that isn't empty let it be opened as a ledger, as far as they can be read. The file is
+/// opened as the database opens it, and its log only read; of a ledger that no cut off run left no more than the first
+/// page is read.
+pub(crate) fn may_be_ledger<R: Files + AllocGlobal>(
+    rt: &R,
+    ledger: &LedgerPath<'_>,
+    files: &Lengths,
+) -> Result<(), LedgerFault> {
+    let (path, log) = (ledger.path, files.log.as_str());
+    if !is_alone(rt, path, log) {
+        return Err(LedgerFault::CannotOpen);
+    }
+    let front = front_of(rt, path)?;
+    if files.log_bytes <= WITHOUT_PAGE as u64 {
+        if front == Front::Ledger {
+            return Ok(());
+        }
+        if front == Front::Other && files.file_bytes > READ {
+            return Err(LedgerFault::NotLedger);
+        }
+    }
+    match read_both(rt, path, log) {
+        Some(read) => match opened(rt.alloc(), read.log.as_slice(), read.db.as_slice()) {
+            Ok(Some(connection)) => look_at(connection, ledger.may_make),
+            _ => Err(LedgerFault::CannotOpen),
+        },
+        None => Err(LedgerFault::CannotOpen),
+    }
+}
+
+// What the first page of a file says, which can be read and written.
+fn front_of<R: Files + AllocGlobal>(rt: &R, path: &str) -> Result<Front, LedgerFault> {
+    let Ok(file) = OpenOptions::new().read(true).write(true).open(rt, path) else {
+        return Err(LedgerFault::CannotOpen);
+    };
+    let Ok(mut front) = Vec::with_capacity(rt.alloc(), PAGE) else {
+        return Err(LedgerFault::CannotOpen);
+    };
+    match file.take(PAGE as u64).read_to_end(&mut front) {
+        Ok(_) => Ok(front_in(front.as_slice())),
+        Err(_) => Err(LedgerFault::CannotOpen),
+    }
+}
+
+// What these bytes say, with which a file begins.
+fn front_in(front: &[u8]) -> Front {
+    if front.len() < ENTRIES + 2 || !front.starts_with(b"SQLite format 3\0") {
+        return Front::Unclear;
+    }
+    let page = front[16] as usize * 0x100 + front[17] as usize;
+    let entries = front[ENTRIES] as usize * 0x100 + front[ENTRIES + 1] as usize;
+    let kind = front[KIND];
+    if kind == LEAF && entries == 4 && has_both(front) {
+        Front::Ledger
+    } else if kind == LEAF && entries > 0 || kind == INNER && (page == 1 || page >= ROOMY) {
+        Front::Other
+    } else {
+        Front::Unclear
+    }
+}
+
+// Whether there are entries of the two tables: in one stand the kind, the name and the table's name, one behind another.
+fn has_both(front: &[u8]) -> bool {
+    has(front, b"tablemarkmark") && has(front, b"tabletakentaken")
+}
+
+fn has(bytes: &[u8], word: &[u8]) -> bool {
+    for at in 0..bytes.len() {
+        if bytes[at..].starts_with(word) {
+            return true;
+        }
+    }
+    false
+}
+
+// Whether a database that was opened in memory is a ledger, or has no tables yet where one may be made. Where it has a
+// ledger's tables their rows are left to the keeper.
+fn look_at<S: Alter + Drop>(connection: Connection<S>, may_make: bool) -> Result<(), LedgerFault> {
+    if has_tables(&connection) {
+        return Ok(());
+    }
+    match keeper_over(connection, may_make) {
+        Ok(_) => Ok(()),
+        Err(fault) => Err(fault),
+    }
+}
+
+// Whether it has the two tables by name, their keys, and nothing else.
+fn has_tables<S: Alter>(connection: &Connection<S>) -> bool {
+    let schema = connection.schema();
+    if schema.indexes.len() != 2 || schema.views.len() != 0 {
+        return false;
+    }
+    match schema.tables.as_slice() {
+        [mark, taken] => mark.name.as_slice() == b"mark".as_slice()
+            && taken.name.as_slice() == b"taken".as_slice(),
+        _ => false,
+    }
+}
