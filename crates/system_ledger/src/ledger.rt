@@ -1,5 +1,5 @@
 //! The ledger file.
-ghost use Rattle.std.specs.Prelude.{◌≡◌, ◌≢◌, false, [], IfOk};
+ghost use Rattle.std.specs.Prelude.{◌≡◌, ◌≢◌, false, [], IfOk, IsTrue};
 ghost use Rattle.sqlite_wal.specs.Files.{image_at};
 ghost use Rattle.sqlite.specs.Files.{file_state, over_files, IsOpened};
 ghost use Rattle.sqlite.specs.Start.{FindsIn};
@@ -9,12 +9,13 @@ ghost use Rattle.reserve_core.specs.Lasting.{LeavesOnlyThis};
 ghost use Rattle.reserve_core.specs.Reservations.{Holds, Opened, no_lists};
 ghost use Rattle.reserve_core.specs.NextRun.{IsFound};
 
+use crate::begun::{WITHOUT_PAGE, has_only_begun};
 use crate::foreign::may_be_ledger;
 use crate::holdings::begins_with_zero;
 use crate::log::{log_adds, log_beside, log_is_begun};
 use reserve_core::{Keeper, LedgerFile, ReserveFault};
 use sqlite::{Alter, Connection, FileFrom, FileStore, Options, Start};
-use sqlite_disk::Disk;
+use sqlite_disk::{Disk, Files as DiskFiles};
 use std::fs;
 use std::hash::{BuildHasher, RandomState};
 use std::io::{self, ErrorKind};
@@ -163,13 +164,42 @@ fn connect<S: Start>(
     let Some(options) = few_pages(rt) else {
         return Err(LedgerFault::CannotOpen);
     };
-    let files = match sqlite_std_file::open(rt, path, start) {
+    let mut files = match sqlite_std_file::open(rt, path, start) {
         Ok(files) => files,
         Err(_error) => return Err(LedgerFault::CannotOpen),
     };
+    if !is_still_begun(&mut files) {
+        return Err(LedgerFault::CannotOpen);
+    }
     match Connection::open_files_with(rt.alloc(), files, options, false) {
         Ok(connection) => Ok(connection),
         Err(_left) => Err(LedgerFault::CannotOpen),
+    }
+}
+
+// Whether the log beside an empty file was only begun, of files that are held by now: the one that was looked at may have
+// been taken away since, and another was made then.
+fn is_still_begun<D: Disk>(files: &mut DiskFiles<D>) -> bool
+    requires log_usable { IsTrue (D.Disk.is_usable files.old.log) }
+    requires db_usable { IsTrue (D.Disk.is_usable files.old.db) }
+    ensures log_usable { IsTrue (D.Disk.is_usable files.new.log) }
+    ensures db_usable { IsTrue (D.Disk.is_usable files.new.db) }
+    ensures log { D.Disk.seen files.new.log ≡ D.Disk.seen files.old.log }
+    ensures db { D.Disk.seen files.new.db ≡ D.Disk.seen files.old.db }
+{
+    let (Ok(file_bytes), Ok(log_bytes)) = (files.db.len(), files.log.len()) else {
+        return false;
+    };
+    if file_bytes > 1 || log_bytes == 0 {
+        return true;
+    }
+    if log_bytes > WITHOUT_PAGE {
+        return false;
+    }
+    let mut front = [0; WITHOUT_PAGE];
+    match files.log.read_at(0, &mut front[..log_bytes]) {
+        Ok(()) => has_only_begun(&front[..log_bytes]),
+        Err(_) => false,
     }
 }
 
