@@ -964,11 +964,50 @@ printf 1 > life/one
 run seal --key "$key" --ledger life/one --device 1 life/first
 wants ledger-of-one-byte 2 '' 'ledger: cannot open'
 is the-one-byte-stays test "$(cat life/one)" = 1
+# a first run that is cut in a write of its log's header, and a log whose length is on the disk before its bytes
+for limit in 0 1 2 10 15 16 40 41 100; do
+    (trap '' XFSZ; exec prlimit --fsize=$limit "$sealer" seal --key "$key" --ledger life/cut$limit --device 1 life/first) 2>&1 > /dev/null | cat > err
+    status=${PIPESTATUS[0]}
+    : > out
+    wants "first-run-that-is-cut $limit" 2 '' 'ledger: cannot open'
+    run seal --key "$key" --ledger life/cut$limit --device 1 life/first
+    wants "the-run-after-a-cut-one $limit" 0 'sealed life/first file 0 bytes 1492' ''
+    rm -f life/first.stm
+done
+: > life/zeros
+head -c 41 /dev/zero > life/zeros-wal
+run seal --key "$key" --ledger life/zeros --device 1 life/first
+wants a-log-of-zeros 0 'sealed life/first file 0 bytes 1492' ''
+rm -f life/first.stm
+# a ledger that vanishes between the look at it and its opening, as the run calls for it the first time or the second
+if command -v strace > /dev/null; then
+    for n in 1 2; do
+        run seal --key "$key" --ledger life/gone$n --device 1 life/first
+        rm life/first.stm
+        cp life/gone$n-wal life/kept-wal
+        strace -f -o calls -P life/gone$n -e trace=openat -e inject=openat:delay_enter=3000000:when=$n "$sealer" seal --key "$key" --ledger life/gone$n --device 1 \
+            --journal life/gone$n.journal life/first > out 2> err &
+        late=$!
+        for i in $(seq 100); do [ -e life/gone$n.journal ] && break; sleep 0.1; done
+        sleep 0.5
+        mv life/gone$n life/away$n
+        wait $late
+        status=$?
+        sed -i '/^strace: /d' err
+        wants "ledger-that-vanishes $n" 2 '' 'ledger: cannot open'
+        is "the-log-of-what-vanished $n" cmp life/gone$n-wal life/kept-wal
+    done
+fi
 # the log that a run left, and its file lost or emptied
 cp life/lost-wal life/kept-wal
 : > life/lost
 run seal --key "$key" --ledger life/lost --device 1 life/first
 wants log-of-an-emptied-ledger 2 '' 'ledger: cannot open'
+# so is one that a later run was about to begin anew
+printf '\0' | dd of=life/lost-wal conv=notrunc status=none
+run seal --key "$key" --ledger life/lost --device 1 life/first
+wants shut-log-of-an-emptied-ledger 2 '' 'ledger: cannot open'
+cp life/kept-wal life/lost-wal
 rm life/lost
 run seal --key "$key" --ledger life/lost --device 1 life/first
 wants log-of-a-lost-ledger 2 '' 'ledger: cannot open'
@@ -990,6 +1029,44 @@ if has sqlite3; then
     sqlite3 life/other 'CREATE TABLE mark (a INTEGER)'
     run seal --key "$key" --ledger life/other --device 1 life/waits
     wants ledger-of-others 2 '' 'ledger: not a ledger'
+    # Somebody else's database, of whatever form, is refused byte for byte as it was, with nothing made beside it.
+    mkdir life/foreign
+    (
+        cd life/foreign
+        sqlite3 one 'CREATE TABLE t (x); INSERT INTO t VALUES (1)'
+        sqlite3 view 'CREATE VIEW v AS SELECT 1'
+        sqlite3 four 'CREATE TABLE mark (a PRIMARY KEY, b UNIQUE); CREATE TABLE takes (a)'
+        sqlite3 wide 'PRAGMA page_size = 65536; CREATE TABLE t (x)'
+        sqlite3 small 'PRAGMA page_size = 512; CREATE TABLE t (x); CREATE TABLE u (x UNIQUE); CREATE TABLE v (y)'
+        sqlite3 many "$(for n in $(seq 1 300); do echo "CREATE TABLE some_table_$n (some_column, another_column);"; done)"
+        sqlite3 logged 'PRAGMA journal_mode = wal; CREATE TABLE t (x); INSERT INTO t VALUES (1)' '.shell cp logged pages; cp logged-wal pages-wal' > /dev/null
+        rm -f logged*
+        sqlite3 begun 'CREATE TABLE t (x)'
+        : > begun-wal
+        sqlite3 long "CREATE TABLE t (x); INSERT INTO t VALUES (zeroblob(20000000))"
+        cp "$here/examples/journal.txt" text
+    )
+    is the-log-has-pages test "$(wc -c < life/foreign/pages-wal)" -gt 4096
+    as_it_was() { (cd life/foreign && ls -l --time-style=full-iso && sha256sum -- *); }
+    as_it_was > before
+    for name in one view four wide small many pages begun long text; do
+        text='ledger: not a ledger'
+        [ $name = text ] && text='ledger: cannot open'
+        run seal --key "$key" --ledger life/foreign/$name --device 1 life/waits
+        wants "ledger-of-others $name" 2 '' "$text"
+        run pipe --key "$key" --ledger life/foreign/$name --device 1 < life/waits
+        wants "ledger-of-others-for-a-stream $name" 2 '' "$text"
+        # a view alone is no table
+        [ $name = view ] && text='ledger: not there'
+        run seal --key "$key" --ledger life/foreign/$name --no-new-ledger --device 1 life/waits
+        wants "ledger-of-others-and-no-new-one $name" 2 '' "$text"
+        run ledger --ledger life/foreign/$name
+        wants "what-others-hold $name" 2 '' "$text"
+    done
+    as_it_was > after
+    is nothing-of-others-was-touched cmp before after
+    run seal --key "$key" --ledger life/foreign/one --no-new-ledger --device 1 life/waits
+    is others-keep-their-journal-mode test "$(sqlite3 life/foreign/one 'PRAGMA journal_mode')" = delete
     # Beside a ledger's two tables nothing else may stand, and its file may have no second name.
     cp life/ledger life/indexed
     sqlite3 life/indexed 'CREATE INDEX more ON taken (lo)'

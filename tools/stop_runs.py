@@ -8,7 +8,8 @@ that is there is whole, its line doesn't say that it failed, and a journal witho
 begins its container, and is all of it where its line says so. All stops are tried, side by side over the processors, each process over a
 ledger of its own; with NIGHTS each NIGHTS-th, from the NIGHT-th on (0).
 
-Then it is killed as it makes a ledger, at each of its calls on files: the next run succeeds. And it is killed right behind its first finished
+Then it is killed as it makes a ledger, at each of its calls on files, and cut within each of its writes there: the next run succeeds, and no number
+comes twice. A ledger that was emptied beside the log of a later run, wherever that was killed, is refused. And it is killed right behind its first finished
 output, and of the ledger's two files the log is deleted, cut at 20 lengths, has one bit flipped at 50 places, or is another ledger's, without
 pages and with them: the next run gives a number that no run had, or ends with `ledger: cannot open` and leaves the file as it was; the latter where the
 file is lost or emptied. So it does where the file itself is cut at each page and about its ends, has a page of zeros, or one behind it, with its
@@ -402,6 +403,124 @@ def first_runs():
     put(*mine)
 
 
+def writes_of_first_run():
+    """What a run writes to the two files as it makes a ledger and reserves there, in order: which of them, bytes and where, or None and a length."""
+    for name in ("ledger", "ledger-wal"):
+        if os.path.exists(name):
+            os.remove(name)
+    words = ["strace", "-f", "-y", "-xx", "-s", "1000000", "-o", "trace", "-e", "trace=pwrite64,ftruncate"]
+    subprocess.run([*words, *command("one lane", ["b"])], stdout=subprocess.DEVNULL, check=True)
+    clear()
+    writes = []
+    with open("trace", encoding="ascii") as file:
+        for line in file:
+            found = re.match(r'[0-9]+ +(pwrite64|ftruncate)\([0-9]+<([^>]*)>, (?:"([^"]*)", [0-9]+, )?([0-9]+)\) += ', line)
+            if not found:
+                continue
+            path = bytes.fromhex(found[2].replace("\\x", "")).decode()
+            which = os.path.basename(path)
+            if which in ("ledger", "ledger-wal"):
+                data = bytes.fromhex(found[3].replace("\\x", "")) if found[3] is not None else None
+                writes.append((which, data, int(found[4])))
+    return writes
+
+
+def cuts_of(data):
+    """So many bytes of a write reach the file: of a small one each number, of a page some."""
+    return range(len(data) + 1) if len(data) <= 64 else sorted({0, 1, 23, 24, 25, 100, 511, 512, 513, len(data) // 2, len(data) - 1, len(data)})
+
+
+def first_writes():
+    """Cuts a run as it makes a ledger within each of its writes, and leaves what was written, or its length with zeros: the next run makes it, or
+    goes on, and no number comes twice. The same by a limit on a file's length, which ends a write where it is met."""
+    global stops
+    mine = files_of_ledger()
+    files = {"ledger": b"", "ledger-wal": b""}
+    states = []
+    for at, (which, data, place) in enumerate(writes_of_first_run()):
+        if data is None:
+            files[which] = files[which][:place].ljust(place, b"\0")
+            states.append((f"{which} set to {place} bytes ({at})", dict(files)))
+            continue
+        for cut in cuts_of(data):
+            for what, end in ("nothing behind it", b""), ("zeros behind it", bytes(len(data) - cut)):
+                new = data[:cut] + end
+                # what is behind the write stays as it was
+                body = files[which].ljust(place, b"\0") if new else files[which]
+                left = body[:place] + new + body[place + len(new) :]
+                states.append((f"{cut} bytes of a write of {len(data)} at {place} of {which} ({at}), {what}", {**files, which: left}))
+        body = files[which].ljust(place, b"\0")
+        files[which] = body[:place] + data + body[place + len(data) :]
+    if len(states) < 100:
+        differs(f"a first run leaves {len(states)} states")
+    seen = set()
+    for what, state in states:
+        if tuple(state.values()) in seen:
+            continue
+        seen.add(tuple(state.values()))
+        stops += 1
+        put(state["ledger"], state["ledger-wal"])
+        goes_on(f"first run, {what}")
+    for limit in [*range(64), 100, 1000, *range(4095, 40000, 1024)]:
+        for name in ("ledger", "ledger-wal"):
+            if os.path.exists(name):
+                os.remove(name)
+        stops += 1
+        cut = subprocess.run(["prlimit", f"--fsize={limit}", *command("one lane", ["b"])], capture_output=True, text=True, timeout=60)
+        used = os.path.exists("b.stm") and os.path.getsize("b.stm") >= 17
+        clear()
+        goes_on(f"first run, no file over {limit} bytes (status {cut.returncode})", used)
+    put(*mine)
+
+
+def goes_on(what, used=False):
+    """Two runs: the first gives number 0, or 1 where 0 was reserved, and the second the next one."""
+    numbers = []
+    for _ in range(2):
+        run = subprocess.run(command("one lane", ["c"]), capture_output=True, text=True, timeout=60)
+        if run.returncode != 0:
+            differs(f"{what}: a run after has status {run.returncode}, prints {run.stdout}{run.stderr}")
+            clear()
+            return
+        numbers.append(number_in("c.stm"))
+        clear()
+    if numbers[0] not in ((1,) if used else (0, 1)) or numbers[1] != numbers[0] + 1:
+        differs(f"{what}: the runs after have the numbers {numbers}")
+
+
+def emptied_beside_each_log():
+    """Empties a ledger beside each log that a later run leaves which is killed: none counts as begun, also where it is cut, or its header damaged."""
+    global stops
+    before = files_of_ledger()
+    logs = [before[1]]
+    for call in ("pwrite64", "fdatasync", "ftruncate"):
+        for n in range(1, 60):
+            put(*before)
+            words = ["strace", "-f", "-qq", "-o", "/dev/null", "-e", f"trace={call}", "-e", f"inject={call}:signal=KILL:when={n}"]
+            status = subprocess.run([*words, *command("one lane", ["b"])], capture_output=True).returncode
+            clear()
+            if status == 0:
+                break
+            if files_of_ledger()[1] not in logs:
+                logs.append(files_of_ledger()[1])
+    if len(logs) < 10 or max(map(len, logs)) < 4096:
+        differs(f"later runs leave {len(logs)} logs")
+    for at, log in enumerate(logs):
+        tried = [("whole", log)]
+        if len(log) > 56:
+            tried += [(f"without byte {byte}", log[:byte] + bytes([log[byte] ^ 0xFF]) + log[byte + 1 :]) for byte in (0, 1, 12, 16, 24, 31, 32, 40, 48)]
+            tried += [("without a header", bytes(32) + log[32:]), ("cut at its first page", log[:57])]
+        for how, bytes_of_log in tried:
+            for emptied in (b"", b"\0"):
+                stops += 1
+                put(emptied, bytes_of_log)
+                run = subprocess.run(command("one lane", ["c"]), capture_output=True, text=True, timeout=60)
+                clear()
+                if (run.returncode, run.stderr) != (2, "ledger: cannot open\n") or files_of_ledger() != (emptied, bytes_of_log):
+                    differs(f"the ledger emptied beside log {at} of {len(log)} bytes, {how}: status {run.returncode}, {run.stdout}{run.stderr}")
+    put(*before)
+
+
 def in_a_folder(work):
     """Does some work in a folder of its own, over a ledger that has a number. The answer is stops, and what differs."""
     folder = tempfile.mkdtemp(dir=shared)
@@ -437,10 +556,18 @@ def all_stops():
     return found
 
 
+WORKS = {
+    "altered ledgers": altered_ledgers,
+    "first runs": first_runs,
+    "first writes": first_writes,
+    "emptied ledgers": emptied_beside_each_log,
+}
+
+
 def worked(chosen):
     """The work of one process: some stops, or what has a name."""
     if isinstance(chosen, str):
-        return in_a_folder({"first runs": first_runs, "altered ledgers": altered_ledgers}[chosen])
+        return in_a_folder(WORKS[chosen])
     return in_a_folder(lambda: [stopped(*stop) for stop in chosen])
 
 
@@ -451,7 +578,7 @@ shared = tempfile.mkdtemp(dir=place)
 processors = len(os.sched_getaffinity(0))
 stops_to_try, _, bad = in_a_folder(all_stops)
 stops_to_try = stops_to_try[night % nights :: nights]
-parts = ["altered ledgers", "first runs"] + [stops_to_try[i :: 4 * processors] for i in range(4 * processors)]
+parts = [*WORKS] + [stops_to_try[i :: 4 * processors] for i in range(4 * processors)]
 counts, met = [], 0
 with multiprocessing.Pool(processors) as pool:
     for part, (answer, some, wrong) in zip(parts, pool.imap(worked, parts)):
@@ -462,7 +589,10 @@ count, kills = sum(counts), sum(how == "signal=KILL" for _, _, _, how in stops_t
 # Threads make some calls fewer times in one run than in another.
 if 2 * met < kills:
     bad.append(f"of {kills} kills {met} met the program")
-print(f"altered ledgers: {counts[0]}; kills: {kills} and {counts[1]} as a ledger is made; calls that fail: {len(stops_to_try) - kills}")
+print(
+    f"altered ledgers: {counts[0]} and {counts[3]} emptied; kills: {kills} and {counts[1]} as a ledger is made, cuts of its writes: {counts[2]}; "
+    f"calls that fail: {len(stops_to_try) - kills}"
+)
 shutil.rmtree(shared)
 for line in bad:
     print(line)
