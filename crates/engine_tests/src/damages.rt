@@ -1,5 +1,6 @@
 //! Version 2: containers that are cut or altered, or whose chunks were exchanged or moved. All engines refuse them as
-//! the tables of `container_tests` say, which are of the format, and before anything is written.
+//! the tables of `container_tests` say, which are of the format, and before anything is written. The first bad chunk is
+//! named, even after a thousand good ones.
 ghost use Rattle.std.specs.Prelude.{◌<◌, ◌≤◌};
 
 use crate::shapes::{FRONT, container_of, size_of};
@@ -7,8 +8,8 @@ use crate::windows::{LIMIT, fault_in};
 use container_core::{OpenFault, TAG};
 use container_tests::{CHUNK_COUNT, Case, SHAPES, chunk_cases, header_cases, header_count};
 use crew_core::{Free, MAX_WORKERS};
-use crew_tests::{counting_key, flip, pattern};
-use engine_core::{run_open, run_verify, verify_one};
+use crew_tests::{counting_key, flip, is_digest, pattern, zeros};
+use engine_core::{run_open, run_read, run_verify, verify_one};
 use io_memory::{FromMemory, Schedule, ToMemory};
 use std::alloc::Global;
 use std::test::Fail;
@@ -54,7 +55,11 @@ fn refusal_by_one(alloc: Global, bytes: &[u8]) -> Option<OpenFault> {
 }
 
 // Why all refuse them, where that is one fault: one thread, 1 and 4 workers, and 2 in windows of one chunk.
-fn refusal_of<R: Threads + Sync>(rt: &R, alloc: Global, bytes: &[u8]) -> Option<OpenFault> {
+pub(crate) fn refusal_of<R: Threads + Sync>(
+    rt: &R,
+    alloc: Global,
+    bytes: &[u8],
+) -> Option<OpenFault> {
     let fault = refusal_by_one(alloc, bytes);
     let is_one = fault_in(rt, alloc, bytes, LIMIT, 2, 1) == fault
         && refusal_by(rt, alloc, bytes, 1) == fault
@@ -189,4 +194,66 @@ fn is_length_wrong<R: Threads + Sync>(rt: &R, alloc: Global) -> Option<bool> {
 #[test]
 fn a_longer_label_is_a_wrong_length(rt: HostRuntime) {
     assert!(rt; is_length_wrong(&rt, rt.alloc()) == Some(true));
+}
+
+// The SHA-256, by Python's `hashlib`, of the container that `cryptography` made of 4,501,505 zero bytes in chunks of 4
+// KiB under an empty label: 1,100 chunks, the last of one byte.
+static MANY: [u8; 32] = [
+    0x4b, 0x08, 0x48, 0x35, 0x1d, 0x29, 0xfb, 0xca, 0xd0, 0x99, 0xff, 0xca, 0x22, 0x9b, 0x46, 0x57,
+    0xb8, 0x25, 0xac, 0x50, 0x48, 0xfc, 0x1d, 0x38, 0x83, 0x7e, 0x86, 0x9e, 0x68, 0x4d, 0xda, 0x8f,
+];
+
+// Bytes of a sealed chunk of 4 KiB.
+const SMALL: usize = 4_112;
+
+// That container, with chunks 1,090 and 1,060 changed.
+fn late_damaged(alloc: Global) -> Option<Vec<u8>> {
+    let plain = zeros(alloc, 4_501_505).ok()?;
+    let mut bytes = container_of(alloc, 12, 0, plain.as_slice())?;
+    if !is_digest(bytes.as_slice(), 4_519_130, &MANY) {
+        return None;
+    }
+    flip(bytes.as_mut_slice(), FRONT + 1_090 * SMALL, 1);
+    flip(bytes.as_mut_slice(), FRONT + 1_060 * SMALL, 1);
+    Some(bytes)
+}
+
+// Why `run_read` with so many workers refuses these bytes.
+fn read_refusal<R: Threads + Sync>(
+    rt: &R,
+    alloc: Global,
+    bytes: &[u8],
+    workers: u32,
+) -> Option<OpenFault>
+    requires workers { (0 < workers) × (workers ≤ MAX_WORKERS) }
+{
+    let mut reader = FromMemory::new(bytes, MOST, Schedule::Never);
+    run_read(
+        rt,
+        alloc,
+        &counting_key(),
+        &mut reader,
+        LIMIT,
+        workers,
+        &Free,
+    )
+    .err()
+}
+
+// Whether all engines name chunk 1,060, also in windows of 256 chunks.
+fn is_late_named<R: Threads + Sync>(rt: &R, alloc: Global) -> Option<bool> {
+    let damaged = late_damaged(alloc)?;
+    let bytes = damaged.as_slice();
+    let fault = Some(OpenFault::Forged { chunk: 1_060 });
+    Some(
+        refusal_of(rt, alloc, bytes) == fault
+            && fault_in(rt, alloc, bytes, LIMIT, 4, 256) == fault
+            && read_refusal(rt, alloc, bytes, 1) == fault
+            && read_refusal(rt, alloc, bytes, 4) == fault,
+    )
+}
+
+#[test]
+fn the_least_bad_chunk_behind_many_is_named(rt: HostRuntime) {
+    assert!(rt; is_late_named(&rt, rt.alloc()) == Some(true));
 }

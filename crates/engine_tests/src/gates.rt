@@ -4,9 +4,9 @@ ghost use Rattle.std.specs.Prelude.{◌<◌, ◌≤◌};
 
 use crate::windows::LIMIT;
 use container_core::{CHUNK, Shape, seal};
-use crew_core::{Gate, MAX_WORKERS};
+use crew_core::{Gate, MAX_DEPTH, MAX_WORKERS};
 use crew_tests::{Late, Meeting, PREFIX, Recorder, counting_key, grant_of, pattern, zeros};
-use engine_core::{run_check, run_open, run_plain, run_read, run_seal, run_verify};
+use engine_core::{run_check, run_open, run_pipe, run_plain, run_read, run_seal, run_verify};
 use io_memory::{FromMemory, Schedule, ToMemory};
 use std::alloc::Global;
 use std::sync::Wait;
@@ -23,6 +23,8 @@ const FEW_TURNS: u64 = 1000;
 #[derive(Clone, Copy)]
 enum Engine {
     Seal,
+    // With this depth.
+    Pipe(u32),
     Open,
     Verify,
     Plain,
@@ -30,8 +32,9 @@ enum Engine {
     Check,
 }
 
-static ENGINES: [Engine; 6] = [
+static ENGINES: [Engine; 7] = [
     Engine::Seal,
+    Engine::Pipe(64),
     Engine::Open,
     Engine::Verify,
     Engine::Plain,
@@ -56,6 +59,9 @@ fn runs<R: Threads + Wait + Sync, G: Gate + Sync>(
     let container = sealed.as_slice();
     match engine {
         Engine::Seal => seals(rt, alloc, plain, container, workers, gate) == Some(true),
+        Engine::Pipe(depth) => {
+            pipes(rt, alloc, plain, container, workers, depth, gate) == Some(true)
+        }
         _ => reads(rt, alloc, engine, plain, container, workers, gate),
     }
 }
@@ -84,6 +90,43 @@ fn seals<R: Threads + Wait + Sync, G: Gate + Sync>(
         &mut writer,
         LIMIT,
         workers,
+        gate,
+    );
+    Some(sealed == Ok(plain.len() as u64) && writer.bytes() == container)
+}
+
+// The most chunks of a stream.
+const CHUNKS: u32 = 18;
+
+fn pipes<R: Threads + Wait + Sync, G: Gate + Sync>(
+    rt: &R,
+    alloc: Global,
+    plain: &[u8],
+    container: &[u8],
+    workers: u32,
+    depth: u32,
+    gate: &G,
+) -> Option<bool>
+    requires workers { (0 < workers) × (workers ≤ MAX_WORKERS) }
+{
+    if depth == 0 || depth > MAX_DEPTH {
+        return None;
+    }
+    let key = counting_key();
+    let mut reader = FromMemory::new(plain, MOST, Schedule::Never);
+    let mut writer = ToMemory::new(alloc, 64, MOST, Schedule::Never).ok()?;
+    let grant = grant_of(alloc, 0)?;
+    let (sealed, _) = run_pipe(
+        rt,
+        alloc,
+        &key,
+        &Shape::one(),
+        grant,
+        &mut reader,
+        &mut writer,
+        CHUNKS,
+        workers,
+        depth,
         gate,
     );
     Some(sealed == Ok(plain.len() as u64) && writer.bytes() == container)
@@ -275,6 +318,23 @@ fn all_workers_pass_with_each_piece_once(rt: HostRuntime) -> Result<(), Fail> {
     assert!(rt; pass_each_once(&rt, rt.alloc(), plain.as_slice(), 1));
     assert!(rt; pass_each_once(&rt, rt.alloc(), plain.as_slice(), 4));
     assert!(rt; pass_each_once(&rt, rt.alloc(), plain.as_slice(), 16));
+    Ok(())
+}
+
+// Whether four workers pass with each piece of a stream once, at each depth.
+fn pass_at_any_depth<R: Threads + Wait + Sync>(rt: &R, alloc: Global, plain: &[u8]) -> bool {
+    for depth in 1..65 {
+        if passes_each_once(rt, alloc, Engine::Pipe(depth), plain, 4) != Some(true) {
+            return false;
+        }
+    }
+    true
+}
+
+#[test]
+fn all_pieces_of_a_stream_pass_at_any_depth(rt: HostRuntime) -> Result<(), Fail> {
+    let plain = pattern(rt.alloc(), 17 * CHUNK + 1)?;
+    assert!(rt; pass_at_any_depth(&rt, rt.alloc(), plain.as_slice()));
     Ok(())
 }
 

@@ -6,6 +6,8 @@ mod audits;
 #[cfg(test)]
 mod containers;
 #[cfg(test)]
+mod cuts;
+#[cfg(test)]
 mod damages;
 #[cfg(test)]
 mod gates;
@@ -27,5 +29,7 @@ mod shapes;
 mod twice;
 #[cfg(test)]
 mod two_chunks;
+#[cfg(test)]
+mod waiting;
 #[cfg(test)]
 mod windows;

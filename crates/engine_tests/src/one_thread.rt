@@ -2,7 +2,7 @@
 //! `std`. The expected bytes, of Python's `cryptography`, are in `containers`.
 ghost use Rattle.std.specs.Prelude.{◌≤◌};
 
-use crate::containers::{OVER_STD, PLAIN};
+use crate::containers::{ONE, OVER_STD, PLAIN};
 use container_core::{OpenFault, SealFault};
 use container_tests::EMPTY;
 use crew_tests::{PREFIX, counting_key};
@@ -80,12 +80,18 @@ fn sealing_tells(alloc: Global) -> Option<bool> {
     Some(is_long && result == Err(SealFault::Write) && is_begun)
 }
 
-// Whether opening and verifying so many bytes of the container of `plain` tell this fault, with nothing written.
-fn opening_tells(alloc: Global, taken: usize, max_bytes: u64, fault: OpenFault) -> Option<bool> {
+// Whether opening and verifying so many bytes of a container tell this fault, with nothing written.
+fn opening_tells(
+    alloc: Global,
+    whole: &[u8],
+    taken: usize,
+    max_bytes: u64,
+    fault: OpenFault,
+) -> Option<bool> {
     if max_bytes > 9 {
         return None;
     }
-    let bytes = PLAIN.as_slice().get(..taken)?;
+    let bytes = whole.get(..taken)?;
     let mut writer = ToMemory::new(alloc, 64, 3, Schedule::Never).ok()?;
     let opened = open_from(alloc, bytes, &mut writer, max_bytes);
     let is_told = opened == Err(fault) && writer.bytes().is_empty();
@@ -95,9 +101,12 @@ fn opening_tells(alloc: Global, taken: usize, max_bytes: u64, fault: OpenFault) 
 #[test]
 fn faults_of_one_thread_are_told(rt: HostRuntime) {
     assert!(rt; sealing_tells(rt.alloc()) == Some(true));
-    assert!(rt; opening_tells(rt.alloc(), 45, 4, OpenFault::TooLong) == Some(true));
-    assert!(rt; opening_tells(rt.alloc(), 44, 5, OpenFault::Forged { chunk: 0 }) == Some(true));
-    assert!(rt; opening_tells(rt.alloc(), 39, 5, OpenFault::BadLength) == Some(true));
+    assert!(rt; opening_tells(rt.alloc(), &PLAIN, 45, 4, OpenFault::TooLong) == Some(true));
+    let forged = OpenFault::Forged { chunk: 0 };
+    assert!(rt; opening_tells(rt.alloc(), &PLAIN, 44, 5, forged) == Some(true));
+    assert!(rt; opening_tells(rt.alloc(), &PLAIN, 39, 5, OpenFault::BadLength) == Some(true));
+    // A byte where none is allowed.
+    assert!(rt; opening_tells(rt.alloc(), &ONE, 41, 0, OpenFault::TooLong) == Some(true));
 }
 
 // A writer that takes all and fails at the next call, which nobody makes.

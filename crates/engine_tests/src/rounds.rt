@@ -1,5 +1,4 @@
-//! Sealing in rounds of 1, 2, 16 and 256 chunks: the same container, the round that is dropped, and what is written
-//! before what is read.
+//! Sealing in rounds of 1, 2, 16 and 256 chunks: the same container, the round that is dropped, and what failures leave.
 use crate::containers::PLAIN;
 use crate::windows::LIMIT;
 use container_core::{CHUNK, HEADER, SEALED, SealFault, Shape, seal};
@@ -7,14 +6,11 @@ use container_tests::EMPTY;
 use crew_core::{DEFAULT_WINDOW, Free, MAX_WINDOW, MAX_WORKERS};
 use crew_tests::{PREFIX, counting_key, grant_of, pattern, zeros};
 use engine_core::{run_seal, run_seal_by};
-use io_core::{FromRead, Sink, Source, ToWrite};
+use io_core::{Sink, Source};
 use io_memory::{FromMemory, Schedule, ToMemory};
 use ledger_core::Way;
 use std::alloc::Global;
-use std::io;
-use std::io::{ErrorKind, Read, Write};
 use std::sync::Wait;
-use std::sync::atomic::{AtomicU64, Ordering};
 use std::test::Fail;
 use std::thread::Threads;
 
@@ -22,7 +18,7 @@ const MOST: usize = usize::MAX;
 
 // Seals under a grant of device 1 and file 0, by `run_seal` in rounds of 16 chunks. Answers what the engine does, and
 // how the grant ended; or `None` where it is asked for what it doesn't take.
-fn seal_by<T: Threads + Wait + Sync, R: Source, W: Sink>(
+pub(crate) fn seal_by<T: Threads + Wait + Sync, R: Source, W: Sink>(
     rt: &T,
     alloc: Global,
     reader: &mut R,
@@ -108,11 +104,14 @@ fn container_of(alloc: Global, plain: &[u8]) -> Option<Vec<u8>> {
     seal(alloc, &counting_key(), &Shape::one(), PREFIX, plain).ok()
 }
 
+// Chunks of a window, and how many workers seal.
+static WINDOWS: [(u32, u32); 7] = [(1, 1), (1, 4), (2, 1), (2, 4), (16, 3), (256, 1), (256, 4)];
+
 // Whether all windows give this container of a plaintext.
 fn all_give<T: Threads + Wait + Sync>(rt: &T, alloc: Global, plain: &[u8], whole: &[u8]) -> bool {
     let bytes = plain.len() as u64;
-    for (window, workers) in [(1, 4), (2, 1), (2, 4), (16, 3), (256, 1), (256, 4)] {
-        let asked = steady(bytes, workers, window);
+    for (window, workers) in &WINDOWS {
+        let asked = steady(bytes, *workers, *window);
         if ends_as(rt, alloc, plain, asked, Ok(bytes), whole) != Some(true) {
             return false;
         }
@@ -131,7 +130,16 @@ fn gives_the_container<T: Threads + Wait + Sync>(
     Some(all_give(rt, alloc, plain.as_slice(), whole.as_slice()))
 }
 
-static LENGTHS: [usize; 6] = [0, 1, CHUNK, 2 * CHUNK, 2 * CHUNK + 1, 17 * CHUNK + 1];
+static LENGTHS: [usize; 8] = [
+    0,
+    1,
+    CHUNK - 1,
+    CHUNK,
+    CHUNK + 1,
+    2 * CHUNK,
+    2 * CHUNK + 1,
+    17 * CHUNK + 1,
+];
 
 #[test]
 fn any_window_gives_the_container(rt: HostRuntime) {
@@ -273,104 +281,6 @@ fn a_failed_read_leaves_whole_rounds(rt: HostRuntime) {
         assert!(rt;
             leaves_at_read(&rt, rt.alloc(), *workers, *window, *read, *written) == Some(true),
             "{workers} {window} {read}"
-        );
-    }
-}
-
-// A reader of zeros that fails where the bytes from `from` on are asked for and fewer than `wanted` were written.
-#[derive(Drop)]
-struct Waiting<'a> {
-    given: u64,
-    all: u64,
-    from: u64,
-    wanted: u64,
-    written: &'a AtomicU64,
-}
-
-impl Read for Waiting<'_> {
-    fn read(&mut self, buf: &mut [u8]) -> io::Result<usize> {
-        if self.given >= self.from && self.written.load(Ordering::SeqCst) < self.wanted {
-            return Err(ErrorKind::WouldBlock.into());
-        }
-        let most = if self.given < self.from {
-            self.from
-        } else {
-            self.all
-        };
-        let n = most.saturating_sub(self.given).min(buf.len() as u64) as usize;
-        buf[..n].fill(0);
-        self.given += n as u64;
-        Ok(n)
-    }
-}
-
-// A writer that counts what it takes.
-#[derive(Drop)]
-struct Counting<'a> {
-    written: &'a AtomicU64,
-}
-
-impl Write for Counting<'_> {
-    fn write(&mut self, buf: &[u8]) -> io::Result<usize> {
-        self.written.fetch_add(buf.len() as u64, Ordering::SeqCst);
-        Ok(buf.len())
-    }
-
-    fn flush(&mut self) -> io::Result<()> {
-        Ok(())
-    }
-}
-
-// Seals five chunks of zeros, where what stands behind so many bytes is given once so much was written.
-fn seal_waiting<T: Threads + Wait + Sync>(
-    rt: &T,
-    alloc: Global,
-    from: u64,
-    wanted: u64,
-    workers: u32,
-    window: u32,
-) -> Option<Result<u64, SealFault>> {
-    let written = AtomicU64::new(0);
-    let mut reader = FromRead(Waiting {
-        given: 0,
-        all: 327_680,
-        from,
-        wanted,
-        written: &written,
-    });
-    let mut writer = ToWrite(Counting { written: &written });
-    let (result, _) = seal_by(
-        rt,
-        alloc,
-        &mut reader,
-        &mut writer,
-        1 << 20,
-        workers,
-        window,
-    )?;
-    Some(result)
-}
-
-// Behind how many bytes the reader waits until how much was written; how many workers seal, in rounds of how many
-// chunks; and the answer. The first byte of chunk 3 is number 196,608, that of chunk 4 262,144.
-static WAITING: [(u64, u64, u32, u32, Result<u64, SealFault>); 5] = [
-    // Rounds 0 and 1 are written before round 3 is asked for, so a reader that waits for that is not kept waiting for
-    // ever. Round 2 is not: that this can fail.
-    (196_609, 131_128, 1, 1, Ok(327_680)),
-    (196_609, 196_680, 1, 1, Err(SealFault::Read)),
-    // By several workers: rounds 0 and 1 of one chunk before round 3, and round 0 of two chunks before round 2; but not
-    // chunk 2, which is of the round before.
-    (196_609, 131_128, 4, 1, Ok(327_680)),
-    (262_145, 131_128, 4, 2, Ok(327_680)),
-    (262_145, 131_129, 4, 2, Err(SealFault::Read)),
-];
-
-#[test]
-fn a_round_is_written_before_the_second_behind_it_is_read(rt: HostRuntime) {
-    for (from, wanted, workers, window, answer) in &WAITING {
-        assert!(rt;
-            seal_waiting(&rt, rt.alloc(), *from, *wanted, *workers, *window) == Some(*answer),
-            "{from} {wanted} {workers}"
         );
     }
 }
