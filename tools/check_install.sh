@@ -1,6 +1,6 @@
 #!/bin/bash
 # tools/install.sh in scratch folders: what it puts where, what it says, which build it picks, what it doesn't replace, and that nothing
-# stays behind --uninstall. Prints 'N conditions hold', or those that don't.
+# stays after --uninstall. Prints 'N conditions hold', or those that don't. What it does in a release is in tools/check_release.sh.
 # usage: tools/check_install.sh [INSTALL.SH]
 set -u
 cd "$(dirname "$0")/.."
@@ -128,6 +128,17 @@ fi
     'complete -F _sealer sealer'
 install "$home/.local" --uninstall
 is nothing-stays-at-home test -z "$(find "$home/.local" -mindepth 1 -name '*sealer*')"
+
+# below DESTDIR, for a PREFIX that another machine has
+DESTDIR="$room/stage" install "$room/away"
+is staged test $status = 0
+is staged-program cmp -s "$room/stage$room/away/bin/sealer" crates/sealer/out/sealer
+is staged-says-where says "installed $room/stage$room/away/bin/sealer"
+is staged-says-no-more no says PATH
+DESTDIR="$room/stage" install "$room/away" --uninstall
+is unstaged test $status = 0
+is elsewhere-nothing test ! -e "$room/away"
+is nothing-stays-staged test -z "$(find "$room/stage" -type f)"
 
 # which build
 v3=$tree/crates/sealer/out/sealer-x86-64-v3
