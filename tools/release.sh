@@ -75,7 +75,7 @@ install -m 644 "$top"/{LICENSE-MIT,LICENSE-APACHE,tools/open_container.py} "$doc
 install -m 644 "$top"/*.md "$top"/docs/*.md "$docs"
 # all of them are in one directory there
 sed -i 's#](docs/#](#g; s#](\.\./#](#g' "$docs"/*.md
-install -m 644 "$top"/examples/{key,numbers.stm,journal.txt,array.sh} "$docs/examples"
+install -m 644 "$top"/examples/{key,numbers.stm,journal.txt,array.sh,nightly.sh,sealer-nightly.service,sealer-nightly.timer} "$docs/examples"
 
 library=$(dpkg-query -W -f '${source:Package} (= ${source:Version})' libc6-dev 2>/dev/null || echo unknown)
 compiler=$(cc --version | head -n 1)
