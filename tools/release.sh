@@ -112,7 +112,7 @@ cp "$docs"/LICENSE-* "$docs/THIRD-PARTY.md" "$docs/RELEASE" "$room/$name-dynamic
 
 packed() { # FOLDER-BELOW-ROOM: with sorted names, and nobody's owners and times
     find "$room/$1" -exec touch -hd "@$SOURCE_DATE_EPOCH" {} +
-    tar -C "$room" --format=ustar --sort=name --owner=0 --group=0 --numeric-owner -c "$1" | zstd -q -19 -T1 > "$folder/$1.tar.zst"
+    tar -C "$room" --format=ustar --sort=name --owner=0 --group=0 --numeric-owner -c "$1" | zstd -q -10 --threads=1 > "$folder/$1.tar.zst"
 }
 packed "$name"
 packed "$name-dynamic"
