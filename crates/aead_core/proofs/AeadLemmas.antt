@@ -1,4 +1,4 @@
--- The AEAD pair and its opening, both ways.
+-- The AEAD pair and its opening, in both directions.
 use Rattle.std.proofs.Common.{◌≡◌, ℕ, ◌-◌, ◌%◌, List, ◌++◌, length, replicate, Some, None, Bool, true, false}
 use Rattle.std.proofs.Common.{if◌then◌else◌, refl, sym, ap, ◌∙◌, arith}
 use Rattle.std.proofs.lemmas.List.{length-append, length-replicate}
@@ -52,7 +52,7 @@ opened-wrong key nonce aad ciphertext tag wrong =
     let test : bytes_eq tag t ≡ false = not_true (bytes_eq tag t) (λ e. wrong ((bytes_eq-Decides tag t).0 e)) in
     ap (λ (b : Bool). if b then Some (enciphered key nonce ciphertext) else None) test
 
--- the deciphered text of a right tag is the plaintext of the pair
+-- if the tag is right, the decrypted text is the plaintext of the pair
 pub aead-enciphered : (key nonce aad ciphertext tag plaintext : List ℕ) → plaintext ≡ enciphered key nonce ciphertext
     → tag ≡ tag_of key nonce aad ciphertext → aead key nonce aad plaintext ≡ (ciphertext, tag)
 aead-enciphered key nonce aad ciphertext tag plaintext made right =
@@ -69,7 +69,7 @@ aead-opened key nonce aad ciphertext tag plaintext e =
     let both = from_some (bytes_eq tag t) (enciphered key nonce ciphertext) plaintext e in
     aead-enciphered key nonce aad ciphertext tag plaintext (sym both.1) ((bytes_eq-Decides tag t).0 both.0)
 
--- the zeros behind what stands behind padded bytes
+-- the zeros after a text that follows padded bytes
 pub pad16-padded : (aad text : List ℕ) → pad16 ((aad ++ pad16 aad) ++ text) ≡ pad16 text
 pad16-padded aad text =
     let n : ℕ = (16 - length aad % 16) % 16 in

@@ -1,4 +1,4 @@
--- A text enciphered and absorbed strip by strip.
+-- A text encrypted and absorbed strip by strip.
 use Rattle.std.proofs.Common.{◌≡◌, ℕ, ◌+◌, ◌-◌, ◌/◌, ◌%◌, ◌≤◌, List, ◌++◌, length, take, drop, sym, ap, ◌∙◌, subst, arith}
 use Rattle.std.proofs.Common.{append_assoc, length-take-le}
 use Rattle.std.proofs.Math.Seq.{take-add}
@@ -9,7 +9,7 @@ use Rattle.poly_core.specs.Poly1305.{pad16}
 use Rattle.poly_core.specs.Absorbed.{Absorbed, Progress}
 use Rattle.aead_core.specs.Aead.{one_time_key}
 
--- the first n bytes of a text are enciphered
+-- the first n bytes of a text are encrypted
 abbrev pub EncipheredTo : List ℕ → List ℕ → ℕ → List ℕ → List ℕ → Type 0
 EncipheredTo key nonce n old now = now ≡ chacha20 key nonce 1 (take n old) ++ drop n old
 
@@ -17,7 +17,7 @@ EncipheredTo key nonce n old now = now ≡ chacha20 key nonce 1 (take n old) ++ 
 abbrev pub AbsorbedTo : Progress → List ℕ → List ℕ → List ℕ → ℕ → List ℕ → Type 0
 AbsorbedTo mac key nonce aad n text = Absorbed mac (one_time_key key nonce) ((aad ++ pad16 aad) ++ take n text)
 
--- one strip more, from whole blocks on
+-- one more strip, after whole blocks
 pub enciphered_step : (key nonce old now new : List ℕ) (at end : ℕ) → at % 64 ≡ 0 → at ≤ end → end ≤ length old
     → EncipheredTo key nonce at old now
     → new ≡ take at now ++ (chacha20 key nonce (1 + at / 64) (take (end - at) (drop at now)) ++ drop end now)
@@ -51,7 +51,7 @@ pub absorbed_none : (mac : Progress) (key nonce aad text : List ℕ)
 absorbed_none mac key nonce aad text held =
     subst (λ (l : List ℕ). Absorbed mac (one_time_key key nonce) l) (sym (append-nil (aad ++ pad16 aad))) held
 
--- behind the last
+-- after the last strip
 pub enciphered_all : (key nonce old now : List ℕ) (n : ℕ) → length old ≤ n → EncipheredTo key nonce n old now
     → now ≡ chacha20 key nonce 1 old
 enciphered_all key nonce old now n all done = done ∙ chacha20_done key nonce 1 n old all

@@ -9,14 +9,14 @@ use Rattle.poly_core.specs.Poly1305.{poly1305, pad16}
 unfoldable pub one_time_key : List ℕ → List ℕ → List ℕ
 one_time_key key nonce = take 32 (block key 0 nonce)
 
--- what the tag is made over: the associated data and the ciphertext, each with zeros up to a multiple of 16
--- behind it, and their two lengths in 8 bytes each (2.8.1)
+-- what the tag authenticates: the associated data, the ciphertext, and their two lengths in 8 bytes each. Zeros follow
+-- each of the first two, up to a multiple of 16 bytes (2.8.1)
 unfoldable pub mac_data : List ℕ → List ℕ → List ℕ
 mac_data aad ciphertext =
     aad ++ pad16 aad ++ ciphertext ++ pad16 ciphertext
     ++ to_le_bytes w64 (length aad) ++ to_le_bytes w64 (length ciphertext)
 
--- a text enciphered, or deciphered, from counter 1 on (2.8)
+-- a text encrypted, or decrypted, from counter 1 on (2.8)
 unfoldable pub enciphered : List ℕ → List ℕ → List ℕ → List ℕ
 enciphered key nonce text = chacha20 key nonce 1 text
 
@@ -30,7 +30,7 @@ aead key nonce aad plaintext =
     let ciphertext = enciphered key nonce plaintext in
     (ciphertext, tag_of key nonce aad ciphertext)
 
--- the plaintext of a ciphertext and a tag, where the tag is the ciphertext's
+-- the plaintext of a ciphertext and a tag, if the tag is right
 unfoldable pub opened : List ℕ → List ℕ → List ℕ → List ℕ → List ℕ → Option (List ℕ)
 opened key nonce aad ciphertext tag =
     if bytes_eq tag (tag_of key nonce aad ciphertext) then Some (enciphered key nonce ciphertext) else None

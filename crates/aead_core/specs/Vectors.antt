@@ -1,5 +1,5 @@
--- The examples that RFC 8439 prints beside the AEAD; `src/laws.rt` says that the definitions give them. The
--- plaintext is that of ChaCha20's example.
+-- The test vectors of RFC 8439 for the AEAD; `src/laws.rt` says that the definitions give them. The plaintext is
+-- that of ChaCha20's test vector.
 use Rattle.std.specs.Prelude.{ℕ, List, ◌++◌}
 use Rattle.std.specs.Int.{bytes_high_first}
 

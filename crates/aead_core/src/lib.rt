@@ -1,8 +1,8 @@
-//! AEAD_CHACHA20_POLY1305 (RFC 8439, 2.6 and 2.8), in place and both ways. Nothing here takes
-//! memory or waits.
+//! AEAD_CHACHA20_POLY1305 (RFC 8439, 2.6 and 2.8): seals and opens in place. Nothing here allocates or
+//! waits.
 //!
-//! `specs/Aead.antt` has the definitions, in the RFC's terms: `aead` is the pair of ciphertext and
-//! tag of a plaintext, `opened` the plaintext of such a pair.
+//! `specs/Aead.antt` has the definitions, in the RFC's terms. `aead` is a plaintext's pair of ciphertext
+//! and tag, `opened` the plaintext of such a pair.
 #![tactic(auto)]
 
 ghost use Rattle.std.specs.Prelude.{◌≡◌, ℕ, ◌+◌, ◌-◌, ◌*◌, ◌/◌, ◌^◌, ◌<◌, ◌≤◌, ◌↔◌, List, ◌++◌, length, take, drop};
@@ -23,10 +23,10 @@ const FIRST: u32 = 1;
 // The bytes of a block.
 const BLOCK: usize = 64;
 
-// How many bytes are enciphered before they are absorbed: whole blocks that a second-level cache holds.
+// How many bytes are encrypted before they are absorbed: whole blocks that fit in a second-level cache.
 const STRIP: usize = 65536;
 
-// The first 32 bytes of a block, which has 64.
+// The first 32 bytes of a block of 64.
 fn first_half(block: &[u8; 64]) -> [u8; 32]
     ensures { result ≡ take 32 block.now }
 {
@@ -42,7 +42,7 @@ fn one_time_key(key: &[u8; 32], nonce: &[u8; 12]) -> [u8; 32]
     first_half(&block(key, 0, nonce))
 }
 
-// The mac of a message, with the associated data and the zeros behind it absorbed (2.8).
+// The mac of a message, with the associated data and the zeros after it absorbed (2.8).
 fn begin(key: &[u8; 32], nonce: &[u8; 12], aad: &[u8]) -> Mac
     ensures { Absorbed result (one_time_key key.now nonce.now) (aad.now ++ pad16 aad.now) }
 {
@@ -52,7 +52,7 @@ fn begin(key: &[u8; 32], nonce: &[u8; 12], aad: &[u8]) -> Mac
     front
 }
 
-// The tag, where the ciphertext is absorbed behind the padded associated data: zeros, and the two
+// The tag, given the mac after the padded associated data and the ciphertext. Absorbs zeros and the two
 // lengths (2.8).
 fn finish(mac: Mac, aad: &[u8], ciphertext: &[u8]) -> [u8; 16]
     ensures { (key : List ℕ) → Absorbed mac key ((aad.now ++ pad16 aad.now) ++ ciphertext.now)
@@ -74,7 +74,7 @@ fn tag_of(key: &[u8; 32], nonce: &[u8; 12], aad: &[u8], ciphertext: &[u8]) -> [u
     finish(mac, aad, ciphertext)
 }
 
-// Enciphers or deciphers a text, from its first block's counter on (2.8).
+// Encrypts or decrypts a text, from counter 1 on (2.8).
 fn encipher(key: &[u8; 32], nonce: &[u8; 12], text: &mut [u8])
     requires { length text.old ≤ (2 ^ 32 - 1) * 64 }
     ensures { text.new ≡ enciphered key.now nonce.now text.old }
@@ -82,7 +82,7 @@ fn encipher(key: &[u8; 32], nonce: &[u8; 12], text: &mut [u8])
     apply(key, nonce, FIRST, text);
 }
 
-// Enciphers the strip of a text from `at` to `end`, from whole blocks on, and absorbs it.
+// Encrypts the strip of a text from `at` to `end`, and absorbs it. Whole blocks precede it.
 fn seal_strip(
     mac: &mut Mac,
     key: &[u8; 32],
@@ -102,9 +102,9 @@ fn seal_strip(
     mac.absorb(strip);
 }
 
-/// Seals `text` in place under a key of 32 bytes, a nonce of 12 and associated data: the text
-/// becomes its ciphertext, and the tag of 16 bytes is answered (RFC 8439, 2.8). A text has at most
-/// 2^32 - 1 blocks of 64 bytes.
+/// Seals `text` in place under a key of 32 bytes, a nonce of 12 and associated data (RFC 8439, 2.8).
+/// The text becomes its ciphertext; returns the tag of 16 bytes. A text has at most 2^32 - 1 blocks of
+/// 64 bytes.
 pub fn seal_in_place(key: &[u8; 32], nonce: &[u8; 12], aad: &[u8], text: &mut [u8]) -> [u8; 16]
     requires { length text.old ≤ (2 ^ 32 - 1) * 64 }
     ensures ciphertext { text.new ≡ (aead key.now nonce.now aad.now text.old).0 }
@@ -120,9 +120,9 @@ pub fn seal_in_place(key: &[u8; 32], nonce: &[u8; 12], aad: &[u8], text: &mut [u
     finish(mac, aad, text)
 }
 
-/// Whether `tag` is the tag of the associated data and of a ciphertext, under a key of 32 bytes and
-/// a nonce of 12 (RFC 8439, 2.8). It only reads. Nothing is claimed of the time that the comparison
-/// takes.
+/// Returns whether `tag` is the tag of associated data and a ciphertext, under a key of 32 bytes and a
+/// nonce of 12 (RFC 8439, 2.8). It changes nothing. Nothing is claimed about the time that the
+/// comparison takes.
 pub fn check(
     key: &[u8; 32],
     nonce: &[u8; 12],
@@ -135,10 +135,9 @@ pub fn check(
     same(tag, &tag_of(key, nonce, aad, ciphertext))
 }
 
-/// Opens `text` in place: answers whether `tag` is the tag of the associated data and of `text` as
-/// a ciphertext (RFC 8439, 2.8). Where it is, the text becomes the plaintext; where it isn't, it
-/// stays as it was. A text has at most 2^32 - 1 blocks of 64 bytes. Nothing is claimed of the time
-/// that the comparison takes.
+/// Opens `text` in place: returns whether `tag` is the tag of the associated data and of `text` as a
+/// ciphertext (RFC 8439, 2.8). If it is, the text becomes the plaintext; else it is unchanged. A text
+/// has at most 2^32 - 1 blocks of 64 bytes. Nothing is claimed about the time that the comparison takes.
 pub fn open_in_place(
     key: &[u8; 32],
     nonce: &[u8; 12],

@@ -2,8 +2,8 @@
 use crew_core::Gate;
 use std::sync::atomic::{AtomicU64, Ordering};
 
-/// Holds the pass with one job until the pass with another has come, and gives up after so many turns. It counts the
-/// passes with each of the jobs 0 to 15, in four bits each.
+/// Holds the pass with job `job` until the pass with job `until` has come, and gives up after `turns` turns. It counts
+/// the passes with each of the jobs 0 to 15, in four bits each.
 #[derive(Drop)]
 pub struct Held {
     job: u32,
@@ -19,7 +19,7 @@ fn one(job: u32) -> u64 {
 }
 
 impl Held {
-    /// The gate before any pass.
+    /// Returns the gate before any pass.
     pub fn new(job: u32, until: u32, turns: u64) -> Held {
         Held {
             job,
@@ -35,7 +35,7 @@ impl Held {
         self.counts.load(Ordering::SeqCst)
     }
 
-    /// Whether the job was let go before the other.
+    /// Whether the job was released before the other came.
     pub fn gave_up(&self) -> bool {
         self.gave_up.load(Ordering::SeqCst) > 0
     }

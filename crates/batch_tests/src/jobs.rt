@@ -4,7 +4,7 @@ ghost use Rattle.std.specs.Prelude.{◌≡◌, ◌<◌, ◌≤◌, length, All, 
 use container_core::MAX_PLAIN;
 use std::alloc::{AllocError, Global};
 
-/// So many jobs: job n has n bytes, each of them n.
+/// Returns `count` jobs: job n has n bytes, each of value n.
 pub fn jobs_of(alloc: Global, count: u8) -> Result<Vec<Vec<u8>>, AllocError>
     ensures count { IfOk result (λ jobs. length jobs.items ≡ count) }
     ensures short { IfOk result (λ jobs. All (λ job. length job.items ≤ MAX_PLAIN) jobs.items) }
@@ -16,7 +16,7 @@ pub fn jobs_of(alloc: Global, count: u8) -> Result<Vec<Vec<u8>>, AllocError>
     Ok(jobs)
 }
 
-/// These jobs, of at most 255 bytes each.
+/// Returns these jobs, of at most 255 bytes each.
 pub fn texts(alloc: Global, from: &[&[u8]]) -> Result<Vec<Vec<u8>>, AllocError>
     ensures count { IfOk result (λ jobs. length jobs.items ≡ length from.now) }
     ensures short { IfOk result (λ jobs. All (λ job. length job.items ≤ MAX_PLAIN) jobs.items) }

@@ -1,4 +1,4 @@
-//! Tests of batches over ledgers, and of the gates that their lanes pass.
+//! Tests of batches with ledgers, and of the gates that their lanes pass.
 #![tactic(auto)]
 
 #[cfg(test)]

@@ -1,4 +1,4 @@
-//! Batches over new ledgers, and what their outcomes say.
+//! Batches with new ledgers, and checks of their outcomes.
 ghost use Rattle.std.specs.Prelude.{◌≡◌, ◌<◌, ◌≤◌, length, All, IfSome};
 
 use crate::jobs::jobs_of;
@@ -10,8 +10,8 @@ use ledger_core::{Device, IssueFault, Range, Spent, Way, prefix};
 use std::alloc::Global;
 use std::thread::Threads;
 
-// A run over so many numbers from `lo` on. A refused allocation is the one that the run was asked for, so the same call
-// finds memory at once.
+// A run with `size` numbers from `lo` on. The only refused allocation is the one that the test run injects, so the
+// second call succeeds.
 pub fn opened(alloc: Global, lo: u32, size: u32, seats: u32) -> Option<Run>
     ensures { IfSome result (λ run. run.terms.seats ≡ seats) }
 {
@@ -22,7 +22,7 @@ pub fn opened(alloc: Global, lo: u32, size: u32, seats: u32) -> Option<Run>
     }
 }
 
-// Whether a text's container in a shape under this prefix is these bytes.
+// Whether a text's container in a shape with this prefix is these bytes.
 fn seals_to(
     alloc: Global,
     key: &Key,
@@ -45,7 +45,7 @@ fn opens_to(alloc: Global, key: &Key, bytes: &[u8], text: &[u8]) -> bool {
     }
 }
 
-// Whether the outcome is this job's container in a shape under a number that is spent as sealed, and opens to the job.
+// Whether the outcome is this job's container in a shape, under a number spent as sealed, and opens to the job.
 fn is_sealed(alloc: Global, key: &Key, shape: &Shape, job: &[u8], outcome: &Outcome) -> bool {
     let Outcome::Sealed {
         seat: _,
@@ -109,7 +109,7 @@ fn number_of(outcome: &Outcome) -> Option<u32> {
     }
 }
 
-// The number that was spent, if one was.
+// The number that was spent, if any.
 pub fn spent_of(outcome: Outcome) -> Option<Spent> {
     match outcome {
         Outcome::Sealed {
@@ -149,7 +149,7 @@ pub fn numbers(outcomes: &[Outcome]) -> usize {
         .count()
 }
 
-// Whether each of so many seats drew one job.
+// Whether each of `seats` seats drew one job.
 pub fn draw_one_each(outcomes: &[Outcome], seats: u32) -> bool {
     for seat in 0..seats {
         if at_seat(outcomes, seat) != 1 {
@@ -159,7 +159,7 @@ pub fn draw_one_each(outcomes: &[Outcome], seats: u32) -> bool {
     true
 }
 
-// Whether the first outcomes have these numbers.
+// Whether the first two outcomes have these numbers.
 pub fn are_numbered(outcomes: &[Outcome], first: u32, second: u32) -> bool {
     outcomes.first().and_then(number_of) == Some(first)
         && outcomes.get(1).and_then(number_of) == Some(second)
@@ -178,13 +178,12 @@ pub fn is_first_job_late(outcomes: &[Outcome]) -> bool {
     }
 }
 
-// Whether a container opens to this text. A refusal that was asked for is met once, so the same call finds memory at
-// once.
+// Whether a container opens to this text. An injected refusal of memory comes once, so the second call succeeds.
 fn opens_again(alloc: Global, bytes: &[u8], text: &[u8]) -> bool {
     opens_to(alloc, &counting_key(), bytes, text) || opens_to(alloc, &counting_key(), bytes, text)
 }
 
-// Whether the outcome is the container of this text, a void number, or a refused growth.
+// Whether the outcome is this text's container, a void number, or a refused growth.
 pub fn is_kept(alloc: Global, text: &[u8], outcome: &Outcome) -> bool {
     match outcome {
         Outcome::Sealed {
@@ -197,7 +196,7 @@ pub fn is_kept(alloc: Global, text: &[u8], outcome: &Outcome) -> bool {
     }
 }
 
-// The outcomes of a batch in a shape at a gate, over a new ledger with a number for each job, from `lo` on.
+// The outcomes of a batch in a shape at a gate, with a new ledger that has a number for each job, from `lo` on.
 pub fn outcomes_of<R: Threads + Sync, G: Gate + Sync>(
     rt: &R,
     alloc: Global,
@@ -217,7 +216,7 @@ pub fn outcomes_of<R: Threads + Sync, G: Gate + Sync>(
         .ok()
 }
 
-// The outcomes of so many jobs under the numbers from 0 on, where each job has its container of version 1.
+// The outcomes of `count` jobs under numbers from 0 on, if each job has its container of version 1.
 pub fn sealed<R: Threads + Sync, G: Gate + Sync>(
     rt: &R,
     alloc: Global,

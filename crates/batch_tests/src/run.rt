@@ -1,4 +1,4 @@
-//! A shared ledger with all its seats, which seals batches.
+//! A shared ledger with all its seats, to seal batches.
 ghost use Rattle.std.specs.Prelude.{◌≡◌, ◌<◌, ◌≤◌, length, All, IfOk, IfErr};
 ghost use Rattle.ledger_core.specs.Closing.{AreAllSeats};
 ghost use Rattle.ledger_core.specs.Journal.{terms_of};
@@ -59,7 +59,7 @@ impl Run {
         seal_in(rt, alloc, key, shape, ledger, seats, jobs, lanes, gate)
     }
 
-    /// Whether this could be settled at the seat of this number.
+    /// Whether this could be settled at the seat with this number.
     pub fn settled(&mut self, seat: usize, spent: Spent) -> bool
         ensures { self.new ≡ self.old }
     {
@@ -89,7 +89,7 @@ impl Run {
     }
 }
 
-// A batch over all seats of a ledger.
+// Seals a batch with all seats of a ledger.
 fn seal_in<R: Threads + Sync, G: Gate + Sync>(
     rt: &R,
     alloc: Global,

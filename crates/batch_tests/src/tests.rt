@@ -1,4 +1,5 @@
-//! What no clause says of batches: that they succeed, that lanes run at once, and containers made elsewhere.
+//! What no clause says of batches: that they succeed, that lanes run concurrently, and that containers equal those made
+//! elsewhere.
 ghost use Rattle.std.specs.Prelude.{◌≡◌, ◌<◌, ◌≤◌};
 
 use crate::held::Held;
@@ -16,14 +17,14 @@ use ledger_core::{IssueFault, Journal, Tally, audit};
 use std::alloc::Global;
 use std::thread::Threads;
 
-// How often a pass looks for the others, where lanes are to meet, and where they can't.
+// How often a pass checks for the others: where lanes can meet, and (`FEW_TURNS`) where they can't.
 const TURNS: u64 = 1_000_000_000;
 
 const FEW_TURNS: u64 = 1000;
 
 static TEXTS: [&[u8]; 3] = [b"", b"a", b"bc"];
 
-// Their containers under the key 00 01 .. 1f, of device 1 and files 7, 8 and 9, by Python's `cryptography`.
+// Their containers with the key 00 01 .. 1f, device 1 and files 7, 8 and 9; from Python's `cryptography`.
 static OF_ONE: [&[u8]; 3] = [
     &[
         0x53, 0x54, 0x52, 0x4d, 0x53, 0x45, 0x41, 0x4c, 0x01, 0x10, 0x00, 0x00, 0x01, 0x00, 0x00,
@@ -120,23 +121,24 @@ fn containers_made_elsewhere(rt: HostRuntime) {
     assert!(rt; gives_both(&rt, rt.alloc()) == Some(true));
 }
 
-// How many jobs there are, which all have to meet at a gate, over how many seats and on how many lanes; and whether the
-// gate gives up.
+// The number of jobs, which must all meet at a gate; the number of seats, the number of lanes, and whether the gate
+// gives up.
 static MEETINGS: [(u8, u32, u32, bool); 3] = [
     (2, 2, 2, false),
-    // A thread of its own for each lane that has a job: with fewer, four would not all be held at once.
+    // Each lane with a job has its own thread: with fewer threads, four passes couldn't all be held at once.
     (4, 16, 16, false),
-    // That the rows above can fail: two jobs on one lane.
+    // Shows that the rows above can fail: two jobs on one lane.
     (2, 2, 1, true),
 ];
 
-// Whether two outcomes have the numbers 0 and 1, in either order, and where they met so many seats drew one each.
+// Whether two outcomes have the numbers 0 and 1 in either order. If the jobs met, each of `jobs` seats must have drawn
+// one.
 fn are_met(outcomes: &[Outcome], jobs: u32, gives_up: bool) -> bool {
     let numbered = are_numbered(outcomes, 0, 1) || are_numbered(outcomes, 1, 0);
     (gives_up || draw_one_each(outcomes, jobs)) && (outcomes.len() != 2 || numbered)
 }
 
-// Whether so many jobs meet so, or don't, and each is sealed.
+// Whether `count` jobs meet (or don't) as expected, and each is sealed.
 fn is_met<R: Threads + Sync>(
     rt: &R,
     alloc: Global,
@@ -177,7 +179,7 @@ fn holds_one_job<R: Threads + Sync>(rt: &R, alloc: Global) -> Option<bool> {
     Some(is_held && at_seat(outcomes, 0) == 7 && at_seat(outcomes, 1) == 1)
 }
 
-// A lane that is held up holds up one job alone: lane 1 is held with its job until lane 0 has passed with all others.
+// A held lane holds up only one job: lane 1 is held with its job until lane 0 has passed with all others.
 #[test]
 fn a_held_lane_holds_one_job(rt: HostRuntime) {
     assert!(rt; holds_one_job(&rt, rt.alloc()) == Some(true));
@@ -190,14 +192,14 @@ fn issues_behind_the_gate<R: Threads + Sync>(rt: &R, alloc: Global) -> Option<bo
     Some(is_held && is_first_job_late(outcomes.as_slice()))
 }
 
-// Job 0 is held at the gate until the other lane comes with job 7, and by then that lane has six numbers: one that was
-// issued for job 0 before the gate would be among the first.
+// Job 0 is held at the gate until the other lane comes with job 7. By then that lane has six numbers. A number issued
+// for job 0 before the gate would be among the first.
 #[test]
 fn the_gate_comes_before_the_issue(rt: HostRuntime) {
     assert!(rt; issues_behind_the_gate(&rt, rt.alloc()) == Some(true));
 }
 
-// The outcomes of so many jobs over a new ledger of the one number `lo`, and what it then tells at a seat.
+// The outcomes of `count` jobs with a new ledger of the single number `lo`, and a seat's counts afterwards.
 fn told<R: Threads + Sync>(
     rt: &R,
     alloc: Global,
@@ -226,7 +228,7 @@ fn told<R: Threads + Sync>(
     Some((outcomes, run.tally(seat)))
 }
 
-// Whether one of six jobs on so many lanes has a number, and the others found none.
+// Whether one of six jobs on `lanes` lanes has a number, and the others found none.
 fn is_one_numbered(outcomes: &[Outcome], tally: Tally, lanes: u32) -> bool {
     let exhausted = faults(outcomes, IssueFault::Exhausted);
     numbers(outcomes) == 1
@@ -245,8 +247,8 @@ fn is_range_too_small<R: Threads + Sync>(rt: &R, alloc: Global, lanes: u32) -> O
     Some(is_one_numbered(outcomes.as_slice(), tally, lanes))
 }
 
-// The range ends within the batch: one lane gets the number. A lane that finds none is answered so once, and is closed
-// from then on. A second lane may find no job left.
+// The range ends within the batch, and one lane gets the number. A lane that finds none gets `Exhausted` once, and is
+// then closed. A second lane may find no job left.
 #[test]
 fn a_range_too_small(rt: HostRuntime) {
     assert!(rt; is_range_too_small(&rt, rt.alloc(), 1) == Some(true));
@@ -277,7 +279,7 @@ fn are_settled(run: &mut Run, outcomes: Vec<Outcome>) -> bool {
     true
 }
 
-// The journal of a hundred jobs on sixteen lanes, where each is sealed and settled.
+// The journal of a hundred jobs on sixteen lanes, each sealed and settled.
 fn journal_of<R: Threads + Sync>(rt: &R, alloc: Global) -> Option<Journal> {
     let jobs = jobs_of(alloc, 100).ok()?;
     let jobs = jobs.as_slice();
@@ -314,13 +316,13 @@ fn is_journal_whole<R: Threads + Sync>(rt: &R, alloc: Global) -> Option<bool> {
     Some(journal.entries().len() == 200 && audits_to(alloc, text.as_bytes(), line)?)
 }
 
-// A batch over sixteen seats, settled and closed: the journal has each number granted and settled once.
+// A batch with sixteen seats, settled and closed: the journal has each number granted and settled once.
 #[test]
 fn sixteen_lanes_and_their_journal(rt: HostRuntime) {
     assert!(rt; is_journal_whole(&rt, rt.alloc()) == Some(true));
 }
 
-// The outcomes of three jobs on two lanes. A batch that was refused has issued nothing, and is sealed again.
+// The outcomes of three jobs on two lanes. A refused batch has issued nothing, and is sealed again.
 fn sealed_again<R: Threads + Sync>(rt: &R, alloc: Global, run: &mut Run) -> Option<Vec<Outcome>>
     requires seats { 2 ≤ run.old.terms.seats }
     ensures same { run.new ≡ run.old }
@@ -361,7 +363,7 @@ fn sealed_again<R: Threads + Sync>(rt: &R, alloc: Global, run: &mut Run) -> Opti
 // The three jobs of `jobs_of`.
 static THREE: [&[u8]; 3] = [b"", b"\x01", b"\x02\x02"];
 
-// Whether each of the outcomes is one of these jobs.
+// Whether each of the outcomes fits its job.
 fn all_kept(alloc: Global, outcomes: &[Outcome]) -> bool {
     for (outcome, job) in outcomes.iter().zip(&THREE) {
         if !is_kept(alloc, job, outcome) {
@@ -371,7 +373,7 @@ fn all_kept(alloc: Global, outcomes: &[Outcome]) -> bool {
     outcomes.len() == 3
 }
 
-// Whether each of three jobs has an outcome, and as many numbers were granted as outcomes have one.
+// Whether each of three jobs has an outcome, and the ledger granted as many numbers as outcomes have one.
 fn are_kept(alloc: Global, outcomes: &[Outcome], tally: Tally) -> bool {
     all_kept(alloc, outcomes) && tally.granted as usize == numbers(outcomes) && tally.refused == 0
 }
@@ -383,8 +385,8 @@ fn loses_no_number<R: Threads + Sync>(rt: &R, alloc: Global) -> Option<bool> {
     Some(are_kept(alloc, outcomes.as_slice(), tally))
 }
 
-// Three jobs on two lanes. Run it with each allocation refused in turn: either the batch was refused and nothing was
-// issued, or each job has an outcome, and the ledger has granted as many numbers as outcomes have one.
+// Three jobs on two lanes. Run it with each allocation refused in turn. Either the batch was refused and nothing
+// issued, or each job has an outcome and the ledger granted as many numbers as outcomes have one.
 #[test]
 fn a_refused_growth_loses_no_number(rt: HostRuntime) {
     assert!(rt; loses_no_number(&rt, rt.alloc()) == Some(true));

@@ -1,6 +1,6 @@
-//! What opening answers to cut and altered containers, on one thread and with workers: runs of lengths, or of places,
-//! that have one answer. The container is that of version 1 of 131,073 zero bytes, three chunks, under the key 00 01 ..
-//! 1f, device 1, file 0.
+//! What opening returns for cut and altered containers, on one thread and with workers: runs of lengths or places with
+//! the same result. The container has version 1 and 131,073 zero bytes (three chunks). The key is 00 01 .. 1f, device
+//! 1, file 0.
 ghost use Rattle.std.specs.Prelude.{◌≡◌, ◌≤◌, length};
 
 use anyhow::{Result, ensure};
@@ -11,13 +11,13 @@ use std::alloc::{AllocError, Global};
 use std::io::{self, Print};
 use std::thread::Threads;
 
-// Bytes of the plaintext: two whole chunks and a byte.
+// The length of the plaintext: two whole chunks and a byte.
 const PLAIN: usize = 131_073;
 
-// Bytes of its container.
+// The length of its container.
 const LENGTH: usize = 131_145;
 
-// The lengths to which it is cut: each one, and those about the ends of header and chunks.
+// The lengths that it is cut to: all, and (`SOME`) those near the ends of header and chunks.
 static ALL: [(usize, usize); 1] = [(0, 131_144)];
 
 static SOME: [(usize, usize); 3] = [(0, 100), (65_500, 65_700), (131_100, 131_144)];
@@ -29,7 +29,7 @@ enum Damage {
     Alter,
 }
 
-// The fault that opening answers, or none: by `open` where there are no workers.
+// The fault of opening, if any. If `workers` is 0, by `open`.
 fn fault_of<R: Threads + Sync>(
     rt: &R,
     alloc: Global,
@@ -50,7 +50,7 @@ fn fault_of<R: Threads + Sync>(
     }
 }
 
-// What opening answers to the container cut to this length, or with a bit of the byte at this place changed.
+// The result of opening the container cut to this length, or with a bit of the byte at this place flipped.
 fn answer<R: Threads + Sync>(
     rt: &R,
     alloc: Global,
@@ -92,7 +92,7 @@ fn print_run<R: Print>(
     Ok(())
 }
 
-// Prints what it answers from one length or place to another.
+// Prints the results of opening from one length or place to another.
 fn print_runs<R: Print + Threads + Sync>(
     rt: &R,
     alloc: Global,
@@ -118,7 +118,7 @@ fn print_runs<R: Print + Threads + Sync>(
     print_run(rt, alloc, begin, to, last)
 }
 
-// What opening answers where the chunks are in this order.
+// The result of opening with the chunks in this order.
 fn answer_of_move<R: Threads + Sync>(
     rt: &R,
     alloc: Global,
@@ -181,7 +181,7 @@ fn print_all<R: Print + Threads + Sync>(
     Ok(())
 }
 
-/// Prints what opening answers on one thread to each cut and alteration, and with one worker and with four to some.
+/// Prints what opening returns for each cut and alteration on one thread, and for some with one and with four workers.
 pub fn show<R: Print + Threads + Sync>(rt: &R, alloc: Global) -> Result<()> {
     let key = counting_key();
     let bytes = zeros_sealed(alloc, &key, &Shape::one(), 0, PLAIN)?;

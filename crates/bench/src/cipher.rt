@@ -1,4 +1,4 @@
-//! ChaCha20, Poly1305, and the AEAD's sealing, opening and checking, over texts of 64 KiB and of 1 KiB.
+//! ChaCha20, Poly1305, and sealing, opening and checking with the AEAD, for texts of 64 KiB and of 1 KiB.
 ghost use Rattle.std.specs.Prelude.{◌≡◌, ◌≤◌, length};
 
 use crate::clock::nanos_since;
@@ -11,13 +11,13 @@ use std::alloc::Global;
 use std::io::{self, Print};
 use std::time::{Clock, Instant};
 
-// The bytes of all texts of a sample.
+// The total bytes of a sample's texts.
 const TEXT: usize = 65_536;
 
 // The most texts of a sample.
 const TEXTS: usize = 64;
 
-// How many samples are taken of each work.
+// How many samples are taken of each kind of work.
 const SAMPLES: u32 = 2_000;
 
 const NONCE: [u8; 12] = [0; 12];
@@ -49,7 +49,7 @@ fn front(text: &[u8]) -> [u8; 16] {
     front
 }
 
-// Works over one text, with its tag, or of ChaCha20 the first bytes of its text. The answer is a byte of what came out.
+// Processes one text. `tag` is its tag, or for ChaCha20 the first bytes of the result. Returns a byte of the result.
 fn work_over(work: Work, text: &mut [u8], tag: &mut [u8; 16]) -> u8
     requires { length text.old ≤ TEXT }
 {
@@ -74,7 +74,7 @@ fn work_over(work: Work, text: &mut [u8], tag: &mut [u8; 16]) -> u8
     }
 }
 
-// Works over all texts of this length.
+// Processes all texts of this length.
 fn work_over_all(work: Work, bytes: &mut [u8], length: usize, tags: &mut [[u8; 16]; TEXTS]) -> u8 {
     let mut seen = 0;
     for (text, tag) in bytes.chunks_mut(length.max(1)).zip(tags.iter_mut()) {
@@ -85,7 +85,7 @@ fn work_over_all(work: Work, bytes: &mut [u8], length: usize, tags: &mut [[u8; 1
     seen
 }
 
-// The nanoseconds of one sample, and a byte of its results. What is opened or checked was sealed before.
+// The nanoseconds of one sample, and a byte of its results. What is opened or checked was sealed beforehand.
 fn sample<C: Clock>(
     clock: &C,
     work: Work,
@@ -101,7 +101,7 @@ fn sample<C: Clock>(
     Ok((nanos_since(clock, &start)?, seen))
 }
 
-// Prints the picoseconds a byte of the best sample.
+// Prints the picoseconds per byte of the best sample.
 fn measure_work<R: Clock + Print>(
     rt: &R,
     name: &str,
@@ -121,7 +121,7 @@ fn measure_work<R: Clock + Print>(
     println!(rt; "{name} {length} {picos} ({seen})")
 }
 
-// Measures each work over texts of this length.
+// Measures each kind of work with texts of this length.
 fn measure_length<R: Clock + Print>(rt: &R, bytes: &mut [u8], length: usize) -> io::Result<()> {
     for (name, work) in &WORKS {
         measure_work(rt, name, *work, bytes, length)?;
@@ -129,8 +129,8 @@ fn measure_length<R: Clock + Print>(rt: &R, bytes: &mut [u8], length: usize) -> 
     Ok(())
 }
 
-/// Prints for each work and length the picoseconds a byte of its best sample. A sample works over 64 KiB, in texts of
-/// the length.
+/// Prints, for each kind of work and each length, the picoseconds per byte of the best sample. A sample processes 64
+/// KiB, in texts of that length.
 pub fn measure<R: Clock + Print>(rt: &R, alloc: Global) -> Result<()> {
     let mut bytes = vec![in alloc; 0u8; TEXT]?;
     measure_length(rt, bytes.as_mut_slice(), 65_536)?;
@@ -138,7 +138,7 @@ pub fn measure<R: Clock + Print>(rt: &R, alloc: Global) -> Result<()> {
     Ok(())
 }
 
-// Prints what comes out of one round over zeros.
+// Prints the result of one round with zeros.
 fn show_work<R: Print>(rt: &R, alloc: Global, name: &str, work: Work) -> Result<()> {
     let mut text = vec![in alloc; 0u8; TEXT]?;
     let mut tag = [0; 16];
@@ -150,7 +150,7 @@ fn show_work<R: Print>(rt: &R, alloc: Global, name: &str, work: Work) -> Result<
     Ok(())
 }
 
-/// Prints what comes out of one round over 64 KiB of zeros.
+/// Prints the results of one round with 64 KiB of zeros.
 pub fn show<R: Print>(rt: &R, alloc: Global) -> Result<()> {
     show_work(rt, alloc, "ChaCha20", Work::Apply)?;
     show_work(rt, alloc, "Poly1305", Work::Mac)?;

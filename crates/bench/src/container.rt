@@ -1,4 +1,4 @@
-//! Sealing and opening 64 MiB in memory, each into a fresh vector: by the AEAD alone, by `seal` and `open`, and with
+//! Sealing and opening 64 MiB in memory, each into a new vector: with the AEAD alone, with `seal` and `open`, and with
 //! workers.
 
 use crate::clock::nanos_since;
@@ -13,13 +13,13 @@ use std::io::{self, Print};
 use std::thread::Threads;
 use std::time::{Clock, Instant};
 
-/// The bytes of the text: 1,024 chunks.
+/// The length of the text in bytes: 1,024 chunks.
 const TEXT: usize = 1 << 26;
 
 /// How many chunks it has.
 const COUNT: usize = 1024;
 
-/// How often each is done; the best time counts.
+/// How often each is done. The best time counts.
 const SAMPLES: u32 = 15;
 
 // How the text is sealed and opened.
@@ -54,8 +54,8 @@ fn nonce_of(number: usize) -> Result<[u8; 12]> {
     Ok(nonce(prefix_of(0), number as u32, number + 1 == COUNT))
 }
 
-// The AEAD alone, as any call that gives a fresh vector has to use it: room reserved once, each chunk copied in and
-// sealed there, its tag after it.
+// Seals with the AEAD alone, as any call that returns a new vector must use it. Room is reserved once, each chunk is
+// copied in and sealed there, and its tag follows it.
 fn seal_chunks(alloc: Global, key: &Key, text: &[u8]) -> Result<Vec<u8>> {
     let header = Header::of(key, &Shape::one(), prefix_of(0));
     let mut out = Vec::with_capacity(alloc, HEADER + TEXT + TAG * COUNT)?;
@@ -71,7 +71,7 @@ fn seal_chunks(alloc: Global, key: &Key, text: &[u8]) -> Result<Vec<u8>> {
     Ok(out)
 }
 
-// The same of opening.
+// The same for opening.
 fn open_chunks(alloc: Global, header: &[u8], body: &[u8]) -> Result<Vec<u8>> {
     let mut out = Vec::with_capacity(alloc, TEXT)?;
     for (number, chunk) in body.chunks(SEALED).enumerate() {
@@ -89,7 +89,7 @@ fn open_chunks(alloc: Global, header: &[u8], body: &[u8]) -> Result<Vec<u8>> {
     Ok(out)
 }
 
-// The grant of file 0 of device 1.
+// The grant of device 1 and file 0.
 fn grant(alloc: Global) -> Option<Grant> {
     let range = Range::new(Device::new(1)?, 0, 1).ok()?;
     let (ledger, mut seats) = Ledger::open(alloc, range, 1).ok()?;
@@ -97,7 +97,7 @@ fn grant(alloc: Global) -> Option<Grant> {
     ledger.issue(seat).ok()
 }
 
-// The container by so many workers.
+// The container sealed with `workers` workers.
 fn seal_with<R: Threads + Sync>(
     rt: &R,
     alloc: Global,
@@ -114,7 +114,7 @@ fn seal_with<R: Threads + Sync>(
     Ok(bytes?)
 }
 
-// The container of the text in a fresh vector.
+// The container of the text, in a new vector.
 fn sealed_by<R: Threads + Sync>(
     rt: &R,
     alloc: Global,
@@ -129,7 +129,7 @@ fn sealed_by<R: Threads + Sync>(
     }
 }
 
-// The text of a container in a fresh vector.
+// The text of a container, in a new vector.
 fn opened_by<R: Threads + Sync>(
     rt: &R,
     alloc: Global,
@@ -151,7 +151,7 @@ fn opened_by<R: Threads + Sync>(
     }
 }
 
-// The nanoseconds of a sealing, whose container is this one.
+// The nanoseconds of a sealing. It must produce this container.
 fn time_of_sealing<R: Clock + Threads + Sync>(
     rt: &R,
     alloc: Global,
@@ -167,7 +167,7 @@ fn time_of_sealing<R: Clock + Threads + Sync>(
     Ok(nanos)
 }
 
-// The nanoseconds of an opening, whose plaintext is this one.
+// The nanoseconds of an opening. It must produce this plaintext.
 fn time_of_opening<R: Clock + Threads + Sync>(
     rt: &R,
     alloc: Global,
@@ -183,7 +183,7 @@ fn time_of_opening<R: Clock + Threads + Sync>(
     Ok(nanos)
 }
 
-// A sample of each way.
+// Takes one sample of each way.
 fn sample<R: Clock + Threads + Sync>(
     rt: &R,
     alloc: Global,
@@ -201,7 +201,7 @@ fn sample<R: Clock + Threads + Sync>(
     Ok(())
 }
 
-// So many thousandths is one time of another.
+// One time as thousandths of another.
 fn part(nanos: u64, whole: u64) -> u64 {
     nanos.saturating_mul(1000) / whole.max(1)
 }
@@ -231,7 +231,7 @@ fn print_rows<R: Print>(rt: &R, rows: &[Row]) -> io::Result<()> {
     Ok(())
 }
 
-// Prints the best times of each way, all done in turn in each of several rounds.
+// Prints the best times of each way. Each round does all ways in turn.
 fn measure<R: Print + Clock + Threads + Sync>(
     rt: &R,
     alloc: Global,
@@ -247,7 +247,7 @@ fn measure<R: Print + Clock + Threads + Sync>(
     Ok(())
 }
 
-/// Prints how long `seal` and `open` take, beside the AEAD alone.
+/// Prints how long `seal` and `open` take, compared with the AEAD alone.
 pub fn measure_one_thread<R: Print + Clock + Threads + Sync>(rt: &R, alloc: Global) -> Result<()> {
     measure(
         rt,
@@ -256,7 +256,7 @@ pub fn measure_one_thread<R: Print + Clock + Threads + Sync>(rt: &R, alloc: Glob
     )
 }
 
-/// Prints how long `seal_whole` and `open_whole` take with 1, 2 and 4 workers, beside `seal` and `open`.
+/// Prints how long `seal_whole` and `open_whole` take with 1, 2 and 4 workers, compared with `seal` and `open`.
 pub fn measure_workers<R: Print + Clock + Threads + Sync>(rt: &R, alloc: Global) -> Result<()> {
     let mut rows = [
         Row::of(Way::OneThread),

@@ -1,5 +1,5 @@
-//! The shared ledger: operations a second of 1, 2 and 4 threads that issue and settle, beside the same three counts
-//! under a `Mutex`. A round's time has the start and the end of its threads in it.
+//! The shared ledger: operations per second of 1, 2 and 4 threads that issue and settle, compared with the same three
+//! counts under a `Mutex`. A round's time includes starting and ending its threads.
 
 use crate::clock::nanos_since;
 use anyhow::Result;
@@ -11,13 +11,13 @@ use std::sync::{Mutex, Wait};
 use std::thread::{Threads, for_each_mut};
 use std::time::{Clock, Instant};
 
-/// How many numbers are spent where nothing is measured.
+/// How many numbers are spent if nothing is measured.
 const SHORT: u32 = 1_000;
 
-/// How many rounds are measured of each.
+/// How many rounds of each are measured.
 const ROUNDS: u32 = 101;
 
-/// The three counts of the ledger's word, as a lock's value.
+/// The three counts of the ledger's word, as the value in a lock.
 #[derive(Drop)]
 struct Counts {
     issues: u32,
@@ -42,7 +42,7 @@ impl Counts {
     }
 }
 
-// What a round took, and what it counted.
+// The time of a round, and its counts.
 #[derive(Clone, Copy)]
 struct Round {
     nanos: u64,
@@ -67,7 +67,7 @@ fn ledger_round<R: Clock + Threads + Sync>(
     Ok(Round { nanos, tally })
 }
 
-// Issues until no number is left, and settles each.
+// Issues numbers until none is left, and settles each.
 fn spend_counts<R: Wait>(rt: &R, counts: &Mutex<Counts>, size: u32) {
     for _ in 0..=Range::MAX_SIZE {
         let Some(number) = counts.lock(rt).issue(size) else {
@@ -77,7 +77,7 @@ fn spend_counts<R: Wait>(rt: &R, counts: &Mutex<Counts>, size: u32) {
     }
 }
 
-// The threads spend as many numbers of three counts under a lock.
+// The threads spend `size` numbers of three counts under a lock.
 fn lock_round<R: Clock + Threads + Wait + Sync>(
     rt: &R,
     alloc: Global,
@@ -118,13 +118,13 @@ fn print_tally<R: Print>(rt: &R, name: &str, threads: u32, tally: Tally) -> io::
     )
 }
 
-// Millions of operations a second: an issue and a settlement for each number, and a refusal for each thread.
+// Millions of operations per second: an issue and a settlement for each number, and a refusal for each thread.
 fn speed(nanos: u64, threads: u32) -> u64 {
     let operations = 2 * u64::from(Range::MAX_SIZE) + u64::from(threads);
     operations.saturating_mul(1_000) / nanos.max(1)
 }
 
-// Speeds in millions of operations a second.
+// Speeds in millions of operations per second.
 #[derive(Clone, Copy)]
 struct Speeds {
     middle: u64,
@@ -160,7 +160,7 @@ fn print_speeds<R: Clock + Print + Threads + Wait + Sync>(
     Ok(())
 }
 
-/// Prints the speed of the middle and of the best round over the greatest range.
+/// Prints the speeds of the median and the best round with the largest range.
 pub fn measure<R: Clock + Print + Threads + Wait + Sync>(rt: &R, alloc: Global) -> Result<()> {
     for threads in [1, 2, 4] {
         print_speeds(rt, alloc, threads)?;
@@ -168,7 +168,7 @@ pub fn measure<R: Clock + Print + Threads + Wait + Sync>(rt: &R, alloc: Global) 
     Ok(())
 }
 
-/// Prints what the ledger and the lock count over a short range.
+/// Prints what the ledger and the lock count with a short range.
 pub fn show<R: Clock + Print + Threads + Wait + Sync>(rt: &R, alloc: Global) -> Result<()> {
     for threads in [1, 2, 4] {
         let ledger = ledger_round(rt, alloc, SHORT, threads)?;

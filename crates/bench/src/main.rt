@@ -1,7 +1,7 @@
-//! Measures what the program stands on: `bench cipher`, `bench container`, `bench crew` or `bench ledger`.
+//! Measures what the program uses: `bench cipher`, `bench container`, `bench crew` or `bench ledger`.
 //!
-//! Without a word it prints what is the same on every machine: what the cipher makes of zeros, what opening answers to
-//! cut and altered containers, and what a ledger and a lock count.
+//! Without a word, it prints what is the same on every machine: the cipher's output for zeros, what opening returns for
+//! cut and altered containers, and the counts of a ledger and a lock.
 #![tactic(auto)]
 
 mod answers;
@@ -26,7 +26,7 @@ fn show<R: Print + Clock + Threads + Wait + Sync>(rt: &R, alloc: Global) -> Resu
     ledger::show(rt, alloc)
 }
 
-// Prints the times or speeds of what this word names.
+// Prints the times or speeds that this word names.
 fn measure<R: Print + Clock + Threads + Wait + Sync>(
     rt: &R,
     alloc: Global,

@@ -1,4 +1,4 @@
--- What vectors of n lanes compute, lane by lane, and the rows of blocks side by side as bytes of the keystream.
+-- What vectors of n lanes compute, lane by lane; and the rows of blocks side by side, as bytes of the keystream.
 use Rattle.std.proofs.Common.{◌≡◌, ℕ, zero, suc, ◌+◌, ◌-◌, ◌*◌, ◌/◌, ◌%◌, ◌^◌, ◌<◌, ◌≤◌, List, [], ◌∷◌, ◌++◌, length}
 use Rattle.std.proofs.Common.{take, drop, replicate, get_or, slice_index, bit_or, bit_xor, refl, sym, ap, ap₂, ◌∙◌}
 use Rattle.std.proofs.Common.{arith, subst}
@@ -11,7 +11,7 @@ use Rattle.chacha_core.specs.Lanes.{lane}
 use Rattle.chacha_core.proofs.StreamLemmas.{xor_from-same}
 use Rattle.chacha_core.proofs.WordLemmas.{word_bytes-part}
 
--- what holds of each of the lanes, of four and of eight
+-- what holds of each lane, of four and of eight
 pub below_four : (P : ℕ → Type 0) → P 0 → P 1 → P 2 → P 3 → (j : ℕ) → j < 4 → P j
 below_four P a b c d zero small = a
 below_four P a b c d (suc zero) small = b
@@ -49,7 +49,7 @@ pub add_lanes : (n : ℕ) (a b : List ℕ) → length a ≡ n → length b ≡ n
     → slice_index (zip2 (λ x y. (x + y) % 2 ^ 32) a b) j ≡ add32 (slice_index a j) (slice_index b j)
 add_lanes n a b la lb j small = zip_lane (λ x y. (x + y) % 2 ^ 32) n a b la lb j small
 
--- two shifts of a word and an or are a roll
+-- two shifts of a word, ORed, are a roll
 roll_word : (x y k : ℕ) → 0 < k → k < 32
     → bit_or (bit_xor x y * 2 ^ k % 2 ^ 32) (bit_xor x y / 2 ^ (32 - k)) ≡ xor_roll x y k
 roll_word x y k low high =
@@ -83,7 +83,7 @@ first_lane n a e la j small = get_or_append_left a e 0 j (omega arith)
 second_lane : (n : ℕ) (a e : List ℕ) → length a ≡ n → (j : ℕ) → get_or (a ++ e) (n + j) 0 ≡ slice_index e j
 second_lane n a e la j = ap (λ (m : ℕ). get_or (a ++ e) (m + j) 0) (sym la) ∙ get_or-append-add a e j 0
 
--- lane j of vectors of which each two were joined, of four and of eight
+-- lane j of vectors that were joined in pairs, of four and of eight
 pub turned_four : (a b c d : List ℕ) → length a ≡ 4 → length c ≡ 4 → (j : ℕ) → j < 4
     → get_or (a ++ b) j 0 ∷ get_or (a ++ b) (4 + j) 0 ∷ get_or (c ++ d) j 0 ∷ get_or (c ++ d) (4 + j) 0 ∷ []
     ≡ slice_index a j ∷ slice_index b j ∷ slice_index c j ∷ slice_index d j ∷ []
@@ -122,7 +122,7 @@ below_sixteen P a0 a1 a2 a3 b0 b1 b2 b3 c0 c1 c2 c3 d0 d1 d2 d3 k small =
     (below_four _ a0 a1 a2 a3) (below_four _ b0 b1 b2 b3) (below_four _ c0 c1 c2 c3) (below_four _ d0 d1 d2 d3)
     (k / 4) (omega arith) (k % 4) (omega arith))
 
--- a state whose rows, the first aside, are turned back by one, two and three words
+-- a state whose rows after the first are rotated back by one, two and three words
 abbrev pub turned_back : List ℕ → List ℕ
 turned_back s =
     slice_index s 0 ∷ slice_index s 1 ∷ slice_index s 2 ∷ slice_index s 3
@@ -159,7 +159,7 @@ byte_of_eight x rows j small turned =
     ∙ row_byte (lane (j / 32 / 2) x) 8 (8 * (j / 32 % 2)) (j % 32) refl (omega arith) (omega arith)
     ∙ ap₂ (λ (n i : ℕ). slice_index (word_bytes (lane n x)) i) block place
 
--- bytes that are those of blocks side by side, as a keystream
+-- the bytes of blocks side by side, as a keystream
 pub lanes-keystream : (lanes : ℕ) (key nonce : List ℕ) (first : ℕ) (x : List (List ℕ)) (f : ℕ → ℕ) (text : List ℕ)
     → length text ≡ 64 * lanes
     → ((j : ℕ) → j < lanes → lane j x ≡ block_words (start_state key (first + j) nonce))

@@ -52,7 +52,7 @@ bytes_of n x = digits_l 256 (4 * n) (number_l (2 ^ 32) x)
 abbrev pub moved : ℕ → List ℕ → List ℕ → List ℕ
 moved n x places = swz_l w8 16 (bytes_of n x) 0 places
 
--- that word j of n has its bytes a, b, c and d in this order, after they were moved
+-- word j of n has its bytes a, b, c and d in this order, after the move
 abbrev pub IsMoved : ℕ → ℕ → ℕ → ℕ → ℕ → List ℕ → Type 0
 IsMoved n a b c d places = (x : List ℕ) (j : ℕ) → j < n → number_l 256 (chunk (4 * j) 4 (moved n x places))
     ≡ get_or (bytes_of n x) (4 * j + a) 0 + 256 * (get_or (bytes_of n x) (4 * j + b) 0

@@ -28,7 +28,7 @@ xor_from-append f j (x ∷ xs) ys =
     ap (λ (zs : List ℕ). bit_xor x (f j) ∷ zs)
     (xor_from-append f (suc j) xs ys ∙ ap (λ k. xor_from f (suc j) xs ++ xor_from f k ys) (omega arith))
 
--- the stream's bytes against the text's, as two lists
+-- the stream's bytes and the text's, as two lists
 pub xor_from-zip2 : (f : ℕ → ℕ) (j : ℕ) (xs ks : List ℕ) → length xs ≡ length ks
     → ((i : ℕ) → i < length xs → f (j + i) ≡ get_or ks i 0) → xor_from f j xs ≡ zip2 bit_xor xs ks
 unfolding xor_from
@@ -40,7 +40,7 @@ xor_from-zip2 f j (x ∷ xs) (k ∷ ks) same each =
     (λ i h. ap f (omega arith) ∙ each (suc i) (omega arith)) in
     rw (first, rest) refl
 
--- two streams that agree on the text's places
+-- two streams that agree at the text's places
 pub xor_from-same : (f g : ℕ → ℕ) (j k : ℕ) (xs : List ℕ)
     → ((i : ℕ) → i < length xs → f (j + i) ≡ g (k + i)) → xor_from f j xs ≡ xor_from g k xs
 unfolding xor_from
@@ -61,7 +61,7 @@ pub chacha20-chacha20 : (key nonce : List ℕ) (counter : ℕ) (text : List ℕ)
 unfolding chacha20
 chacha20-chacha20 key nonce counter text = xor_from-xor_from (keystream_byte key nonce counter) 0 text
 
--- a loop that has XORed the first a bytes of a text, one piece of k bytes on
+-- a loop that has XORed the first a bytes of a text, after one more piece of k bytes
 pub xor_step : (f : ℕ → ℕ) (a k : ℕ) (old ys : List ℕ) → a + k ≤ length old
     → ys ≡ xor_from f a (take k (drop a old))
     → xor_from f 0 (take a old) ++ (ys ++ drop k (drop a old)) ≡ xor_from f 0 (take (a + k) old) ++ drop (a + k) old
@@ -74,7 +74,7 @@ xor_step f a k old ys fits same =
     ∙ ap (λ zs. xor_from f 0 (take a old) ++ zs) (sym same) in
     rw (both, append_assoc, drop-drop) refl
 
--- the parts of a text of which the first a bytes are XORed
+-- the parts of a text with its first a bytes XORed
 pub drop_done : (f : ℕ → ℕ) (a : ℕ) (old : List ℕ) → a ≤ length old
     → drop a (xor_from f 0 (take a old) ++ drop a old) ≡ drop a old
 drop_done f a old fits =
@@ -85,7 +85,7 @@ pub take_done : (f : ℕ → ℕ) (a : ℕ) (old : List ℕ) → a ≤ length ol
 take_done f a old fits =
     take_at (xor_from f 0 (take a old)) (drop a old) a (length-xor_from f 0 (take a old) ∙ length-take-le a old fits)
 
--- a loop that has XORed the first a bytes of a text, k bytes on by vectors
+-- a loop that has XORed the first a bytes of a text, after k more bytes by vectors
 pub xor_chunk : (f : ℕ → ℕ) (a k : ℕ) (old cur ks : List ℕ) → a + k ≤ length old
     → cur ≡ xor_from f 0 (take a old) ++ drop a old → length ks ≡ k
     → ((i : ℕ) → i < k → f (a + i) ≡ get_or ks i 0)
@@ -114,7 +114,7 @@ pub xor_done : (f : ℕ → ℕ) (a : ℕ) (old : List ℕ) → length old ≤ a
     → xor_from f 0 (take a old) ++ drop a old ≡ xor_from f 0 old
 xor_done f a old all = rw (take_all a old all, drop_all a old all, append-nil) refl
 
--- what stands behind the text doesn't matter
+-- bytes after the text don't matter
 pub take-xor_from : (f : ℕ → ℕ) (old tail : List ℕ) → take (length old) (xor_from f 0 (old ++ tail)) ≡ xor_from f 0 old
 take-xor_from f old tail =
     ap (take (length old)) (xor_from-append f 0 old tail)
@@ -145,7 +145,7 @@ pub start_state-set : (key nonce state : List ℕ) (counter : ℕ) → slice_set
 start_state-set key nonce state counter same =
     sym (set-set state 12 0 counter) ∙ ap (λ (s : List ℕ). slice_set s 12 counter) same
 
--- a text whose first i blocks are XORed with the keystream, and k bytes of the next block on
+-- a text whose first i blocks are XORed with the keystream, after k more bytes, of the next block
 pub apply_step : (key nonce : List ℕ) (first i k : ℕ) (old cur words piece : List ℕ) → 64 * i + k ≤ length old → k ≤ 64
     → cur ≡ xor_from (keystream_byte key nonce first) 0 (take (64 * i) old) ++ drop (64 * i) old
     → words ≡ block_words (start_state key (first + i) nonce)
@@ -169,7 +169,7 @@ apply_step key nonce first i k old cur words piece fits small now same made =
     ∙ ap (λ (zs : List ℕ). xor_from f 0 (take a old) ++ (piece ++ drop k zs)) behind
     ∙ xor_step f a k old piece fits piece_is
 
--- a text of two blocks, of which the second may be cut
+-- a text of two blocks; the second may be short
 pub chacha20-two_blocks : (key nonce : List ℕ) (counter : ℕ) (first second : List ℕ) → length first ≡ 64
     → length second ≤ 64
     → chacha20 key nonce counter (first ++ second)
@@ -199,7 +199,7 @@ chacha20-behind key nonce first m text =
     ap (λ (n : ℕ). slice_index (block key n nonce) ((0 + j) % 64)) place
     ∙ ap (slice_index (block key (first + (64 * m + j) / 64) nonce)) byte)
 
--- a text in two parts, of which the first is whole blocks
+-- a text in two parts; the first is whole blocks
 pub chacha20-append : (key nonce : List ℕ) (first m : ℕ) (xs ys : List ℕ) → length xs ≡ 64 * m
     → chacha20 key nonce first (xs ++ ys) ≡ chacha20 key nonce first xs ++ chacha20 key nonce (first + m) ys
 unfolding chacha20
@@ -209,7 +209,7 @@ chacha20-append key nonce first m xs ys long =
     ∙ ap (λ (n : ℕ). xor_from f 0 xs ++ xor_from f n ys) (omega arith)
     ∙ ap (λ (zs : List ℕ). xor_from f 0 xs ++ zs) (sym (chacha20-behind key nonce first m ys))
 
--- a text whose first a bytes, m whole blocks, are enciphered, k bytes on
+-- a text whose first a bytes, m whole blocks, are encrypted, after k more bytes
 pub chacha20_step : (key nonce : List ℕ) (first m a k : ℕ) (old cur : List ℕ) → a ≡ 64 * m → a + k ≤ length old
     → cur ≡ chacha20 key nonce first (take a old) ++ drop a old
     → take a cur ++ (chacha20 key nonce (first + m) (take k (drop a cur)) ++ drop (a + k) cur)
@@ -230,13 +230,13 @@ chacha20_step key nonce first m a k old cur whole fits now =
     ∙ ap (λ (zs : List ℕ). xor_from f 0 (take a old) ++ (ys ++ zs)) end
     ∙ xor_step f a k old ys fits stream
 
--- the whole text is enciphered
+-- the whole text is encrypted
 pub chacha20_done : (key nonce : List ℕ) (first n : ℕ) (old : List ℕ) → length old ≤ n
     → chacha20 key nonce first (take n old) ++ drop n old ≡ chacha20 key nonce first old
 unfolding chacha20
 chacha20_done key nonce first n old all = xor_done (keystream_byte key nonce first) n old all
 
--- a text whose first a bytes, m whole blocks, are enciphered, to its end
+-- a text whose first a bytes, m whole blocks, are encrypted, after the rest of it
 pub chacha20_end : (key nonce : List ℕ) (first m a k : ℕ) (old cur piece : List ℕ) → a ≡ 64 * m → a + k ≡ length old
     → cur ≡ chacha20 key nonce first (take a old) ++ drop a old
     → piece ≡ chacha20 key nonce (first + m) (take k (drop a cur))
@@ -253,7 +253,7 @@ pub chacha20_whole : (key nonce : List ℕ) (first n : ℕ) (text : List ℕ) �
     → take 0 text ++ (chacha20 key nonce first (take n (drop 0 text)) ++ drop n text) ≡ chacha20 key nonce first text
 chacha20_whole key nonce first n text all = rw (take_all n text all, drop_all n text all, append-nil) refl
 
--- what stands behind a text doesn't matter
+-- bytes after a text don't matter
 pub take-chacha20 : (key nonce : List ℕ) (first : ℕ) (text tail : List ℕ)
     → take (length text) (chacha20 key nonce first (text ++ tail)) ≡ chacha20 key nonce first text
 unfolding chacha20

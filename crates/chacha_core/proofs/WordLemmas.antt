@@ -42,7 +42,7 @@ word_bytes-part ws k i fits =
     ∙ take_at (word_bytes (take k back)) (word_bytes (drop k back)) (4 * k)
     (omega (arith, length-word_bytes (take k back)))
 
--- the lowest digits of a number are its lowest word's
+-- the lowest digits of a number are those of its lowest word
 digits-word : (x rest n : ℕ) → x < 2 ^ 32
     → digits_l 256 (suc (suc (suc (suc n)))) (x + 2 ^ 32 * rest) ≡ to_le_bytes w32 x ++ digits_l 256 n rest
 digits-word x rest n small =
@@ -75,7 +75,7 @@ word_at-little bytes i =
     let d = get_or-take 4 zs 3 0 (omega arith) in
     rw (a, b, c, d) (omega arith)
 
--- a row of a block's bytes, written behind those before it
+-- a row of a block's bytes, written after the rows before it
 pub row_written : (bytes ws : List ℕ) (row : ℕ) (ys : List ℕ) → row < 4 → length ws ≡ 16 → length bytes ≡ 64
     → ys ≡ take 16 (drop (16 * row) (word_bytes ws))
     → take (16 * row) bytes ≡ take (16 * row) (word_bytes ws)

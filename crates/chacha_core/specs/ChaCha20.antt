@@ -72,7 +72,7 @@ add_states x y = sum 0 ∷ sum 1 ∷ sum 2 ∷ sum 3 ∷ sum 4 ∷ sum 5 ∷ sum
     sum : ℕ → ℕ
     sum i = add32 (slice_index x i) (slice_index y i)
 
--- twenty rounds on a state, and the state added to their result (2.3)
+-- twenty rounds on a state, then the state added to their result (2.3)
 unfoldable pub block_words : List ℕ → List ℕ
 block_words state = add_states (double_rounds 10 state) state
 
@@ -89,11 +89,11 @@ block key counter nonce = word_bytes (block_words (start_state key counter nonce
 unfoldable pub keystream_byte : List ℕ → List ℕ → ℕ → ℕ → ℕ
 keystream_byte key nonce counter j = slice_index (block key (counter + j / 64) nonce) (j % 64)
 
--- a text XORed with a stream of bytes, whose byte j stands against the text's first
+-- a text XORed with a stream of bytes, from the stream's byte j on
 unfoldable pub xor_from : (ℕ → ℕ) → ℕ → List ℕ → List ℕ
 xor_from stream j [] = []
 xor_from stream j (b ∷ bs) = bit_xor b (stream j) ∷ xor_from stream (suc j) bs
 
--- a text enciphered or deciphered: XORed with the keystream from this counter on (2.4)
+-- a text encrypted or decrypted: XORed with the keystream from this counter on (2.4)
 unfoldable pub chacha20 : List ℕ → List ℕ → ℕ → List ℕ → List ℕ
 chacha20 key nonce counter text = xor_from (keystream_byte key nonce counter) 0 text

@@ -1,5 +1,5 @@
--- Blocks side by side: each word of the states is a vector, with one lane for each block. Clauses of private functions
--- alone speak of them.
+-- Blocks side by side: each word of the states is a vector, with one lane for each block. Only clauses of private
+-- functions use these definitions.
 use Rattle.std.specs.Prelude.{◌≡◌, ℕ, ◌+◌, ◌<◌, List, [], ◌∷◌, slice_index, slice_index_or}
 use Rattle.chacha_core.specs.ChaCha20.{double_rounds, start_state}
 
@@ -15,12 +15,12 @@ lane j x =
     ∷ lane_at x 8 j ∷ lane_at x 9 j ∷ lane_at x 10 j ∷ lane_at x 11 j
     ∷ lane_at x 12 j ∷ lane_at x 13 j ∷ lane_at x 14 j ∷ lane_at x 15 j ∷ []
 
--- after n double rounds: the vectors have in each lane j what these make of the state of block first + j
+-- after n double rounds: each lane j holds their result on the state of block first + j
 abbrev pub UnderWay : ℕ → ℕ → List ℕ → List ℕ → ℕ → List (List ℕ) → Type 0
 UnderWay lanes n key nonce first x =
     (j : ℕ) → j < lanes → lane j x ≡ double_rounds n (start_state key (first + j) nonce)
 
--- where each byte of four words comes from as they are rolled to the left by 16 bits, and by 8
+-- where each byte of four words comes from when they are rolled to the left by 16 bits, and by 8
 abbrev pub places_16 : List ℕ
 places_16 =
     2 ∷ 3 ∷ 0 ∷ 1 ∷ 6 ∷ 7 ∷ 4 ∷ 5 ∷ 10 ∷ 11 ∷ 8 ∷ 9 ∷ 14 ∷ 15 ∷ 12 ∷ 13 ∷ []

@@ -1,4 +1,4 @@
--- The examples that RFC 8439 prints beside its definitions; `src/laws.rt` says that the definitions give them.
+-- The test vectors of RFC 8439; `src/laws.rt` says that the definitions give them.
 use Rattle.std.specs.Prelude.{ℕ, List, ◌++◌, codes}
 use Rattle.std.specs.Int.{bytes_high_first}
 
@@ -15,7 +15,7 @@ first_block =
     bytes_high_first 32 0x10f1e7e4d13b5915500fdd1fa32071c4c7d1f4c733c068030422aa9ac3d46c4e
     ++ bytes_high_first 32 0xd2826446079faa0914c2d705d98b02a2b5129cd1de164eb9cbd083e8a2503c4e
 
--- a nonce, a text, and the text enciphered from the counter 1 on (2.4.2)
+-- a nonce, a text, and the text encrypted from the counter 1 on (2.4.2)
 unfoldable pub text_nonce : List ℕ
 text_nonce = bytes_high_first 12 0x000000000000004a00000000
 

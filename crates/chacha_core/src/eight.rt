@@ -1,5 +1,5 @@
-//! Eight blocks side by side, as `four` has four: a vector of 256 bits for each word of a state, with a
-//! lane for each block (RFC 8439, 2.1 to 2.4). What follows the whole groups of a text goes to `four`.
+//! Eight blocks side by side, as `four` has four. Each word of a state is a vector of 256 bits, with a
+//! lane for each block (RFC 8439, 2.1 to 2.4). `four` takes what follows the whole groups of a text.
 
 ghost use Rattle.std.specs.Prelude.{◌≡◌, ℕ, ◌+◌, ◌*◌, ◌/◌, ◌%◌, ◌^◌, ◌<◌, ◌≤◌, List, [], ◌∷◌, ◌++◌};
 ghost use Rattle.std.specs.Prelude.{length, take, drop, slice_index, slice_index_or};
@@ -36,15 +36,15 @@ fn xor_roll(a: u32x8, b: u32x8, k: u32) -> u32x8
     (x << u32x8::splat(k)) | (x >> u32x8::splat(32 - k))
 }
 
-// Where each byte comes from as words are rolled by 16 bits, and by 8.
+// Where each byte comes from when words are rolled by 16 bits, and by 8.
 #[derive(Drop)]
 struct Rolls {
     by_16: u8x32,
     by_8: u8x32,
 }
 
-// The bytes' places. It is not inlined, so that the compiler doesn't know them: it would take a roll
-// that it knows to move whole bytes apart, into two.
+// The bytes' places. Not inlined, so that the compiler doesn't know them: it would split a roll that it
+// knows to move whole bytes in two.
 #[inline(never)]
 fn byte_places() -> Rolls
     ensures by_16 { result.by_16 ≡ places_16 ++ places_16 }
@@ -80,8 +80,8 @@ fn xor_roll_8(a: u32x8, b: u32x8, rolls: &Rolls) -> u32x8
     u32x8::from_le_bytes(x.to_le_bytes().swizzle_dyn_within::<16>(rolls.by_8))
 }
 
-// Quarter rounds on the four columns, in each lane (2.3.1), step by step side by side: none waits for
-// another.
+// Quarter rounds on the four columns, in each lane (2.3.1). They go side by side, step by step: none
+// waits for another.
 #[inline(always)]
 fn columns(x: [u32x8; 16], rolls: &Rolls) -> [u32x8; 16]
     requires by_16 { rolls.now.by_16 ≡ places_16 ++ places_16 }
@@ -125,7 +125,7 @@ fn columns(x: [u32x8; 16], rolls: &Rolls) -> [u32x8; 16]
     ]
 }
 
-// Quarter rounds on the four diagonals (2.3.1), which are columns once the second row is turned by
+// Quarter rounds on the four diagonals (2.3.1). They become columns when the second row is rotated by
 // one word, the third by two and the fourth by three.
 #[inline(always)]
 fn diagonals(x: [u32x8; 16], rolls: &Rolls) -> [u32x8; 16]
@@ -170,7 +170,7 @@ fn sums(x: [u32x8; 16], y: [u32x8; 16]) -> [u32x8; 16]
     ]
 }
 
-// Eight vectors turned: row j has lane j of each. Lanes cross the middle of a vector last, and once.
+// Transposes eight vectors: row j has lane j of each. Lanes cross the middle of a vector once, at the end.
 #[inline(always)]
 fn transpose(
     a: u32x8,
@@ -214,7 +214,7 @@ fn transpose(
     [r0, r1, r2, r3, r4, r5, r6, r7]
 }
 
-// The words of eight blocks one behind the other, two rows of eight words for each.
+// The words of eight blocks, block after block, two rows of eight words for each.
 #[inline(always)]
 fn rows(x: [u32x8; 16]) -> [u32x8; 16]
     ensures { (k : ℕ) → k < 16
@@ -313,8 +313,8 @@ fn double_round(x: [u32x8; 16], rolls: &Rolls) -> [u32x8; 16]
     diagonals(y, rolls)
 }
 
-// XORs the 512 bytes of a text from the place `at` on with a group that began with `start` and is
-// through its ten double rounds (2.3 and 2.4). The rest of the text stays.
+// XORs 512 bytes of a text, from `at` on, with a group that began with `start` and has had its ten
+// double rounds (2.3 and 2.4). The rest of the text is unchanged.
 #[inline(always)]
 fn xor_group(text: &mut [u8], at: usize, x: [u32x8; 16], start: [u32x8; 16])
     requires { at + 512 ≤ length text.old }
@@ -326,7 +326,7 @@ fn xor_group(text: &mut [u8], at: usize, x: [u32x8; 16], start: [u32x8; 16])
     xor_rows(&mut text[at..at + GROUP], rows(words));
 }
 
-// Enciphers 512 bytes of a text from the place `at` on, by the states that its eight blocks begin with.
+// Encrypts 512 bytes of a text, from `at` on, given the states that its eight blocks begin with.
 #[inline(always)]
 fn apply_group(text: &mut [u8], at: usize, start: &[u32x8; 16], rolls: &Rolls)
     requires room { at + 512 ≤ length text.old }
@@ -344,7 +344,7 @@ fn apply_group(text: &mut [u8], at: usize, start: &[u32x8; 16], rolls: &Rolls)
     xor_group(text, at, x, *start);
 }
 
-// Enciphers the whole groups of a text, and leaves what follows them.
+// Encrypts the whole groups of a text. The bytes after them are unchanged.
 fn apply_groups(key: &[u8; 32], nonce: &[u8; 12], first: u32, text: &mut [u8])
     requires { first + length text.old / 64 ≤ 2 ^ 32 }
     ensures { text.new ≡ chacha20 key.now nonce.now first (take (512 * (length text.old / 512)) text.old)
@@ -354,8 +354,8 @@ fn apply_groups(key: &[u8; 32], nonce: &[u8; 12], first: u32, text: &mut [u8])
     run_groups(text, &mut start, &byte_places());
 }
 
-// The same, from the states that the first group begins with. It is not inlined, so that these stay in
-// memory and aren't made anew for each group.
+// The same, given the states that the first group begins with. Not inlined, so that these stay in memory
+// and aren't rebuilt for each group.
 #[inline(never)]
 fn run_groups(text: &mut [u8], start: &mut [u32x8; 16], rolls: &Rolls)
     requires by_16 { rolls.now.by_16 ≡ places_16 ++ places_16 }
@@ -372,7 +372,7 @@ fn run_groups(text: &mut [u8], start: &mut [u32x8; 16], rolls: &Rolls)
     }
 }
 
-/// What `apply` does, eight blocks at a time.
+/// Encrypts or decrypts `text` in place as `apply` does, eight blocks at a time.
 pub fn apply_by_eight(key: &[u8; 32], nonce: &[u8; 12], first: u32, text: &mut [u8])
     requires { first + (length text.old + 63) / 64 ≤ 2 ^ 32 }
     ensures { text.new ≡ chacha20 key.now nonce.now first text.old }

@@ -1,9 +1,9 @@
 //! Four blocks side by side: a vector for each word of a state, with a lane for each block (RFC 8439,
 //! 2.1 to 2.4).
 //!
-//! A group begins with `start_states`, or `next_states` of those of the group before, goes through ten
-//! of `double_round`, and is XORed with 256 bytes of a text by `xor_group`; `apply_group` does these in
-//! turn. `eight` is the same with eight lanes.
+//! A group begins with `start_states`, or with `next_states` of the group before it. `apply_group` does
+//! ten times `double_round`, then XORs the group with 256 bytes of a text (`xor_group`). `eight` is the
+//! same with eight lanes.
 
 ghost use Rattle.std.specs.Prelude.{◌≡◌, ℕ, ◌+◌, ◌*◌, ◌/◌, ◌%◌, ◌^◌, ◌<◌, ◌≤◌, List, [], ◌∷◌, ◌++◌};
 ghost use Rattle.std.specs.Prelude.{length, take, drop, slice_index, slice_index_or};
@@ -40,15 +40,15 @@ fn xor_roll(a: u32x4, b: u32x4, k: u32) -> u32x4
     (x << u32x4::splat(k)) | (x >> u32x4::splat(32 - k))
 }
 
-// Where each byte comes from as words are rolled by 16 bits, and by 8.
+// Where each byte comes from when words are rolled by 16 bits, and by 8.
 #[derive(Drop)]
 struct Rolls {
     by_16: u8x16,
     by_8: u8x16,
 }
 
-// The bytes' places. It is not inlined, so that the compiler doesn't know them: it would take a roll
-// that it knows to move whole bytes apart, into two.
+// The bytes' places. Not inlined, so that the compiler doesn't know them: it would split a roll that it
+// knows to move whole bytes in two.
 #[inline(never)]
 fn byte_places() -> Rolls
     ensures by_16 { result.by_16 ≡ places_16 }
@@ -78,8 +78,8 @@ fn xor_roll_8(a: u32x4, b: u32x4, rolls: &Rolls) -> u32x4
     u32x4::from_le_bytes(x.to_le_bytes().swizzle_dyn_within::<16>(rolls.by_8))
 }
 
-// Quarter rounds on the four columns, in each lane (2.3.1), step by step side by side: none waits for
-// another.
+// Quarter rounds on the four columns, in each lane (2.3.1). They go side by side, step by step: none
+// waits for another.
 #[inline(always)]
 fn columns(x: [u32x4; 16], rolls: &Rolls) -> [u32x4; 16]
     requires by_16 { rolls.now.by_16 ≡ places_16 }
@@ -123,7 +123,7 @@ fn columns(x: [u32x4; 16], rolls: &Rolls) -> [u32x4; 16]
     ]
 }
 
-// Quarter rounds on the four diagonals (2.3.1), which are columns once the second row is turned by
+// Quarter rounds on the four diagonals (2.3.1). They become columns when the second row is rotated by
 // one word, the third by two and the fourth by three.
 #[inline(always)]
 fn diagonals(x: [u32x4; 16], rolls: &Rolls) -> [u32x4; 16]
@@ -168,7 +168,7 @@ fn sums(x: [u32x4; 16], y: [u32x4; 16]) -> [u32x4; 16]
     ]
 }
 
-// Four vectors turned: row j has lane j of each.
+// Transposes four vectors: row j has lane j of each.
 #[inline(always)]
 fn transpose(a: u32x4, b: u32x4, c: u32x4, d: u32x4) -> [u32x4; 4]
     ensures { (j : ℕ) → j < 4
@@ -186,7 +186,7 @@ fn transpose(a: u32x4, b: u32x4, c: u32x4, d: u32x4) -> [u32x4; 4]
     [r0, r1, r2, r3]
 }
 
-// The words of four blocks one behind the other, four rows of four words for each.
+// The words of four blocks, block after block, four rows of four words for each.
 #[inline(always)]
 fn rows(x: [u32x4; 16]) -> [u32x4; 16]
     ensures { (k : ℕ) → k < 16
@@ -287,8 +287,8 @@ fn double_round(x: [u32x4; 16], rolls: &Rolls) -> [u32x4; 16]
     diagonals(y, rolls)
 }
 
-// XORs the 256 bytes of a text from the place `at` on with a group that began with `start` and is
-// through its ten double rounds (2.3 and 2.4). The rest of the text stays.
+// XORs 256 bytes of a text, from `at` on, with a group that began with `start` and has had its ten
+// double rounds (2.3 and 2.4). The rest of the text is unchanged.
 #[inline(always)]
 fn xor_group(text: &mut [u8], at: usize, x: [u32x4; 16], start: [u32x4; 16])
     requires { at + 256 ≤ length text.old }
@@ -300,7 +300,7 @@ fn xor_group(text: &mut [u8], at: usize, x: [u32x4; 16], start: [u32x4; 16])
     xor_rows(&mut text[at..at + GROUP], rows(words));
 }
 
-// Enciphers 256 bytes of a text from the place `at` on, by the states that its four blocks begin with.
+// Encrypts 256 bytes of a text, from `at` on, given the states that its four blocks begin with.
 #[inline(always)]
 fn apply_group(text: &mut [u8], at: usize, start: &[u32x4; 16], rolls: &Rolls)
     requires room { at + 256 ≤ length text.old }
@@ -318,7 +318,7 @@ fn apply_group(text: &mut [u8], at: usize, start: &[u32x4; 16], rolls: &Rolls)
     xor_group(text, at, x, *start);
 }
 
-// Enciphers the whole groups of a text, and leaves what follows them.
+// Encrypts the whole groups of a text. The bytes after them are unchanged.
 fn apply_groups(key: &[u8; 32], nonce: &[u8; 12], first: u32, text: &mut [u8])
     requires { first + length text.old / 64 ≤ 2 ^ 32 }
     ensures { text.new ≡ chacha20 key.now nonce.now first (take (256 * (length text.old / 256)) text.old)
@@ -328,8 +328,8 @@ fn apply_groups(key: &[u8; 32], nonce: &[u8; 12], first: u32, text: &mut [u8])
     run_groups(text, &mut start, &byte_places());
 }
 
-// The same, from the states that the first group begins with. It is not inlined, so that these stay in
-// memory and aren't made anew for each group.
+// The same, given the states that the first group begins with. Not inlined, so that these stay in memory
+// and aren't rebuilt for each group.
 #[inline(never)]
 fn run_groups(text: &mut [u8], start: &mut [u32x4; 16], rolls: &Rolls)
     requires by_16 { rolls.now.by_16 ≡ places_16 }
@@ -346,7 +346,7 @@ fn run_groups(text: &mut [u8], start: &mut [u32x4; 16], rolls: &Rolls)
     }
 }
 
-// Enciphers a text shorter than a group, as a group's first bytes.
+// Encrypts a text shorter than a group, as the first bytes of a group.
 fn apply_part(key: &[u8; 32], nonce: &[u8; 12], first: u32, text: &mut [u8])
     requires { (first + 4 ≤ 2 ^ 32) × (length text.old < 256) }
     ensures { text.new ≡ chacha20 key.now nonce.now first text.old }
@@ -359,8 +359,9 @@ fn apply_part(key: &[u8; 32], nonce: &[u8; 12], first: u32, text: &mut [u8])
     text.copy_from_slice(&group[..len]);
 }
 
-// Enciphers a text shorter than a group, from its first block's counter on: as the first part of a
-// group, where that is worth it and no counter of the group passes 32 bits, and block by block else.
+// Encrypts a text shorter than a group; `first` is its first block's counter. A text of more than `FEW`
+// bytes is the first part of a group, if all the group's counters fit in 32 bits. Else it goes block by
+// block.
 fn apply_rest(key: &[u8; 32], nonce: &[u8; 12], first: u32, text: &mut [u8])
     requires { (first + (length text.old + 63) / 64 ≤ 2 ^ 32) × (length text.old < 256) }
     ensures { text.new ≡ chacha20 key.now nonce.now first text.old }
@@ -372,7 +373,7 @@ fn apply_rest(key: &[u8; 32], nonce: &[u8; 12], first: u32, text: &mut [u8])
     }
 }
 
-/// What `apply` does, four blocks at a time.
+/// Encrypts or decrypts `text` in place as `apply` does, four blocks at a time.
 pub fn apply_by_four(key: &[u8; 32], nonce: &[u8; 12], first: u32, text: &mut [u8])
     requires { first + (length text.old + 63) / 64 ≤ 2 ^ 32 }
     ensures { text.new ≡ chacha20 key.now nonce.now first text.old }

@@ -1,8 +1,8 @@
 //! ChaCha20 (RFC 8439, 2.1 to 2.4): the quarter round, the block, and the XOR of a text with the
-//! keystream. Nothing here takes memory or waits.
+//! keystream. Nothing here allocates or waits.
 //!
-//! `specs/ChaCha20.antt` has the definitions, in the RFC's terms, and `quarter`, `block` and `apply`
-//! give their definitions' values on every input.
+//! `specs/ChaCha20.antt` has the definitions, in the RFC's terms. `quarter`, `block` and `apply` return
+//! their definitions' values on every input.
 #![tactic(auto)]
 
 ghost use Rattle.std.specs.Prelude.{◌≡◌, ◌+◌, ◌/◌, ◌^◌, ◌<◌, ◌≤◌, length};
@@ -22,7 +22,7 @@ mod stream;
 // The bytes of a block.
 const BLOCK: usize = 64;
 
-// The bytes up to which single blocks are no slower than a group: a measurement (docs/PERFORMANCE.md).
+// Up to this many bytes, single blocks are no slower than a group: measured (docs/PERFORMANCE.md).
 const FEW: usize = 128;
 
 // The counter's place among the words of a state.
@@ -43,15 +43,15 @@ pub fn block(key: &[u8; 32], counter: u32, nonce: &[u8; 12]) -> [u8; 64]
     block_bytes(&block_words(&start_state(key, counter, nonce)))
 }
 
-// Whether eight blocks go side by side, as suits vectors of 256 bits, or four, as suits vectors of 128.
-// Nothing is promised of the answer, so that `apply` is proved for either: a build for processors with
-// AVX2 proves and takes this crate with `true` here (tools/build.py).
+// Whether eight blocks go side by side, for vectors of 256 bits, or four, for vectors of 128. No clause
+// fixes the result, so `apply` is proved for both. A build for processors with AVX2 proves and uses
+// this crate with `true` here (tools/build.py).
 fn is_wide() -> bool {
     false
 }
 
-/// Enciphers or deciphers `text` in place: XORs it with the keystream whose first block has the
-/// counter `first` (RFC 8439, 2.4). No block's counter may pass 32 bits.
+/// Encrypts or decrypts `text` in place: XORs it with the keystream from the block with counter `first`
+/// on (RFC 8439, 2.4). Every block's counter must fit in 32 bits.
 pub fn apply(key: &[u8; 32], nonce: &[u8; 12], first: u32, text: &mut [u8])
     requires { first + (length text.old + 63) / 64 ≤ 2 ^ 32 }
     ensures { text.new ≡ chacha20 key.now nonce.now first text.old }
@@ -63,8 +63,8 @@ pub fn apply(key: &[u8; 32], nonce: &[u8; 12], first: u32, text: &mut [u8])
     }
 }
 
-// Enciphers a text of any length, from its first block's counter on, a block at a time. Each counter
-// it uses has 32 bits.
+// Encrypts a text of any length a block at a time; `first` is its first block's counter. All the
+// counters used fit in 32 bits.
 fn apply_plain(key: &[u8; 32], nonce: &[u8; 12], first: u32, text: &mut [u8])
     requires { first + (length text.old + 63) / 64 ≤ 2 ^ 32 }
     ensures { text.new ≡ chacha20 key.now nonce.now first text.old }

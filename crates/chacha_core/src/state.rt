@@ -9,7 +9,7 @@ ghost use Rattle.chacha_core.specs.ChaCha20.{word_at, start_state, add_states, b
 
 use byteorder::{ByteOrder, LittleEndian};
 
-/// The RFC's twenty rounds, by two.
+/// The RFC's twenty rounds, two at a time.
 pub(crate) const DOUBLE_ROUNDS: u32 = 10;
 
 /// The quarter round on four words (2.1).
@@ -115,7 +115,7 @@ fn add_states(x: &[u32; 16], y: &[u32; 16]) -> [u32; 16]
     ]
 }
 
-/// The words of a block: the twenty rounds on its state, and the state added to their result.
+/// The words of a block: the twenty rounds on its state, then the state added to their result.
 pub(crate) fn block_words(state: &[u32; 16]) -> [u32; 16]
     ensures { result ≡ block_words state.now }
 {

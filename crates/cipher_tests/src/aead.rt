@@ -1,4 +1,4 @@
-//! The AEAD over the vectors of RFC 8439 and of OpenSSL, both ways, and altered pairs.
+//! The AEAD with the vectors of RFC 8439 and of OpenSSL, sealed and opened, and altered pairs.
 
 use crate::vectors::{LENGTHS, ONE_TIME_KEYS, PAIRS};
 use aead_core::{check, open_in_place, seal_in_place};
@@ -16,8 +16,8 @@ fn one_time_keys_of_the_rfc(rt: HostRuntime) {
     }
 }
 
-// Whether a text under associated data is sealed with this tag, and its ciphertext checks and opens to it. Leaves the
-// ciphertext.
+// Whether a text with associated data is sealed with this tag, and its ciphertext checks and opens to it. Leaves the
+// ciphertext in `text`.
 fn has_tag(
     alloc: Global,
     key: &[u8; 32],
@@ -51,7 +51,7 @@ fn pairs_of_the_rfc(rt: HostRuntime) -> Result<(), Fail> {
     Ok(())
 }
 
-// The first pair of the RFC: what it is sealed under, its ciphertext and its tag.
+// The first pair of the RFC: key, nonce, associated data, ciphertext and tag.
 #[derive(Clone, Copy)]
 struct Pair {
     key: &'static [u8; 32],
@@ -72,7 +72,7 @@ fn first_pair() -> Pair {
     }
 }
 
-// Whether a text stays shut under this tag and associated data, by both calls, and is as it was behind them.
+// Whether both calls refuse a text with this tag and associated data, and leave the text unchanged.
 fn stays_shut(pair: Pair, aad: &[u8], text: &mut Vec<u8>, tag: &[u8; 16]) -> bool {
     if text.len() != 114 || check(pair.key, pair.nonce, aad, text, tag) {
         return false;
@@ -82,7 +82,7 @@ fn stays_shut(pair: Pair, aad: &[u8], text: &mut Vec<u8>, tag: &[u8; 16]) -> boo
         && text.as_slice() == pair.ciphertext
 }
 
-// Whether the pair stays shut where its tag is wrong in any one byte.
+// Whether the pair is refused if any one byte of its tag is wrong.
 fn stays_shut_by_each_tag(pair: Pair, text: &mut Vec<u8>) -> bool {
     for i in 0..16usize {
         let mut other = *pair.tag;
@@ -94,8 +94,7 @@ fn stays_shut_by_each_tag(pair: Pair, text: &mut Vec<u8>) -> bool {
     true
 }
 
-// A tag that is wrong in one byte doesn't open, nor do other associated data or another text, and
-// the text stays as it was.
+// A pair is refused if one byte of its tag is wrong, or with other associated data. The text stays unchanged.
 #[test]
 fn altered_pairs_stay_shut(rt: HostRuntime) -> Result<(), Fail> {
     let pair = first_pair();
@@ -110,7 +109,7 @@ fn altered_pairs_stay_shut(rt: HostRuntime) -> Result<(), Fail> {
     Ok(())
 }
 
-// Whether a text that differs from the ciphertext in one byte doesn't open, and stays as it was.
+// Whether a ciphertext with one altered byte is refused and left unchanged.
 fn is_refused_altered_at(pair: Pair, text: &mut Vec<u8>, place: usize) -> bool {
     if text.len() != 114 || place >= 114 {
         return false;
@@ -126,7 +125,7 @@ fn is_refused_altered_at(pair: Pair, text: &mut Vec<u8>, place: usize) -> bool {
     text.as_slice() == pair.ciphertext
 }
 
-// Whether a text altered in any one byte is refused so.
+// Whether that holds for each byte of the text.
 fn is_refused_altered_anywhere(pair: Pair, text: &mut Vec<u8>) -> bool {
     for place in 0..114usize {
         if !is_refused_altered_at(pair, text, place) {
@@ -143,8 +142,8 @@ fn is_refused_cut(pair: Pair) -> bool {
     }
 }
 
-// Each altered byte of the ciphertext makes both calls refuse, and a missing first byte `check`, which takes the pair
-// itself.
+// Both calls refuse a ciphertext with any one byte altered. `check` also refuses one without its first byte, and
+// accepts the pair itself.
 #[test]
 fn each_altered_byte_is_seen(rt: HostRuntime) -> Result<(), Fail> {
     let pair = first_pair();
@@ -155,7 +154,7 @@ fn each_altered_byte_is_seen(rt: HostRuntime) -> Result<(), Fail> {
     Ok(())
 }
 
-// So many bytes, of which byte i is `step` times i, modulo 256.
+// `len` bytes: byte i is `step` times i, modulo 256.
 fn multiples(alloc: Global, len: usize, step: u8) -> Result<Vec<u8>, AllocError> {
     let mut bytes = Vec::with_capacity(alloc, len)?;
     let mut byte = 0u8;

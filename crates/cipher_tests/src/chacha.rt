@@ -1,4 +1,4 @@
-//! ChaCha20 over the vectors of RFC 8439, and a text against its joined blocks.
+//! ChaCha20 with the vectors of RFC 8439, and a text compared with its joined blocks.
 
 ghost use Rattle.std.specs.Prelude.{◌+◌, ◌/◌, ◌^◌, ◌≤◌, length};
 
@@ -23,7 +23,7 @@ fn blocks_of_the_rfc(rt: HostRuntime) {
     }
 }
 
-// What enciphers: the body that this build has, and each of the two.
+// Which code encrypts: what this build has, or one of the two.
 #[derive(Clone, Copy)]
 enum Body {
     Built,
@@ -43,7 +43,7 @@ fn encipher(body: Body, key: &[u8; 32], nonce: &[u8; 12], first: u32, text: &mut
     }
 }
 
-// Whether a text becomes `want`, and `want` the text again.
+// Whether encryption turns a text into `want`, and `want` back into the text.
 fn gives(
     alloc: Global,
     body: Body,
@@ -79,7 +79,7 @@ fn texts_of_the_rfc(rt: HostRuntime) -> Result<(), Fail> {
     Ok(())
 }
 
-// The blocks of `BLOCK_KEY` and `BLOCK_NONCE` one behind the other, from this counter on.
+// `count` blocks of `BLOCK_KEY` and `BLOCK_NONCE` in a row, from counter `first` on.
 fn joined(alloc: Global, first: u32, count: u32) -> Result<Vec<u8>, AllocError> {
     let mut stream = Vec::new(alloc);
     for i in 0..count {
@@ -88,7 +88,7 @@ fn joined(alloc: Global, first: u32, count: u32) -> Result<Vec<u8>, AllocError> 
     Ok(stream)
 }
 
-// The XOR of a text with as many bytes of a stream.
+// The XOR of a text with the first bytes of a stream.
 fn xored(alloc: Global, text: &[u8], stream: &[u8]) -> Result<Vec<u8>, AllocError> {
     let mut bytes = Vec::with_capacity(alloc, text.len())?;
     for (byte, key) in text.iter().zip(stream.iter()) {
@@ -97,7 +97,7 @@ fn xored(alloc: Global, text: &[u8], stream: &[u8]) -> Result<Vec<u8>, AllocErro
     Ok(bytes)
 }
 
-// Whether each beginning of a text is enciphered as its XOR with the stream from block 1 on, and back.
+// Whether each prefix of a text is encrypted to its XOR with the stream from block 1 on, and decrypted back.
 fn is_xored_at_each_length(
     alloc: Global,
     body: Body,
@@ -114,8 +114,8 @@ fn is_xored_at_each_length(
     Ok(true)
 }
 
-// For each length to 1,025, two groups of eight blocks and a byte, each body gives the XOR with the
-// blocks one after the other, and twice gives the text back.
+// For each length up to 1,025 (two groups of eight blocks and a byte), each body computes the XOR with the joined
+// blocks. Applied twice it restores the text.
 #[test]
 fn apply_is_the_xor_with_joined_blocks(rt: HostRuntime) -> Result<(), Fail> {
     let mut plain = Vec::new(rt.alloc());
@@ -129,7 +129,7 @@ fn apply_is_the_xor_with_joined_blocks(rt: HostRuntime) -> Result<(), Fail> {
     Ok(())
 }
 
-// Whether zeros that are enciphered from this counter on, by each body, are what the blocks begin with.
+// Whether each body encrypts zeros from this counter on to a prefix of the joined blocks.
 fn is_front_of_blocks(
     alloc: Global,
     zeros: &[u8],
@@ -153,14 +153,14 @@ fn is_front_of_blocks(
     Ok(true)
 }
 
-// From counter 0 on: two groups of eight, and a cut block after them.
+// From counter 0: two groups of eight blocks, and then a partial block.
 #[test]
 fn apply_begins_at_counter_zero(rt: HostRuntime) -> Result<(), Fail> {
     assert!(rt; is_front_of_blocks(rt.alloc(), &[0; 1030], 0, 17)?);
     Ok(())
 }
 
-// The last eight blocks that the counter allows, whole and cut, which go by groups.
+// The last eight blocks that the counter allows, whole and cut. They are encrypted in groups.
 #[test]
 fn apply_reaches_the_last_counter_in_lanes(rt: HostRuntime) -> Result<(), Fail> {
     assert!(rt; is_front_of_blocks(rt.alloc(), &[0; 512], 4_294_967_288, 8)?);
@@ -168,16 +168,15 @@ fn apply_reaches_the_last_counter_in_lanes(rt: HostRuntime) -> Result<(), Fail> 
     Ok(())
 }
 
-// Whole groups, and three blocks after them that reach the last counter: another group's would pass
-// 32 bits.
+// Whole groups and then three blocks that reach the last counter. The counters of another group would exceed 32 bits.
 #[test]
 fn apply_reaches_the_last_counter_after_a_group(rt: HostRuntime) -> Result<(), Fail> {
     assert!(rt; is_front_of_blocks(rt.alloc(), &[0; 704], 4_294_967_285, 11)?);
     Ok(())
 }
 
-// The last three blocks, which go one by one since a group's counters would pass 32 bits, and the
-// last four.
+// The last three blocks, and the last four. They are encrypted one by one, since a group's counters would exceed 32
+// bits.
 #[test]
 fn apply_reaches_the_last_counter_block_by_block(rt: HostRuntime) -> Result<(), Fail> {
     assert!(rt; is_front_of_blocks(rt.alloc(), &[0; 192], 4_294_967_293, 3)?);

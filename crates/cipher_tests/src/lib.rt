@@ -1,4 +1,4 @@
-//! The tests of the cipher: outside vectors, cuts at every length, altered pairs.
+//! The tests of the cipher: vectors of others, cuts at every length, altered pairs.
 #![tactic(auto)]
 
 #[cfg(test)]

@@ -1,11 +1,11 @@
-//! Poly1305 over the vectors of RFC 8439, and messages in pieces.
+//! Poly1305 with the vectors of RFC 8439, and messages in pieces.
 
 use crate::vectors::{LONG_TAG, POLY_KEY, POLY_MESSAGE, POLY_TAG, TAGS};
 use poly_core::{Mac, same};
 use std::alloc::{AllocError, Global};
 use std::test::Fail;
 
-// The tag of a message that is absorbed in these two pieces.
+// The tag of a message absorbed in these two pieces.
 fn tag_of(key: &[u8; 32], front: &[u8], rest: &[u8]) -> [u8; 16] {
     let mut mac = Mac::new(key);
     mac.absorb(front);
@@ -13,7 +13,7 @@ fn tag_of(key: &[u8; 32], front: &[u8], rest: &[u8]) -> [u8; 16] {
     mac.finish()
 }
 
-// Whether a message in two pieces has this tag, wherever it is cut.
+// Whether a message in two pieces has this tag at every cut.
 fn has_tag_at_each_cut(key: &[u8; 32], message: &[u8], want: &[u8; 16]) -> bool {
     for cut in 0..message.len() + 1 {
         let (front, rest) = message.split_at(cut);
@@ -42,8 +42,7 @@ fn tags_of_the_rfc(rt: HostRuntime) {
     }
 }
 
-// The RFC's message of 34 bytes in two pieces, at each cut; its key's s is the tag of the empty
-// message.
+// The RFC's message of 34 bytes in two pieces, at each cut. The tag of the empty message is the s of its key.
 #[test]
 fn cuts_make_no_difference(rt: HostRuntime) {
     assert!(rt; has_tag_at_each_cut(POLY_KEY, POLY_MESSAGE, POLY_TAG));
@@ -61,7 +60,7 @@ fn cuts_of_a_long_message_make_no_difference(rt: HostRuntime) -> Result<(), Fail
     Ok(())
 }
 
-// The same message in pieces of 64 bytes, whose blocks go one by one.
+// The same message in pieces of 64 bytes. Their blocks are absorbed one by one.
 #[test]
 fn short_pieces_give_the_same_tag(rt: HostRuntime) -> Result<(), Fail> {
     let message = long_message(rt.alloc())?;
@@ -73,7 +72,7 @@ fn short_pieces_give_the_same_tag(rt: HostRuntime) -> Result<(), Fail> {
     Ok(())
 }
 
-// Whether a padded message has the tag of the message with these zeros behind it.
+// Whether a padded message has the tag of the message with these zeros after it.
 fn pads_by(message: &[u8], zeros: &[u8]) -> bool {
     let mut padded = Mac::new(POLY_KEY);
     padded.absorb(message);
@@ -81,7 +80,7 @@ fn pads_by(message: &[u8], zeros: &[u8]) -> bool {
     padded.finish() == tag_of(POLY_KEY, message, zeros)
 }
 
-// Zeros up to a multiple of 16 bytes, and none at a multiple.
+// Padding adds zeros up to a multiple of 16 bytes, and none at a multiple.
 #[test]
 fn pad_adds_zeros(rt: HostRuntime) {
     assert!(rt; pads_by(b"", b""));
@@ -93,7 +92,7 @@ fn pad_adds_zeros(rt: HostRuntime) {
     assert!(rt; pads_by(b"Cryptographic Forum Research Group", &[0; 14]));
 }
 
-// Whether `same` sees a change of any one byte, on either side.
+// Whether `same` detects a change of any one byte, on either side.
 fn sees_each_byte(tag: &[u8; 16]) -> bool {
     for i in 0..16usize {
         let mut other = *tag;

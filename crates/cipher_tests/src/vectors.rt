@@ -1,7 +1,6 @@
-//! RFC 8439's vectors, from its section 2 and its appendix A, each with its place there; and tags of
-//! other lengths, as OpenSSL gives them.
+//! The vectors of RFC 8439, section 2 and appendix A, each with its section; and tags for other lengths from OpenSSL.
 
-// The keys 00 .. 1f and 80 .. 9f, and the one that the appendix uses from A.2 on.
+// The keys 00 .. 1f and 80 .. 9f, and the key of the appendix from A.2 on.
 const COUNTING_KEY: &[u8; 32] =
     b"\x00\x01\x02\x03\x04\x05\x06\x07\x08\x09\x0a\x0b\x0c\x0d\x0e\x0f\x10\x11\x12\x13\
     \x14\x15\x16\x17\x18\x19\x1a\x1b\x1c\x1d\x1e\x1f";
@@ -14,7 +13,7 @@ const APPENDIX_KEY: &[u8; 32] =
     b"\x1c\x92\x40\xa5\xeb\x55\xd3\x8a\xf3\x33\x88\x86\x04\xf6\xb5\xf0\x47\x39\x17\xc1\
     \x40\x2b\x80\x09\x9d\xca\x5c\xbc\x20\x70\x75\xc0";
 
-// A key and a nonce of zeros but for their last byte.
+// A key and a nonce of zeros except for their last byte.
 const KEY_1: &[u8; 32] =
     b"\x00\x00\x00\x00\x00\x00\x00\x00\x00\x00\x00\x00\x00\x00\x00\x00\x00\x00\x00\x00\
     \x00\x00\x00\x00\x00\x00\x00\x00\x00\x00\x00\x01";
@@ -37,14 +36,14 @@ const JABBERWOCKY: &[u8] =
     b"'Twas brillig, and the slithy toves\nDid gyre and gimble in the wabe:\nAll mimsy \
     were the borogoves,\nAnd the mome raths outgrabe.";
 
-// The first block of the keystream of the key and the nonce of zeros.
+// The first keystream block of the zero key and the zero nonce.
 const FIRST_ZERO_BLOCK: &[u8; 64] =
     b"\x76\xb8\xe0\xad\xa0\xf1\x3d\x90\x40\x5d\x6a\xe5\x53\x86\xbd\x28\xbd\xd2\x19\xb8\
     \xa0\x8d\xed\x1a\xa8\x36\xef\xcc\x8b\x77\x0d\xc7\xda\x41\x59\x7c\x51\x57\x48\x8d\
     \x77\x24\xe0\x3f\xb8\xd8\x4a\x37\x6a\x43\xb8\xf4\x15\x18\xa1\x1c\xc3\x87\xb6\x69\
     \xb2\xee\x65\x86";
 
-/// Four words, and their quarter round.
+/// Four words and their quarter round.
 pub(crate) static QUARTERS: [(&str, [u32; 4], [u32; 4]); 2] = [
     (
         "2.1.1",
@@ -58,12 +57,12 @@ pub(crate) static QUARTERS: [(&str, [u32; 4], [u32; 4]); 2] = [
     ),
 ];
 
-/// The key and the nonce of 2.3.2.
+/// The key and nonce of 2.3.2.
 pub(crate) const BLOCK_KEY: &[u8; 32] = COUNTING_KEY;
 
 pub(crate) const BLOCK_NONCE: &[u8; 12] = b"\x00\x00\x00\x09\x00\x00\x00\x4a\x00\x00\x00\x00";
 
-/// A key, a counter and a nonce, and their block.
+/// A key, a counter, a nonce, and their block.
 pub(crate) static BLOCKS: [(&str, &[u8; 32], u32, &[u8; 12], &[u8; 64]); 6] = [
     (
         "2.3.2",
@@ -119,7 +118,7 @@ pub(crate) static BLOCKS: [(&str, &[u8; 32], u32, &[u8; 12], &[u8; 64]); 6] = [
     ),
 ];
 
-/// A key, a nonce, the first counter and a text, and the text enciphered.
+/// A key, a nonce, the first counter, a text, and the encrypted text.
 pub(crate) static TEXTS: [(&str, &[u8; 32], &[u8; 12], u32, &[u8], &[u8]); 4] = [
     (
         "2.4.2",
@@ -177,7 +176,7 @@ pub(crate) static TEXTS: [(&str, &[u8; 32], &[u8; 12], u32, &[u8], &[u8]); 4] = 
     ),
 ];
 
-/// The key, the message and the tag of 2.5.2.
+/// The key, message and tag of 2.5.2.
 pub(crate) const POLY_KEY: &[u8; 32] =
     b"\x85\xd6\xbe\x78\x57\x55\x6d\x33\x7f\x44\x52\xfe\x42\xd5\x06\xa8\x01\x03\x80\x8a\
     \xfb\x0d\xb2\xfd\x4a\xbf\xf6\xaf\x41\x49\xf5\x1b";
@@ -187,7 +186,7 @@ pub(crate) const POLY_MESSAGE: &[u8] = b"Cryptographic Forum Research Group";
 pub(crate) const POLY_TAG: &[u8; 16] =
     b"\xa8\x06\x1d\xc1\x30\x51\x36\xc6\xc2\x2b\x8b\xaf\x0c\x01\x27\xa9";
 
-/// A key and a message, and their tag.
+/// A key, a message, and their tag.
 pub(crate) static TAGS: [(&str, &[u8; 32], &[u8], &[u8; 16]); 12] = [
     ("2.5.2", POLY_KEY, POLY_MESSAGE, POLY_TAG),
     (
@@ -275,11 +274,11 @@ pub(crate) static TAGS: [(&str, &[u8; 32], &[u8], &[u8; 16]); 12] = [
     ),
 ];
 
-/// The tag of the bytes i % 251 for i from 0 to 1,099, under the key of 2.5.2, as OpenSSL gives it.
+/// The tag of the bytes i % 251, for i from 0 to 1,099, under the key of 2.5.2; from OpenSSL.
 pub(crate) const LONG_TAG: &[u8; 16] =
     b"\x2f\x85\xc5\x5e\xb7\xeb\xac\x44\x9f\x80\x2e\x91\xa8\xfb\x99\x34";
 
-/// A key and a nonce, and their one-time key.
+/// A key, a nonce, and their one-time key.
 pub(crate) static ONE_TIME_KEYS: [(&str, &[u8; 32], &[u8; 12], &[u8; 32]); 4] = [
     (
         "2.6.2",
@@ -311,7 +310,7 @@ pub(crate) static ONE_TIME_KEYS: [(&str, &[u8; 32], &[u8; 12], &[u8; 32]); 4] = 
     ),
 ];
 
-/// A key, a nonce, associated data and a plaintext, and their ciphertext and tag.
+/// A key, a nonce, associated data, a plaintext, and their ciphertext and tag.
 pub(crate) static PAIRS: [(&str, &[u8; 32], &[u8; 12], &[u8], &[u8], &[u8], &[u8; 16]); 2] = [
     (
         "2.8.2",
@@ -354,9 +353,8 @@ pub(crate) static PAIRS: [(&str, &[u8; 32], &[u8; 12], &[u8], &[u8], &[u8], &[u8
     ),
 ];
 
-/// Lengths of associated data and plaintext at and between the multiples of 16, and the tag, as OpenSSL
-/// gives it under the key 00 .. 1f and the nonce 40 .. 4b; byte i of the associated data is 5 * i and
-/// byte i of the plaintext is 7 * i, both modulo 256.
+/// Lengths of associated data and plaintext, at and between multiples of 16, and OpenSSL's tag. The key is 00 .. 1f,
+/// the nonce 40 .. 4b. Byte i of the associated data is 5 * i, and of the plaintext 7 * i, modulo 256.
 pub(crate) static LENGTHS: [(usize, usize, &[u8; 16]); 16] = [
     (
         0,

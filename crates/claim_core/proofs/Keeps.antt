@@ -1,7 +1,7 @@
 -- Each step keeps the rule of the claim word.
--- With `given` beside the word every step is arithmetic: a draw below the count finds that nobody met the end yet, so
--- the word is the number of those given, and that is the number drawn; one at or past the count changes how often the
--- end was met, and nothing else.
+-- With `given` beside the word every step is arithmetic. A draw below the count finds that nobody met the end yet. So
+-- the word is the number of those given, which is the number drawn. A draw at or past the count changes only how often
+-- the end was met.
 use Rattle.std.proofs.Common.{◌≡◌, ◌≢◌, inl, inr, ℕ, zero, suc, ◌+◌, ◌%◌, ◌^◌, ◌<◌, ◌≤◌, Bool, true, false, cond, nat_lt, nat_eq, List, [], ◌∷◌, ◌++◌, length, length-append, get_or, set, refl, sym, ap, ◌∙◌, subst, ⊎_elim, arith, ltb-true, ltb-false}
 use mathlib.Core.Option.{none, some, some-injective, some-ne-none}
 use lib.ListN.{get_elem?}
@@ -254,7 +254,7 @@ takes_in k id v other w some_v some_w s kept at apart at' =
       },
     )
 
--- the hand that stands for all workers, which has met an end: it drew each number below the count once
+-- the hand of all workers, which has met an end: it drew each number below the count once
 pub closes : (k : Terms) (id : ℕ) (v : Hand) (ws : List ℕ) (xs : List (Unit {0})) → Final (Seen (IsKept k) id v) ws xs
     → v.workers ≡ k.workers → 0 < v.ends → (x : ℕ) → times x v.drawn ≡ once_below x k.count
 closes k id v ws xs final all some_end x =

@@ -1,14 +1,14 @@
--- Claims as their callers see them: of each claimant for how many workers it stands, which numbers these drew, and how
--- often they met the end.
+-- Claims as their callers see them. A claimant has the number of workers that it represents, the numbers that these
+-- drew, and how often they met the end.
 use Rattle.std.specs.Prelude.{◌≡◌, ℕ, ◌+◌, List, [], ◌∷◌, ◌++◌, nat_lt, nat_eq, if◌then◌else◌}
 use Rattle.atomic_table.specs.Seated.{TableId}
 
--- which claims they are. Clauses only compare it: a claimant goes with the claims that have its id. No clause says that
--- two claims differ in it.
+-- which claims they are. Clauses only compare it: a claimant belongs to the claims with its id. No clause says that two
+-- claims have different ids.
 abbrev pub ClaimsId : Type 0
 ClaimsId = TableId
 
--- so many workers draw the numbers below the count
+-- `workers` workers draw the numbers below `count`
 pub record ClaimsView : Type 0 where
   pub id : ClaimsId
   pub count : ℕ
@@ -27,7 +27,7 @@ pub record IsOf (claims : ClaimsView) (claimant : ClaimantView) : Type 0 where
   pub id : claimant.id ≡ claims.id
   pub count : claimant.count ≡ claims.count
 
--- so many workers that have drawn nothing
+-- a claimant of `workers` workers that have drawn nothing
 abbrev pub newcomer : ClaimsView → ℕ → ClaimantView
 newcomer claims workers =
     record { id = claims.id; count = claims.count; workers = workers; drawn = []; ends = 0 }
@@ -48,7 +48,7 @@ joined claimant other = record claimant {
   ends = claimant.ends + other.ends;
 }
 
--- how often x stands in the list
+-- how often x occurs in the list
 abbrev pub times : ℕ → List ℕ → ℕ
 times x [] = 0
 times x (y ∷ ys) = (if nat_eq y x then 1 else 0) + times x ys

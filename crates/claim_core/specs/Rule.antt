@@ -1,5 +1,5 @@
--- Inside: the rule of the claim word. The numbers below some `given` were drawn, each once, and no other; the word is
--- that many more than how often workers met the end; and where one met it, all numbers were given.
+-- Internal: the rule of the claim word. The numbers below some `given` were drawn, each once, and no other. The word is
+-- `given` plus how often workers met the end. If one met it, all numbers were given.
 use Rattle.std.specs.Prelude.{◌≡◌, ℕ, ◌+◌, ◌-◌, ◌<◌, ◌≤◌, List, [], ◌∷◌, ◌++◌, length, nat_lt, MatchBool, ◌^◌}
 use mathlib.Core.Option.{some}
 use lib.ListN.{get_elem?}
@@ -23,7 +23,7 @@ pub record Fits (terms : Terms) (v : Hand) : Type 0 where
   pub idle : v.workers ≡ 0 → v.drawn ≡ []
   pub ends : v.ends ≤ v.workers
 
--- so many numbers were given
+-- `given` numbers were given
 pub record HasGiven (terms : Terms) (given : ℕ) (table : State (Unit {0}) Hand) : Type 0 where
   pub small : terms.count < 2 ^ 32
   pub few : terms.workers ≤ 16
@@ -38,7 +38,7 @@ pub record HasGiven (terms : Terms) (given : ℕ) (table : State (Unit {0}) Hand
 abbrev pub IsKept : Terms → State (Unit {0}) Hand → Type 0
 IsKept terms table = (given : ℕ) × HasGiven terms given table
 
--- the first hand stands for all workers
+-- the first hand represents all workers
 abbrev pub all_workers : Terms → Hand
 all_workers terms = hand_of terms.count terms.workers [] 0
 
@@ -51,7 +51,7 @@ Gives v n w =
     (w ≡ hand_of v.count v.workers (v.drawn ++ n ∷ []) v.ends) × (length v.drawn < v.count)
     × ((x : ℕ) → 0 < times x v.drawn → x < n)
 
--- a draw that found this word
+-- a draw for which the word was n
 abbrev pub Draws : Hand → ℕ → Hand → Type 0
 Draws v n w = MatchBool (nat_lt n v.count) (Gives v n w) (w ≡ hand_of v.count v.workers v.drawn (v.ends + 1))
 

@@ -1,6 +1,6 @@
-//! Claims and their claimants: the calls. Whoever opens the claims has one claimant that stands for all workers, cuts
-//! one off for each worker before any has drawn, takes them in again when their workers have met the end, and closes
-//! the claims: then it shows that they drew each number once.
+//! Claims and their claimants: the calls. Opening the claims returns one claimant, which represents all workers. Its
+//! owner splits off one for each worker before any has drawn, and joins them again when their workers have met the end.
+//! Then it closes the claims, which shows that they drew each number once.
 ghost use Rattle.std.specs.Prelude.{◌≡◌, ℕ, ◌-◌, ◌<◌, ◌≤◌, [], length, IfOk, IfSome, IfNone};
 ghost use Rattle.claim_core.specs.Claims.{IsOf, newcomer, with_number, with_end, joined, times, once_below};
 
@@ -29,7 +29,7 @@ impl Model for Claims {
         × (c.word.shared.key ≡ c.terms) };
 }
 
-/// Stands for some of the workers that draw. It has no bytes, and may go to another thread.
+/// Represents some of the workers that draw. It has no bytes, and may move to another thread.
 #[derive(Drop)]
 pub struct Claimant {
     token: Token,
@@ -53,8 +53,8 @@ impl Model for Claimant {
 }
 
 impl Claims {
-    /// The numbers below the count, for 1 to 16 workers, and a claimant that stands for all of these. It takes the
-    /// memory of one word, and nothing else here takes any.
+    /// Returns claims on the numbers below `count`, for 1 to 16 workers, and a claimant that represents all of these.
+    /// Allocates one word; nothing else here allocates.
     pub fn open(alloc: Global, count: u32, workers: u32) -> Result<(Claims, Claimant), AllocError>
         requires { (0 < workers) × (workers ≤ MAX_CLAIMANTS) }
         ensures claims { IfOk result (λ r. (r.0.count ≡ count) × (r.0.workers ≡ workers)) }
@@ -65,9 +65,9 @@ impl Claims {
         Ok((Claims { terms, word }, Claimant { token }))
     }
 
-    /// The next number, greater than all that this claimant drew before, or None where the worker has met the end: then
-    /// it draws no more. One addition to the word, which waits for nobody. The claimant stands for a worker that has
-    /// not met the end.
+    /// Draws the next number, greater than all that this claimant drew before. Returns None when the worker has met the
+    /// end; then it draws no more. One atomic addition, which waits for nobody. The claimant must represent a worker
+    /// that has not met the end.
     pub fn draw(&self, claimant: &mut Claimant) -> Option<u32>
         requires ours { IsOf self.now claimant.old }
         requires may { claimant.old.ends < claimant.old.workers }
@@ -86,7 +86,7 @@ impl Claims {
         }
     }
 
-    /// Cuts one worker off a claimant that stands for several and has drawn nothing.
+    /// Splits one worker off a claimant that represents several and has drawn nothing.
     pub fn split(&self, claimant: &mut Claimant) -> Claimant
         requires ours { IsOf self.now claimant.old }
         requires several { 1 < claimant.old.workers }
@@ -99,7 +99,7 @@ impl Claims {
         }
     }
 
-    /// Takes in another claimant: its workers, what they drew, and the ends that they met.
+    /// Adds another claimant to this one: its workers, what they drew, and how often they met the end.
     pub fn join(&self, claimant: &mut Claimant, other: Claimant)
         requires ours { IsOf self.now claimant.old }
         requires other { IsOf self.now other }
@@ -110,8 +110,8 @@ impl Claims {
         take_in_step(&self.word, &mut claimant.token, token);
     }
 
-    /// Gives the claims up, by a claimant that stands for all workers, of which one at least has met the end: they drew
-    /// each number below the count once, and no other.
+    /// Gives up the claims with a claimant that represents all workers. At least one of them has met the end, so they
+    /// drew each number below the count once, and no other.
     pub fn close(self, claimant: Claimant)
         requires ours { IsOf self claimant }
         requires all { claimant.workers ≡ self.workers }

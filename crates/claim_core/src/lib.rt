@@ -1,7 +1,7 @@
-//! Numbers drawn from one atomic word by several workers: each number below a count once, in whatever order they come.
+//! Numbers drawn from one atomic word by several workers: each number below a count once, in any order.
 //!
-//! A worker draws by one addition to the word, waits for nobody and takes no memory. What a claimant's workers drew is
-//! known to clauses alone, and is kept nowhere.
+//! A worker draws with one atomic addition, waits for nobody and allocates nothing. What a claimant's workers drew is
+//! known only in contracts, and is stored nowhere.
 #![tactic(auto)]
 
 pub mod claims;

@@ -1,4 +1,4 @@
-//! The steps of a token on the claim word: one addition for a draw, and what cuts and joins tokens.
+//! The steps of a token on the claim word: one addition for a draw, and the split and join of tokens.
 ghost use Rattle.std.specs.Prelude.{◌≡◌, ℕ, ◌<◌, ◌≤◌, [], IfOk};
 ghost use Rattle.claim_core.specs.Claims.{times, once_below};
 ghost use Rattle.claim_core.specs.Rule.{all_workers, MayStep, Draws, other_workers, one_worker, both_hands};
@@ -7,7 +7,7 @@ use crate::table::{CutOff, Draw, TakeIn, Terms, Token, Word};
 use atomic_table::Table;
 use std::alloc::{AllocError, Global};
 
-// A word from which nothing was drawn, and a token that stands for all workers.
+// Returns a word from which nothing was drawn, and a token that represents all workers.
 pub fn open_word(alloc: Global, terms: Terms) -> Result<(Word, Token), AllocError>
     requires { terms.workers ≤ 16 }
     ensures word { IfOk result (λ t. (t.0.shared.table_id.words ≡ 1) × (t.0.shared.table_id.slots ≡ 0)
@@ -46,7 +46,7 @@ pub fn take_in_step(word: &Word, token: &mut Token, other: Token)
     word.shared.join_seat::<TakeIn>(token, other)
 }
 
-// The table given up, with a token that stands for all workers: since one of them met the end, they drew each number.
+// Frees the table, with a token that represents all workers. Since one of them met the end, they drew each number.
 pub fn close_word(word: Word, token: Token)
     requires table { (token.table_id ≡ word.shared.table_id) × (word.shared.table_id.slots ≡ 0) }
     requires all { token.me.0.workers ≡ word.shared.key.workers }

@@ -1,6 +1,6 @@
-//! The claim word as a table of one word: what each claimant has drawn, and the one kind of step.
+//! The claim word as a table of one word: what each claimant has drawn, and its only step, the draw.
 //!
-//! The word counts the draws. As long as it is below the count, each number below it was drawn once; past that it
+//! The word counts the draws. While it is at most the count, each number below it was drawn once. Past that it also
 //! counts how often workers met the end.
 
 use atomic_table::{Join, Play, Seat, Split, Table, TableRule};
@@ -10,14 +10,14 @@ use std::collections::LinkedList;
 /// What a claims table is opened with.
 #[derive(Clone, Copy, Drop)]
 pub struct Terms {
-    /// The numbers are those below it.
+    /// The numbers below it are drawn.
     pub count: u32,
     /// How many workers draw.
     pub workers: u32,
 }
 
-/// What a token knows: for how many workers it stands, what they drew, in order, and how often they met the end. No
-/// value of it is made.
+/// What a token knows: how many workers it represents, what they drew, in order, and how often they met the end. No
+/// value of this type exists at run time.
 pub struct Hand {
     pub count: u32,
     pub workers: u32,
@@ -44,7 +44,7 @@ impl Play<(), Hand> for Draw {
     ghost then = { drew };
 }
 
-/// One worker is cut off.
+/// One worker is split off.
 pub struct CutOff;
 
 impl Split<Hand> for CutOff {
@@ -55,7 +55,7 @@ impl Split<Hand> for CutOff {
     ghost right = { one_worker };
 }
 
-/// The workers of one token go over to another.
+/// The workers of one token move to another.
 pub struct TakeIn;
 
 impl Join<Hand> for TakeIn {

@@ -22,14 +22,14 @@ too_few bytes key few text =
     let taken = length-take 64 bytes in
     omega arith
 
--- nor are 67 bytes or more
+-- 67 bytes or more are no key file
 too_many : (bytes key : List ℕ) → 67 ≤ length bytes → IsKeyText bytes key → ⊥
 too_many bytes key many text =
     let short = end_short (drop 64 bytes) text.1 in
     let dropped = length-drop 64 bytes in
     omega arith
 
--- what was read is all of the input, or a front of 67 bytes
+-- what was read is all of the input, or a prefix of 67 bytes
 input_is : (input rest buffer : List ℕ) (n : ℕ) → length buffer ≡ 67 → n ≤ 67 → input ≡ take n buffer ++ rest
     → (n < 67 → rest ≡ [])
     → (input ≡ take n buffer) ⊎ ((67 ≤ length input) × (67 ≤ length (take n buffer)))

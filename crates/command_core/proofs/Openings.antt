@@ -33,7 +33,7 @@ all_written key most n label name output plain left taken one two three four nam
     both ∙ ap (λ o. Created o ∷ Finished o plain ∷ []) named)
     two three four creates finishes)
 
--- its writing, or its finishing, failed, and it was given up with what was written
+-- writing or finishing it failed, and it was given up with what was written
 pub not_written : (key : List ℕ) (most : ℕ) (label : Option (List ℕ)) (name output plain : List ℕ)
     (left taken : Option (List ℕ)) (one two three five : Option (List Event)) → output ≡ output_of name
     → Does (Opens name left) one two → IfSome left (λ input. IsGood key most label input plain)

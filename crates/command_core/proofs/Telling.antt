@@ -1,4 +1,4 @@
--- One line more: what was told of the files so far, and what is told with the next one.
+-- One more line: what was printed for the files so far, and what is printed with the next one.
 use Rattle.std.proofs.Common.{◌≡◌, ◌≢◌, ℕ, ◌≤◌, Bool, true, false, ◌||◌, if◌then◌else◌, inl, inr, ⊎_elim, refl, sym, ap}
 use Rattle.std.proofs.Common.{subst, ◌∙◌, List, [], ◌∷◌, ◌++◌, map, append-nil, append_assoc, Option, Some, None, flat_map, Bor}
 use Rattle.std.proofs.Common.{take, length, get_or, ◌+◌, ◌<◌, add-one, arith, lit≤}
@@ -32,7 +32,7 @@ lines_text-push told line =
     ∙ ended_lines-append (map (λ (l : FileLine). line_text l.name l.outcome) told)
     (line_text line.name line.outcome ∷ [])
 
--- a front of what was written is a front of what is to be written
+-- a prefix of what was written is a prefix of what is to be written
 begun_more : (old new : Option (List ℕ)) (text more : List ℕ) → AppendsFront old new text
     → AppendsFront old new (text ++ more)
 begun_more old new text more (front, (rest, split), appended) =
@@ -43,13 +43,13 @@ lacks_before : (old new : Option (List ℕ)) (text more : List ℕ) → AppendsF
     → LacksSome old new (text ++ more)
 lacks_before old new text more begun lacks = lacks_within old old new [] text more (Appends-nil old) begun lacks
 
--- nor where all was written before the last part
+-- also where all was written before the last part
 lacks_behind : (old mid new : Option (List ℕ)) (text more : List ℕ) → Appends old mid text → AppendsFront mid new more
     → LacksSome mid new more → LacksSome old new (text ++ more)
 lacks_behind old mid new text more grown begun lacks =
     subst (λ l. LacksSome old new (text ++ l)) (append-nil more) (lacks_within old mid new text more [] grown begun lacks)
 
--- nor where no more was written
+-- also where no more was written
 pub lacks_more : (old new : Option (List ℕ)) (text more : List ℕ) → 0 < length more → Appends old new text
     → LacksSome old new (text ++ more)
 lacks_more None new text more some grown = tt
@@ -145,7 +145,7 @@ told_more status status' told line old mid new failures failures' failures'' oth
     not_two true e two = omega arith
     not_two false e two = other (sym e ∙ two)
 
--- of no file nothing is told
+-- for no file nothing is printed
 pub nothing_told : (taken : Option (List ℕ)) (failures : Option ℕ) → AreTold 0 [] taken taken failures failures
 nothing_told taken failures = record {
   range = lit≤ tt;
@@ -166,7 +166,7 @@ nothing_done does told = weaken (λ events none. record {
   joined = none;
 }) told told (nothing told)
 
--- one file more
+-- one more file
 pub done_more : (does : List ℕ → FileOutcome → List Event → Type 0) (lines : List FileLine) (line : FileLine)
     (told told' told'' : Option (List Event))
     → Does (AreDone does lines) told told' → Does (does line.name line.outcome) told' told''
@@ -181,7 +181,7 @@ done_more does lines line told told' told'' done next = chain (AreDone does (lin
           ∙ sym (flat_map-append (λ (w : Work). w.events) d.works (work ∷ []));
     }) told told' told'' done next
 
--- no file was worked
+-- no file was processed
 pub nothing_worked : (fits : List ℕ → FileOutcome → Type 0) (does : List ℕ → FileOutcome → List Event → Type 0)
     (taken : Option (List ℕ)) (failures : Option ℕ) (told : Option (List Event))
     → AreWorked fits does [] 0 taken taken failures failures told told
@@ -193,7 +193,7 @@ nothing_worked fits does taken failures told = record {
   done = nothing_done does told;
 }
 
--- one file more was worked
+-- one more file was processed
 pub worked_more : (fits : List ℕ → FileOutcome → Type 0) (does : List ℕ → FileOutcome → List Event → Type 0)
     (names names' : List (List ℕ)) (line : FileLine) (status status' : ℕ)
     (old mid new : Option (List ℕ)) (failures failures' failures'' : Option ℕ) (told told' told'' : Option (List Event))
@@ -209,7 +209,7 @@ worked_more fits does _ _ line _ _ _ _ _ _ _ _ told told' told'' w fit next line
   told = lines;
 }
 
--- one name more
+-- one more name
 pub names-step : (files : List (Bor (List ℕ))) (i : ℕ) (d : Bor (List ℕ)) → i < length files
     → map (λ (f : Bor (List ℕ)). f.now) (take i files) ++ (get_or files i d).now ∷ []
     ≡ map (λ (f : Bor (List ℕ)). f.now) (take (i + 1) files)

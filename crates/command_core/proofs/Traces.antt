@@ -16,7 +16,7 @@ weaken f told None d = tt
 weaken f None (Some after) d = absurd d
 weaken f (Some before) (Some after) d = (d.0, f d.0 d.1, d.2)
 
--- of events, and others behind them
+-- of events, and others after them
 pub chain : {p q : List Event → Type 0} → (r : List Event → Type 0)
     → ((one two : List Event) → p one → q two → r (one ++ two)) → (told told' told'' : Option (List Event))
     → Does p told told' → Does q told' told'' → Does r told told''
@@ -31,7 +31,7 @@ chain r f (Some before) (Some mid) (Some after) d e =
 some_same : (a b : List ℕ) → Some a ≡ Some b → a ≡ b
 some_same a b same = cc
 
--- name and bytes are told from the tape
+-- a tape determines name and bytes
 pub tape_same : (name other bytes more : List ℕ) → tape name bytes ≡ tape other more → (name ≡ other) × (bytes ≡ more)
 tape_same name other bytes more is =
     let long : length name ≡ length other = ap (λ l. get_or l 0 0) is in
@@ -42,7 +42,7 @@ tape_same name other bytes more is =
           ∙ drop-append_seam other more,
     )
 
--- what a writer tells behind these bytes, once more were written
+-- what a writer reports after these bytes, once more were written
 tape_as : (name other bytes more all : List ℕ) (taken taken' : Option (List ℕ)) → taken ≡ Some (tape name bytes)
     → Appends taken taken' more → taken' ≡ Some (tape other all)
     → (other ≡ name) × (all ≡ bytes ++ more)
@@ -54,7 +54,7 @@ tape_as name other bytes more all (Some before) (Some after) is grew tells =
     ∙ ap (λ l. length name ∷ l) (append_assoc name bytes more) in
     tape_same other name all (bytes ++ more) whole
 
--- what was written behind the bytes of an output is what it is finished with, under its own name
+-- an output is finished with what was written after its bytes, under its own name
 pub finished_as : (name bytes more : List ℕ) (taken taken' : Option (List ℕ)) (events : List Event)
     → taken ≡ Some (tape name bytes) → Appends taken taken' more → Finishes taken' events
     → events ≡ Finished name (bytes ++ more) ∷ []
@@ -62,7 +62,7 @@ finished_as name bytes more taken taken' events is grew (other, all, tells, f) =
     let same = tape_as name other bytes more all taken taken' is grew tells in
     f ∙ ap (λ n. Finished n all ∷ []) same.0 ∙ ap (λ b. Finished name b ∷ []) same.1
 
--- and what it is given up with
+-- and it is given up with that
 pub discarded_as : (name bytes more : List ℕ) (taken taken' : Option (List ℕ)) (events : List Event)
     → taken ≡ Some (tape name bytes) → Appends taken taken' more → Discards taken' events
     → events ≡ Discarded name (bytes ++ more) ∷ []

@@ -1,4 +1,4 @@
--- What `verify --show` prints of a good container, on the line behind its own.
+-- What `verify --show` prints for a good container, on the line after its own.
 use Rattle.std.specs.Prelude.{◌≡◌, ◌≤◌, ℕ, ◌/◌, ◌%◌, ◌==◌, ◌&&◌, nat_lt, not, Bool, List, [], ◌∷◌, ◌++◌, take, drop}
 use Rattle.std.specs.Prelude.{false, flat_map, slice_index, codes, if◌then◌else◌}
 use Rattle.std.specs.Fmt.{decimal, digit_glyph}
@@ -19,7 +19,7 @@ pub record IsOfHeader (facts : Facts) (header : List ℕ) : Type 0 where
   pub few : facts.device ≤ most_device
   pub label : label_of facts ≡ drop 25 header
 
--- a byte that is printed as it is: printable ASCII, but the quote and the backslash
+-- a byte that is printed as it is: printable ASCII except the quote and the backslash
 abbrev pub is_printed : ℕ → Bool
 is_printed byte = nat_lt 31 byte && nat_lt byte 127 && not (byte == 34) && not (byte == 92)
 
@@ -35,7 +35,7 @@ label_text label = flat_map byte_text label
 abbrev pub quoted : List ℕ → List ℕ
 quoted label = 34 ∷ label_text label ++ 34 ∷ []
 
--- what stands behind the numbers: nothing in version 1, which has no label
+-- what follows the numbers: nothing in version 1, which has no label
 abbrev pub label_part : Facts → List ℕ
 label_part facts = if facts.version == 1 then [] else codes " label " ++ quoted (label_of facts)
 

@@ -1,4 +1,4 @@
--- Which containers are taken where a label is asked for.
+-- Which containers are accepted if a label is asked for.
 use Rattle.std.specs.Prelude.{◌≡◌, ℕ, List, Option, Some, None, ⊤}
 use Rattle.container_core.specs.Container.{label_in}
 

@@ -1,4 +1,4 @@
--- The lines of a command: what it says of each file, and its exit status.
+-- The lines of a command: what it prints for each file, and its exit status.
 use Rattle.std.specs.Prelude.{ℕ, Bool, true, false, if◌then◌else◌, List, ◌∷◌, ◌++◌, map, codes}
 use Rattle.std.specs.Fmt.{decimal}
 use Rattle.std.specs.List.{list_any}
@@ -50,6 +50,6 @@ is_failed (Good bytes) = false
 is_failed (Shown bytes facts) = false
 is_failed (Failed fault) = true
 
--- the exit status where every line was written: 1 where some file failed, else 0
+-- the exit status if every line was written: 1 if some file failed, else 0
 abbrev pub status_of_lines : List FileLine → ℕ
 status_of_lines lines = if list_any (λ line. is_failed line.outcome) lines then 1 else 0

@@ -22,6 +22,6 @@ IsPrinted text = ((name : List ℕ) × (outcome : FileOutcome) × (text ≡ line
     ⊎ ((complaint : List ℕ) × IsComplaint complaint × (text ≡ complaint ++ 10 ∷ []))
     ⊎ ((terms : Terms) × (history : List Entry) × (text ≡ journal_text terms history))
 
--- Known bytes grew by a complaint with its line feed, or by a beginning of that.
+-- Known bytes grew by a complaint with its line feed, or by a prefix of that.
 abbrev pub Complains : Option (List ℕ) → Option (List ℕ) → Type 0
 Complains old new = (text : List ℕ) × IsComplaint text × AppendsFront old new (text ++ 10 ∷ [])

@@ -14,7 +14,7 @@ pub record Begun : Type 0 where
 abbrev pub begun_as : ℕ → ShapeView → Begun
 begun_as number shape = record { number = number; shape = shape }
 
--- The id of the key, which is its SHA-256, the range, and the containers that began under them, the last one first.
+-- The key ID (the key's SHA-256), the range, and the containers that began under them, the last one first.
 pub record Session : Type 0 where
   pub key_id : List ℕ
   pub range : Numbers
@@ -46,7 +46,7 @@ pub record IsSound (session : Session) : Type 0 where
   pub each : AllByRecursion (IsOfRange session.range) session.begun
   pub once : (number : ℕ) → times_begun number session.begun ≤ 1
 
--- An output may hold what is made so of what it took.
+-- An output may hold what this bound makes of what it took.
 abbrev pub IsBoundTo : (List ℕ → Bound) → Option (List ℕ) → Bound → Type 0
 IsBoundTo make taken bound = (held : List ℕ) × (taken ≡ Some held) × (bound ≡ make held)
 

@@ -1,11 +1,11 @@
--- What a folder tells of a run: which files were read, and what became of its outputs.
+-- What a folder reports of a run: which files were read, and what became of its outputs.
 use Rattle.std.specs.Prelude.{⊤, ◌≡◌, ℕ, List, [], ◌∷◌, ◌++◌, length, Option, None, Some, Ok}
 use Rattle.container_core.specs.Opening.{opening}
 use Rattle.command_core.specs.declared.folder.FolderFault.{FolderFault}
 
--- A file was opened to be read, and these are the bytes that its reader has; a file could not be opened. An output was
--- created; an output could not be created, by this fault. An output was finished, and these are all its bytes; an
--- output was given up with these bytes, and its removal was tried.
+-- A file was opened for reading, and its reader has these bytes; or it could not be opened. An output was created; or
+-- it could not be created, with this fault. An output was finished, and these are all its bytes; or it was given up
+-- with these bytes, and its removal was tried.
 pub data Event : Type 0 where
   Reading : List ℕ → List ℕ → Event
   Unread : List ℕ → Event
@@ -14,15 +14,15 @@ pub data Event : Type 0 where
   Finished : List ℕ → List ℕ → Event
   Discarded : List ℕ → List ℕ → Event
 
--- Events of this kind came behind those so far, where it is still known what came. A folder may forget, and then it
--- knows no more.
+-- Events of this kind came after those so far, if it is still known what came. A folder may forget, and then it knows
+-- no more.
 abbrev pub Does : (List Event → Type 0) → Option (List Event) → Option (List Event) → Type 0
 Does kind before None = ⊤
 Does kind None (Some after) = ⊥
 Does kind (Some before) (Some after) = (events : List Event) × kind events × (after ≡ before ++ events)
 
--- What the writer of an output tells that it took: the name under which the output was created, behind its length, and
--- then the bytes of the output. Whoever writes only adds to it, so an output keeps its name.
+-- What the writer of an output reports that it took: the length of the name under which the output was created, that
+-- name, and then the output's bytes. A writer only appends to it, so an output keeps its name.
 abbrev pub tape : List ℕ → List ℕ → List ℕ
 tape name bytes = length name ∷ name ++ bytes
 
@@ -38,20 +38,20 @@ Opens name left events = (bytes : List ℕ) × (left ≡ Some bytes) × (events 
 abbrev pub FailsToOpen : List ℕ → List Event → Type 0
 FailsToOpen name events = events ≡ Unread name ∷ []
 
--- an output was created, whose writer tells its name and took no byte
+-- an output was created, and its writer reports its name and no byte
 abbrev pub Creates : List ℕ → Option (List ℕ) → List Event → Type 0
 Creates name taken events = (taken ≡ Some (tape name [])) × (events ≡ Created name ∷ [])
 
--- an output could not be created, by this fault
+-- an output could not be created, with this fault
 abbrev pub Refuses : List ℕ → FolderFault → List Event → Type 0
 Refuses name fault events = events ≡ Refused name fault ∷ []
 
--- An output was finished, under the name and with the bytes that its writer tells.
+-- An output was finished, under the name and with the bytes that its writer reports.
 abbrev pub Finishes : Option (List ℕ) → List Event → Type 0
 Finishes taken events =
     (name : List ℕ) × (bytes : List ℕ) × (taken ≡ Some (tape name bytes)) × (events ≡ Finished name bytes ∷ [])
 
--- An output was given up, under the name and with the bytes that its writer tells.
+-- An output was given up, under the name and with the bytes that its writer reports.
 abbrev pub Discards : Option (List ℕ) → List Event → Type 0
 Discards taken events =
     (name : List ℕ) × (bytes : List ℕ) × (taken ≡ Some (tape name bytes)) × (events ≡ Discarded name bytes ∷ [])

@@ -30,16 +30,16 @@ output_of name = take (length name - 4) name
 abbrev pub IsSealedName : List ℕ → Type 0
 IsSealedName name = (output_of name ≢ []) × (name ≡ output_of name ++ codes ".stm")
 
--- 1 to 16 workers, and no more plaintext bytes than a file can have that is opened
+-- 1 to 16 workers, and no more plaintext bytes than a file to be opened can have
 abbrev pub AreInRange : OpenOptions → Type 0
 AreInRange options = (options.max_bytes ≤ MAX_OPENED_BYTES) × (0 < options.workers) × (options.workers ≤ 16)
 
--- the label that is asked for, where one is
+-- the label that is asked for, if any
 abbrev pub asked_label : OpenOptions → Option (List ℕ)
 asked_label options = option_map (λ label. label.now) options.label
 
--- An outcome that `open_all` can have of a file of this name: the file was opened, or failed otherwise than a file that
--- is to be sealed. It fails by its name exactly where that isn't the name of a sealed file.
+-- An outcome that `open_all` can have for a file of this name: the file was opened, or failed with a fault that opening
+-- can have. It fails by its name exactly if that isn't the name of a sealed file.
 abbrev pub IsOfOpening : List ℕ → FileOutcome → Type 0
 IsOfOpening name (Opened bytes) = IsSealedName name
 IsOfOpening name (Failed NoSuffix) = ¬ IsSealedName name
@@ -49,8 +49,8 @@ IsOfOpening name (Failed (Unsealed fault)) = ⊥
 IsOfOpening name (Failed fault) = IsSealedName name
 IsOfOpening name _ = ⊥
 
--- an outcome that `verify_all` can have: the file is good, and shown where that is asked for, or it can't be opened, or
--- its container has a fault, or another label
+-- an outcome that `verify_all` can have: the file is good (and shown, if asked for), it can't be opened, its container
+-- has a fault, or it has another label
 abbrev pub IsOfVerifying : Bool → FileOutcome → Type 0
 IsOfVerifying false (Good bytes) = ⊤
 IsOfVerifying true (Shown bytes facts) = ⊤
@@ -65,7 +65,7 @@ abbrev pub IsGood : List ℕ → ℕ → Option (List ℕ) → List ℕ → List
 IsGood key most label input plain = (opening key most input ≡ Ok plain) × IsLabelled label input
 
 -- An input that was read has this fault: it is the first by the definition, or the input opens and has another label.
--- Of a reader that failed and of memory nothing is said.
+-- Nothing is said of a reader that failed, or of memory.
 abbrev pub IsFaultOf : List ℕ → ℕ → Option (List ℕ) → List ℕ → FileFault → Type 0
 IsFaultOf key most label input (Unopened Write) = ⊥
 IsFaultOf key most label input (Unopened fault) = IsOfBytes fault → opening key most input ≡ Err fault
@@ -78,9 +78,9 @@ abbrev pub file_read_failed : {A : Type 0} → Result A FileFault → Bool
 file_read_failed {A} (Err (Unopened fault)) = open_read_failed {A = A} (Err fault)
 file_read_failed _ = false
 
--- What goes with the line of a file of this name that is to be opened. An output is asked for only behind the reading
--- of an input that opens and has the label. It is finished with the plaintext, once, and then the line says `opened`;
--- or it is given up with a beginning of the plaintext; or it is refused, for the cause that the line says.
+-- The events for a file of this name that is to be opened. An output is asked for only after an input was read that
+-- opens and has the label. It is finished with the plaintext, once, and then the line says `opened`. Or it is given up
+-- with a prefix of the plaintext; or it is refused, for the cause in the line.
 abbrev pub Opening : List ℕ → ℕ → Option (List ℕ) → List ℕ → FileOutcome → List Event → Type 0
 Opening key most label name (Opened n) events = (input : List ℕ) × (plain : List ℕ)
     × IsGood key most label input plain × (n ≡ length plain)
@@ -101,8 +101,8 @@ Opening key most label name (Failed fault) events =
     (input : List ℕ) × IsFaultOf key most label input fault × (events ≡ trace.Reading name input ∷ [])
 Opening key most label name _ events = ⊥
 
--- What goes with the line of a file of this name that is to be verified: its input was read, and is as the line says,
--- or it could not be opened. No output is asked for.
+-- The events for a file of this name that is to be verified: its input was read, and is as the line says, or it could
+-- not be opened. No output is asked for.
 abbrev pub Verifying : List ℕ → ℕ → Option (List ℕ) → List ℕ → FileOutcome → List Event → Type 0
 Verifying key most label name (Good n) events =
     (input : List ℕ) × OpensTo key most input n × IsLabelled label input × (events ≡ trace.Reading name input ∷ [])
@@ -119,7 +119,7 @@ pub record Work : Type 0 where
   pub line : FileLine
   pub events : List Event
 
--- These events are those of the lines, one behind the other: each line goes with its own.
+-- These events are those of the lines, one after the other: each line has its own.
 pub record AreDone (does : List ℕ → FileOutcome → List Event → Type 0) (lines : List FileLine) (events : List Event)
     : Type 0 where
   pub works : List Work
@@ -127,8 +127,8 @@ pub record AreDone (does : List ℕ → FileOutcome → List Event → Type 0) (
   pub each : All (λ w. does w.line.name w.line.outcome w.events) works
   pub joined : events ≡ flat_map (λ w. w.events) works
 
--- What a writer of lines got: a beginning of them; with a status other than 2 all of them, and the status is theirs,
--- and with 2 not all. At most one write failed, and then the status is 2: behind a failed write no other is tried.
+-- What a writer of lines got: a prefix of them. With a status other than 2 it got all of them, and the status is
+-- theirs; with 2 not all. At most one write failed, and then the status is 2: after a failed write no other is tried.
 pub record AreTold (status : ℕ) (lines : List FileLine) (old new : Option (List ℕ))
     (failures failures' : Option ℕ) : Type 0 where
   pub range : status ≤ 2
@@ -137,8 +137,8 @@ pub record AreTold (status : ℕ) (lines : List FileLine) (old new : Option (Lis
   pub short : status ≡ 2 → LacksSome old new (lines_text lines)
   pub stopped : (failures' ≡ failures) ⊎ ((status ≡ 2) × (failures' ≡ counted true failures))
 
--- Every file was worked, in order, each with an outcome that fits its name; their lines were told; and what happened,
--- where the folder tells it, is what goes with each line.
+-- Every file was processed, in order, each with an outcome that fits its name, and their lines were printed. What
+-- happened, if the folder reports it, is what belongs to each line.
 pub record AreWorked (fits : List ℕ → FileOutcome → Type 0) (does : List ℕ → FileOutcome → List Event → Type 0)
     (names : List (List ℕ)) (status : ℕ) (old new : Option (List ℕ)) (failures failures' : Option ℕ)
     (events events' : Option (List Event)) : Type 0 where

@@ -1,7 +1,7 @@
 //! The commands over a folder: each file in turn, with its line on standard output.
 //!
-//! A file that fails keeps no other from being worked. Where a line can't be written no further line is tried, the
-//! files are still worked, and the exit status is 2.
+//! A file that fails doesn't stop the others. If a line can't be written, no further line is tried, the other files are
+//! still processed, and the exit status is 2.
 ghost use Rattle.std.specs.Prelude.{◌≡◌, ℕ, ◌<◌, ◌≤◌, List, [], ◌∷◌, ◌++◌, length, map, take, Option, Ok, Err, IfSome};
 ghost use Rattle.std.specs.Prelude.{Bool, if◌then◌else◌, option_map, IfOk, IfErr, MatchOption};
 ghost use Rattle.container_core.specs.Container.{header_length};
@@ -50,9 +50,9 @@ pub struct OpenOptions<'a> {
     pub workers: u32,
     /// The greatest number of plaintext bytes of a file: at most 2^52 - 2^20.
     pub max_bytes: u64,
-    /// The label that each container must have, where one is asked for. Version 1 has none, which is not the empty one.
+    /// The label that each container must have, if one is asked for. Version 1 has none, which is not the empty label.
     pub label: Option<&'a [u8]>,
-    /// Whether a file that is good is told with what its header says. `open_all` doesn't look at it.
+    /// Whether the line of a good file is followed by what its header says. `open_all` ignores it.
     pub show: bool,
 }
 
@@ -63,7 +63,7 @@ pub struct Outs<L: Report + Drop, E: Report + Drop, J: Report + Drop> {
     pub lines: L,
     /// Standard error.
     pub faults: E,
-    /// The journal, where one was asked for.
+    /// The journal, if one was asked for.
     pub journal: Option<J>,
 }
 
@@ -80,7 +80,7 @@ fn output_name(name: &str) -> Option<&str>
     }
 }
 
-// The plaintext of a container that has the label which is asked for. The label is looked at once all was checked.
+// Returns the plaintext of a container with the label asked for. The label is compared after everything was checked.
 fn read_labelled<T: Threads + Sync, R: Source>(
     rt: &T,
     alloc: Global,
@@ -105,7 +105,7 @@ fn read_labelled<T: Threads + Sync, R: Source>(
     }
 }
 
-// What the header of a good container says that has the label which is asked for, and how many plaintext bytes it has.
+// Returns what the header of a good container with the label asked for says, and its number of plaintext bytes.
 fn check_labelled<T: Threads + Sync, R: Source>(
     rt: &T,
     alloc: Global,
@@ -190,7 +190,7 @@ fn verify_file<T: Threads + Sync, F: Folder>(
     }
 }
 
-// The status behind one outcome more.
+// The status after one more outcome.
 fn worse(status: u8, outcome: FileOutcome) -> u8
     ensures { result ≡ (if is_failed outcome then SOME_FAILED else status) }
 {
@@ -206,8 +206,8 @@ fn worse(status: u8, outcome: FileOutcome) -> u8
     }
 }
 
-/// Writes a file's line, unless one before it wasn't written. The answer is the status so far. A line for which memory
-/// is refused is one that isn't written.
+/// Writes a file's line, unless an earlier one wasn't written. Returns the status so far. If memory for a line is
+/// refused, the line counts as not written.
 pub fn tell<W: Report>(
     alloc: Global,
     lines: &mut W,
@@ -234,9 +234,9 @@ pub fn tell<W: Report>(
 }
 
 /// Opens each file: reads its container, checks all of it, and then writes the plaintext to the name without `.stm`,
-/// which must not be there yet. Where a label is asked for, a container that has another one fails once it was checked,
-/// and its output isn't created. The answer is the exit status: 0 where every file was opened, 1 where one failed, 2
-/// where a line couldn't be written. An output that couldn't be written whole, or finished, is removed.
+/// which must not exist yet. If a label is asked for, a container with another one fails after it was checked, and its
+/// output isn't created. Returns the exit status: 0 if every file was opened, 1 if one failed, 2 if a line couldn't be
+/// written. An output that couldn't be written whole, or finished, is removed.
 pub fn open_all<
     T: Threads + Sync,
     F: OpeningFolder,
@@ -271,9 +271,9 @@ pub fn open_all<
     status
 }
 
-/// Checks each file's container, and its label, as `open_all` does, and makes no file. Where `show` is asked for, each
-/// good file is told with what its header says, on a second line. The answer is the exit status: 0 where every file is
-/// good, 1 where one failed, 2 where a line couldn't be written.
+/// Checks each file's container and its label, as `open_all` does, and creates no file. With `show`, each good file has
+/// a second line with what its header says. Returns the exit status: 0 if every file is good, 1 if one failed, 2 if a
+/// line couldn't be written.
 pub fn verify_all<
     T: Threads + Sync,
     F: Folder,

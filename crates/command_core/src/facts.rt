@@ -18,14 +18,14 @@ pub struct Facts {
     pub device: u32,
     /// The file's number.
     pub number: u32,
-    /// The label's bytes, and zeros.
+    /// The label's bytes, then zeros.
     pub label: [u8; 255],
-    /// How many bytes the label has: none in version 1.
+    /// How many bytes the label has: 0 in version 1.
     pub length: u8,
 }
 
 impl Facts {
-    /// What this header says.
+    /// Returns what this header says.
     pub fn of(header: &Header) -> Facts
         ensures { IsOfHeader result header.now }
     {
@@ -68,7 +68,7 @@ impl fmt::Display for Facts {
     }
 }
 
-// A label between quotes, which it can't leave, nor its line, whatever its bytes are.
+// A label between quotes. No byte of it can end the quotes or the line.
 #[derive(Clone, Copy)]
 struct Quoted<'a>(&'a [u8]);
 

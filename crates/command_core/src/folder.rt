@@ -15,7 +15,7 @@ use thiserror::Error;
 /// Why a folder refused a call.
 #[derive(Clone, Copy, PartialEq, Eq, Debug, Error)]
 pub enum FolderFault {
-    /// There is a file of this name already.
+    /// A file of this name exists.
     #[error("exists")]
     Exists,
     /// Any other cause.
@@ -28,16 +28,16 @@ pub trait Folder {
     /// What reads a file of this folder.
     type Reader: Source + Drop;
 
-    /// What writes an output into this folder. Where it is let go, without `finish`, no fault at closing is told.
+    /// What writes an output into this folder. If it is dropped without `finish`, a fault at closing isn't reported.
     type Writer: Output + Drop;
 
-    // What happened so far, where it is known. A folder may forget.
+    // What happened so far, if it is known. A folder may forget.
     ghost told: { Self → Option (List Event) } = { λ _. None };
 
-    // Under which key and range containers are written into outputs, and which of them began, where that is known.
+    // Under which key and range containers are written into outputs, and which of them began, if that is known.
     ghost session: { Self → Option Session } = { λ _. None };
 
-    /// Opens a file to be read from its beginning. Its only fault is `Failed`.
+    /// Opens a file for reading from its beginning. Its only fault is `Failed`.
     fn open(&mut self, name: &str) -> Result<Self::Reader, FolderFault>
         ensures fault { result ≢ Err FolderFault.Exists }
         ensures opened { IfOk result (λ reader.
@@ -45,8 +45,8 @@ pub trait Folder {
         ensures unopened { OnErr result (Does (FailsToOpen name.now) (told self.old) (told self.new)) }
         ensures session { session self.new ≡ session self.old };
 
-    /// Creates an empty output. It never replaces a file: `Exists` where the name is there, and any other cause is
-    /// `Failed`. Nothing can be written to a new output before it is said what it is to hold.
+    /// Creates an empty output. It never replaces a file: `Exists` if the name exists, `Failed` for any other cause.
+    /// Nothing can be written to a new output until it is declared what it is to hold.
     fn create(&mut self, name: &str) -> Result<Self::Writer, FolderFault>
         ensures created { IfOk result (λ output.
             Does (Creates name.now (Self.Writer.taken output)) (told self.old) (told self.new)) }
@@ -55,8 +55,8 @@ pub trait Folder {
             Does (Refuses name.now fault) (told self.old) (told self.new)) }
         ensures session { session self.new ≡ session self.old };
 
-    /// Nothing more is written to the output: a folder over real files puts it on the disk where that was asked for.
-    /// Where that fails the output comes back, to be given up.
+    /// Ends the output: nothing more is written to it. A folder over real files syncs it to the disk if that was asked
+    /// for. On failure the output comes back, to be given up.
     fn finish(&mut self, output: Self::Writer) -> Result<(), Self::Writer>
         ensures finished { OnOk result
             (Does (Finishes (Self.Writer.taken output)) (told self.old) (told self.new)) }
@@ -64,7 +64,7 @@ pub trait Folder {
         ensures unfinished { OnErr result (Does Nothing (told self.old) (told self.new)) }
         ensures session { session self.new ≡ session self.old };
 
-    /// Gives an output up: its writer is let go, and its file removed. Its only fault is `Failed`.
+    /// Gives an output up: drops its writer and removes its file. Its only fault is `Failed`.
     fn discard(&mut self, output: Self::Writer) -> Result<(), FolderFault>
         ensures fault { result ≢ Err FolderFault.Exists }
         ensures discarded { Does (Discards (Self.Writer.taken output)) (told self.old) (told self.new) }
@@ -76,8 +76,8 @@ pub trait Folder {
 
 /// A folder into whose outputs plaintexts are written, of containers that were read in it.
 pub trait OpeningFolder: Folder {
-    /// Says, before anything is written to a new output, that it is to hold this plaintext: that of a container which
-    /// was read. A folder over real files has nothing to do here.
+    /// Declares, before anything is written to a new output, that it is to hold this plaintext: that of a container
+    /// which was read. A folder over real files has nothing to do here.
     fn allow_plain(&mut self, output: &mut Self::Writer, key: &Key, name: &str, plain: &Plaintext)
         requires new { IsNew (Self.Writer.bound output.old) (Self.Writer.taken output.old) }
         requires read { IfSome (Self.told self.old) (IsOpenedBy key.now name.now plain.now) }
@@ -88,8 +88,7 @@ pub trait OpeningFolder: Folder {
             (IsBoundTo (λ held. Exactly (held ++ plain.now)) (Self.Writer.taken output.old)) };
 }
 
-// Writes a plaintext to an output, and finishes it. Where a write fails, or the finishing, the output comes back, to be
-// given up.
+// Writes a plaintext to an output, and finishes it. If either fails, the output comes back, to be given up.
 fn write_output<F: Folder>(
     folder: &mut F,
     output: F::Writer,
@@ -109,8 +108,8 @@ fn write_output<F: Folder>(
     }
 }
 
-// Writes the plaintext of a container that was read into a new output, and finishes it. Where that fails the output is
-// given up.
+// Writes the plaintext of a container that was read into a new output, and finishes it. On failure the output is given
+// up.
 pub(crate) fn write_or_discard<F: OpeningFolder>(
     folder: &mut F,
     output: F::Writer,

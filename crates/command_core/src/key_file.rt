@@ -12,13 +12,13 @@ use thiserror::Error;
 /// Why a key file gave no key. The texts are those that the program prints.
 #[derive(Clone, Copy, PartialEq, Eq, Debug, Error)]
 pub enum KeyFault {
-    /// The file can't be opened to be read. `read_key` never answers it.
+    /// The file can't be opened for reading. `read_key` never returns it.
     #[error("cannot open")]
     CannotOpen,
     /// The reader failed.
     #[error("read failed")]
     Read,
-    /// The content is no key file's.
+    /// The content isn't that of a key file.
     #[error("not a key file")]
     NotKeyFile,
 }
@@ -26,10 +26,10 @@ pub enum KeyFault {
 /// Hex digits of a key.
 const DIGITS: usize = 64;
 
-/// Bytes that are read of a key file: one more than the longest has.
+/// Bytes to read of a key file: one more than the longest has.
 const MOST: usize = 67;
 
-// The key that all these bytes are a key file of.
+// Returns the key of a key file with this content, if it is one.
 fn key_in(bytes: &[u8]) -> Option<[u8; 32]>
     ensures some { IfSome result (λ key. IsKeyText bytes.now key) }
     ensures none { IfNone result ((key : List ℕ) → ¬ IsKeyText bytes.now key) }
@@ -48,8 +48,8 @@ fn key_in(bytes: &[u8]) -> Option<[u8; 32]>
     }
 }
 
-/// Reads a key file to its end, of which it reads at most 67 bytes. `NotKeyFile` where its content isn't 64 hex digits
-/// and one of the three ends.
+/// Reads a key file to its end, at most 67 bytes. `NotKeyFile` if its content isn't 64 hex digits and one of the three
+/// ends. `Read` if the reader fails.
 pub fn read_key<R: Source>(reader: &mut R) -> Result<Key, KeyFault>
     ensures key { IfOk result (λ key. IfSome (R.left reader.old) (λ input. IsKeyText input key)) }
     ensures refused { result ≡ Err KeyFault.NotKeyFile

@@ -1,7 +1,7 @@
 //! What the commands share, and those that open and verify.
 //!
-//! A command works over a `Folder`, says of each file what became of it in one line, and ends with an exit status.
-//! `open_all` and `verify_all` are here; the one that seals stands on this crate. Key files are read here too.
+//! A command works over a `Folder`, prints one line for each file, and ends with an exit status. `open_all` and
+//! `verify_all` are here; the command that seals uses this crate. Key files are read here too.
 #![tactic(auto)]
 
 pub mod commands;

@@ -1,4 +1,4 @@
-//! What a command says of each file on standard output: one line, and of a good file a second one where it is shown.
+//! What a command prints for each file on standard output: one line, and a second one for a good file that is shown.
 ghost use Rattle.std.specs.Prelude.{Some};
 ghost use Rattle.command_core.specs.Lines.{fault_text, line_text};
 
@@ -9,11 +9,11 @@ use std::fmt;
 /// Why a file failed.
 #[derive(Clone, Copy, PartialEq, Eq, Debug)]
 pub enum FileFault {
-    /// The file can't be opened to be read.
+    /// The file can't be opened for reading.
     CannotOpen,
-    /// The name doesn't end in `.stm`, or nothing stands before that.
+    /// The name doesn't end in `.stm`, or has nothing before it.
     NoSuffix,
-    /// There is a file of the output's name already.
+    /// A file with the output's name exists.
     OutputExists,
     /// The output can't be created.
     CannotCreate,
@@ -21,7 +21,7 @@ pub enum FileFault {
     OutOfMemory,
     /// No file number was granted.
     NoNumber,
-    /// The container checks, and hasn't the label that was asked for.
+    /// The container checks, but hasn't the label that was asked for.
     AnotherLabel,
     /// The container wasn't opened, or its plaintext wasn't written.
     Unopened(OpenFault),
@@ -29,7 +29,7 @@ pub enum FileFault {
     Unsealed(SealFault),
 }
 
-/// What stands behind the name in a line of a file that failed.
+/// What follows the name in a line of a file that failed.
 impl fmt::Display for FileFault {
     ghost output = { λ fault. Some (fault_text fault) };
 
@@ -53,17 +53,17 @@ impl fmt::Display for FileFault {
 pub enum FileOutcome {
     /// Its container was written: the file number, and how many plaintext bytes it has.
     Sealed { number: u32, bytes: u64 },
-    /// Its plaintext of so many bytes was written.
+    /// Its plaintext of this many bytes was written.
     Opened(u64),
-    /// Its container checks, and has so many plaintext bytes.
+    /// Its container checks, and has this many plaintext bytes.
     Good(u64),
     /// As `Good`, and what its header says is to be printed.
     Shown { bytes: u64, facts: Facts },
-    /// It failed. An output that was created for it was removed again, or its removal was tried.
+    /// It failed. An output that was created for it was removed, or its removal was tried.
     Failed(FileFault),
 }
 
-/// A file's line, and the second one of what is shown, without the line feed at their end.
+/// A file's line, and the second one if the file is shown, without the line feed at their end.
 #[derive(Clone, Copy, PartialEq, Eq, Debug)]
 pub struct Line<'a> {
     /// The name, as it was given.

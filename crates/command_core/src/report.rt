@@ -5,17 +5,17 @@ ghost use Rattle.command_core.specs.Printing.{IsPrinted};
 
 use ledger_core::{Failed, Sink, write_all};
 
-/// What a command prints to: standard output, standard error, or the journal. It takes texts alone of which is shown
-/// before the call that they are a line, a complaint or a journal. So nothing else goes there at any moment, also where
-/// the run is killed: then the last text may be cut short.
+/// What a command prints to: standard output, standard error, or the journal. The contract takes a text only if the
+/// caller shows that it is a line, a complaint or a journal. So nothing else is ever printed there. If the run is
+/// killed, the last text may be cut short.
 pub trait Report {
-    // The bytes that were printed, where they are known.
+    // The bytes that were printed, if they are known.
     ghost taken: { Self → Option (List ℕ) } = { λ _. None };
 
-    // How many writes failed so far, where that is known.
+    // How many writes failed so far, if that is known.
     ghost failures: { Self → Option ℕ } = { λ _. None };
 
-    /// Prints a text. It fails where a write fails: then a front of the text was printed, and not all.
+    /// Prints a text. Fails if a write fails: then a proper prefix of the text was printed.
     fn print(&mut self, text: &[u8]) -> Result<(), Failed>
         requires text { IsPrinted text.now }
         ensures ok { OnOk result (Appends (taken self.old) (taken self.new) text.now) }

@@ -8,7 +8,7 @@ use Rattle.command_line.specs.Names.{ended, IsName, IsListOf}
 abbrev pub texts : List (Bor (List ℕ)) → List (List ℕ)
 texts names = map (λ name. name.now) names
 
--- one name more stands behind the others
+-- one more name follows the others
 pub ended-more : (s : ℕ) (names : List (List ℕ)) (name : List ℕ) → ended s (names ++ name ∷ []) ≡ ended s names ++ (name ++ s ∷ [])
 ended-more s [] name = refl
 ended-more s (first ∷ names) name =

@@ -1,4 +1,4 @@
--- What the words of the command line stand for.
+-- What the words of the command line denote.
 use Rattle.std.proofs.Common.{◌≡◌, ◌==◌, take-append-drop, ℕ, ◌+◌, ◌-◌, ◌*◌, ◌^◌, ◌<◌, ◌≤◌, Bool, cond, subst, ne_eqb, length-drop, get_or-drop, true, false, List, [], ◌∷◌, ◌++◌, length, take, drop, get_or, set, Option, None, Some, Result, Ok, Err, MatchResult, MatchOption, Bor, codes, decimal, if◌then◌else◌, option_map, bytes_eq, refl, sym, ap, ap₂, ◌∙◌, rules, arith, append_assoc, append-nil}
 use Rattle.std.proofs.lemmas.List.{drop_more, take_more_set, take_all, drop_all, drop-set-lt}
 use Rattle.std.proofs.lemmas.Fmt.{decimal_is_IsNumeral_wide}
@@ -31,7 +31,7 @@ parsed text (Err e) p =
     let rest = and_parts _ _ some.1 in
     p ((ltb-true _ _ some.0, own.to (without_leading_plus text) rest.0), ltb-true _ _ rest.1))
 
--- an empty text stands for nothing, nor does one whose last byte is no unit, or whose front is no number
+-- a text denotes nothing if it is empty, its last byte is no unit, or the rest is no number
 pub scaled_empty : (text : List ℕ) → length text ≡ 0 → scaled text ≡ None
 unfolding scaled
 scaled_empty [] e = refl
@@ -63,7 +63,7 @@ nothing_empty processors (Limit most) = scaled_empty [] refl
 nothing_empty processors Processors = refl
 nothing_empty processors Numbers = refl
 
--- what `split_once` finds of a word is its option and its value
+-- what `split_once` finds in a word is its option and its value
 pub value_within : (processors most : ℕ) (word : List ℕ) (r : Option (Bor (List ℕ) × Bor (List ℕ))) → IsSplitOnceResult 61 word r
     → MatchOption r (inline_number processors most word ≡ None) (λ x.
     (inline_number processors most word ≡ stands_for processors (takes_of most x.0.now) x.1.now)
@@ -123,7 +123,7 @@ dashes_step : (processors most : ℕ) (before : Takes) (word : List ℕ) (rest :
 unfolding words_read
 dashes_step processors most before word rest dashes = rw dashes refl
 
--- one word more is read: the list has another in its place, or stays
+-- one more word is read: the list has another in its place, or stays
 pub one_more : (processors most : ℕ) (before takes : Takes) (i : ℕ) (words next whole : List (List ℕ)) (word : List ℕ)
     → IsReadUpTo processors most before i words whole → i < length words → word ≡ get_or words i []
     → bytes_eq word (codes "--") ≡ false → takes ≡ takes_of most word → next ≡ set words i (word_read processors most before word)
@@ -143,7 +143,7 @@ one_more processors most before takes i words next whole word is less e other t 
     ∙ append_assoc (take i words) (read ∷ []) _
     ∙ ap (λ l. take i words ++ l) (sym step) ∙ is
 
--- the words end, or `--` stands there
+-- the words end, or the word here is `--`
 pub at_the_end : (processors most : ℕ) (before : Takes) (i : ℕ) (words whole : List (List ℕ))
     → IsReadUpTo processors most before i words whole → length words ≤ i → words ≡ whole
 unfolding words_read
@@ -161,7 +161,7 @@ ended_here processors most before i words whole word is less e dashes =
     ap (words_read processors most before) behind ∙ dashes_step processors most before word (drop (i + 1) words) dashes ∙ sym behind in
     sym (take-append-drop i words) ∙ ap (λ l. take i words ++ l) (sym rest) ∙ is
 
--- a number that is written out is read as itself
+-- a number written in digits is read as itself
 pub read_back : (n : ℕ) → n < 2 ^ 128 → number_of (decimal n) ≡ n
 read_back n less =
     let is = decimal_is_IsNumeral_wide n (omega (arith, less)) in

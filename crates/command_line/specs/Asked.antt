@@ -2,8 +2,8 @@
 use Rattle.std.specs.Prelude.{ℕ, List, [], Option, Some, None}
 use Rattle.container_core.specs.Shape.{ShapeView, one, two}
 
--- the shape of the containers that are written, by the exponent and the label that were given: version 1 where neither
--- was; else version 2, with the exponent 16, or an empty label, where it wasn't
+-- the shape of the containers to write, from the exponent and the label given: version 1 without both; else version 2,
+-- where a missing exponent is 16 and a missing label is empty
 abbrev pub shape_asked : Option ℕ → Option (List ℕ) → ShapeView
 shape_asked None None = one
 shape_asked (Some exponent) None = two exponent []

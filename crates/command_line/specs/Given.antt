@@ -1,18 +1,18 @@
--- What was given on the command line: of what a parse found, by the name of an option.
+-- What was given on the command line: what a parse found under the name of an option.
 use Rattle.std.specs.Prelude.{◌≡◌, ℕ, Bool, List, [], Option, Some, None, codes, true, false, option_map, unwrap_or}
 use Rattle.std.specs.Str.Parse.{digits_value, without_leading_plus}
 use Rattle.clap.specs.Matches.{found_of, matched_of, one_text, raw_values}
 use Rattle.clap.specs.declared.parser.matches.ArgMatches.{ArgMatches}
 
--- the number that a text writes in base ten, where a plus may come first
+-- the number that a text writes in base ten, perhaps after a plus
 abbrev pub number_of : List ℕ → ℕ
 number_of text = digits_value 10 (without_leading_plus text)
 
--- the number that was given, where one was
+-- the number that was given, if any
 abbrev pub number_given : ArgMatches → List ℕ → Option ℕ
 number_given matches option = option_map number_of (one_text (found_of matches) option)
 
--- a flag is true where it was given, and false where it wasn't: a parse finds one of these two words, or nothing
+-- a flag is true if it was given, else false: a parse finds one of these two words, or nothing
 pub record IsFlag (matches : ArgMatches) (flag : List ℕ) (value : Bool) : Type 0 where
   pub given : one_text (found_of matches) flag ≡ Some (codes "true") → value ≡ true
   pub other : one_text (found_of matches) flag ≡ Some (codes "false") → value ≡ false

@@ -1,4 +1,4 @@
--- The words of the command line, with the values written out that stand for a number: `20G`, `max` and `auto`.
+-- The words of the command line, with the values that mean a number (`20G`, `max`, `auto`) written in digits.
 use Rattle.std.specs.Prelude.{ℕ, ◌-◌, ◌*◌, ◌^◌, min, max, Bool, ◌&&◌, ◌||◌, List, [], ◌∷◌, ◌++◌, length, take, Option, Some, None}
 use Rattle.std.specs.Prelude.{codes, bytes_eq, decimal, option_map, unwrap_or, slice_index, nat_eq, nat_lt, ◌==◌, if◌then◌else◌}
 use Rattle.std.specs.List.{before_first, after_first, ends_with}
@@ -8,41 +8,41 @@ use Rattle.command_line.specs.Given.{number_of}
 use Rattle.command_line.specs.declared.words.Takes.{Takes}
 use Rattle.command_line.specs.declared.words.Takes.TheVariants.{Limit, Processors, Numbers}
 
--- K, M, G and T stand for powers of 1,024
+-- K, M, G and T denote powers of 1,024
 abbrev pub unit_of : ℕ → Option ℕ
 unit_of letter = if letter == 75 then Some (1024 ^ 1) else if letter == 77 then Some (1024 ^ 2)
     else if letter == 71 then Some (1024 ^ 3) else if letter == 84 then Some (1024 ^ 4) else None
 
--- a number of 64 bits in base ten, where a plus may come first
+-- a number of 64 bits in base ten, perhaps after a plus
 abbrev pub is_number : List ℕ → Bool
 is_number text = nat_lt 0 (length (without_leading_plus text))
     && (all_ascii_digits (without_leading_plus text) && nat_lt (number_of text) (2 ^ 64))
 
--- what a number with a letter after it stands for
+-- what a number with a letter after it denotes
 unfoldable pub scaled : List ℕ → Option ℕ
 scaled text = let digits = take (length text - 1) text in
     if is_number digits then option_map (λ unit. number_of digits * unit) (unit_of (slice_index text (length text - 1))) else None
 
--- the number that a value stands for: of a limit a number with a letter, or `max` for its greatest; of workers and lanes
--- `auto` for the processors, at least 1 and at most 16. None where it is a plain number, or not understood
+-- the number that a value denotes: for a limit a number with a letter, or `max` for the greatest; for workers and lanes
+-- `auto`, the number of processors, from 1 to 16. None if it is a plain number, or not understood
 unfoldable pub stands_for : ℕ → Takes → List ℕ → Option ℕ
 stands_for processors (Limit most) value = if bytes_eq value (codes "max") then Some most else scaled value
 stands_for processors Processors value = if bytes_eq value (codes "auto") then Some (max 1 (min processors 16)) else None
 stands_for processors Numbers value = None
 
--- what the option of this name takes, where `most` is the greatest of --max-bytes
+-- what the option of this name takes, if `most` is the greatest of --max-bytes
 unfoldable pub takes_of : ℕ → List ℕ → Takes
 takes_of most name = if bytes_eq name (codes "--max-bytes") then Limit most
     else if bytes_eq name (codes "--max-chunks") then Limit (2 ^ 32 - 1)
     else if bytes_eq name (codes "--workers") then Processors
     else if bytes_eq name (codes "--lanes") then Processors else Numbers
 
--- the number that a word stands for which is an option, an equals sign and its value
+-- the number that a word denotes if it is an option, an equals sign and its value
 unfoldable pub inline_number : ℕ → ℕ → List ℕ → Option ℕ
 inline_number processors most word =
     stands_for processors (takes_of most (before_first (λ b. b == 61) word)) (after_first (λ b. b == 61) word)
 
--- a word after an option that takes this: an option with its value, that option's value, or as it is
+-- a word after an option that takes this: an option with its value, that option's value, or the word as it is
 unfoldable pub word_read : ℕ → ℕ → Takes → List ℕ → List ℕ
 word_read processors most before word =
     unwrap_or (option_map (λ n. before_first (λ b. b == 61) word ++ 61 ∷ decimal n) (inline_number processors most word))
@@ -54,7 +54,7 @@ words_read processors most before [] = []
 words_read processors most before (word ∷ words) = if bytes_eq word (codes "--") then word ∷ words
     else word_read processors most before word ∷ words_read processors most (takes_of most word) words
 
--- the greatest of --max-bytes: 1T of seal, and else the longest plaintext of a container
+-- the greatest of --max-bytes: 1T for seal, else the longest plaintext of a container
 unfoldable pub most_bytes : List ℕ → ℕ
 most_bytes command = if bytes_eq command (codes "seal") then 2 ^ 40 else 2 ^ 52 - 2 ^ 20
 
@@ -64,6 +64,6 @@ written_out processors (program ∷ command ∷ words) = program ∷ command ∷
 written_out processors (program ∷ []) = program ∷ []
 written_out processors [] = []
 
--- a word that asks for as many as there are processors
+-- a word that asks for the number of processors
 abbrev pub asks : List ℕ → Bool
 asks word = bytes_eq word (codes "auto") || ends_with nat_eq word (codes "=auto")

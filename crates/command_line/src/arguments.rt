@@ -61,7 +61,7 @@ pub fn command<'a>(alloc: Global) -> Result<Command<'a>, Error> {
     with_command(sealer, ledger_command(alloc))
 }
 
-// A command with one more below it. It takes results, so that `command` ends in one place.
+// Adds a subcommand to a command. It takes results, so that `command` ends in one place.
 fn with_command<'a>(
     command: Result<Command<'a>, Error>,
     below: Result<Command<'a>, Error>,

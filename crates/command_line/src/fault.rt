@@ -1,13 +1,13 @@
-//! Why the words of a command are a fault of usage, though its parser took them.
+//! Why the words of a command are a fault of usage, although its parser accepted them.
 use thiserror::Error as ThisError;
 
-/// Why the words of a command, which its parser took, are still a fault of usage.
+/// Why the words of a command are a fault of usage, although its parser accepted them.
 #[derive(Clone, Copy, PartialEq, Eq, Debug, ThisError)]
 pub enum UsageFault {
-    /// Never: the parser takes no words without these arguments.
+    /// Never: the parser accepts no words without these arguments.
     #[error("an argument is missing")]
     Missing,
-    /// Never: the parser takes no number out of its range.
+    /// Never: the parser accepts no number out of its range.
     #[error("a number is out of range")]
     OutOfRange,
     /// More than one lane, and more than one worker.
@@ -16,7 +16,7 @@ pub enum UsageFault {
     /// A label of more than 255 bytes.
     #[error("label too long")]
     LabelTooLong,
-    /// There are no files, neither on the command line nor in the list.
+    /// There are no files on the command line or in the list.
     #[error("no files")]
     NoFiles,
     /// A name in the list of files is empty.

@@ -8,15 +8,15 @@ use container_core::{MAX_EXPONENT, MAX_OPENED, MAX_PLAIN, MIN_EXPONENT};
 use gate_core::{MAX_DEPTH, MAX_LANES, MAX_WINDOW, MAX_WORKERS};
 use ledger_core::Device;
 
-/// Plaintext bytes of a file where no limit is given: 1 GiB.
+/// Plaintext bytes of a file if no limit is given: 1 GiB.
 pub const DEFAULT_MAX_BYTES: u64 = 1 << 30;
-/// Chunks of a stream where no limit is given.
+/// Chunks of a stream if no limit is given.
 pub const DEFAULT_MAX_CHUNKS: u32 = 1 << 14;
-/// Chunks of a stream that are read and not yet written, where no number is given.
+/// Chunks of a stream that are read and not yet written, if no number is given.
 pub const DEFAULT_DEPTH: u32 = 16;
-/// Workers on a file or stream, where no number is given.
+/// Workers on a file or stream, if no number is given.
 pub const DEFAULT_WORKERS: u32 = 1;
-/// Files that are sealed side by side, where no number is given.
+/// Lanes, if no number is given.
 pub const DEFAULT_LANES: u32 = 1;
 
 /// The numbers of `seal`.
@@ -47,7 +47,7 @@ pub(crate) struct OpenNumbers {
     pub(crate) max_bytes: u64,
 }
 
-/// The numbers that `seal` was given.
+/// Returns the numbers given to `seal`.
 pub(crate) fn seal_numbers(matches: &ArgMatches<'_>) -> Result<SealNumbers, UsageFault>
     ensures device { IfOk result (λ n. number_given matches.now (codes "device") ≡ Some n.device) }
     ensures workers { IfOk result (λ n. n.workers ≡ unwrap_or (number_given matches.now (codes "workers")) DEFAULT_WORKERS) }
@@ -73,7 +73,7 @@ pub(crate) fn seal_numbers(matches: &ArgMatches<'_>) -> Result<SealNumbers, Usag
     })
 }
 
-/// The numbers that `pipe` was given.
+/// Returns the numbers given to `pipe`.
 pub(crate) fn pipe_numbers(matches: &ArgMatches<'_>) -> Result<PipeNumbers, UsageFault>
     ensures device { IfOk result (λ n. number_given matches.now (codes "device") ≡ Some n.device) }
     ensures workers { IfOk result (λ n. n.workers ≡ unwrap_or (number_given matches.now (codes "workers")) DEFAULT_WORKERS) }
@@ -96,7 +96,7 @@ pub(crate) fn pipe_numbers(matches: &ArgMatches<'_>) -> Result<PipeNumbers, Usag
     })
 }
 
-/// The numbers that `open` or `verify` was given.
+/// Returns the numbers given to `open` or `verify`.
 pub(crate) fn open_numbers(matches: &ArgMatches<'_>) -> Result<OpenNumbers, UsageFault>
     ensures workers { IfOk result (λ n. n.workers ≡ unwrap_or (number_given matches.now (codes "workers")) DEFAULT_WORKERS) }
     ensures few_workers { IfOk result (λ n. (0 < n.workers) × (n.workers ≤ MAX_WORKERS)) }
@@ -111,7 +111,7 @@ pub(crate) fn open_numbers(matches: &ArgMatches<'_>) -> Result<OpenNumbers, Usag
     })
 }
 
-// The device, which the parser wants.
+// The device, which the parser requires.
 fn device(matches: &ArgMatches<'_>) -> Result<Device, UsageFault>
     ensures given { IfOk result (λ device. number_given matches.now (codes "device") ≡ Some device) }
     ensures fault { IfErr result (λ fault. fault ≢ UsageFault.LabelTooLong) }
@@ -122,7 +122,7 @@ fn device(matches: &ArgMatches<'_>) -> Result<Device, UsageFault>
     Device::new(number).ok_or(UsageFault::OutOfRange)
 }
 
-// The number that was given for an option, where one was. `OutOfRange` where it isn't in the range.
+// The number given for an option, if any. `OutOfRange` if it isn't in the range.
 fn number_in(
     matches: &ArgMatches<'_>,
     option: &str,
@@ -140,7 +140,7 @@ fn number_in(
     }
 }
 
-// The number that was given for an option, or the usual one. `OutOfRange` where it isn't in the range.
+// The number given for an option, or its default. `OutOfRange` if it isn't in the range.
 fn number_or(
     matches: &ArgMatches<'_>,
     option: &str,
@@ -159,7 +159,7 @@ fn number_or(
     }
 }
 
-// The number of bytes that was given for an option, or the usual one. `OutOfRange` where it is greater than the most.
+// The number of bytes given for an option, or its default. `OutOfRange` if it is greater than `most`.
 fn bytes_or(
     matches: &ArgMatches<'_>,
     option: &str,

@@ -1,10 +1,10 @@
-//! What writing numbers out changes. Each law is the contract of a function that does nothing.
+//! What writing numbers in digits changes. Each law is the contract of a function that does nothing.
 ghost use Rattle.std.specs.Prelude.{◌≡◌, ◌^◌, ◌<◌, ℕ, List, None, decimal, true};
 ghost use Rattle.command_line.specs.Given.{number_of};
 ghost use Rattle.command_line.specs.Words.{is_number, stands_for};
 ghost use Rattle.command_line.specs.declared.words.Takes.{Takes};
 
-/// A number that is written out is read as itself.
+/// A number written in digits is read as itself.
 pub fn what_is_written_out_is_read()
     ensures { (n : ℕ) → n < 2 ^ 128 → number_of (decimal n) ≡ n }
 {}

@@ -1,7 +1,7 @@
-//! The command line of `sealer`: its commands and options, with their ranges, and what a command is asked for.
+//! The command line of `sealer`: its commands and options, with their ranges, and the requests they make.
 //!
-//! What the parser took lies in the ranges that `sealer_core` asks for, so the program calls it only within its
-//! conditions.
+//! Numbers that the parser accepts are in the ranges that `sealer_core` requires. So the program meets its
+//! preconditions.
 #![tactic(auto)]
 
 pub mod arguments;

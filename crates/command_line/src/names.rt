@@ -1,5 +1,5 @@
-//! The names of the files of a command: those of the command line, and those of a list, a text with a name a line, or
-//! with a byte 0 after each.
+//! The names of the files of a command: those of the command line, and those of a list. A list is a text with a name on
+//! each line, or with a byte 0 after each name.
 ghost use Rattle.std.specs.Prelude.{◌≡◌, ◌≢◌, ◌<◌, ◌++◌, ◌∷◌, ℕ, List, [], IfOk};
 ghost use Rattle.std.specs.Prelude.{IfSome, None, Some, codes, length, map};
 ghost use Rattle.std.specs.Prelude.{option_map, true, false};
@@ -16,11 +16,11 @@ use std::alloc::Global;
 pub struct ListRequest<'a> {
     /// Its path, or `-` for standard input.
     pub path: &'a str,
-    /// What ends each name.
+    /// The character that ends each name.
     pub separator: char,
 }
 
-/// Which list of names a command asks for, where it asks for one.
+/// Returns which list of names a command asks for, if any.
 pub fn list_request<'a>(matches: &ArgMatches<'a>) -> Option<ListRequest<'a>>
     ensures ascii { IfSome result (λ list. list.separator < 128) }
     ensures path { option_map (λ list. list.path.now) result ≡ first_value (found_of matches.now) (codes "files-from") }
@@ -44,8 +44,8 @@ pub fn list_request<'a>(matches: &ArgMatches<'a>) -> Option<ListRequest<'a>>
     }
 }
 
-/// The names of the command line, and then those of the list, where there is one. `ListNoText` where the list
-/// isn't UTF-8, `EmptyName` where a name in it is empty.
+/// Returns the names of the command line, then those of the list, if there is one. `ListNoText` if the list isn't
+/// UTF-8, `EmptyName` if a name in it is empty.
 pub fn files_of<'n>(
     alloc: Global,
     given: &[&'n str],
@@ -77,8 +77,8 @@ pub fn files_of<'n>(
     }
 }
 
-/// The names that a text lists, in its order, each with the separator after it; the last one may lack it.
-/// `EmptyName` where one is empty.
+/// Returns the names that a text lists, in its order. Each is followed by the separator, which the last one may lack.
+/// `EmptyName` if one is empty.
 pub fn names_in(alloc: Global, text: &str, separator: char) -> Result<Vec<&str>, UsageFault>
     requires ascii { separator < 128 }
     ensures names { IfOk result (λ names. IsListOf separator text.now (map (λ name. name.now) names.items)) }
@@ -103,7 +103,7 @@ pub fn names_in(alloc: Global, text: &str, separator: char) -> Result<Vec<&str>,
     }
 }
 
-// What comes before the first separator, and what comes after it.
+// The text before the first separator, and the text after it.
 fn cut(text: &str, separator: char) -> Option<(&str, &str)>
     requires { separator < 128 }
     ensures whole { IfSome result (λ parts. text.now ≡ parts.0.now ++ separator ∷ parts.1.now) }

@@ -1,4 +1,4 @@
-//! What the commands take, a row for each option: its name, what its value may be, and its line in the help.
+//! What the commands take, a row for each option: its name, its possible values, and its line in the help.
 
 use clap::{Arg, ArgAction, Command, Error, value_parser};
 use container_core::{MAX_EXPONENT, MAX_OPENED, MAX_PLAIN, MIN_EXPONENT};
@@ -12,39 +12,39 @@ enum Takes {
     Path {
         is_required: bool,
     },
-    // The path of a folder, which need not be given.
+    // The path of a folder. It is optional.
     Folder,
-    // A text, which need not be given.
+    // A text. It is optional.
     Text,
-    // A number in a range, and what it is if none is given.
+    // A number in a range, and its value if none is given.
     Number {
         least: u32,
         most: u32,
         absent: Absent,
     },
-    // A number of bytes up to a greatest, and the one if none is given.
+    // A number of bytes up to `most`, and the default.
     Bytes {
         most: i64,
         default: &'static str,
     },
-    // Nothing, or after `=` one of these words, and the one if nothing is given there.
+    // Nothing, or one of these words after `=`. `absent` is the word if nothing is given there.
     Words {
         words: &'static [&'static str],
         absent: &'static str,
     },
     // Nothing: it is given or not.
     Nothing,
-    // Nothing, and it is given only with this other option.
+    // Nothing. It may be given only with this other option.
     NothingWithout(&'static str),
-    // The files of a command, one at least unless this option is given. Its name is no option's.
+    // The files of a command, at least one unless this option is given. Its name is no option's.
     FilesUnless(&'static str),
 }
 
-// What a number is that isn't given.
+// The value of a number that isn't given.
 enum Absent {
     // This number.
     Default(&'static str),
-    // Nothing: that it isn't given means something.
+    // Nothing: its absence has a meaning.
     Nothing,
     // It has to be given.
     Fault,
@@ -76,7 +76,7 @@ pub(crate) static KEY_ROWS: [Row; 2] = [
     },
 ];
 
-/// What every command over files takes besides.
+/// What every command over files takes in addition.
 pub(crate) static FILE_ROWS: [Row; 4] = [
     Row {
         name: "FILE",
@@ -105,7 +105,7 @@ pub(crate) static FILE_ROWS: [Row; 4] = [
     },
 ];
 
-/// What `seal` and `open` take besides: of their outputs.
+/// What `seal` and `open` take in addition, for their outputs.
 pub(crate) static OUTPUT_ROWS: [Row; 3] = [
     Row {
         name: "into",
@@ -125,7 +125,7 @@ pub(crate) static OUTPUT_ROWS: [Row; 3] = [
     },
 ];
 
-/// What `open` and `verify` take besides.
+/// What `open` and `verify` take in addition.
 pub(crate) static OPEN_ROWS: [Row; 2] = [
     Row {
         name: "max-bytes",
@@ -145,7 +145,7 @@ pub(crate) static OPEN_ROWS: [Row; 2] = [
     },
 ];
 
-/// What `verify` takes besides these.
+/// What `verify` takes in addition to these.
 pub(crate) static SHOW_ROWS: [Row; 1] = [Row {
     name: "show",
     takes: Takes::Nothing,
@@ -153,14 +153,14 @@ pub(crate) static SHOW_ROWS: [Row; 1] = [Row {
         number and label",
 }];
 
-/// What the command takes that prints what a ledger file holds.
+/// What the command takes that prints the contents of a ledger file.
 pub(crate) static HOLDINGS_ROWS: [Row; 1] = [Row {
     name: "ledger",
     takes: Takes::Path { is_required: true },
     help: "The ledger file; it is not changed",
 }];
 
-/// What a command that seals takes besides: its numbers.
+/// What a command that seals takes in addition: its numbers.
 pub(crate) static LEDGER_ROWS: [Row; 3] = [
     Row {
         name: "ledger",
@@ -184,7 +184,7 @@ pub(crate) static LEDGER_ROWS: [Row; 3] = [
     },
 ];
 
-/// What `seal` takes besides.
+/// What `seal` takes in addition.
 pub(crate) static SEAL_ROWS: [Row; 3] = [
     Row {
         name: "max-bytes",
@@ -218,7 +218,7 @@ pub(crate) static SEAL_ROWS: [Row; 3] = [
     },
 ];
 
-/// What `pipe` takes besides.
+/// What `pipe` takes in addition.
 pub(crate) static PIPE_ROWS: [Row; 3] = [
     Row {
         name: "depth",
@@ -247,7 +247,7 @@ pub(crate) static PIPE_ROWS: [Row; 3] = [
     },
 ];
 
-/// What a command that seals takes besides: the containers' shape, and the journal.
+/// What a command that seals takes in addition: the containers' shape, and the journal.
 pub(crate) static SHAPE_ROWS: [Row; 3] = [
     Row {
         name: "exponent",
@@ -271,7 +271,7 @@ pub(crate) static SHAPE_ROWS: [Row; 3] = [
     },
 ];
 
-// A number in a range, with what it is if none is given.
+// A number in a range, with its value if none is given.
 fn number<'a>(arg: Arg<'a>, least: u32, most: u32, absent: &Absent) -> Arg<'a> {
     let range = i64::from(least)..=i64::from(most);
     let arg = arg.value_parser(value_parser!(u32).range(range));
@@ -296,7 +296,7 @@ fn flag<'a>(arg: Arg<'a>, name: &'static str) -> Arg<'a> {
     arg.long(name).action(ArgAction::SetTrue)
 }
 
-// An option with a value, which the help calls so.
+// An option with a value, and the value's name in the help.
 fn valued<'a>(arg: Arg<'a>, name: &'static str, value: &'static str) -> Arg<'a> {
     arg.long(name).value_name(value)
 }
@@ -309,7 +309,7 @@ fn words_of<'a>(arg: Arg<'a>, words: &'static [&'static str], absent: &'static s
         .default_missing_value(absent)
 }
 
-// A number of bytes up to the most, and the one where none is given.
+// A number of bytes up to `most`, and the default.
 fn bytes<'a>(arg: Arg<'a>, most: i64, default: &'static str) -> Arg<'a> {
     arg.value_parser(value_parser!(u64).range(0..=most))
         .default_value(default)
@@ -336,7 +336,7 @@ fn arg_of<'a>(alloc: Global, row: &Row) -> Result<Arg<'a>, Error> {
     Ok(arg)
 }
 
-/// The command with what the rows say.
+/// Returns the command with the arguments of the rows.
 pub(crate) fn with_rows<'a>(
     alloc: Global,
     command: Command<'a>,

@@ -1,4 +1,4 @@
-//! What the commands are asked for, of words that their parser took.
+//! The requests of the commands, from words that their parser accepted.
 ghost use Rattle.std.specs.Prelude.{◌<◌, ◌≤◌, ◌≡◌, ◌⊎◌, IfErr, IfOk, IfSome, None, OnErr};
 ghost use Rattle.std.specs.Prelude.{Some, codes, length, not, option_map, unwrap_or};
 ghost use Rattle.clap.specs.Matches.{first_value, found_of};
@@ -17,21 +17,21 @@ use container_core::{MAX_EXPONENT, MAX_LABEL, MAX_OPENED, MAX_PLAIN, MIN_EXPONEN
 use gate_core::{MAX_DEPTH, MAX_LANES, MAX_WINDOW, MAX_WORKERS, usual_window};
 use ledger_core::Device;
 
-/// The exponent of the size of the chunks where a label is given alone: chunks of 65,536 bytes.
+/// The exponent of the chunk size if only a label is given: chunks of 65,536 bytes.
 pub const DEFAULT_EXPONENT: u32 = 16;
 
-/// When a run shows on standard error how far it is.
+/// When a run shows its progress on standard error.
 #[derive(Clone, Copy, PartialEq, Eq, Debug)]
 pub enum Showing {
     /// It doesn't.
     Never,
-    /// Where standard error is a terminal.
+    /// If standard error is a terminal.
     OnTerminal,
     /// It does.
     Always,
 }
 
-/// When a run over files is asked to show how far it is.
+/// Returns when a run over files shows its progress.
 pub fn showing_asked(matches: &ArgMatches<'_>) -> Showing
     ensures never { first_value (found_of matches.now) (codes "progress") ≡ None → result ≡ Showing.Never }
     ensures always { first_value (found_of matches.now) (codes "progress") ≡ Some (codes "always")
@@ -46,34 +46,34 @@ pub fn showing_asked(matches: &ArgMatches<'_>) -> Showing
     }
 }
 
-/// What `seal` is asked for.
+/// A request of `seal`.
 #[derive(Drop)]
 pub struct SealRequest<'m, 'a> {
     pub key: &'a str,
     pub ledger: &'a str,
-    /// Whether a ledger file is made where there is none.
+    /// Whether a ledger file is made if there is none.
     pub may_make: bool,
     pub device: Device,
     pub files: &'m [&'m str],
     pub workers: u32,
     pub lanes: u32,
-    /// Chunks that are sealed at a time.
+    /// Chunks in a round of a file.
     pub window: u32,
-    /// Plaintext bytes of a file at most.
+    /// The most plaintext bytes of a file.
     pub max_bytes: u64,
     pub journal: Option<&'a str>,
-    /// The shape of the containers: version, size of chunks, label.
+    /// The shape of the containers: version, chunk size, label.
     pub shape: Shape,
-    /// The folder into which the outputs go, where one is asked for.
+    /// The folder into which the outputs go, if one is given.
     pub into: Option<&'a str>,
     /// Whether files whose outputs exist are kept.
     pub skip: bool,
-    /// Whether a line comes only once its output and the name of that are on the disk.
+    /// Whether an output and its name are synced to the disk before its line is printed.
     pub sync: bool,
 }
 
-/// What `seal` is asked for, of these files. `NoFiles` where there are none, then `LanesAndWorkers` where both are
-/// above 1, and then `LabelTooLong` where the label has more than 255 bytes.
+/// Returns the request of `seal` for these files. Errors, in this order: `NoFiles` if there are none, `LanesAndWorkers`
+/// if both are above 1, `LabelTooLong` if the label has more than 255 bytes.
 pub fn seal_request<'m, 'a>(
     matches: &ArgMatches<'a>,
     files: &'m [&'m str],
@@ -149,27 +149,27 @@ pub fn seal_request<'m, 'a>(
     })
 }
 
-/// What `pipe` is asked for.
+/// A request of `pipe`.
 #[derive(Drop)]
 pub struct PipeRequest<'a> {
     pub key: &'a str,
     pub ledger: &'a str,
-    /// Whether a ledger file is made where there is none.
+    /// Whether a ledger file is made if there is none.
     pub may_make: bool,
     pub device: Device,
     pub workers: u32,
-    /// Chunks that are read and not yet written, at most.
+    /// The most chunks that are read and not yet written.
     pub depth: u32,
-    /// Chunks that the stream may have.
+    /// The most chunks of the stream.
     pub max_chunks: u32,
     pub journal: Option<&'a str>,
-    /// The shape of the container: version, size of chunks, label.
+    /// The shape of the container: version, chunk size, label.
     pub shape: Shape,
     /// Whether the container may be written to a terminal.
     pub to_terminal: bool,
 }
 
-/// What `pipe` is asked for. `LabelTooLong` where the label has more than 255 bytes.
+/// Returns the request of `pipe`. `LabelTooLong` if the label has more than 255 bytes.
 pub fn pipe_request<'a>(matches: &ArgMatches<'a>) -> Result<PipeRequest<'a>, UsageFault>
     ensures key { IfOk result (λ request. Some request.key.now ≡ first_value (found_of matches.now) (codes "key")) }
     ensures ledger { IfOk result (λ request. Some request.ledger.now
@@ -221,27 +221,27 @@ pub fn pipe_request<'a>(matches: &ArgMatches<'a>) -> Result<PipeRequest<'a>, Usa
     })
 }
 
-/// What `open` and `verify` are asked for.
+/// A request of `open` or `verify`.
 #[derive(Clone, Copy)]
 pub struct OpenRequest<'m, 'a> {
     pub key: &'a str,
     pub files: &'m [&'m str],
     pub workers: u32,
-    /// Plaintext bytes of a file at most.
+    /// The most plaintext bytes of a file.
     pub max_bytes: u64,
-    /// The bytes of the label that each container must have, where one was given.
+    /// The bytes of the label that each container must have, if one was given.
     pub label: Option<&'a [u8]>,
-    /// Whether the facts of each container that is good are printed. `open` has no such option.
+    /// Whether the facts of each good container are printed. `open` has no such option.
     pub show: bool,
-    /// The folder into which the outputs go, where one is asked for. `verify` has no such option.
+    /// The folder into which the outputs go, if one is given. `verify` has no such option.
     pub into: Option<&'a str>,
     /// Whether files whose outputs exist are kept. `verify` has no such option.
     pub skip: bool,
-    /// Whether a line comes only once its output and the name of that are on the disk. `verify` has no such option.
+    /// Whether an output and its name are synced to the disk before its line is printed. `verify` has no such option.
     pub sync: bool,
 }
 
-/// What `open` or `verify` is asked for, of these files. `NoFiles` where there are none, then `LabelTooLong` where the
+/// Returns the request of `open` or `verify` for these files. `NoFiles` if there are none, then `LabelTooLong` if the
 /// label has more than 255 bytes: no container has it.
 pub fn open_request<'m, 'a>(
     matches: &ArgMatches<'a>,
@@ -293,7 +293,7 @@ pub fn open_request<'m, 'a>(
     })
 }
 
-// The shape of the containers to write, by what was given.
+// The shape of the containers to write, from the options given.
 fn shape_of(exponent: Option<u32>, label: Option<&str>) -> Result<Shape, UsageFault>
     requires { IfSome exponent (λ e. (MIN_EXPONENT ≤ e) × (e ≤ MAX_EXPONENT)) }
     ensures shape { IfOk result (λ shape. shape ≡ shape_asked exponent (option_map (λ text. text.now) label.entry)) }
@@ -311,7 +311,7 @@ fn shape_of(exponent: Option<u32>, label: Option<&str>) -> Result<Shape, UsageFa
     }
 }
 
-// The bytes of a label that was given, of at most 255 bytes.
+// The bytes of a label that was given, at most 255.
 fn label_of(text: Option<&str>) -> Result<Option<&[u8]>, UsageFault>
     ensures label { IfOk result (λ label. option_map (λ b. b.now) label ≡ option_map (λ t. t.now) text.entry) }
     ensures short { IfOk result (λ label. IfSome label (λ b. length b.now ≤ MAX_LABEL)) }

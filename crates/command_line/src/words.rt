@@ -1,5 +1,5 @@
-//! The words of the command line as the parser takes them: a value such as `20G`, `max` or `auto` is written out in
-//! digits. All other words stay, so that the parser alone says which are at fault, and how.
+//! The words of the command line as the parser takes them: a value such as `20G`, `max` or `auto` is written in digits.
+//! All other words stay, so that only the parser reports which are at fault, and how.
 ghost use Rattle.std.specs.Prelude.{◌≡◌, ◌<◌, ◌≤◌, ◌^◌, ◌==◌, OnOk, IfOk, IfSome, map, option_map, unwrap_or, string_bytes};
 ghost use Rattle.std.specs.List.{before_first, list_any};
 ghost use Rattle.command_line.specs.Words.{asks, inline_number, most_bytes, scaled, stands_for, takes_of, unit_of, word_read};
@@ -20,8 +20,9 @@ pub enum Takes {
     Numbers,
 }
 
-/// Writes out in digits what stands for a number: of `--max-bytes` and `--max-chunks` a number with K, M, G or T after
-/// it, for powers of 1,024, and `max`, of `--workers` and `--lanes` `auto`, for as many as there are processors.
+/// Writes in digits the values that denote a number. For `--max-bytes` and `--max-chunks` these are `max` and a number
+/// with K, M, G or T after it, for powers of 1,024. For `--workers` and `--lanes` it is `auto`: the number of
+/// processors, from 1 to 16.
 pub fn write_out(
     alloc: Global,
     words: &mut Vec<String>,
@@ -49,7 +50,7 @@ pub fn write_out(
     Ok(())
 }
 
-/// Whether a word asks for as many as there are processors: it is `auto`, or ends in `=auto`.
+/// Returns whether a word asks for the number of processors: it is `auto`, or ends in `=auto`.
 pub fn asks_for_processors(words: &[String]) -> bool
     ensures { result ≡ list_any (λ word. asks (string_bytes word)) words.now }
 {
@@ -88,7 +89,7 @@ fn takes_of(most: u64, name: &str) -> Takes
     }
 }
 
-// What is read in the place of a word, where it doesn't stay as it is.
+// What replaces a word, if it doesn't stay as it is.
 fn word_read(
     alloc: Global,
     processors: usize,
@@ -112,7 +113,7 @@ fn word_read(
     }
 }
 
-// The name and the number, where a word is an option, an equals sign and a value that stands for a number.
+// The name and the number, if a word is an option, an equals sign and a value that denotes a number.
 fn inline_number(processors: usize, most: u64, word: &str) -> Option<(&str, u128)>
     ensures number { option_map (λ found. found.1) result ≡ inline_number processors most word.now }
     ensures name { IfSome result (λ found. found.0.now ≡ before_first (λ b. b == 61) word.now) }
@@ -126,7 +127,7 @@ fn inline_number(processors: usize, most: u64, word: &str) -> Option<(&str, u128
     }
 }
 
-// The number that a value stands for.
+// The number that a value denotes.
 #[tactic(auto, unfolding(crate::specs::Words::stands_for))]
 fn stands_for(processors: usize, takes: Takes, value: &str) -> Option<u128>
     ensures { result ≡ stands_for processors takes value.now }
@@ -141,7 +142,7 @@ fn stands_for(processors: usize, takes: Takes, value: &str) -> Option<u128>
     }
 }
 
-// What a number with a letter after it stands for.
+// What a number with a letter after it denotes.
 fn scaled(text: &str) -> Option<u128>
     ensures { result ≡ scaled text.now }
 {
@@ -160,7 +161,7 @@ fn scaled(text: &str) -> Option<u128>
     }
 }
 
-// What a letter stands for.
+// What a letter denotes.
 fn unit_of(letter: u8) -> Option<u64>
     ensures unit { result ≡ unit_of letter }
     ensures small { IfSome result (λ unit. unit ≤ 2 ^ 40) }

@@ -1,11 +1,11 @@
--- A plaintext of n bytes, 0 < n, is some full chunks and a rest of 1 to size bytes; with tags it is as many sealed chunks and
--- the rest's. So the quotient and the remainder of the body's length by size + 16 tell both.
+-- A plaintext of n bytes, 0 < n, is some full chunks and a rest of 1 to size bytes. Its body is as many sealed chunks,
+-- and the rest with its tag. So the body's length divided by size + 16, with remainder, gives both.
 use Rattle.std.proofs.Common.{◌≡◌, inl, inr, ℕ, zero, suc, ◌+◌, ◌-◌, ◌*◌, ◌/◌, ◌%◌, ◌<◌, ◌≤◌, sym, ap, ◌∙◌, arith}
 use Rattle.std.proofs.lemmas.Nat.{div-add-mod', div-mul-add}
 use Rattle.std.proofs.Math.Nat.{zero-div, eq-or-lt_of_le}
 use Rattle.container_core.specs.Chunks.{body_length, chunk_count}
 
--- so many full chunks and a rest of 1 to size bytes
+-- `full` full chunks and a rest of 1 to size bytes
 pub count-of : (size full rest : ℕ) → rest < size → chunk_count size (full * size + (rest + 1)) ≡ full + 1
 unfolding chunk_count
 count-of size full rest less =
@@ -18,12 +18,12 @@ body-of size full rest less =
     let count = count-of size full rest less in
     omega (arith, count)
 
--- no byte at all
+-- no bytes
 pub body-none : (size : ℕ) → body_length size 0 ≡ 16
 unfolding body_length chunk_count
 body-none size = ap (λ q. 0 + 16 * (q + 1)) (zero-div size)
 
--- a body that is so many sealed chunks and a rest
+-- a body of some sealed chunks and a rest
 pub cut-rest : (size body : ℕ) → 0 < size → 16 < body % (size + 16)
     → body ≡ body_length size (body - 16 * (body / (size + 16) + 1))
 cut-rest size body some rest =
@@ -36,7 +36,7 @@ cut-rest size body some rest =
     let end : full * (size + 16) + ((left - 17) + 17) ≡ body = omega (arith, whole, rest) in
     sym (ap (body_length size) plain ∙ is ∙ end)
 
--- or sealed chunks alone
+-- or of sealed chunks alone
 cut-whole : (size k body : ℕ) → 0 < size → body ≡ (k + 1) * (size + 16) → body ≡ body_length size (body - 16 * (k + 1))
 cut-whole size k body some whole =
     let plain : body - 16 * (k + 1) ≡ k * size + ((size - 1) + 1) = omega (arith, whole, some) in
@@ -53,7 +53,7 @@ cut-full size body some rest many =
     let is : body ≡ (full - 1 + 1) * (size + 16) = sym (ap (λ q. q * (size + 16)) one ∙ omega (arith, whole, rest)) in
     cut-whole size (full - 1) body some is ∙ ap (λ q. body_length size (body - 16 * q)) one
 
--- a body of this plaintext leaves 17 bytes and more, or nothing behind one sealed chunk at least
+-- the body of a nonempty plaintext: full sealed chunks, then 17 to size + 16 bytes
 pub tells : (size n : ℕ) → 0 < size → 0 < n
     → (full : ℕ) × (rest : ℕ) × (rest < size) × (body_length size n ≡ full * (size + 16) + (rest + 17))
 tells size n some more =
@@ -64,7 +64,7 @@ tells size n some more =
     let is : n ≡ full * size + (rest + 1) = omega (arith, whole, more) in
     (full, rest, less, ap (body_length size) is ∙ body-of size full rest less)
 
--- so does the empty plaintext's
+-- the body of the empty plaintext: 16 bytes
 none-tells : (size body : ℕ) → 0 < size → body ≡ 16 → (body % (size + 16) ≡ 16) × (body / (size + 16) ≡ 0)
 none-tells size body some is =
     let whole = div-add-mod' body (size + 16) in
@@ -73,7 +73,7 @@ none-tells size body some is =
     let none : body / (size + 16) * (size + 16) ≡ 0 * (size + 16) = ap (λ q. q * (size + 16)) full in
     (omega (arith, whole, is, none), full)
 
--- the rest of a body, where it is short of a sealed chunk
+-- the rest of a body, if it is shorter than a full sealed chunk
 rest-tells : (size full rest body : ℕ) → rest + 17 < size + 16 → body ≡ full * (size + 16) + (rest + 17)
     → (body % (size + 16) ≡ rest + 17) × (body / (size + 16) ≡ full)
 rest-tells size full rest body less is =
@@ -82,7 +82,7 @@ rest-tells size full rest body less is =
     let same : body / (size + 16) * (size + 16) ≡ full * (size + 16) = ap (λ q. q * (size + 16)) quotient in
     (omega (arith, whole, is, same), quotient)
 
--- or one
+-- or is one
 full-tells : (size full body : ℕ) → 0 < size → body ≡ full * (size + 16) + (size + 16)
     → (body % (size + 16) ≡ 0) × (body / (size + 16) ≡ full + 1)
 full-tells size full body some is =
@@ -92,7 +92,7 @@ full-tells size full body some is =
     let same : body / (size + 16) * (size + 16) ≡ (full + 1) * (size + 16) = ap (λ q. q * (size + 16)) quotient in
     (omega (arith, whole, is, same), quotient)
 
--- no plaintext has a body that leaves fewer than 17 bytes: but for 16 alone, and none behind one sealed chunk at least
+-- no plaintext has a body with a remainder of at most 16, except 16 bytes alone, and 0 after some sealed chunk
 pub no-plain : (size body n : ℕ) → 0 < size → body % (size + 16) ≤ 16 → (body % (size + 16) ≡ 16 → 0 < body / (size + 16))
     → (body % (size + 16) ≡ 0 → body / (size + 16) ≡ 0) → body ≡ body_length size n → ⊥
 no-plain size body zero some few one none is =

@@ -1,4 +1,4 @@
--- Which fault shows before any chunk is opened, and what opening answers by it.
+-- Which fault shows before any chunk is opened, and what opening then returns.
 use Rattle.std.proofs.Common.{◌≡◌, ℕ, ◌+◌, ◌*◌, ◌^◌, ◌<◌, ◌≤◌, Bool, true, false, List, [], ◌∷◌, ◌++◌, length, take, drop, Option, Some, None, length-append}
 use Rattle.std.proofs.Common.{Err, if◌then◌else◌, inl, inr, refl, ap, sym, ◌∙◌, subst, arith, take-append-drop}
 use Rattle.std.proofs.lemmas.List.{get_or_append_left, length-drop, take-append-le, drop-append-le, take_all}
@@ -33,7 +33,7 @@ unfolding longest
 longest-two most bytes begins =
     ap (λ (b : Bool). if b then container_limit (header_length bytes) (size_in bytes) most else container_limit 24 65536 most) begins
 
--- where the header has no fault
+-- if the header has no fault
 pub longest-good : (key : List ℕ) (most : ℕ) (bytes : List ℕ) → header_fault key bytes ≡ None
     → longest most bytes ≡ container_limit (header_length bytes) (size_in bytes) most
 longest-good key most bytes good =
@@ -56,7 +56,7 @@ early-too_long_two key most bytes begins good long =
     early-by_two key most bytes _ _ _ begins good
     (below (container_limit (header_length bytes) (size_in bytes) most) (length bytes) long) refl
 
--- of a header that has no fault
+-- for a header that has no fault
 pub early-too_long : (key : List ℕ) (most : ℕ) (bytes : List ℕ) → header_fault key bytes ≡ None
     → container_limit (header_length bytes) (size_in bytes) most < length bytes → early_fault key most bytes ≡ Some TooLong
 early-too_long key most bytes good long =
@@ -113,7 +113,7 @@ early-none key most bytes n few long good =
       has = has_plaintext-of (header_length bytes) (size_in bytes) (most_of most (size_in bytes)) (length bytes) n few long;
     })
 
--- what refuses the cutting of what stands behind the header
+-- what refuses to cut the bytes after the header
 pub early-refused : (key : List ℕ) (most : ℕ) (bytes : List ℕ) (body : ℕ) (fault : OpenFault)
     → length bytes ≡ header_length bytes + body
     → length bytes ≤ container_limit (header_length bytes) (size_in bytes) most → header_fault key bytes ≡ None
@@ -134,7 +134,7 @@ early-refused key most bytes body OutOfMemory long within good refused = absurd 
 early-refused key most bytes body Read long within good refused = absurd refused
 early-refused key most bytes body Write long within good refused = absurd refused
 
--- what a beginning shows that has all of the header
+-- what a beginning with the whole header shows
 pub two-front : (front rest : List ℕ) → header_length front ≤ length front → is_two (front ++ rest) ≡ is_two front
 unfolding is_two
 two-front front rest whole =
@@ -189,7 +189,7 @@ fault-front key front rest whole =
           fault-one key (front ++ rest) (two-front front rest whole ∙ other) ∙ same ∙ sym (fault-one key front other)
     ]
 
--- and where it is as long, all that shows early
+-- and all that shows early, for containers of the same length
 pub early-front : (key front rest other : List ℕ) (most : ℕ) → header_length front ≤ length front → length rest ≡ length other
     → early_fault key most (front ++ rest) ≡ early_fault key most (front ++ other)
 early-front key front rest other most whole long =
@@ -215,7 +215,7 @@ early-front key front rest other most whole long =
           ∙ sym (early-by_one key most (front ++ other) _ _ _ (two-front front other whole ∙ no_two) refl refl refl)
     ]
 
--- a beginning that has all of the header, or that is all
+-- a beginning that has the whole header, or is the whole container
 pub record Shows (key front whole : List ℕ) : Type 0 where
   pub two : is_two whole ≡ is_two front
   pub header : header_length whole ≡ header_length front
@@ -248,14 +248,14 @@ shows key front whole fits enough same =
           }
     ]
 
--- a fault that shows early is what opening answers
+-- opening returns a fault that shows early
 pub opening-early : (key : List ℕ) (most : ℕ) (bytes : List ℕ) (fault : OpenFault) → early_fault key most bytes ≡ Some fault
     → opening key most bytes ≡ Err fault
 unfolding opening
 opening-early key most bytes fault e =
     ap (λ (f : Option OpenFault). unless f (unsealed key (take (header_length bytes) bytes) 0 (sealed_chunks (size_in bytes) (drop (header_length bytes) bytes)))) e
 
--- else it answers what the chunks give
+-- else it returns what the chunks give
 pub opening-unsealed : (key : List ℕ) (most : ℕ) (bytes header body : List ℕ) (size : ℕ) → early_fault key most bytes ≡ None
     → header ≡ take (header_length bytes) bytes → size ≡ size_in bytes → body ≡ drop (header_length bytes) bytes
     → opening key most bytes ≡ unsealed key header 0 (sealed_chunks size body)

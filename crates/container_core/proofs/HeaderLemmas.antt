@@ -266,7 +266,7 @@ front-drop key bytes version long begins is hinted =
     ∙ ap (λ (d : List ℕ). take 8 bytes ++ d) (sym (drop_more bytes 8 0 ten))
     ∙ take-append-drop 8 bytes
 
--- and the label behind them
+-- and the label after them
 label-drop : (bytes : List ℕ) → 24 ≤ length bytes → header_length bytes ≤ length bytes
     → label_bytes (label_in bytes) ++ drop (header_length bytes) bytes ≡ drop 24 bytes
 label-drop bytes long whole =
@@ -291,7 +291,7 @@ label-drop bytes long whole =
           ∙ ap (λ (n : ℕ). drop n bytes) (length-one bytes one)
     ]
 
--- such bytes are the header of their shape and what stands behind it
+-- such bytes are the header of their shape and what follows it
 pub header-drop : (key bytes : List ℕ) → GoodHeader key bytes
     → header_of key (shape_in bytes) (prefix_in bytes) ++ drop (header_length bytes) bytes ≡ bytes
 unfolding header_of
@@ -312,7 +312,7 @@ header-faultless key bytes none =
     ap (λ (l : List ℕ). take (header_length bytes) l) (sym (header-drop key bytes good))
     ∙ take_at header (drop (header_length bytes) bytes) (header_length bytes) long
 
--- a header and anything behind it: what stands behind the first 24 bytes
+-- a header and anything after it: what follows the first 24 bytes
 behind-front : (key prefix rest : List ℕ) (shape : ShapeView) → length prefix ≡ 7
     → drop 24 (header_of key shape prefix ++ rest) ≡ label_bytes shape.label ++ rest
 unfolding header_of
@@ -375,7 +375,7 @@ labelled key prefix rest label exponent seven_bytes =
     let same : get_or bytes 24 0 ∷ drop 25 bytes ≡ length label ∷ (label ++ rest) = sym more ∙ behind in
     (ap (λ (l : List ℕ). get_or l 0 0) same, ap (λ (l : List ℕ). drop 1 l) same)
 
--- what stands behind the length of a label is the label
+-- what follows the length of a label is the label
 pub label-of : (key prefix label : List ℕ) (exponent : ℕ) → length prefix ≡ 7
     → drop 25 (header_of key (two exponent label) prefix) ≡ label
 label-of key prefix label exponent seven_bytes =
@@ -446,7 +446,7 @@ pub shape-bounds : (exponent : ℕ) (label : Option (List ℕ)) → IsShapeOf ex
 shape-bounds exponent None is = (omega arith, omega arith)
 shape-bounds exponent (Some label) is = (is.least, is.most)
 
--- the size that the header names with which bytes begin
+-- the chunk size named by the header at the start of the bytes
 pub named_size : (bytes header : List ℕ) → header ≡ take (header_length bytes) bytes → header_length bytes ≤ length bytes
     → size_in header ≡ size_in bytes
 unfolding size_in

@@ -96,7 +96,7 @@ container-injective key prefix other plain another shape form lawful formal seve
     bodies s l = unsealed key (take (24 + length (label_bytes s.label)) l) 0
         (sealed_chunks (size_of s) (drop (24 + length (label_bytes s.label)) l))
 
--- a container is longer than a header, whatever stands for its prefix
+-- a container has at least 17 bytes, whatever its prefix is
 longer : (key prefix plain : List ℕ) (shape : ShapeView) → 17 ≤ length (container key shape prefix plain)
 unfolding container header_of
 longer key prefix plain shape =
@@ -122,7 +122,7 @@ opens_exactly key bytes plain most = (
       ∙ opening-container key (prefix_in bytes) plain (shape_in bytes) most lawful (length-prefix_in bytes long) few,
 )
 
--- no limit of at most 2 ^ 40 bytes is lessened
+-- no limit of at most 2 ^ 40 bytes is reduced
 pub sealed-fits : (shape : ShapeView) (n : ℕ) → IsShape shape → n ≤ 1099511627776 → n ≤ 4294967295 * size_of shape
 sealed-fits shape n lawful few =
     let bounds = shape-bounds shape.exponent shape.label lawful in
@@ -239,7 +239,7 @@ answer-of_bytes key most bytes =
     unless-of_bytes (early_fault key most bytes) answer (early-of_bytes key most bytes)
     (unsealed-of_bytes key (take (header_length bytes) bytes) 0 (sealed_chunks (size_in bytes) (drop (header_length bytes) bytes)))
 
--- so it is none of memory
+-- so it isn't a fault of memory
 pub early-no_memory : (key bytes : List ℕ) (most : ℕ) (fault : OpenFault) → early_fault key most bytes ≡ Some fault → fault ≡ OutOfMemory → ⊥
 early-no_memory key bytes most fault e memory =
     subst (λ (f : OpenFault). IsOfBytes f) memory (subst (λ (o : Option OpenFault). IfSome o IsOfBytes) e (early-of_bytes key most bytes))
@@ -247,7 +247,7 @@ early-no_memory key bytes most fault e memory =
 pub opening-of_bytes : (key : List ℕ) (most : ℕ) (bytes : List ℕ) (fault : OpenFault) → opening key most bytes ≡ Err fault → IsOfBytes fault
 opening-of_bytes key most bytes fault e = IfErr-at_err IsOfBytes e (answer-of_bytes key most bytes)
 
--- within a lesser limit the greater one makes no difference
+-- within a lower limit the higher one makes no difference
 same_bool : (a b : Bool) → (a ≡ true → b ≡ true) → (b ≡ true → a ≡ true) → a ≡ b
 same_bool true b f g = sym (f refl)
 same_bool false true f g = g refl
@@ -299,7 +299,7 @@ opening-limits key most more bytes few within =
 same_answer : (plain : List ℕ) (fault : OpenFault) (answer : Result (List ℕ) OpenFault) → answer ≡ Err fault → answer ≡ Ok plain → ⊥
 same_answer plain fault answer e f = cc
 
--- what opens is the plaintext of which the bytes are the container, and such bytes have no fault
+-- opening gives the plaintext whose container the bytes are, and such bytes have no fault
 pub opened_plaintext : (key bytes out plain : List ℕ) (most : ℕ) → opening key most bytes ≡ Ok out
     → length plain ≤ most_of most (size_in bytes) → IsShape (shape_in bytes) → bytes ≡ container key (shape_in bytes) (prefix_in bytes) plain → out ≡ plain
 opened_plaintext key bytes out plain most opens few lawful same =

@@ -1,4 +1,4 @@
--- Opening is the other way round of sealing: it gives a plaintext exactly for that plaintext's container.
+-- Opening is the inverse of sealing: it gives a plaintext exactly for that plaintext's container.
 use Rattle.std.proofs.Common.{◌≡◌, ℕ, ◌+◌, ◌-◌, ◌/◌, ◌^◌, ◌<◌, ◌≤◌, Bool, true, false, eqb, List, [], ◌∷◌, ◌++◌, length}
 use Rattle.std.proofs.Common.{get_or, take, drop, Option, Some, None, Result, Ok, Err, not, if◌then◌else◌, inl, inr, refl, ap}
 use Rattle.std.proofs.Common.{sym, ◌∙◌, subst, arith, append_assoc, length-append}
@@ -45,7 +45,7 @@ stream-nil : (key header : List ℕ) (number : ℕ) → stream key header number
 unfolding stream
 stream-nil key header number = refl
 
--- behind what is out there is still room for the next chunk sealed
+-- after the output so far there is still room for the next sealed chunk
 pub room_for_sealed : (key header : List ℕ) (number : ℕ) (cs : List (List ℕ)) (out whole : List ℕ) → number < length cs
     → out ++ stream key header number (drop number cs) ≡ whole
     → length out + (length (get_or cs number []) + 16) ≤ length whole
@@ -59,7 +59,7 @@ room_for_sealed key header number cs out whole below e =
     let back = length-append sealed more in
     omega arith
 
--- one more chunk was sealed
+-- one more chunk is sealed
 pub sealed_more : (key header : List ℕ) (number : ℕ) (cs : List (List ℕ)) (out whole : List ℕ) → number < length cs
     → out ++ stream key header number (drop number cs) ≡ whole
     → (out ++ sealed_chunk key header number (eqb (number + 1) (length cs)) (get_or cs number [])) ++ stream key header (number + 1) (drop (number + 1) cs) ≡ whole
@@ -67,7 +67,7 @@ sealed_more key header number cs out whole below e =
     append_assoc out (sealed_chunk key header number (eqb (number + 1) (length cs)) (get_or cs number [])) (stream key header (number + 1) (drop (number + 1) cs))
     ∙ ap (λ (s : List ℕ). out ++ s) (sym (stream-from key header number cs below)) ∙ e
 
--- all of them were
+-- all chunks are sealed
 pub sealed_all : (key header : List ℕ) (number : ℕ) (cs : List (List ℕ)) (out whole : List ℕ) → length cs ≤ number
     → out ++ stream key header number (drop number cs) ≡ whole → out ≡ whole
 sealed_all key header number cs out whole over e =
@@ -111,7 +111,7 @@ unsealed-nil : (key header : List ℕ) (number : ℕ) → unsealed key header nu
 unfolding unsealed
 unsealed-nil key header number = refl
 
--- one more chunk was opened
+-- one more chunk is opened
 pub opened_more : (key header : List ℕ) (number : ℕ) (cs : List (List ℕ)) (out plain : List ℕ) (whole : Result (List ℕ) OpenFault) → number < length cs
     → behind out (unsealed key header number (drop number cs)) ≡ whole
     → opened_chunk key header number (eqb (number + 1) (length cs)) (get_or cs number []) ≡ Some plain
@@ -123,7 +123,7 @@ opened_more key header number cs out plain whole below e opens =
     ∙ ap (λ (o : Option (List ℕ)). joined (Forged number) o more) opens ∙ joined-some (Forged number) plain more in
     sym (behind-behind out plain more) ∙ ap (λ (r : Result (List ℕ) OpenFault). behind out r) (sym step) ∙ e
 
--- it doesn't check
+-- the next chunk doesn't check
 pub forged_more : (key header : List ℕ) (number : ℕ) (cs : List (List ℕ)) (out : List ℕ) (whole : Result (List ℕ) OpenFault) → number < length cs
     → behind out (unsealed key header number (drop number cs)) ≡ whole
     → opened_chunk key header number (eqb (number + 1) (length cs)) (get_or cs number []) ≡ None → whole ≡ Err (Forged number)
@@ -132,7 +132,7 @@ forged_more key header number cs out whole below e fails =
     (unsealed-from key header number cs below
     ∙ ap (λ (o : Option (List ℕ)). joined (Forged number) o (unsealed key header (number + 1) (drop (number + 1) cs))) fails)
 
--- all of them were opened
+-- all chunks are opened
 pub opened_all : (key header : List ℕ) (number : ℕ) (cs : List (List ℕ)) (out : List ℕ) (whole : Result (List ℕ) OpenFault) → length cs ≤ number
     → behind out (unsealed key header number (drop number cs)) ≡ whole → whole ≡ Ok out
 opened_all key header number cs out whole over e =
@@ -140,7 +140,7 @@ opened_all key header number cs out whole over e =
     ∙ ap (λ (r : Result (List ℕ) OpenFault). behind out r) (unsealed-nil key header number)
     ∙ ap (λ (l : List ℕ). Ok l) (append-nil out)
 
--- how many bytes stand behind the header
+-- how many bytes follow the header
 pub length-body : (size : ℕ) (key header plain : List ℕ) → length (stream key header 0 (chunks size plain)) ≡ body_length size (length plain)
 unfolding chunks cut_every
 length-body size key header plain =
@@ -188,7 +188,7 @@ early-by_two key most bytes fault long has begins f l h =
     ∙ ap (λ (b : Bool). first_fault fault (first_fault (if b then Some TooLong else None) (if not has_it then Some BadLength else None))) l
     ∙ ap (λ (b : Bool). first_fault fault (first_fault (if long then Some TooLong else None) (if not b then Some BadLength else None))) h
 
--- and of others
+-- and of other bytes
 pub early-by_one : (key : List ℕ) (most : ℕ) (bytes : List ℕ) (fault : Option OpenFault) (long has : Bool) → is_two bytes ≡ false
     → header_fault key bytes ≡ fault
     → nat_lt (container_limit 24 65536 most) (length bytes) ≡ long
@@ -282,7 +282,7 @@ unless_ok : (fault : Option OpenFault) (answer : Result (List ℕ) OpenFault) (p
 unless_ok (Some fault) answer plain e = cc
 unless_ok None answer plain e = (refl, e)
 
--- the sealed chunks of a body that has a plaintext of n bytes
+-- the sealed chunks of a body with a plaintext of n bytes
 sealed_chunks-parts : (size : ℕ) (body : List ℕ) (n : ℕ) → 0 < size → length body ≡ body_length size n
     → sealed_chunks size body ≡ parts (size + 16) ((n - 1) / size) body
 unfolding sealed_chunks cut_every
@@ -356,7 +356,7 @@ opening-container key prefix plain shape most lawful seven within =
     ∙ ap (λ (s : ℕ). unsealed key (take end bytes) 0 (sealed_chunks s (drop end bytes))) size
     ∙ unsealed-container key prefix plain shape seven
 
--- what opens to a plaintext is its container, of the shape and under the prefix that the header names
+-- bytes that open to a plaintext are its container, of the shape and under the prefix that the header names
 pub container-opening : (key bytes plain : List ℕ) (most : ℕ) → opening key most bytes ≡ Ok plain
     → (length plain ≤ most_of most (size_in bytes)) × IsShape (shape_in bytes) × (container key (shape_in bytes) (prefix_in bytes) plain ≡ bytes)
 unfolding opening container chunks cut_every size_in

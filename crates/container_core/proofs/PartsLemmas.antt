@@ -43,7 +43,7 @@ get_or-parts size (suc k) bytes (suc n) d at room =
     let h = get_or-parts size k (drop size bytes) n d (omega arith) (rest_room size k bytes room) in
     h ∙ ap (take size) (drop-drop (n * size) size bytes ∙ ap (λ m. drop m bytes) (more_size n size))
 
--- how many full parts stand before the last one
+-- how many full parts precede the last one
 next_part : (size n : ℕ) → 0 < size → size < n → (n - 1) / size ≡ suc ((n - size - 1) / size)
 next_part size n some more =
     let parted : n - 1 ≡ 1 * size + (n - size - 1) = omega arith in
@@ -61,7 +61,7 @@ cut-long size bytes some long =
     ap (λ k. parts size k bytes) (next_part size (length bytes) some long)
     ∙ ap (λ n. take size bytes ∷ parts size ((n - 1) / size) (drop size bytes)) (sym rest)
 
--- a plaintext of at most so many bytes is one chunk
+-- a plaintext of at most `size` bytes is one chunk
 pub chunks-short : (size : ℕ) (plain : List ℕ) → 0 < size → length plain ≤ size → chunks size plain ≡ plain ∷ []
 unfolding chunks
 chunks-short size plain some short = cut-short size plain some short
@@ -72,7 +72,7 @@ pub chunks-long : (size : ℕ) (plain : List ℕ) → 0 < size → size < length
 unfolding chunks
 chunks-long size plain some long = cut-long size plain some long
 
--- the same of what stands behind a header
+-- the same for the bytes after a header
 pub sealed_chunks-short : (size : ℕ) (body : List ℕ) → length body ≤ size + 16 → sealed_chunks size body ≡ body ∷ []
 unfolding sealed_chunks
 sealed_chunks-short size body short = cut-short (size + 16) body (omega arith) short
@@ -82,7 +82,7 @@ pub sealed_chunks-long : (size : ℕ) (body : List ℕ) → size + 16 < length b
 unfolding sealed_chunks
 sealed_chunks-long size body long = cut-long (size + 16) body (omega arith) long
 
--- nothing is cut into no part at all
+-- every plaintext has at least one chunk
 pub is_nil-chunks : (size : ℕ) (plain : List ℕ) → is_nil (chunks size plain) ≡ false
 unfolding chunks cut_every
 is_nil-chunks size plain = is_nil-parts size ((length plain - 1) / size) plain
@@ -91,7 +91,7 @@ pub is_nil-sealed_chunks : (size : ℕ) (body : List ℕ) → is_nil (sealed_chu
 unfolding sealed_chunks cut_every
 is_nil-sealed_chunks size body = is_nil-parts (size + 16) ((length body - 1) / (size + 16)) body
 
--- whole parts, and the parts of what stands behind them
+-- whole parts, and the parts of what follows them
 parts-append : (size k m : ℕ) (xs ys : List ℕ) → length xs ≡ suc k * size
     → parts size (k + suc m) (xs ++ ys) ≡ parts size k xs ++ parts size m ys
 unfolding parts
@@ -110,7 +110,7 @@ parts-append size (suc k) m xs ys is =
     ∙ ap (λ (rest : List ℕ). take size xs ∷ parts size (k + suc m) rest) (drop-append-le size xs ys room)
     ∙ ap (λ (ps : List (List ℕ)). take size xs ∷ ps) (parts-append size k m (drop size xs) ys (omega arith))
 
--- so many whole parts are one more than stand before the last
+-- n whole parts are one more than precede the last
 whole_parts : (size k n : ℕ) → 0 < size → n ≡ suc k * size → (n - 1) / size ≡ k
 whole_parts size k n some is =
     let parted : n - 1 ≡ k * size + (size - 1) = omega (arith, is, some) in
@@ -212,14 +212,14 @@ count-few size n least few =
     let full : (n - 1) / size < 268435456 = (div-lt_iff_lt-mul some).1 (omega (arith, least, few)) in
     omega (arith, full)
 
--- a plaintext within what 32 bits number has so few chunks
+-- a plaintext of at most 2 ^ 32 - 1 full chunks has at most that many chunks
 pub count-numbers : (size n : ℕ) → 0 < size → n ≤ 4294967295 * size → chunk_count size n ≤ 4294967295
 unfolding chunk_count
 count-numbers size n some few =
     let full : (n - 1) / size < 4294967295 = (div-lt_iff_lt-mul some).1 (omega (arith, some, few)) in
     omega (arith, full)
 
--- what a limit is lessened to
+-- what a limit is reduced to
 pub most_of-few : (most size : ℕ) → most_of most size ≤ most
 unfolding most_of
 most_of-few most size = omega arith
@@ -240,7 +240,7 @@ pub most_of-same : (most size : ℕ) → most ≤ 4294967295 * size → most_of 
 unfolding most_of
 most_of-same most size few = omega (arith, few)
 
--- all chunks but the last are full, and that has a byte, unless there is none at all
+-- all chunks but the last are full, and the last has at least one byte, unless the plaintext is empty
 pub count-tight : (size n : ℕ) → 0 < n → (chunk_count size n - 1) * size < n
 unfolding chunk_count
 count-tight size n more =
@@ -290,7 +290,7 @@ get_or-cut size bytes i d some below =
     let above = lt-div-mul-add {a = length bytes - 1} some in
     get_or-parts size ((length bytes - 1) / size) bytes i d (omega (arith, below)) (omega (arith, above))
 
--- the chunks stand one behind the other
+-- the chunks follow one another
 pub get_or-chunks : (size : ℕ) (plain : List ℕ) (i : ℕ) (d : List ℕ) → 0 < size → i < chunk_count size (length plain)
     → get_or (chunks size plain) i d ≡ take size (drop (i * size) plain)
 unfolding chunks chunk_count

@@ -1,4 +1,4 @@
--- Rounds one behind the other are one round, sealed and opened.
+-- Consecutive rounds are one round, sealed and opened.
 use Rattle.std.proofs.Common.{◌≡◌, ℕ, zero, suc, ◌+◌, ◌-◌, ◌*◌, ◌/◌, ◌<◌, Bool, true, false, ◌&&◌, List, [], ◌∷◌}
 use Rattle.std.proofs.Common.{◌++◌, length, take, drop, Option, Some, None, Result, Ok, Err, refl, ap, sym, ◌∙◌, arith}
 use Rattle.std.proofs.Common.{append_assoc, length-append, take-append-drop}
@@ -68,7 +68,7 @@ unsealed_by-true key header number (c ∷ cs) =
     ∙ ap (λ (r : Result (List ℕ) OpenFault). joined (Forged number) one r)
     (unsealed_by-true key header (number + 1) cs)
 
--- the second answer stands behind the first, unless that is a fault
+-- the second result after the first, unless that is a fault
 abbrev followed : Result (List ℕ) OpenFault → Result (List ℕ) OpenFault → Result (List ℕ) OpenFault
 followed (Ok front) rest = behind front rest
 followed (Err fault) rest = Err fault
@@ -130,7 +130,7 @@ unsealed_by-refused key header size number last xs ys k fault is some more fails
     unsealed_by-chunks key header size number last xs ys k is some more
     ∙ ap (λ (r : Result (List ℕ) OpenFault). followed r rest) fails
 
--- opening a round takes the tags away
+-- opening a round removes the tags
 length-unsealed_by : (key header : List ℕ) (size number : ℕ) (last : Bool) (full : ℕ) (body plain : List ℕ)
     → unsealed_by key header number last (parts (size + 16) full body) ≡ Ok plain
     → length body ≡ length plain + 16 * (full + 1)

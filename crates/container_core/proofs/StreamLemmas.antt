@@ -23,7 +23,7 @@ length-sealed_chunk key header number last plain =
     length-append text tag ∙ ap (λ k. k + length tag) (length-enciphered key nonce plain)
     ∙ ap (λ k. length plain + k) (length-tag_of key nonce header text)
 
--- a ciphertext and a tag behind it
+-- a ciphertext followed by a tag
 pub opened_chunk-append : (key header : List ℕ) (number : ℕ) (last : Bool) (text tag : List ℕ) → length tag ≡ 16
     → opened_chunk key header number last (text ++ tag) ≡ opened key (nonce_of (prefix_in header) number last) header text tag
 unfolding opened_chunk
@@ -114,7 +114,7 @@ unsealed-nil key header number = refl
 ok_nil : (plain : List ℕ) (answer : Result (List ℕ) OpenFault) → answer ≡ Ok [] → answer ≡ Ok plain → plain ≡ []
 ok_nil plain answer e f = cc
 
--- what is opened of STREAM is the plaintext
+-- opening STREAM gives the plaintext
 pub unsealed-stream : (size : ℕ) (key header : List ℕ) (number full : ℕ) (plain : List ℕ) → full * size ≤ length plain
     → unsealed key header number (parts (size + 16) full (stream key header number (parts size full plain))) ≡ Ok plain
 unfolding stream parts
@@ -139,7 +139,7 @@ unsealed-stream size key header number (suc full) plain room =
     (opened_chunk-sealed_chunk key header number last chunk) (unsealed-stream size key header (number + 1) full rest (omega arith))
     ∙ ap (λ (p : List ℕ). Ok p) (take-append-drop size plain)
 
--- the first of several chunks checks where all do
+-- the first of several chunks checks if all do
 pub record FirstOpens (key header : List ℕ) (number : ℕ) (sealed : List ℕ) (rest : List (List ℕ)) (plain : List ℕ) : Type 0 where
   pub chunk : List ℕ
   pub more : List ℕ
@@ -162,7 +162,7 @@ first_opens key header number sealed rest plain e =
     parted (Forged number) (opened_chunk key header number (is_nil rest) sealed) (unsealed key header (number + 1) rest) plain e in
     record { chunk = chunk; more = more; opens = opens; ends = ends; all = all }
 
--- what opens is STREAM of its plaintext
+-- chunks that open are STREAM of their plaintext
 pub stream-unsealed : (size : ℕ) (key header : List ℕ) (number full : ℕ) (body plain : List ℕ) → full * (size + 16) + 16 ≤ length body
     → unsealed key header number (parts (size + 16) full body) ≡ Ok plain
     → stream key header number (parts size full plain) ≡ body

@@ -21,21 +21,20 @@ chunk_of_one = 2 ^ 16
 abbrev pub most_chunk : ℕ
 most_chunk = 2 ^ 20
 
--- how many chunks a container may have: their numbers have 32 bits, and so does how many there are
+-- the most chunks that a container may have: their numbers have 32 bits, and so does their count
 abbrev pub max_chunks : ℕ
 max_chunks = 2 ^ 32 - 1
 
--- the greatest plaintext in chunks of this size, where it may have `most` bytes
+-- the bytes of the greatest plaintext in chunks of this size, if it may have `most`
 unfoldable pub most_of : ℕ → ℕ → ℕ
 most_of most size = min most (max_chunks * size)
 
--- so many parts of this size, and then the rest
+-- n parts of this size, then the rest
 unfoldable pub parts : ℕ → ℕ → List ℕ → List (List ℕ)
 parts size zero bytes = bytes ∷ []
 parts size (suc full) bytes = take size bytes ∷ parts size full (drop size bytes)
 
--- the bytes cut behind each `size` of them: the last part has 1 to `size` bytes, and none only where there are none at
--- all
+-- the bytes cut after every `size` of them: the last part has 1 to `size` bytes, or none if there are no bytes
 unfoldable pub cut_every : ℕ → List ℕ → List (List ℕ)
 cut_every size bytes = parts size ((length bytes - 1) / size) bytes
 
@@ -43,7 +42,7 @@ cut_every size bytes = parts size ((length bytes - 1) / size) bytes
 unfoldable pub chunks : ℕ → List ℕ → List (List ℕ)
 chunks size plain = cut_every size plain
 
--- the sealed chunks of what stands behind a header: each is a chunk with its tag of 16 bytes
+-- the sealed chunks of a body: each is a chunk's ciphertext with its tag of 16 bytes
 unfoldable pub sealed_chunks : ℕ → List ℕ → List (List ℕ)
 sealed_chunks size body = cut_every (size + tag_size) body
 
@@ -51,19 +50,19 @@ sealed_chunks size body = cut_every (size + tag_size) body
 unfoldable pub chunk_count : ℕ → ℕ → ℕ
 chunk_count size n = (n - 1) / size + 1
 
--- how many bytes stand behind the header of a container of n plaintext bytes
+-- how many bytes follow the header of a container of n plaintext bytes
 unfoldable pub body_length : ℕ → ℕ → ℕ
 body_length size n = n + tag_size * chunk_count size n
 
--- how many bytes a container of n plaintext bytes has, whose header has so many
+-- how many bytes a container of n plaintext bytes has, under a header of `header` bytes
 abbrev pub container_length : ℕ → ℕ → ℕ → ℕ
 container_length header size n = header + body_length size n
 
--- how many bytes the longest container has of a plaintext that may have `most`
+-- how many bytes the longest container of a plaintext of up to `most` bytes has
 abbrev pub container_limit : ℕ → ℕ → ℕ → ℕ
 container_limit header size most = container_length header size (most_of most size)
 
--- whether some plaintext of 0 to `most` bytes has a container of so many bytes
+-- whether some plaintext of 0 to `most` bytes has a container of `bytes` bytes
 unfoldable pub has_plaintext : ℕ → ℕ → ℕ → ℕ → Bool
 has_plaintext header size zero bytes = bytes == container_length header size 0
 has_plaintext header size (suc most) bytes =

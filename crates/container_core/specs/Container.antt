@@ -1,5 +1,5 @@
--- The container: a header, then STREAM of the plaintext's chunks. A header has 24 bytes in version 1, and behind these
--- a label of 0 to 255 bytes in version 2.
+-- The container: a header, then STREAM of the plaintext's chunks. A header has 24 bytes in version 1. In version 2 the
+-- length of a label and its 0 to 255 bytes follow.
 use Rattle.std.specs.Prelude.{ℕ, ◌+◌, ◌^◌, Bool, List, [], ◌∷◌, ◌++◌, length, take, drop, codes, slice_index, Option}
 use Rattle.std.specs.Prelude.{Some, None, if◌then◌else◌}
 use Rattle.std.specs.Str.{bytes_eq}
@@ -12,7 +12,7 @@ use Rattle.container_core.specs.Stream.{stream}
 abbrev pub magic : List ℕ
 magic = codes "STRMSEAL"
 
--- the key's hint: the first 7 bytes of its identity, which is the SHA-256 of its bytes
+-- the key's hint: the first 7 bytes of its ID, the SHA-256 of its bytes
 unfoldable pub hint_of : List ℕ → List ℕ
 hint_of key = take 7 (sha256 key)
 
@@ -21,7 +21,7 @@ abbrev pub version_of : Option (List ℕ) → ℕ
 version_of None = 1
 version_of (Some label) = 2
 
--- what stands behind the first 24 bytes of a header: in version 2 the label's length, and the label
+-- what follows the first 24 bytes of a header: in version 2 the label's length, and the label
 abbrev pub label_bytes : Option (List ℕ) → List ℕ
 label_bytes None = []
 label_bytes (Some label) = length label ∷ label
@@ -41,7 +41,7 @@ container key shape prefix plain =
     let header = header_of key shape prefix in
     header ++ stream key header 0 (chunks (size_of shape) plain)
 
--- whether bytes begin as a container of version 2
+-- whether bytes begin as a container of version 2 does
 unfoldable pub is_two : List ℕ → Bool
 is_two bytes = bytes_eq (take 9 bytes) (magic ++ 2 ∷ [])
 
@@ -53,7 +53,7 @@ header_length bytes = if is_two bytes then 25 + slice_index bytes 24 else 24
 unfoldable pub size_in : List ℕ → ℕ
 size_in header = 2 ^ slice_index header 9
 
--- the label that a header names, which has so many bytes: none in version 1
+-- the label that a header names, with its length in byte 24; none in version 1
 unfoldable pub label_in : List ℕ → Option (List ℕ)
 label_in bytes = if is_two bytes then Some (take (slice_index bytes 24) (drop 25 bytes)) else None
 

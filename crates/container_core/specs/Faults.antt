@@ -21,7 +21,7 @@ open_number OutOfMemory = 9
 open_number Read = 10
 open_number Write = 16
 
--- a fault of the bytes themselves, and not of memory, a reader or a writer
+-- a fault of the bytes themselves, not of memory, a reader or a writer
 abbrev pub IsOfBytes : OpenFault → Type 0
 IsOfBytes OutOfMemory = ⊥
 IsOfBytes Read = ⊥
@@ -45,7 +45,7 @@ abbrev pub is_failed_write : SealFault → Bool
 is_failed_write sealing.Write = true
 is_failed_write _ = false
 
--- what the program prints of a fault
+-- what the program prints for a fault
 abbrev pub open_text : OpenFault → List ℕ
 open_text TooLong = codes "too long"
 open_text ShortHeader = codes "header cut short"

@@ -36,25 +36,25 @@ abbrev pub first_fault : Option OpenFault → Option OpenFault → Option OpenFa
 first_fault (Some fault) later = Some fault
 first_fault None later = later
 
--- more bytes than the longest container of a plaintext has that may have `most`
+-- more bytes than the longest container of a plaintext of up to `most` bytes has
 abbrev pub too_long : ℕ → ℕ → ℕ → ℕ → Option OpenFault
 too_long header size most bytes =
     if nat_lt (container_limit header size most) bytes then Some TooLong else None
 
--- no plaintext that may have `most` bytes has a container of so many
+-- no plaintext of up to `most` bytes has a container of `bytes` bytes
 abbrev pub bad_length : ℕ → ℕ → ℕ → ℕ → Option OpenFault
 bad_length header size most bytes =
     if not (has_plaintext header size (most_of most size) bytes) then Some BadLength else None
 
--- the first fault that shows before any chunk is opened, where a plaintext may have `most` bytes. Of version 2 the
--- header's comes before its length, as the header says how long its container may be
+-- the first fault that shows before any chunk is opened, if a plaintext may have `most` bytes. In version 2 the header
+-- is tested before the length, as it says how long its container may be
 unfoldable pub early_fault_two : List ℕ → ℕ → List ℕ → Option OpenFault
 early_fault_two key most bytes =
     first_fault (header_fault_two key bytes)
     (first_fault (too_long (header_length bytes) (size_in bytes) most (length bytes))
     (bad_length (header_length bytes) (size_in bytes) most (length bytes)))
 
--- the same of all bytes that don't begin as version 2: the length is tested before the header
+-- the same for bytes that don't begin as version 2: the length is tested before the header
 unfoldable pub early_fault_one : List ℕ → ℕ → List ℕ → Option OpenFault
 early_fault_one key most bytes =
     first_fault (too_long 24 chunk_of_one most (length bytes))
@@ -64,43 +64,42 @@ unfoldable pub early_fault : List ℕ → ℕ → List ℕ → Option OpenFault
 early_fault key most bytes =
     if is_two bytes then early_fault_two key most bytes else early_fault_one key most bytes
 
--- how many bytes a container may have that begins so, where its plaintext may have `most`
+-- how many bytes a container that begins with `bytes` may have, if its plaintext may have `most`
 unfoldable pub longest : ℕ → List ℕ → ℕ
 longest most bytes =
     if is_two bytes then container_limit (header_length bytes) (size_in bytes) most
     else container_limit 24 chunk_of_one most
 
--- the plaintext of a chunk goes before that of the rest, unless one of them doesn't check
+-- the plaintext of a chunk, then that of the rest, unless one of them doesn't check
 abbrev pub joined : OpenFault → Option (List ℕ) → Result (List ℕ) OpenFault → Result (List ℕ) OpenFault
 joined forged None rest = Err forged
 joined forged (Some chunk) (Ok rest) = Ok (chunk ++ rest)
 joined forged (Some chunk) (Err fault) = Err fault
 
--- the chunks opened one by one, the first of which has this number, and joined; or that the first of them doesn't check
+-- the chunks, the first of which has this number, opened one by one and joined; or the first one that doesn't check
 unfoldable pub unsealed : List ℕ → List ℕ → ℕ → List (List ℕ) → Result (List ℕ) OpenFault
 unsealed key header number [] = Ok []
 unsealed key header number (sealed ∷ rest) =
     joined (Forged number) (opened_chunk key header number (is_nil rest) sealed) (unsealed key header (number + 1) rest)
 
--- a round opened: some sealed chunks, the first of which has this number, and whether the last of them is the whole's
--- last
+-- a round opened: sealed chunks, the number of the first, and whether the last of them is the container's last
 unfoldable pub unsealed_by : List ℕ → List ℕ → ℕ → Bool → List (List ℕ) → Result (List ℕ) OpenFault
 unsealed_by key header number last [] = Ok []
 unsealed_by key header number last (sealed ∷ rest) =
     joined (Forged number) (opened_chunk key header number (is_nil rest && last) sealed)
     (unsealed_by key header (number + 1) last rest)
 
--- the plaintext of what follows stands behind this one, unless it has a fault
+-- this plaintext, then that of what follows, unless the latter is a fault
 abbrev pub behind : List ℕ → Result (List ℕ) OpenFault → Result (List ℕ) OpenFault
 behind front (Ok rest) = Ok (front ++ rest)
 behind front (Err fault) = Err fault
 
--- a fault, or else an answer
+-- the fault if there is one, else the result
 abbrev pub unless : Option OpenFault → Result (List ℕ) OpenFault → Result (List ℕ) OpenFault
 unless (Some fault) answer = Err fault
 unless None answer = answer
 
--- what opening a container answers, where a plaintext may have `most` bytes: its first fault, or its plaintext
+-- what opening a container returns, if a plaintext may have `most` bytes: its first fault, or its plaintext
 unfoldable pub opening : List ℕ → ℕ → List ℕ → Result (List ℕ) OpenFault
 opening key most bytes =
     let header = header_length bytes in

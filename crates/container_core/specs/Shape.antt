@@ -19,7 +19,7 @@ pub record IsExponent (exponent : ℕ) : Type 0 where
   pub least : 12 ≤ exponent
   pub most : exponent ≤ 20
 
--- version 1 has one exponent. (That a label has at most 255 bytes follows where its length is a byte.)
+-- version 1 has one exponent. (A label whose length is a byte has at most 255 bytes.)
 abbrev pub IsShapeOf : ℕ → Option (List ℕ) → Type 0
 IsShapeOf exponent None = exponent ≡ 16
 IsShapeOf exponent (Some label) = IsExponent exponent

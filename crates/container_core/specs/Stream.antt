@@ -1,4 +1,4 @@
--- STREAM (Hoang, Reyhanitabar, Rogaway, Vizár, CRYPTO 2015) over the AEAD of RFC 8439: each chunk is sealed under a
+-- STREAM (Hoang, Reyhanitabar, Rogaway, Vizár, CRYPTO 2015) over the AEAD of RFC 8439. Each chunk is sealed under a
 -- nonce that encodes a prefix, the chunk's number and whether it is the last. Here the associated data is the header.
 use Rattle.std.specs.Prelude.{ℕ, ◌+◌, ◌-◌, ◌&&◌, Bool, true, false, List, [], ◌∷◌, ◌++◌, length, take, drop, Option}
 use Rattle.std.specs.Prelude.{if◌then◌else◌}
@@ -25,19 +25,19 @@ sealed_chunk key header number last plain =
     let pair = aead key (nonce_of (prefix_in header) number last) header plain in
     pair.0 ++ pair.1
 
--- STREAM of a list of chunks, the first of which has this number
+-- STREAM of a list of chunks; the first has this number
 unfoldable pub stream : List ℕ → List ℕ → ℕ → List (List ℕ) → List ℕ
 stream key header number [] = []
 stream key header number (chunk ∷ rest) =
     sealed_chunk key header number (is_nil rest) chunk ++ stream key header (number + 1) rest
 
--- a round of STREAM: some chunks, the first of which has this number, and whether the last of them is the whole's last
+-- a round of STREAM: chunks, the number of the first, and whether the last of them is the container's last
 unfoldable pub stream_by : List ℕ → List ℕ → ℕ → Bool → List (List ℕ) → List ℕ
 stream_by key header number last [] = []
 stream_by key header number last (chunk ∷ rest) =
     sealed_chunk key header number (is_nil rest && last) chunk ++ stream_by key header (number + 1) last rest
 
--- the plaintext of a sealed chunk, where its last 16 bytes, a tag, are the tag of those before
+-- the plaintext of a sealed chunk, if its last 16 bytes are the tag of those before
 unfoldable pub opened_chunk : List ℕ → List ℕ → ℕ → Bool → List ℕ → Option (List ℕ)
 opened_chunk key header number last sealed =
     let bytes = length sealed - tag_size in

@@ -1,7 +1,7 @@
-//! One chunk of STREAM: sealed and opened in place, or into room that the caller made, under the nonce that encodes the
-//! header's prefix, the chunk's number and whether it is the last, with the header as associated data.
+//! One chunk of STREAM, sealed and opened in place or into room that the caller provides. The nonce encodes the
+//! header's prefix, the chunk's number and whether it is the last. The header is the associated data.
 //!
-//! Nothing here takes memory, so no answer about a chunk is one about memory.
+//! Nothing here allocates, so no result about a chunk is one about memory.
 ghost use Rattle.std.specs.Prelude.{◌≡◌, ℕ, ◌++◌, ◌+◌, ◌-◌, ◌≤◌, List, length, vec_len, vec_capacity, IsTrue, Some};
 ghost use Rattle.std.specs.Prelude.{None, false, if◌then◌else◌};
 ghost use Rattle.std.specs.Bool.{OnTrue, OnFalse};
@@ -14,7 +14,7 @@ use crate::key::Key;
 use aead_core::{check, open_in_place, seal_in_place};
 use std::alloc::AllocError;
 
-/// The nonce of a chunk: the prefix, the number in 4 big-endian bytes, and 1 for the last chunk, else 0.
+/// Returns the nonce of a chunk: the prefix, the number in 4 big-endian bytes, and 1 for the last chunk, else 0.
 #[tactic(auto, unfolding(crate::specs::Stream::nonce_of))]
 pub fn nonce(prefix: [u8; 7], chunk: u32, last: bool) -> [u8; 12]
     ensures { result ≡ nonce_of prefix chunk last }
@@ -24,7 +24,7 @@ pub fn nonce(prefix: [u8; 7], chunk: u32, last: bool) -> [u8; 12]
     [a, b, c, d, e, f, g, h, i, j, k, if last { 1 } else { 0 }]
 }
 
-/// Seals a chunk of at most 2^e bytes in place, where e is the header's exponent, and answers its tag.
+/// Seals a chunk of at most 2^e bytes in place, and returns its tag; e is the header's exponent.
 #[tactic(auto, unfolding(crate::specs::Stream::sealed_chunk))]
 pub fn seal_chunk(key: &Key, header: &Header, number: u32, last: bool, text: &mut [u8]) -> [u8; 16]
     requires { length text.old ≤ size_in header.now }
@@ -34,8 +34,8 @@ pub fn seal_chunk(key: &Key, header: &Header, number: u32, last: bool, text: &mu
     seal_in_place(key.bytes(), &nonce, header.bytes(), text)
 }
 
-/// Opens a chunk of at most 2^e bytes in place, where e is the header's exponent and `tag` the chunk's tag, and answers
-/// whether it is. Where it isn't, the chunk stays as it was.
+/// Opens a chunk of at most 2^e bytes in place, and returns whether `tag` is its tag; e is the header's exponent. If it
+/// isn't, the chunk is unchanged.
 pub fn open_chunk(
     key: &Key,
     header: &Header,
@@ -54,7 +54,7 @@ pub fn open_chunk(
     open_in_place(key.bytes(), &nonce, header.bytes(), text, tag)
 }
 
-// Appends bytes for which there is room.
+// Appends bytes that fit the capacity.
 pub(crate) fn append(out: &mut Vec<u8>, bytes: &[u8])
     requires { vec_len out.old + length bytes.now ≤ vec_capacity out.old }
     ensures items { out.new.items ≡ out.old.items ++ bytes.now }
@@ -67,8 +67,8 @@ pub(crate) fn append(out: &mut Vec<u8>, bytes: &[u8])
     }
 }
 
-/// Appends a chunk of at most 2^e bytes sealed, its tag behind it, where there is room for both; e is the header's
-/// exponent.
+/// Seals a chunk of at most 2^e bytes and appends it, with its tag after it; e is the header's exponent. The capacity
+/// must suffice for both.
 pub fn append_sealed(
     out: &mut Vec<u8>,
     key: &Key,
@@ -88,8 +88,8 @@ pub fn append_sealed(
     append(out, &tag);
 }
 
-/// Appends a sealed chunk, of at most 2^e bytes and its tag, opened, where there is room for its plaintext, and answers
-/// whether the tag is the right one; e is the header's exponent. Where it isn't, nothing is appended.
+/// Opens a sealed chunk, of at most 2^e bytes and its tag, and appends its plaintext; e is the header's exponent. The
+/// capacity must suffice. Returns whether the tag is right; if it isn't, nothing is appended.
 pub fn append_opened(
     out: &mut Vec<u8>,
     key: &Key,
@@ -121,7 +121,7 @@ pub fn append_opened(
     }
 }
 
-/// Whether the last 16 bytes of a sealed chunk are its right tag. It only reads.
+/// Returns whether the last 16 bytes of a sealed chunk are its right tag. It changes nothing.
 pub fn check_chunk(key: &Key, header: &Header, number: u32, last: bool, sealed: &[u8]) -> bool
     requires { TAG ≤ length sealed.now }
     ensures checks { OnTrue result ((plain : List ℕ)

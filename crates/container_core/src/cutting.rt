@@ -1,8 +1,7 @@
-//! How a plaintext, and what stands behind the header of its container, are cut into chunks, and how long a container
-//! is.
+//! How a plaintext and the body of its container are cut into chunks, and how long a container is.
 //!
 //! A `Cut` is a size of chunks and the number of plaintext bytes. It gives each chunk by its number, of the plaintext
-//! and of the container. Nothing here takes memory.
+//! and of the container. Nothing here allocates.
 ghost use Rattle.std.specs.Prelude.{◌≡◌, ℕ, ◌+◌, ◌-◌, ◌*◌, ◌^◌, ◌<◌, ◌≤◌, List, []};
 ghost use Rattle.std.specs.Prelude.{length, take, drop, min, slice_index_or};
 ghost use Rattle.std.specs.Prelude.{◌≢◌, IfOk, IfErr, IfSome, IfNone};
@@ -18,7 +17,7 @@ use crate::shape::Shape;
 use crate::{MAX_CHUNKS, MAX_OPENED, MAX_PLAIN, TAG};
 use std::marker::Model;
 
-// How many chunks of a size a plaintext of so many bytes has.
+// How many chunks of `size` bytes a plaintext of `plain` bytes has.
 #[tactic(auto, unfolding(crate::specs::Chunks::chunk_count))]
 fn chunks_of(size: u64, plain: u64) -> u64
     requires size { 0 < size }
@@ -31,7 +30,7 @@ fn chunks_of(size: u64, plain: u64) -> u64
     plain.saturating_sub(1) / size + 1
 }
 
-// How many bytes a container of so many plaintext bytes has, under a header of so many, in chunks of a size.
+// How many bytes a container of `plain` plaintext bytes has, under a header of `header` bytes, in chunks of `size`.
 #[tactic(auto, unfolding(crate::specs::Chunks::body_length))]
 pub(crate) fn container_of(header: u64, size: u64, plain: u64) -> u64
     requires header { header ≤ 280 }
@@ -42,7 +41,7 @@ pub(crate) fn container_of(header: u64, size: u64, plain: u64) -> u64
     header + plain + TAG as u64 * chunks_of(size, plain)
 }
 
-// The greatest plaintext in chunks of a size: a chunk's number has 32 bits.
+// The bytes of the greatest plaintext in chunks of `size` bytes: a chunk's number has 32 bits.
 fn greatest(size: u64) -> u64
     requires { size ≤ most_chunk }
     ensures value { result ≡ MAX_CHUNKS * size }
@@ -51,8 +50,8 @@ fn greatest(size: u64) -> u64
     u64::from(MAX_CHUNKS) * size
 }
 
-// How many bytes the longest container has of a plaintext that may have `most` bytes, under a header of so many, in
-// chunks of a size.
+// How many bytes the longest container of a plaintext of up to `most` bytes has, under a header of `header` bytes, in
+// chunks of `size`.
 #[tactic(auto, unfolding(crate::specs::Chunks::most_of))]
 pub(crate) fn longest_of(header: u64, size: u64, most: u64) -> u64
     requires header { header ≤ 280 }
@@ -63,8 +62,8 @@ pub(crate) fn longest_of(header: u64, size: u64, most: u64) -> u64
     container_of(header, size, most.min(greatest(size)))
 }
 
-/// How many bytes the container of so many plaintext bytes has in a shape: the header's, the plaintext's, and 16 for
-/// each chunk.
+/// Returns how many bytes the container of `plain` plaintext bytes has in a shape: the header's, the plaintext's, and
+/// 16 for each chunk.
 pub fn container_bytes(shape: &Shape, plain: u64) -> u64
     requires { plain ≤ MAX_OPENED }
     ensures { result ≡ container_length (24 + length (label_bytes shape.now.label)) (size_of shape.now) plain }
@@ -72,8 +71,8 @@ pub fn container_bytes(shape: &Shape, plain: u64) -> u64
     container_of(shape.header_bytes() as u64, shape.chunk() as u64, plain)
 }
 
-/// How many bytes the longest container has in a shape whose plaintext may have `most` bytes: one of so many or, where
-/// they are more than 2^32 - 1 chunks have, of so many chunks.
+/// Returns how many bytes the longest container in a shape has, of a plaintext of up to `most` bytes. That plaintext
+/// has `most` bytes, or 2^32 - 1 chunks if they hold fewer.
 pub fn longest_bytes(shape: &Shape, most: u64) -> u64
     requires { most ≤ MAX_OPENED }
     ensures { result ≡ container_limit (24 + length (label_bytes shape.now.label)) (size_of shape.now) most }
@@ -81,8 +80,8 @@ pub fn longest_bytes(shape: &Shape, most: u64) -> u64
     longest_of(shape.header_bytes() as u64, shape.chunk() as u64, most)
 }
 
-/// How a plaintext, or what stands behind the header of its container, is cut into chunks. Contracts see the size of
-/// the chunks, 2^12 to 2^20 bytes, and the number of plaintext bytes, which are at most 2^32 - 1 chunks.
+/// How a plaintext, or the body of its container, is cut into chunks. Contracts see the size of the chunks, 2^12 to
+/// 2^20 bytes, and the number of plaintext bytes, at most those of 2^32 - 1 chunks.
 #[derive(Clone, Copy, PartialEq, Eq, Debug)]
 pub struct Cut {
     size: u64,
@@ -102,7 +101,8 @@ impl Model for Cut {
 }
 
 impl Cut {
-    /// The cut of a plaintext of so many bytes, and of its container, into the chunks that a header names.
+    /// Returns the cut of a plaintext of `plain` bytes, and of its container, into chunks of the size that a header
+    /// names.
     pub fn of(header: &Header, plain: u64) -> Cut
         requires { plain ≤ MAX_PLAIN }
         ensures size { result.size ≡ size_in header.now }
@@ -114,11 +114,11 @@ impl Cut {
         }
     }
 
-    /// The cut of so many bytes behind a header, into chunks of 2^e bytes by the exponent e that it names. `TooLong`
-    /// over (2^32 - 1) * (2^e + 16) bytes, which are 2^32 - 1 chunks; else `BadLength` where no plaintext has a
-    /// container with so many bytes behind its header.
+    /// Returns the cut of the `body` bytes after a header, into chunks of 2^e bytes; e is the header's exponent.
+    /// `TooLong` over (2^32 - 1) * (2^e + 16) bytes, which are 2^32 - 1 chunks. Else `BadLength` if no plaintext has a
+    /// container with `body` bytes after its header.
     ///
-    /// All chunks but the last have 2^e + 16 bytes with their tags. The last has 17 to 2^e + 16, or 16 where it is the
+    /// All chunks but the last have 2^e + 16 bytes with their tags. The last has 17 to 2^e + 16, or 16 if it is the
     /// only one.
     pub fn of_body(header: &Header, body: u64) -> Result<Cut, OpenFault>
         ensures size { IfOk result (λ cut. cut.size ≡ size_in header.now) }
@@ -137,14 +137,14 @@ impl Cut {
         }
     }
 
-    /// How many bytes the plaintext has.
+    /// Returns how many bytes the plaintext has.
     pub fn plain(self) -> u64
         ensures { result ≡ self.plain }
     {
         self.plain
     }
 
-    /// How many chunks there are: at least one.
+    /// Returns how many chunks there are: at least one.
     pub fn count(self) -> u32
         ensures count { result ≡ chunk_count self.size self.plain }
         ensures some { 0 < result }
@@ -153,8 +153,8 @@ impl Cut {
         chunks_of(self.size, self.plain) as u32
     }
 
-    /// Where the ciphertext of a chunk begins, counted from the byte behind the header, and how many bytes it has.
-    /// Its tag follows.
+    /// Returns where the ciphertext of a chunk begins, counted from the byte after the header, and how many bytes it
+    /// has. Its tag follows.
     pub fn place(self, number: u32) -> (u64, u32)
         requires { number < chunk_count self.size self.plain }
         ensures begin { result.0 ≡ number * (self.size + TAG) }
@@ -169,7 +169,7 @@ impl Cut {
         (u64::from(number) * (self.size + TAG as u64), bytes as u32)
     }
 
-    /// The chunk of this number of a plaintext.
+    /// Returns the chunk of this number of a plaintext.
     pub fn chunk_of(self, plain: &[u8], number: u32) -> &[u8]
         requires number { number < chunk_count self.size self.plain }
         requires plain { length plain.now ≡ self.plain }
@@ -182,7 +182,7 @@ impl Cut {
         chunk
     }
 
-    /// The sealed chunk of this number, its tag behind it, of what stands behind a header.
+    /// Returns the sealed chunk of this number of a body: the ciphertext, then its tag.
     pub fn sealed_of(self, body: &[u8], number: u32) -> &[u8]
         requires number { number < chunk_count self.size self.plain }
         requires body { length body.now ≡ body_length self.size self.plain }
@@ -196,7 +196,7 @@ impl Cut {
     }
 }
 
-// The number of plaintext bytes of a container with so many bytes behind its header, if there is one.
+// The number of plaintext bytes of a container with `body` bytes after its header, if there is one.
 fn plain_of(size: u64, body: u64) -> Option<u64>
     requires size { (4096 ≤ size) × (size ≤ most_chunk) }
     requires body { body ≤ body_length size (MAX_CHUNKS * size) }

@@ -5,26 +5,26 @@ ghost use Rattle.container_core.specs.Faults.{open_text, seal_text};
 use std::error::Error;
 use std::fmt;
 
-/// Why a container wasn't opened. The first eight are tested in this order, but of what begins as version 2: there
-/// `ShortHeader` of fewer than 24 bytes comes first, then `BadExponent`, `KeyMismatch`, `ShortHeader` of a header that
-/// ends too early, `TooLong`, `BadLength` and `Forged`. No function of this crate answers `Read` or `Write`.
+/// Why a container wasn't opened. The first eight are tested in this order. Bytes that begin as version 2 have another:
+/// `ShortHeader` (fewer than 24 bytes), `BadExponent`, `KeyMismatch`, `ShortHeader` (the header ends too early),
+/// `TooLong`, `BadLength`, `Forged`. No function of this crate returns `Read` or `Write`.
 #[derive(Clone, Copy, PartialEq, Eq, Debug)]
 pub enum OpenFault {
     /// More bytes than the container of the greatest plaintext allowed.
     TooLong,
-    /// Fewer bytes than a header has: than 24, or in version 2 than 25 and those of the label.
+    /// Fewer bytes than a header has: 24, or in version 2 25 and those of the label.
     ShortHeader,
     /// Bytes 0 to 7 aren't `STRMSEAL`.
     BadMagic,
     /// Byte 8 is neither 1 nor 2.
     BadVersion,
-    /// Byte 9 isn't 16, or in version 2 not 12 to 20.
+    /// Byte 9 isn't 16, or in version 2 isn't 12 to 20.
     BadExponent,
     /// Bytes 17 to 23 aren't the key's hint.
     KeyMismatch,
-    /// What stands behind the header can't be cut into chunks.
+    /// The bytes after the header can't be cut into chunks.
     BadLength,
-    /// The least chunk whose tag differs.
+    /// The first chunk whose tag differs, by its number.
     Forged { chunk: u32 },
     /// Memory was refused.
     OutOfMemory,
@@ -79,7 +79,7 @@ impl fmt::Display for OpenFault {
 
 impl Error for OpenFault {}
 
-/// Why a plaintext wasn't sealed. `seal` never answers `Read`, `Write` or `TooManyChunks`.
+/// Why a plaintext wasn't sealed. `seal` never returns `Read`, `Write` or `TooManyChunks`.
 #[derive(Clone, Copy, PartialEq, Eq, Debug)]
 pub enum SealFault {
     /// More bytes than the greatest plaintext allowed.
@@ -90,7 +90,7 @@ pub enum SealFault {
     Read,
     /// The writer failed.
     Write,
-    /// A byte stands behind the most chunks that a stream may have.
+    /// A byte follows the most chunks that a stream may have.
     TooManyChunks,
 }
 

@@ -1,4 +1,4 @@
-//! The header of a container: 24 bytes, and in version 2 a label behind them.
+//! The header of a container: 24 bytes, and in version 2 a label after them.
 //!
 //! | bytes | content |
 //! |---|---|
@@ -59,7 +59,7 @@ fn front(key: &Key, version: u8, exponent: u8, prefix: [u8; 7]) -> [u8; 24]
 }
 
 impl Header {
-    /// The header of containers of a shape under this key whose nonces begin with this prefix.
+    /// Returns the header of a container under this key, in a shape, whose nonces begin with this prefix.
     pub fn of(key: &Key, shape: &Shape, prefix: [u8; 7]) -> Header
         ensures header { result ≡ header_of key.now shape.now prefix }
     {
@@ -79,7 +79,7 @@ impl Header {
         }
     }
 
-    /// The same header once more. Takes no memory.
+    /// Returns a copy of the header. Allocates nothing.
     pub fn copy(&self) -> Header
         ensures { result ≡ self.now }
     {
@@ -88,7 +88,7 @@ impl Header {
         Header { image }
     }
 
-    /// The prefix of all nonces.
+    /// Returns the prefix of all nonces.
     #[tactic(auto, unfolding(crate::specs::Stream::prefix_in))]
     pub fn prefix(&self) -> [u8; 7]
         ensures { result ≡ prefix_in self.now }
@@ -98,7 +98,7 @@ impl Header {
         prefix
     }
 
-    /// The header's bytes: 24 of version 1, 25 to 280 of version 2.
+    /// Returns the header's bytes: 24 in version 1, 25 to 280 in version 2.
     pub fn bytes(&self) -> &[u8]
         ensures bytes { result.now ≡ self.now }
         ensures most { length result.now ≤ 280 }
@@ -109,7 +109,7 @@ impl Header {
         self.image.as_slice()
     }
 
-    /// The exponent of the chunks' size: 16 in version 1, 12 to 20 in version 2.
+    /// Returns the exponent of the chunks' size: 16 in version 1, 12 to 20 in version 2.
     pub fn exponent(&self) -> u32
         ensures value { result ≡ slice_index self.now 9 }
         ensures least { 12 ≤ result }
@@ -118,7 +118,7 @@ impl Header {
         u32::from(self.bytes()[9])
     }
 
-    /// Plaintext bytes of every chunk but the last: 2 to the exponent.
+    /// Returns the plaintext bytes of every chunk but the last: 2 to the exponent.
     pub fn chunk(&self) -> usize
         ensures value { result ≡ size_in self.now }
         ensures least { 4096 ≤ result }
@@ -127,7 +127,7 @@ impl Header {
         power(self.bytes()[9])
     }
 
-    /// The label: none of its bytes in version 1.
+    /// Returns the label: no bytes in version 1.
     pub fn label(&self) -> &[u8]
         ensures { result.now ≡ drop 25 self.now }
     {
@@ -135,8 +135,8 @@ impl Header {
         if bytes.len() > 25 { &bytes[25..] } else { &[] }
     }
 
-    /// How many bytes the container of so many plaintext bytes has under this header: the header's, the plaintext's,
-    /// and 16 for each chunk.
+    /// Returns how many bytes the container of `plain` plaintext bytes has under this header: the header's, the
+    /// plaintext's, and 16 for each chunk.
     pub fn container_bytes(&self, plain: u64) -> u64
         requires { plain ≤ MAX_OPENED }
         ensures { result ≡ container_length (length self.now) (size_in self.now) plain }
@@ -144,8 +144,8 @@ impl Header {
         container_of(self.bytes().len() as u64, self.chunk() as u64, plain)
     }
 
-    /// How many bytes the longest container has under this header whose plaintext may have `most` bytes: one of so many
-    /// or, where they are more than 2^32 - 1 chunks have, of so many chunks.
+    /// Returns how many bytes the longest container under this header has, of a plaintext of up to `most` bytes. That
+    /// plaintext has `most` bytes, or 2^32 - 1 chunks if they hold fewer.
     pub fn longest_bytes(&self, most: u64) -> u64
         requires { most ≤ MAX_OPENED }
         ensures { result ≡ container_limit (length self.now) (size_in self.now) most }
@@ -154,7 +154,7 @@ impl Header {
     }
 }
 
-/// Whether bytes begin as a container of version 2.
+/// Returns whether bytes begin as a container of version 2 does.
 #[tactic(auto, unfolding(crate::specs::Container::is_two))]
 pub fn begins_as_two(bytes: &[u8]) -> bool
     ensures { result ≡ is_two bytes.now }
@@ -163,8 +163,8 @@ pub fn begins_as_two(bytes: &[u8]) -> bool
     begin == MAGIC_TWO.as_slice()
 }
 
-/// How many bytes the header has with which these bytes begin: 24, and in version 2 one more and as many as that says.
-/// Of version 2 with fewer than 25 bytes it is 25.
+/// Returns how many bytes the header at the start of these bytes has: 24, in version 2 25 and the label's, which byte
+/// 24 counts. For fewer than 25 bytes of version 2 it is 25.
 #[tactic(auto, unfolding(crate::specs::Container::header_length))]
 pub fn header_bytes(bytes: &[u8]) -> usize
     ensures value { result ≡ header_length bytes.now }
@@ -238,9 +238,9 @@ fn fault_of(key: &Key, bytes: &[u8]) -> Option<OpenFault>
     }
 }
 
-/// The header with which these bytes begin, where it is one of this key; else its first fault. Of version 2 that is the
-/// first of `ShortHeader` (fewer than 24 bytes), `BadExponent`, `KeyMismatch` and `ShortHeader` (the label isn't there
-/// whole), in this order; else of `ShortHeader`, `BadMagic`, `BadVersion`, `BadExponent` and `KeyMismatch`.
+/// Returns the header at the start of these bytes, if it is one of this key; else its first fault. In version 2 the
+/// order is `ShortHeader` (fewer than 24 bytes), `BadExponent`, `KeyMismatch`, `ShortHeader` (an incomplete label).
+/// Otherwise it is `ShortHeader`, `BadMagic`, `BadVersion`, `BadExponent`, `KeyMismatch`.
 pub fn read_header(key: &Key, bytes: &[u8]) -> Result<Header, OpenFault>
     ensures fault { IfErr result (λ fault. header_fault key.now bytes.now ≡ Some fault) }
     ensures faultless { OnOk result (header_fault key.now bytes.now ≡ None) }

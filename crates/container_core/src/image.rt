@@ -1,4 +1,4 @@
-//! Up to 280 bytes in place, which take no memory: a header, or a label.
+//! Up to 280 bytes, stored in place without allocation: a header, or a label.
 ghost use Rattle.std.specs.Prelude.{◌≡◌, ◌+◌, ◌≤◌, ◌++◌, [], length};
 
 use crate::MAX_HEADER;
@@ -22,7 +22,7 @@ impl Model for Image {
 }
 
 impl Image {
-    // No byte.
+    // No bytes.
     pub(crate) fn new() -> Image
         ensures { result ≡ [] }
     {
@@ -32,7 +32,7 @@ impl Image {
         }
     }
 
-    // Appends bytes for which there is room.
+    // Appends bytes that fit.
     pub(crate) fn append(&mut self, more: &[u8])
         requires { length self.old + length more.now ≤ 280 }
         ensures { self.new ≡ self.old ++ more.now }

@@ -1,4 +1,4 @@
-//! Keys, and the identity by which a header names its key.
+//! Keys, and the ID by which a header names its key.
 ghost use Rattle.std.specs.Prelude.{◌≡◌};
 ghost use Rattle.sha2.specs.Sha256.{sha256};
 ghost use Rattle.container_core.specs.Container.{hint_of};
@@ -6,7 +6,7 @@ ghost use Rattle.container_core.specs.Container.{hint_of};
 use sha2::{Digest, Sha256};
 use std::marker::Model;
 
-/// A key of 32 bytes. It isn't wiped when it's let go.
+/// A key of 32 bytes. It isn't wiped when dropped.
 #[derive(Drop)]
 pub struct Key {
     secret: [u8; 32],
@@ -21,14 +21,14 @@ impl Model for Key {
 }
 
 impl Key {
-    /// The key of these bytes.
+    /// Makes the key of these bytes.
     pub fn new(secret: [u8; 32]) -> Key
         ensures { result ≡ secret }
     {
         Key { secret }
     }
 
-    /// The key's identity: the SHA-256 of its bytes (FIPS 180-4).
+    /// Returns the key's ID: the SHA-256 of its bytes (FIPS 180-4).
     pub fn id(&self) -> [u8; 32]
         ensures { result ≡ sha256 self.now }
     {
@@ -42,7 +42,7 @@ impl Key {
         &self.secret
     }
 
-    // The first 7 bytes of the key's identity.
+    // The first 7 bytes of the key's ID.
     #[tactic(auto, unfolding(crate::specs::Container::hint_of))]
     pub(crate) fn hint(&self) -> [u8; 7]
         ensures { result ≡ hint_of self.now }

@@ -1,4 +1,4 @@
-//! What follows of the definitions alone, each law the contract of a function that does nothing.
+//! What follows from the definitions alone. Each law is the contract of a function that does nothing.
 ghost use Rattle.std.specs.Prelude.{◌≡◌, ℕ, ◌+◌, ◌-◌, ◌*◌, ◌^◌, ◌<◌, ◌≤◌, ◌↔◌, Bool, true, false, List, [], ◌∷◌, ◌++◌};
 ghost use Rattle.std.specs.Prelude.{length, take, drop, slice_index_or, None, Ok, Err};
 ghost use Rattle.container_core.specs.Chunks.{chunks, chunk_count, sealed_chunks};
@@ -34,7 +34,7 @@ pub fn sizes_of_the_format()
     ensures most { (MAX_EXPONENT ≡ 20) × (most_chunk ≡ 2 ^ MAX_EXPONENT) }
 {}
 
-/// Two chunks have one nonce only where prefix, number and place as the last are the same.
+/// Two chunks have the same nonce only if they agree in prefix, number, and whether they are the last.
 pub fn nonces_differ()
     ensures { (prefix other : List ℕ) (number another : ℕ) (last end : Bool)
         → length prefix ≡ length other → number < 2 ^ 32 → another < 2 ^ 32
@@ -42,21 +42,21 @@ pub fn nonces_differ()
         → (prefix ≡ other) × (number ≡ another) × (last ≡ end) }
 {}
 
-/// Bytes open to a plaintext exactly where they are its container, of the shape and under the prefix that their header
+/// Bytes open to a plaintext exactly if they are its container, of the shape and under the prefix that their header
 /// names.
 pub fn opens_exactly_its_container()
     ensures exactly { (key bytes plain : List ℕ) (most : ℕ)
         → (opening key most bytes ≡ Ok plain)
         ↔ ((length plain ≤ most_of most (size_in bytes)) × IsShape (shape_in bytes)
         × (bytes ≡ container key (shape_in bytes) (prefix_in bytes) plain)) }
-    // No limit of at most 2^40 bytes is lessened.
+    // No limit of at most 2^40 bytes is reduced.
     ensures sealed { (key bytes plain : List ℕ) (most : ℕ) → most ≤ MAX_PLAIN
         → (opening key most bytes ≡ Ok plain)
         ↔ ((length plain ≤ most) × IsShape (shape_in bytes)
         × (bytes ≡ container key (shape_in bytes) (prefix_in bytes) plain)) }
 {}
 
-/// Opening what was sealed gives the plaintext back.
+/// Opening a sealed plaintext gives it back.
 pub fn sealed_opens()
     ensures within { (key prefix plain : List ℕ) (shape : ShapeView) (most : ℕ) → IsShape shape → length prefix ≡ 7
         → length plain ≤ most_of most (size_of shape) → opening key most (container key shape prefix plain) ≡ Ok plain }
@@ -65,7 +65,7 @@ pub fn sealed_opens()
         → opening key most (container key shape prefix plain) ≡ Ok plain }
 {}
 
-/// What a limit is lessened to, so that a chunk's number has 32 bits: no limit of at most 2^40 bytes is.
+/// What a limit is reduced to, so that a chunk's number has 32 bits. No limit of at most 2^40 bytes is reduced.
 pub fn limits_lessened()
     ensures least { (most size n : ℕ) → (n ≤ most_of most size) ↔ ((n ≤ most) × (n ≤ MAX_CHUNKS * size)) }
     ensures same { (most : ℕ) (shape : ShapeView) → IsShape shape → most ≤ MAX_PLAIN
@@ -92,24 +92,24 @@ pub fn headers_name_their_shape()
         → prefix_in (header_of key shape prefix ++ rest) ≡ prefix }
     ensures shape { (key prefix rest : List ℕ) (shape : ShapeView) → length prefix ≡ 7
         → shape_in (header_of key shape prefix ++ rest) ≡ shape }
-    // What `Header::label` gives is the label.
+    // What `Header::label` returns is the label.
     ensures label { (key prefix label : List ℕ) (exponent : ℕ) → length prefix ≡ 7
         → drop 25 (header_of key (two exponent label) prefix) ≡ label }
 {}
 
-/// Opening names faults of the bytes alone, never one of memory, a reader or a writer.
+/// Opening names faults of the bytes only, never one of memory, a reader or a writer.
 pub fn opening_faults()
     ensures { (key bytes : List ℕ) (most : ℕ) (fault : OpenFault) → opening key most bytes ≡ Err fault
         → IsOfBytes fault }
 {}
 
-/// Bytes that are no longer than the container of the greatest plaintext allowed open alike where more is allowed.
+/// Bytes no longer than the container of the greatest plaintext allowed open the same way if more is allowed.
 pub fn limits_agree()
     ensures { (key bytes : List ℕ) (most more : ℕ) → most ≤ more → length bytes ≤ longest most bytes
         → opening key most bytes ≡ opening key more bytes }
 {}
 
-/// How long a container may be that begins as some bytes do: what does not begin as version 2 is held to version 1.
+/// How long a container may be that begins with these bytes. If they don't begin as version 2, version 1's limit holds.
 pub fn longest_containers()
     ensures one { (bytes : List ℕ) (most : ℕ) → is_two bytes ≡ false
         → longest most bytes ≡ container_limit 24 chunk_of_one most }
@@ -119,8 +119,8 @@ pub fn longest_containers()
         → longest most bytes ≡ container_limit (header_length bytes) (size_in bytes) most }
 {}
 
-/// A container names the shape and the prefix under which it was sealed, whatever the keys are; and of one key, two
-/// plaintexts with one container are the same.
+/// A container names the shape and the prefix under which it was sealed, whatever the keys are. Under one key, two
+/// plaintexts with the same container are the same.
 pub fn containers_differ()
     ensures shape { (key prefix plain other another more : List ℕ) (shape form : ShapeView)
         → length prefix ≡ 7 → length other ≡ 7
@@ -132,8 +132,8 @@ pub fn containers_differ()
         → (shape ≡ form) × (prefix ≡ other) × (plain ≡ another) }
 {}
 
-/// The chunks of a plaintext: the first `size` bytes, then the chunks of the rest. The sealed chunks of what stands
-/// behind a header: the first `size` + 16 bytes, then the sealed chunks of the rest.
+/// The chunks of a plaintext: the first `size` bytes, then the chunks of the rest. The sealed chunks of a body: the
+/// first `size` + 16 bytes, then the sealed chunks of the rest.
 pub fn chunks_recur()
     ensures short { (size : ℕ) (plain : List ℕ) → 0 < size → length plain ≤ size → chunks size plain ≡ plain ∷ [] }
     ensures long { (size : ℕ) (plain : List ℕ) → 0 < size → size < length plain
@@ -143,7 +143,7 @@ pub fn chunks_recur()
         → sealed_chunks size body ≡ take (size + 16) body ∷ sealed_chunks size (drop (size + 16) body) }
 {}
 
-/// Where the chunks of a plaintext stand, and how many there are.
+/// Where the chunks of a plaintext are, and how many there are.
 pub fn chunks_by_number()
     ensures count { (size : ℕ) (plain : List ℕ) → length (chunks size plain) ≡ chunk_count size (length plain) }
     ensures chunk { (size : ℕ) (plain : List ℕ) (number : ℕ) → 0 < size → number < chunk_count size (length plain)
@@ -152,8 +152,8 @@ pub fn chunks_by_number()
         → length (sealed_chunks size body) ≡ chunk_count size n }
 {}
 
-/// How many chunks there are: one of a plaintext of up to `size` bytes, else one more than of what is left without so
-/// many; and in how many bytes they stand.
+/// How many chunks there are: one for a plaintext of up to `size` bytes, else one more than for the plaintext without
+/// its first `size` bytes. And how many bytes the body has.
 pub fn chunks_counted()
     ensures one { (size n : ℕ) → 0 < size → n ≤ size → chunk_count size n ≡ 1 }
     ensures whole { (size k : ℕ) → 0 < size → 0 < k → chunk_count size (k * size) ≡ k }
@@ -165,20 +165,20 @@ pub fn chunks_counted()
     ensures grows { (size m n : ℕ) → 0 < size → m ≤ n → chunk_count size m ≤ chunk_count size n }
 {}
 
-/// A container is longer than its plaintext by its header, and 16 bytes for each chunk.
+/// A container is longer than its plaintext by its header and 16 bytes for each chunk.
 pub fn length_of_container()
     ensures { (key prefix plain : List ℕ) (shape : ShapeView) → length prefix ≡ 7
         → length (container key shape prefix plain)
         ≡ container_length (24 + length (label_bytes shape.label)) (size_of shape) (length plain) }
 {}
 
-/// A length is tested to be one of a container exactly where some plaintext has a container so long.
+/// The test of a container's length succeeds exactly if some plaintext has a container of this length.
 pub fn lengths_of_containers()
     ensures { (header size most bytes : ℕ) → (has_plaintext header size most bytes ≡ true)
         ↔ ((plain : ℕ) × (plain ≤ most) × (bytes ≡ container_length header size plain)) }
 {}
 
-/// Whole chunks, and any bytes behind them: their chunks are those of the one, then those of the other; and the same of
+/// The chunks of whole chunks followed by some bytes: those of the former, then those of the latter. The same holds for
 /// sealed chunks.
 pub fn chunks_of_two_parts()
     ensures chunks { (size : ℕ) (front rest : List ℕ) (count : ℕ) → 0 < size → length front ≡ count * size → 0 < count
@@ -191,8 +191,8 @@ pub fn chunks_of_two_parts()
         → length (sealed_chunks size front) ≡ count }
 {}
 
-/// STREAM is a round that is the last; a round is two rounds, one behind the other, wherever it is parted between two
-/// chunks; and it is longer than its plaintext by a tag for each chunk.
+/// STREAM is a round that is the last. A round split between any two chunks is two rounds, one after the other. A round
+/// is longer than its plaintext by a tag for each chunk.
 pub fn rounds_of_a_stream()
     ensures whole { (key header : List ℕ) (number : ℕ) (pieces : List (List ℕ))
         → stream_by key header number true pieces ≡ stream key header number pieces }
@@ -208,8 +208,8 @@ pub fn rounds_of_a_stream()
         → length (stream_by key header number last (chunks size plain)) ≡ body_length size (length plain) }
 {}
 
-/// Opening all chunks is opening a round that is the last. A round opens as two rounds do, one behind the other: to the
-/// first one's fault, or else to its plaintext before what the other opens to. The plaintext's length follows from the
+/// Opening all chunks is opening a round that is the last. A round opens as two consecutive rounds do: to the first
+/// one's fault, or else to its plaintext followed by what the second opens to. The plaintext's length follows from the
 /// number of sealed bytes.
 pub fn rounds_open()
     ensures whole { (key header : List ℕ) (number : ℕ) (pieces : List (List ℕ))
@@ -229,8 +229,8 @@ pub fn rounds_open()
         → length plain ≡ bytes }
 {}
 
-/// What shows before any chunk is opened shows in the header and in the length: in a beginning that has all of the
-/// header, or that is all.
+/// Faults that show before any chunk is opened depend only on the header and the length. A beginning that has the
+/// whole header shows them.
 pub fn headers_stand_in_front()
     ensures length { (front rest : List ℕ) → header_length front ≤ length front
         → header_length (front ++ rest) ≡ header_length front }

@@ -1,9 +1,9 @@
-//! Sealed containers: a header of 24 bytes, in version 2 with a label behind it, and the chunks of a plaintext, sealed
-//! as in STREAM over the AEAD of RFC 8439.
+//! Sealed containers: a header, then the chunks of a plaintext, sealed as in STREAM over the AEAD of RFC 8439. The
+//! header has 24 bytes; in version 2 a label follows them.
 //!
 //! `specs/` has the format: `chunks` of a plaintext, `stream` of a list of chunks, `container` of a key, a shape, a
-//! prefix and a plaintext, and `opening`, which names the first fault of any bytes, or gives their plaintext.
-//! Nothing here waits. Only `seal` and `open` take memory, in one piece, before the first chunk is sealed or opened.
+//! prefix and a plaintext. `opening` is the first fault of any bytes, or their plaintext.
+//! Nothing here waits. Only `seal` and `open` allocate, once, before the first chunk is sealed or opened.
 #![tactic(auto)]
 
 pub mod chunk;
@@ -42,10 +42,10 @@ pub const MIN_EXPONENT: u32 = 12;
 pub const MAX_EXPONENT: u32 = 20;
 /// Bytes of the greatest plaintext that is sealed: 2^40.
 pub const MAX_PLAIN: u64 = 1 << 40;
-/// Bytes of the greatest plaintext that is opened: 2^52 - 2^20. It is that of 2^32 - 1 chunks of the greatest size; in
-/// chunks of 2^e bytes the greatest has (2^32 - 1) * 2^e.
+/// Bytes of the greatest plaintext that is opened: 2^52 - 2^20. It has 2^32 - 1 chunks of the greatest size. In chunks
+/// of 2^e bytes the greatest has (2^32 - 1) * 2^e.
 pub const MAX_OPENED: u64 = (1 << 52) - (1 << 20);
-/// How many chunks a container has at most: 2^32 - 1.
+/// The most chunks that a container has: 2^32 - 1.
 pub const MAX_CHUNKS: u32 = u32::MAX;
 
 // The exponent of version 1.

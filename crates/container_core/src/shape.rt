@@ -1,4 +1,4 @@
-//! The shape of a container: version 1, or version 2 with a chunk size and a label. A shape lives in place.
+//! The shape of a container: version 1, or version 2 with a chunk size and a label. A shape allocates nothing.
 ghost use Rattle.std.specs.Prelude.{◌≡◌, ◌≤◌, ◌⊎◌, ◌+◌, ◌^◌, ◌<◌, length, option_map, IfOk, OnOk, OnErr, IfSome};
 ghost use Rattle.container_core.specs.Shape.{one, two, size_of, IsShape, IsShort};
 ghost use Rattle.container_core.specs.Container.{label_bytes};
@@ -40,7 +40,7 @@ impl Model for Shape {
 }
 
 impl Shape {
-    /// Version 1: chunks of 65,536 bytes, and no label.
+    /// Returns version 1: chunks of 65,536 bytes, and no label.
     pub fn one() -> Shape
         ensures { result ≡ one }
     {
@@ -50,8 +50,8 @@ impl Shape {
         }
     }
 
-    /// Version 2: chunks of 2^exponent bytes, and a label. `BadShape` where the exponent isn't one of 12 to 20, or the
-    /// label has more than 255 bytes.
+    /// Returns version 2: chunks of 2^exponent bytes, and a label. `BadShape` if the exponent isn't one of 12 to 20, or
+    /// the label has more than 255 bytes.
     pub fn two(exponent: u32, label: &[u8]) -> Result<Shape, BadShape>
         ensures shape { IfOk result (λ shape. shape ≡ two exponent label.now) }
         ensures lawful { OnOk result ((12 ≤ exponent) × ((exponent ≤ 20) × (length label.now ≤ 255))) }
@@ -88,7 +88,7 @@ impl Shape {
         }
     }
 
-    /// How many bytes a header of this shape has: 24, and in version 2 one more and the label's.
+    /// Returns how many bytes a header of this shape has: 24, in version 2 25 and the label's.
     pub fn header_bytes(&self) -> usize
         ensures value { result ≡ 24 + length (label_bytes self.now.label) }
         ensures most { result ≤ 280 }
@@ -99,7 +99,7 @@ impl Shape {
         }
     }
 
-    /// Plaintext bytes of every chunk but the last: 2 to the exponent.
+    /// Returns the plaintext bytes of every chunk but the last: 2 to the exponent.
     pub fn chunk(&self) -> usize
         ensures value { result ≡ size_of self.now }
         ensures least { 4096 ≤ result }

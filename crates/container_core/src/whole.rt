@@ -1,9 +1,9 @@
-//! A whole container in memory. `begin` reads the header and the cut of any bytes, or names their first fault, and
-//! `begin_within` does so from the header alone and the number of bytes; `seal_into` and `open_into` seal and open the
-//! chunks into room that the caller made; `seal` and `open` make this room, and call them.
+//! A whole container in memory. `begin` reads the header and the cut of any bytes, or returns their first fault.
+//! `begin_within` does so from the header alone and the number of bytes. `seal_into` and `open_into` seal and open the
+//! chunks into room that the caller provides. `seal` and `open` allocate this room, and call them.
 //!
-//! The room for the whole is the only memory that is asked for, and it is there before the first chunk is touched:
-//! what the chunks answer can't be that memory was refused.
+//! The room for the whole is the only allocation, made before the first chunk is touched. So no result about a chunk
+//! is that memory was refused.
 ghost use Rattle.std.specs.Prelude.{◌≡◌, ℕ, ◌+◌, ◌<◌, ◌≤◌, ◌++◌, ◌⊎◌, ◌↔◌, List, length, take, vec_len};
 ghost use Rattle.std.specs.Bool.{OnTrue, OnFalse};
 ghost use Rattle.std.specs.Prelude.{false, vec_capacity, Ok, Err, Some, None, IfOk, IfErr, OnOk, OnErr, MatchResult};
@@ -23,8 +23,8 @@ use crate::shape::Shape;
 use crate::{MAX_OPENED, MAX_PLAIN};
 use std::alloc::Global;
 
-// Whether a container that doesn't begin as version 2 has more bytes than the longest of version 1 whose plaintext may
-// have `most`.
+// Whether a container doesn't begin as version 2, and has more bytes than the longest of version 1 with a plaintext of
+// up to `most` bytes.
 fn is_long_one(front: &[u8], bytes: u64, most: u64) -> bool
     requires { most ≤ MAX_OPENED }
     ensures long { OnTrue result ((is_two front.now ≡ false) × (container_limit 24 chunk_of_one most < bytes)) }
@@ -33,10 +33,10 @@ fn is_long_one(front: &[u8], bytes: u64, most: u64) -> bool
     !begins_as_two(front) && bytes > longest_bytes(&Shape::one(), most)
 }
 
-/// The header and the cut of a container of so many bytes under a key, of at most `most` plaintext bytes (2^52 - 2^20
-/// at most) and 2^32 - 1 chunks, or the first fault that shows before any chunk is opened. `front` is the container's
-/// beginning: its header at least, or all that it has. Of version 2 the header's faults come first, then `TooLong` and
-/// `BadLength`; else `TooLong`, the header's and `BadLength`. Takes no memory.
+/// Returns the header and the cut of a container of `bytes` bytes under a key, or the first fault that shows before any
+/// chunk is opened. It has at most `most` plaintext bytes (2^52 - 2^20 at most) and 2^32 - 1 chunks. `front` is the
+/// container's beginning: at least its header, or all its bytes. In version 2 the header's faults come first, then
+/// `TooLong` and `BadLength`. Else `TooLong` comes first, then the header's and `BadLength`. Allocates nothing.
 pub fn begin_within(
     key: &Key,
     front: &[u8],
@@ -54,7 +54,7 @@ pub fn begin_within(
     ensures within { IfOk result (λ begun. begun.1.plain ≤ most) }
     ensures few { IfOk result (λ begun. begun.1.plain ≤ most_of most begun.1.size) }
 
-    // Of every container of so many bytes that begins so.
+    // For every container of `bytes` bytes that begins with `front`.
     ensures faultless { OnOk result ((whole : List ℕ) → length whole ≡ bytes → take (length front.now) whole ≡ front.now
         → early_fault key.now most whole ≡ None) }
     ensures fault { IfErr result (λ fault. (whole : List ℕ) → length whole ≡ bytes
@@ -78,8 +78,9 @@ pub fn begin_within(
     }
 }
 
-/// The header and the cut of a container under a key, of at most 2^52 - 2^20 plaintext bytes and 2^32 - 1 chunks, or
-/// the first fault that shows before any chunk is opened: as `begin_within` names it. Takes no memory.
+/// Returns the header and the cut of a container under a key, of at most 2^52 - 2^20 plaintext bytes and 2^32 - 1
+/// chunks. Else returns the first fault that shows before any chunk is opened, as `begin_within` does. Allocates
+/// nothing.
 pub fn begin(key: &Key, bytes: &[u8]) -> Result<(Header, Cut), OpenFault>
     ensures header { IfOk result (λ begun. begun.0 ≡ take (header_length bytes.now) bytes.now) }
     ensures size { IfOk result (λ begun. begun.1.size ≡ size_in begun.0) }
@@ -93,8 +94,8 @@ pub fn begin(key: &Key, bytes: &[u8]) -> Result<(Header, Cut), OpenFault>
     begin_within(key, bytes, bytes.len() as u64, MAX_OPENED)
 }
 
-/// Appends the container of a plaintext of at most 2^40 bytes under a key and a prefix, in a shape, where there is room
-/// for it: for `container_bytes` of the shape and the plaintext's length. Takes no memory.
+/// Appends the container of a plaintext of at most 2^40 bytes under a key and a prefix, in a shape. `out` must have
+/// room for it: for `container_bytes` of the shape and the plaintext's length. Allocates nothing.
 pub fn seal_into(out: &mut Vec<u8>, key: &Key, shape: &Shape, prefix: [u8; 7], plain: &[u8])
     requires plain { length plain.now ≤ MAX_PLAIN }
     requires room { vec_len out.old + container_length (24 + length (label_bytes shape.now.label)) (size_of shape.now)
@@ -112,8 +113,8 @@ pub fn seal_into(out: &mut Vec<u8>, key: &Key, shape: &Shape, prefix: [u8; 7], p
     }
 }
 
-/// The container of a plaintext under a key and a prefix, in a shape. `TooLong` over 2^40 bytes, `OutOfMemory` where
-/// memory was refused.
+/// Returns the container of a plaintext under a key and a prefix, in a shape. `TooLong` over 2^40 bytes, `OutOfMemory`
+/// if memory was refused.
 pub fn seal(
     alloc: Global,
     key: &Key,
@@ -136,8 +137,8 @@ pub fn seal(
     Ok(out)
 }
 
-/// Appends the plaintext of the chunks behind a header, where there is room for it: for `cut.plain()` bytes. Or names
-/// the least chunk that doesn't check, and then appends nothing. Takes no memory, so `Forged` is the only fault.
+/// Appends the plaintext of the chunks after a header. `out` must have room for `cut.plain()` bytes. `Forged` names
+/// the first chunk that doesn't check; then nothing is appended. It is the only fault: nothing is allocated.
 pub fn open_into(
     out: &mut Vec<u8>,
     key: &Key,
@@ -168,19 +169,19 @@ pub fn open_into(
     Ok(())
 }
 
-/// The plaintext of a container under a key, of at most 2^52 - 2^20 bytes and 2^32 - 1 chunks, or the first fault that
-/// applies: those that `begin` names, and then `Forged`. `OutOfMemory` where the room for the plaintext was refused,
-/// which is asked for once all but the tags was tested, and before any of these is.
+/// Returns the plaintext of a container under a key, of at most 2^52 - 2^20 bytes and 2^32 - 1 chunks. Else returns
+/// the first fault: one of `begin`, then `Forged`. `OutOfMemory` if the room for the plaintext was refused; it is
+/// requested after all else was tested and before any tag is.
 pub fn open(alloc: Global, key: &Key, bytes: &[u8]) -> Result<Vec<u8>, OpenFault>
     ensures plaintext { IfOk result (λ out. opening key.now MAX_OPENED bytes.now ≡ Ok out.items) }
     ensures fault { IfErr result (λ fault. (fault ≡ OpenFault.OutOfMemory)
         ⊎ (opening key.now MAX_OPENED bytes.now ≡ Err fault)) }
 
-    // Memory is taken only where neither the length nor the header has a fault.
+    // Memory is requested only if neither the length nor the header has a fault.
     ensures memory { result ≡ Err OpenFault.OutOfMemory → early_fault key.now MAX_OPENED bytes.now ≡ None }
 
-    // What opens is the container of its plaintext, of the shape and under the prefix that its header names, and such a
-    // container opens.
+    // Bytes that open are the container of their plaintext, of the shape and under the prefix that their header names.
+    // Such a container opens.
     ensures sealed { IfOk result (λ out. bytes.now
         ≡ container key.now (shape_in bytes.now) (prefix_in bytes.now) out.items) }
     ensures shape { OnOk result (IsShape (shape_in bytes.now)) }

@@ -1,5 +1,5 @@
-//! Containers of version 2 that are cut or altered, of each size and label of a table, and what opening answers to
-//! each, which is of the format. Whoever opens containers in a way of his own goes over the same cases.
+//! Cut or altered containers of version 2, for each chunk size and label of a table. The format fixes what opening each
+//! returns. Tests of other ways to open containers use the same cases.
 ghost use Rattle.std.specs.Prelude.{◌≤◌, ◌+◌, ◌*◌, length};
 
 use crate::moves::{MOVES, moved};
@@ -10,7 +10,7 @@ use container_core::{OpenFault, Shape, TAG};
 use std::alloc::{AllocError, Global};
 use std::test::Fail;
 
-/// The exponents, and the bytes of the labels.
+/// The exponents, and the labels' lengths in bytes.
 pub static SHAPES: [(u32, usize); 9] = [
     (12, 0),
     (12, 1),
@@ -23,7 +23,7 @@ pub static SHAPES: [(u32, usize); 9] = [
     (20, 255),
 ];
 
-/// Bytes that are opened, and what is answered: so many zero bytes, or a fault.
+/// Bytes to open, and the expected result: a number of zero bytes, or a fault.
 #[derive(Drop)]
 pub struct Case {
     bytes: Vec<u8>,
@@ -31,12 +31,12 @@ pub struct Case {
 }
 
 impl Case {
-    /// The bytes that are opened.
+    /// Returns the bytes to open.
     pub fn bytes(&self) -> &[u8] {
         self.bytes.as_slice()
     }
 
-    /// Whether an opening has the answer of this case.
+    /// Whether an opening returned what this case expects.
     pub fn is_answered(&self, opened: &Result<Vec<u8>, OpenFault>) -> bool {
         match (opened, &self.answer) {
             (Ok(plain), Ok(count)) => is_zeros(plain.as_slice(), *count),
@@ -46,12 +46,12 @@ impl Case {
     }
 }
 
-// Whether these are so many zero bytes.
+// Whether these are `count` zero bytes.
 fn is_zeros(bytes: &[u8], count: usize) -> bool {
     bytes.len() == count && bytes.iter().all(|byte| *byte == 0)
 }
 
-// Adds the case of these bytes.
+// Adds a case with these bytes.
 fn add(
     cases: &mut Vec<Case>,
     alloc: Global,
@@ -63,7 +63,7 @@ fn add(
     Ok(())
 }
 
-// Each beginning of the header alone.
+// Adds each proper prefix of the header.
 fn add_short_headers(
     cases: &mut Vec<Case>,
     alloc: Global,
@@ -78,7 +78,7 @@ fn add_short_headers(
     Ok(())
 }
 
-// What opening answers where the last bit of this byte of the header is another one.
+// The fault of opening when the last bit of this header byte is flipped.
 fn fault_at(place: usize, exponent: u32) -> OpenFault {
     match place {
         0..=7 => OpenFault::BadMagic,
@@ -89,7 +89,7 @@ fn fault_at(place: usize, exponent: u32) -> OpenFault {
     }
 }
 
-// The last bit of this byte is another one.
+// Adds a case with the last bit of this byte flipped.
 fn add_altered(
     cases: &mut Vec<Case>,
     alloc: Global,
@@ -108,7 +108,7 @@ fn add_altered(
     Ok(())
 }
 
-// The last bit of each byte of the header is another one.
+// Adds, for each byte of the header, a case with its last bit flipped.
 fn add_altered_headers(
     cases: &mut Vec<Case>,
     alloc: Global,
@@ -122,8 +122,9 @@ fn add_altered_headers(
     Ok(())
 }
 
-/// The container of a zero byte in chunks of 2^exponent bytes, under the key 00 01 .. 1f and with a label of so many
-/// bytes: as it is, with its header cut to each length, and with each byte of the header altered.
+/// Returns the cases of the container of one zero byte in chunks of 2^exponent bytes. The key is 00 01 .. 1f, and the
+/// label has `label` bytes. The container is as it is, with its header cut to each length, and with each header byte
+/// altered.
 pub fn header_cases(alloc: Global, exponent: u32, label: usize) -> Result<Vec<Case>, Fail> {
     let shape = Shape::two(exponent, label_of(label))?;
     let header = shape.header_bytes();
@@ -138,8 +139,8 @@ pub fn header_cases(alloc: Global, exponent: u32, label: usize) -> Result<Vec<Ca
     Ok(cases)
 }
 
-// Cuts of a container of two whole chunks and a byte: how many whole chunks are left behind the header, how many bytes
-// of the next one, how many of all are taken off again, and the fault.
+// Cuts of a container of two whole chunks and a byte: how many whole chunks are left after the header, how many bytes
+// of the next one, how many bytes are then taken off the end, and the fault.
 static CUTS: [(u8, u8, u8, OpenFault); 13] = [
     (0, 0, 0, OpenFault::BadLength),
     (0, 15, 0, OpenFault::BadLength),
@@ -156,7 +157,7 @@ static CUTS: [(u8, u8, u8, OpenFault); 13] = [
     (2, 17, 1, OpenFault::BadLength),
 ];
 
-// Each cut, where a header and a sealed chunk have so many bytes.
+// Adds each cut. A header has `header` bytes, and a sealed chunk `sealed`.
 fn add_cuts(
     cases: &mut Vec<Case>,
     alloc: Global,
@@ -175,7 +176,7 @@ fn add_cuts(
     Ok(())
 }
 
-// The chunks moved about, of which the first that doesn't check is named.
+// Adds the rearrangements of `MOVES`. Opening names the first chunk that doesn't check.
 fn add_moves(
     cases: &mut Vec<Case>,
     alloc: Global,
@@ -195,7 +196,7 @@ fn add_moves(
     Ok(())
 }
 
-// The cases of a container of two whole chunks of zeros and a zero byte. The other is that of another file.
+// Adds the cases of a container of two whole chunks of zeros and a zero byte. `other` is another file's container.
 fn add_chunk_cases(
     cases: &mut Vec<Case>,
     alloc: Global,
@@ -217,9 +218,9 @@ fn add_chunk_cases(
     add_moves(cases, alloc, bytes, other, header, sealed)
 }
 
-/// The container of two whole chunks of 2^exponent zero bytes and one more, under the key 00 01 .. 1f and with a label
-/// of so many bytes: as it is, cut about the ends of its header and its chunks, and with chunks exchanged, repeated,
-/// left out or taken from another file.
+/// Returns the cases of the container of two whole chunks of 2^exponent zero bytes and one more. The key is 00 01 ..
+/// 1f, and the label has `label` bytes. The container is as it is, cut near the ends of its header and its chunks, and
+/// with chunks exchanged, repeated, left out or taken from another file.
 pub fn chunk_cases(alloc: Global, exponent: u32, label: usize) -> Result<Vec<Case>, Fail> {
     let shape = Shape::two(exponent, label_of(label))?;
     let (key, header, chunk) = (counting_key(), shape.header_bytes(), shape.chunk());
@@ -237,16 +238,16 @@ pub fn chunk_cases(alloc: Global, exponent: u32, label: usize) -> Result<Vec<Cas
     Ok(cases)
 }
 
-/// How many cases `header_cases` gives for a label of so many bytes.
+/// How many cases `header_cases` returns for a label of `label` bytes.
 pub fn header_count(label: usize) -> usize {
-    // As it is, and twice each byte of a header of 25 and the label.
+    // The container as it is, and two cases for each byte of the header, which has 25 bytes and the label.
     label.min(255) * 2 + 51
 }
 
-/// How many `chunk_cases` gives.
+/// How many cases `chunk_cases` returns.
 pub const CHUNK_COUNT: usize = 19;
 
-// Whether opening answers each of so many cases as it says.
+// Whether there are `count` cases, and opening returns what each expects.
 #[cfg(test)]
 fn are_answered(alloc: Global, cases: &[Case], count: usize) -> bool {
     let key = counting_key();

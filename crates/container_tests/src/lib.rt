@@ -1,5 +1,5 @@
-//! The tests of `container_core`, and what the tests and the measurements of other crates share with them: a key, what
-//! is sealed under it, and cut and altered containers with what opening answers.
+//! The tests of `container_core`, and what they share with the tests and measurements of other crates: a key,
+//! containers under it, and cut and altered containers with the results of opening them.
 #![tactic(auto)]
 
 pub mod damages;

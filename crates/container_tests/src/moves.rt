@@ -1,10 +1,10 @@
-//! The chunks of a container of three moved about.
+//! The chunks of a container of three, rearranged.
 ghost use Rattle.std.specs.Prelude.{◌≤◌, ◌+◌, ◌*◌, length};
 
 use std::alloc::{AllocError, Global};
 
-/// Which chunks stand behind the header, and the first of them that doesn't check: 0 to 2 are those of a container of
-/// three chunks, and 3 is chunk 0 of another file's.
+/// Which chunks follow the header, and the first of them that doesn't check. 0 to 2 are the chunks of a container of
+/// three, and 3 is chunk 0 of another file's container.
 pub static MOVES: [(&str, &[u32], u32); 5] = [
     ("chunks 0 and 1 exchanged", &[1, 0, 2], 0),
     ("chunk 0 inserted again behind itself", &[0, 0, 1, 2], 1),
@@ -13,7 +13,7 @@ pub static MOVES: [(&str, &[u32], u32); 5] = [
     ("chunk 0 from the container of file 1", &[3, 1, 2], 0),
 ];
 
-// The chunk of this number in the moves, where a header and a sealed chunk have so many bytes.
+// The chunk with this number in `MOVES`, where a header has `header` bytes and a sealed chunk `sealed`.
 fn chunk_of<'a>(
     bytes: &'a [u8],
     other: &'a [u8],
@@ -32,7 +32,7 @@ fn chunk_of<'a>(
     }
 }
 
-/// The header and these chunks, one behind the other, where a header and a sealed chunk have so many bytes.
+/// Returns the header and these chunks in a row. A header has `header` bytes, and a sealed chunk `sealed`.
 pub fn moved(
     alloc: Global,
     bytes: &[u8],

@@ -13,7 +13,7 @@ fn nonce_of_a_last_chunk(rt: HostRuntime) {
     assert_eq!(rt; nonce([0xff, 0, 0, 0, 0, 0, 0], 0x0102_0304, false), want);
 }
 
-// Whether reading the header is refused so.
+// Whether reading the header fails with `fault`.
 fn is_refused(key: &Key, bytes: &[u8], fault: OpenFault) -> bool {
     match read_header(key, bytes) {
         Ok(_header) => false,
@@ -21,7 +21,7 @@ fn is_refused(key: &Key, bytes: &[u8], fault: OpenFault) -> bool {
     }
 }
 
-// Whether each byte that is changed before the ones changed so far has its fault.
+// Changes bytes from the last to the first. Whether each change has its own fault, despite those already made.
 fn names_faults_in_order(key: &Key, bytes: &mut [u8; 40]) -> bool {
     bytes[17] ^= 1;
     let mismatch = is_refused(key, bytes, OpenFault::KeyMismatch);
@@ -42,7 +42,7 @@ fn is_header_of_empty(header: &Header) -> bool {
         && header.label().is_empty()
 }
 
-// Of version 2 the label's length is tested last.
+// The same for version 2, where the label's length is tested last.
 fn names_faults_in_order_of_two(key: &Key, bytes: &mut [u8; 43]) -> bool {
     bytes[24] = 19;
     let label = is_refused(key, bytes, OpenFault::ShortHeader);
@@ -84,7 +84,7 @@ fn identity_of_a_key(rt: HostRuntime) {
     assert_eq!(rt; Key::new([0; 32]).id(), want);
 }
 
-// The cut of so many bytes behind a header: of version 1, or of version 2 with an exponent of its own.
+// The cut of `body` bytes after a header of version 1, or of version 2 with this exponent.
 fn cut_of(exponent: Option<u32>, body: u64) -> Result<Cut, OpenFault> {
     let shape = match exponent {
         None => Shape::one(),
@@ -96,7 +96,7 @@ fn cut_of(exponent: Option<u32>, body: u64) -> Result<Cut, OpenFault> {
     Cut::of_body(&Header::of(&counting_key(), &shape, prefix_of(0)), body)
 }
 
-// Whether so many bytes behind a header have so many chunks.
+// Whether `body` bytes after a header are `count` chunks.
 fn has_chunks(exponent: Option<u32>, body: u64, count: u32) -> bool {
     match cut_of(exponent, body) {
         Ok(places) => places.count() == count,
@@ -111,7 +111,7 @@ fn has_no_cut(exponent: Option<u32>, body: u64, fault: OpenFault) -> bool {
     }
 }
 
-// The places of two chunks, the second of one byte.
+// Whether these are the places of two chunks, the second of one byte.
 fn has_two_places(places: Cut) -> bool {
     if places.count() != 2 {
         return false;
@@ -121,8 +121,8 @@ fn has_two_places(places: Cut) -> bool {
     first == 0 && whole == 65_536 && second == 65_552 && rest == 1
 }
 
-// Bytes behind a header, and how many chunks they are. The last of each size are of 2^32 - 1 chunks, and those before
-// them of 2^40 bytes of plaintext.
+// The exponent, how many bytes follow the header, and how many chunks they are. The last row of each size has 2^32 - 1
+// chunks, and the one before it (except for `Some(16)`) 2^40 bytes of plaintext.
 static BODIES: [(Option<u32>, u64, u32); 19] = [
     (None, 16, 1),
     (None, 17, 1),
@@ -145,8 +145,8 @@ static BODIES: [(Option<u32>, u64, u32); 19] = [
     (Some(20), 4_503_668_345_798_640, u32::MAX),
 ];
 
-// The last of each size are one byte more than 2^32 - 1 chunks, and those before them one more than 2^40 bytes of
-// plaintext have.
+// The last row of each size is one byte more than 2^32 - 1 chunks have. The one before it (except for `Some(16)`) is
+// one byte more than the body of 2^40 plaintext bytes.
 static NO_BODIES: [(Option<u32>, u64, OpenFault); 19] = [
     (None, 0, OpenFault::BadLength),
     (None, 15, OpenFault::BadLength),

@@ -1,4 +1,4 @@
-//! What the tests and the measurement share: a key, prefixes, a label, and containers that `cryptography` made.
+//! What tests and measurements share: a key, prefixes, a label, and containers made by `cryptography`.
 use container_core::{Key, SealFault, Shape, seal};
 use std::alloc::Global;
 
@@ -13,19 +13,19 @@ pub fn counting_key() -> Key {
     Key::new(COUNTING)
 }
 
-/// Device 1; the number of the file follows.
+/// Returns the prefix of device 1 and this file number.
 pub fn prefix_of(file: u8) -> [u8; 7] {
     [0, 0, 1, 0, 0, 0, file]
 }
 
-/// The container of the empty plaintext under this key, of file 0.
+/// The container of the empty plaintext under this key, file 0.
 pub static EMPTY: [u8; 40] = [
     0x53, 0x54, 0x52, 0x4d, 0x53, 0x45, 0x41, 0x4c, 0x01, 0x10, 0x00, 0x00, 0x01, 0x00, 0x00, 0x00,
     0x00, 0x63, 0x0d, 0xcd, 0x29, 0x66, 0xc4, 0x33, 0x27, 0x55, 0xaa, 0x90, 0x44, 0xd3, 0x91, 0x66,
     0x88, 0xa3, 0x63, 0xf0, 0x4a, 0x03, 0x69, 0x2e,
 ];
 
-/// The container of the empty plaintext of version 2, with the exponent 12 and the label `ab`, else as before.
+/// The same in version 2, with exponent 12 and the label `ab`.
 pub static EMPTY_TWO: [u8; 43] = [
     0x53, 0x54, 0x52, 0x4d, 0x53, 0x45, 0x41, 0x4c, 0x02, 0x0c, 0x00, 0x00, 0x01, 0x00, 0x00, 0x00,
     0x00, 0x63, 0x0d, 0xcd, 0x29, 0x66, 0xc4, 0x33, 0x02, 0x61, 0x62, 0xae, 0x6a, 0xf0, 0xa1, 0xe6,
@@ -38,12 +38,12 @@ static LABEL: [u8; 255] =
     own. It stands behind the first 24 bytes of the header as it is, is no secret and is bound by the tags \
     of all chunks. It has from 0 to 255 bytes, as this one.";
 
-/// A label of so many bytes, up to 255.
+/// Returns a label of `bytes` bytes, at most 255.
 pub fn label_of(bytes: usize) -> &'static [u8] {
     &LABEL[..bytes.min(255)]
 }
 
-/// The container of so many zero bytes in a shape, of this file.
+/// Returns the container of `count` zero bytes in this shape, for this file.
 pub fn zeros_sealed(
     alloc: Global,
     key: &Key,

@@ -1,5 +1,5 @@
-//! Containers of version 2: chunks of 2^12 to 2^20 bytes, and a label. The expected bytes and digests are those of
-//! Python's `cryptography` and `hashlib`.
+//! Containers of version 2: chunks of 2^12 to 2^20 bytes, and a label. The expected bytes and digests are from Python's
+//! `cryptography` and `hashlib`.
 use crate::samples::{EMPTY, EMPTY_TWO, counting_key, label_of, prefix_of, zeros_sealed};
 use crate::whole::{has_fault, is_cut_and_digested, opens_to_zeros};
 use container_core::{
@@ -8,7 +8,7 @@ use container_core::{
 use std::alloc::Global;
 use std::test::Fail;
 
-// A byte of the container of no bytes, another value of it, and what opening then answers.
+// A byte's place in the container of the empty plaintext, a new value of it, and the fault of opening.
 static CHANGES: [(usize, u8, OpenFault); 12] = [
     (0, 0x73, OpenFault::BadMagic),
     (8, 1, OpenFault::BadExponent),
@@ -24,7 +24,7 @@ static CHANGES: [(usize, u8, OpenFault); 12] = [
     (25, 0x62, OpenFault::Forged { chunk: 0 }),
 ];
 
-// Whether the container of no bytes with a byte of this value has this fault.
+// Whether the container of the empty plaintext with this changed byte fails to open with this fault.
 fn is_noticed(alloc: Global, key: &Key, place: usize, value: u8, fault: OpenFault) -> bool {
     let mut bytes = EMPTY_TWO;
     if place >= bytes.len() {
@@ -34,7 +34,7 @@ fn is_noticed(alloc: Global, key: &Key, place: usize, value: u8, fault: OpenFaul
     has_fault(alloc, key, &bytes, fault)
 }
 
-// Whether the plaintext of no bytes has the container that it should have.
+// Whether the empty plaintext has the expected container.
 fn seals_nothing(alloc: Global, key: &Key) -> Result<bool, Fail> {
     let Ok(shape) = Shape::two(12, b"ab") else {
         return Ok(false);
@@ -55,7 +55,8 @@ fn empty_plaintext_under_a_label(rt: HostRuntime) -> Result<(), Fail> {
     Ok(())
 }
 
-// An exponent, the bytes of a label, how many zero bytes, the bytes of their container, its chunks, and its SHA-256.
+// An exponent, a label's length, the number of zero bytes, and of their container the length, the number of chunks and
+// the SHA-256.
 static CONTAINERS: [(u32, usize, usize, usize, u32, [u8; 32]); 6] = [
     (
         12,
@@ -131,7 +132,7 @@ static CONTAINERS: [(u32, usize, usize, usize, u32, [u8; 32]); 6] = [
     ),
 ];
 
-// Whether so many zero bytes have this container, and it opens to them.
+// Whether `count` zero bytes have this container, and it opens to them.
 fn seals_and_opens(
     alloc: Global,
     (exponent, label, count): (u32, usize, usize),
@@ -160,7 +161,7 @@ fn containers_of_zeros_under_labels(rt: HostRuntime) -> Result<(), Fail> {
     Ok(())
 }
 
-// An exponent, how many bytes of label, and of such a shape the bytes of a header and of a chunk.
+// An exponent, a label's length, and the lengths of a header and of a chunk of that shape.
 static SHAPES: [(u32, usize, usize, usize); 4] = [
     (12, 0, 25, 4096),
     (12, 255, 280, 4096),
@@ -172,7 +173,7 @@ static NO_SHAPES: [(u32, usize); 6] = [(11, 0), (21, 0), (0, 2), (268, 2), (12, 
 
 static LONG_LABEL: [u8; 256] = [0x61; 256];
 
-// A label of so many bytes, up to 256.
+// A label of `bytes` bytes, at most 256.
 fn long_label(bytes: usize) -> &'static [u8] {
     &LONG_LABEL[..bytes.min(256)]
 }
@@ -205,10 +206,10 @@ fn shapes_have_bounds(rt: HostRuntime) {
     }
 }
 
-// What beginning to open a container of so many bytes answers, by its header alone, where its plaintext may have `most`
-// bytes: how many it has.
+// Begins to open a container of `bytes` bytes by its header alone, where its plaintext may have at most `most` bytes.
+// Returns how many bytes of plaintext it has.
 fn plain_of(key: &Key, front: &[u8], bytes: u64, most: u64) -> Result<u64, OpenFault> {
-    // For the contract of `begin_within`.
+    // The contract of `begin_within` requires this.
     if most > MAX_OPENED || front.len() as u64 > bytes || header_bytes(front) > front.len() {
         return Err(OpenFault::Read);
     }
@@ -218,7 +219,7 @@ fn plain_of(key: &Key, front: &[u8], bytes: u64, most: u64) -> Result<u64, OpenF
     }
 }
 
-// The first bytes of version 2 with this exponent, and the label `ab`.
+// The header of version 2 with this exponent and the label `ab`.
 fn front_of(exponent: u8) -> [u8; 27] {
     let mut front = [0; 27];
     front.copy_from_slice(&EMPTY_TWO[..27]);
@@ -226,7 +227,7 @@ fn front_of(exponent: u8) -> [u8; 27] {
     front
 }
 
-// What `plain_of` answers to the first bytes of version 1, or of version 2 with an exponent of its own.
+// What `plain_of` returns for the header of version 1, or of version 2 with this exponent.
 fn plain_by(key: &Key, exponent: Option<u8>, bytes: u64, most: u64) -> Result<u64, OpenFault> {
     match exponent {
         None => plain_of(key, &EMPTY[..24], bytes, most),
@@ -234,9 +235,9 @@ fn plain_by(key: &Key, exponent: Option<u8>, bytes: u64, most: u64) -> Result<u6
     }
 }
 
-// Of version 1, or of version 2 with an exponent of its own and a header of 27: the most bytes that a plaintext may
-// have, those of the longest that then has a container, and of that container. Where all may be opened the longest has
-// 2^32 - 1 chunks.
+// For version 1, or for version 2 with this exponent and a header of 27 bytes: the most bytes that a plaintext may
+// have, the length of the longest one that then has a container, and that container's length. If every plaintext may be
+// opened, the longest has 2^32 - 1 chunks.
 static LONGEST: [(Option<u8>, u64, u64, u64); 8] = [
     (None, 65_537, 65_537, 65_593),
     (None, 1 << 40, 1 << 40, 1_099_780_063_256),
@@ -258,22 +259,22 @@ static LONGEST: [(Option<u8>, u64, u64, u64); 8] = [
     ),
 ];
 
-// Whether a container of so many plaintext bytes has so many bytes, and is the longest with which this beginning goes
-// where the plaintext may have `most`.
+// Whether a container of `plain` plaintext bytes has `bytes` bytes, and is the longest that opens with at most `most`
+// bytes of plaintext.
 fn is_longest(exponent: Option<u8>, most: u64, plain: u64, bytes: u64) -> bool {
     let key = counting_key();
     plain_by(&key, exponent, bytes, most) == Ok(plain)
         && plain_by(&key, exponent, bytes.saturating_add(1), most) == Err(OpenFault::TooLong)
 }
 
-// Of version 2 the header's faults come before the length's, else the length's.
+// In version 2 the header's faults come before a fault of the length, in version 1 after it.
 fn name_another_key() -> bool {
     let key = Key::new([0; 32]);
     plain_by(&key, None, 41, 0) == Err(OpenFault::TooLong)
         && plain_by(&key, Some(12), 44, 0) == Err(OpenFault::KeyMismatch)
 }
 
-// Whether the first bytes tell the versions apart.
+// Whether the first bytes identify the version.
 fn are_told_apart() -> bool {
     !begins_as_two(&EMPTY[..24]) && begins_as_two(&EMPTY_TWO[..27])
 }

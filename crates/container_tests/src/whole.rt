@@ -1,4 +1,4 @@
-//! Whole containers. The expected bytes and digests are those of Python's `cryptography` and `hashlib`.
+//! Whole containers. The expected bytes and digests are from Python's `cryptography` and `hashlib`.
 ghost use Rattle.std.specs.Prelude.{◌≡◌, ◌≤◌, length};
 ghost use Rattle.container_core.specs.Container.{size_in};
 
@@ -12,7 +12,7 @@ use sha2::{Digest, Sha256};
 use std::alloc::{AllocError, Global};
 use std::test::Fail;
 
-// How many zero bytes, the bytes of their container, its chunks, and its SHA-256.
+// The number of zero bytes, and of their container the length, the number of chunks and the SHA-256.
 static CONTAINERS: [(usize, usize, u32, [u8; 32]); 3] = [
     (
         65_535,
@@ -46,7 +46,7 @@ static CONTAINERS: [(usize, usize, u32, [u8; 32]); 3] = [
     ),
 ];
 
-// Whether opening answers this fault.
+// Whether opening fails with this fault.
 pub(crate) fn has_fault(alloc: Global, key: &Key, bytes: &[u8], fault: OpenFault) -> bool {
     match open(alloc, key, bytes) {
         Ok(_plain) => false,
@@ -54,7 +54,7 @@ pub(crate) fn has_fault(alloc: Global, key: &Key, bytes: &[u8], fault: OpenFault
     }
 }
 
-// Whether the container of so many zero bytes opens to them.
+// Whether the container of `count` zero bytes opens to them.
 pub(crate) fn opens_to_zeros(alloc: Global, key: &Key, bytes: &[u8], count: usize) -> bool {
     match open(alloc, key, bytes) {
         Ok(plain) => plain.len() == count && plain.iter().all(|byte| *byte == 0),
@@ -62,7 +62,7 @@ pub(crate) fn opens_to_zeros(alloc: Global, key: &Key, bytes: &[u8], count: usiz
     }
 }
 
-// Whether these bytes have this length, so many chunks behind their header, and this digest.
+// Whether these bytes have this length, this number of chunks after the header, and this digest.
 pub(crate) fn is_cut_and_digested(
     key: &Key,
     bytes: &[u8],
@@ -99,7 +99,7 @@ fn containers_of_zeros(rt: HostRuntime) -> Result<(), Fail> {
     Ok(())
 }
 
-// These parts, one behind the other.
+// These parts in a row.
 fn joined(alloc: Global, parts: &[&[u8]]) -> Result<Vec<u8>, AllocError> {
     let mut bytes = Vec::new(alloc);
     for part in parts {
@@ -108,14 +108,14 @@ fn joined(alloc: Global, parts: &[&[u8]]) -> Result<Vec<u8>, AllocError> {
     Ok(bytes)
 }
 
-// Whether these parts, one behind the other, are 65,592 bytes of a bad length.
+// Whether these parts in a row are 65,592 bytes, and opening fails with `BadLength`.
 fn have_a_bad_length(alloc: Global, key: &Key, parts: &[&[u8]]) -> Result<bool, AllocError> {
     let bytes = joined(alloc, parts)?;
     let bad = has_fault(alloc, key, bytes.as_slice(), OpenFault::BadLength);
     Ok(bytes.len() == 65_592 && bad)
 }
 
-// Whether the sealed chunk doesn't open as the last one, and opens to zeros as the first.
+// Whether the sealed chunk opens to zeros as the first chunk, and doesn't open as the last.
 fn opens_as_first(key: &Key, header: &Header, chunk: &mut [u8; 65536], tag: &[u8; 16]) -> bool
     requires { 65536 ≤ size_in header.now }
 {
@@ -124,8 +124,8 @@ fn opens_as_first(key: &Key, header: &Header, chunk: &mut [u8; 65536], tag: &[u8
         && *chunk == [0; 65536]
 }
 
-// Whether a chunk of zeros and an empty one behind it open one by one, the first not as the last, and are a bad length
-// together.
+// Whether a chunk of zeros and an empty one after it open one by one, the first not as the last. Together they must be
+// a bad length.
 fn are_refused(
     alloc: Global,
     key: &Key,
@@ -150,7 +150,7 @@ fn empty_chunk_behind_a_full_one_is_a_bad_length(rt: HostRuntime) -> Result<(), 
     Ok(())
 }
 
-// Whether the first chunk is forged where it and the second of three whole chunks are exchanged.
+// Whether the first chunk is forged once the first two of three whole chunks are exchanged.
 fn is_forged_when_exchanged(alloc: Global, key: &Key, bytes: &[u8]) -> Result<bool, AllocError>
     requires { length bytes.now ≡ 196680 }
 {
@@ -162,7 +162,7 @@ fn is_forged_when_exchanged(alloc: Global, key: &Key, bytes: &[u8]) -> Result<bo
     Ok(has_fault(alloc, key, other.as_slice(), OpenFault::Forged { chunk: 0 }))
 }
 
-// Whether another key is named, under the right key another version, and another beginning before that version.
+// Whether opening reports the wrong key, with the right key the wrong version, and before that a wrong magic.
 fn names_first_fault(alloc: Global, bytes: &mut [u8]) -> bool
     requires { 9 ≤ length bytes.old }
 {
@@ -185,7 +185,7 @@ fn altered_container_names_the_first_fault(rt: HostRuntime) -> Result<(), Fail> 
     Ok(())
 }
 
-// Three chunks of zeros under a header of version 9, each with the tag of this very header.
+// Three chunks of zeros under a header of version 9, each with the tag for that header.
 fn under_version_9(alloc: Global) -> Result<Vec<u8>, AllocError> {
     let mut header = [0; HEADER];
     header.copy_from_slice(&EMPTY[..HEADER]);
@@ -201,7 +201,7 @@ fn under_version_9(alloc: Global) -> Result<Vec<u8>, AllocError> {
     Ok(bytes)
 }
 
-// The version is tested before the tags: they are those of this very header.
+// The version is tested before the tags, which are valid for this header.
 #[test]
 fn good_tags_under_another_version(rt: HostRuntime) -> Result<(), AllocError> {
     let bytes = under_version_9(rt.alloc())?;
@@ -210,20 +210,20 @@ fn good_tags_under_another_version(rt: HostRuntime) -> Result<(), AllocError> {
     Ok(())
 }
 
-// These bytes, in a vector with room for so many in all.
+// These bytes in a vector of capacity `room`.
 fn with_room(alloc: Global, front: &[u8], room: usize) -> Result<Vec<u8>, AllocError> {
     let mut bytes = Vec::with_capacity(alloc, room)?;
     bytes.extend_from_slice(front)?;
     Ok(bytes)
 }
 
-// Whether the container of no bytes is sealed behind three bytes, which stay.
+// Whether the container of the empty plaintext is sealed after three bytes, which stay.
 fn seals_behind(bytes: &mut Vec<u8>) -> bool {
     if bytes.len() != 3 || bytes.capacity() < 43 {
         return false;
     }
     let shape = Shape::one();
-    // For the contract of `seal_into`.
+    // The contract of `seal_into` requires this.
     if container_bytes(&shape, 0) != 40 {
         return false;
     }
@@ -232,14 +232,14 @@ fn seals_behind(bytes: &mut Vec<u8>) -> bool {
     front == b"abc".as_slice() && rest == EMPTY.as_slice()
 }
 
-// Whether opening this body of no bytes, behind other bytes, answers so and leaves them.
+// Whether opening this body of the empty plaintext after other bytes returns the expected result and keeps them.
 fn opens_behind(
     out: &mut Vec<u8>,
     header: &Header,
     body: &[u8; 16],
     fault: Option<OpenFault>,
 ) -> bool {
-    // For the contract of `open_into`.
+    // The contract of `open_into` requires this.
     let body_bytes = header.container_bytes(0) - header.bytes().len() as u64;
     if out.len() > out.capacity() || body_bytes != 16 {
         return false;
@@ -248,7 +248,7 @@ fn opens_behind(
     opened.err() == fault && out.as_slice() == b"before".as_slice()
 }
 
-// Whether the body of the container of no bytes opens behind other bytes, and doesn't where its last byte is changed.
+// Whether the body of the empty plaintext's container opens after other bytes, and fails once its last byte is changed.
 fn opens_in_room(out: &mut Vec<u8>) -> bool {
     let Ok((header, cut)) = begin(&counting_key(), &EMPTY) else {
         return false;
@@ -264,8 +264,7 @@ fn opens_in_room(out: &mut Vec<u8>) -> bool {
         && opens_behind(out, &header, &body, forged)
 }
 
-// A container sealed and opened in room that stood before, behind other bytes; and a chunk that doesn't check leaves
-// them.
+// Seals and opens a container in existing room, after other bytes. A chunk that doesn't check leaves them unchanged.
 #[test]
 fn whole_in_given_room(rt: HostRuntime) -> Result<(), AllocError> {
     let mut bytes = with_room(rt.alloc(), b"abc", 43)?;

@@ -1,4 +1,4 @@
--- What a batch answers, by what its lanes left.
+-- What a batch returns, given what its lanes left.
 use Rattle.std.proofs.Common.{◌≡◌, ℕ, zero, suc, ◌+◌, ◌<◌, ◌≤◌, cond, All, List, [], ◌∷◌, ◌++◌, length, get_or, refl, sym, ap, ◌∙◌, subst, arith, ne_eqb, append-nil, length-append, inl, inr}
 use Rattle.std.specs.Prelude.{Some, slice_get}
 use Rattle.std.proofs.lemmas.List.{get_or_append_left}
@@ -26,7 +26,7 @@ of_none place lanes (o ∷ os) among past =
     let first = among zero o refl in
     ap (λ b. cond b (o ∷ of_seat place os) (of_seat place os)) (ne_eqb (seat_of o) place (λ e. absurd (omega arith))) ∙ of_none place lanes os (λ n x at. among (suc n) x at) past
 
--- behind two fronts of one length
+-- after two prefixes of the same length
 past_front : (xs ys rest : List SeatView) (i : ℕ) → length ys ≡ length xs → length xs ≤ i → slice_get (ys ++ rest) i ≡ slice_get (xs ++ rest) i
 past_front [] [] rest i same past = refl
 past_front [] (y ∷ ys) rest i same past = absurd (omega arith)
@@ -34,7 +34,7 @@ past_front (x ∷ xs) [] rest i same past = absurd (omega arith)
 past_front (x ∷ xs) (y ∷ ys) rest zero same past = absurd (omega arith)
 past_front (x ∷ xs) (y ∷ ys) rest (suc i) same past = past_front xs ys rest i (omega arith) (omega arith)
 
--- within a front
+-- within a prefix
 in_front : (xs rest : List SeatView) (i : ℕ) (v d : SeatView) → i < length xs → slice_get (xs ++ rest) i ≡ Some v → get_or xs i d ≡ v
 in_front xs rest i v d low at = sym (get_or_append_left xs rest d i low) ∙ get_or_from_slice_get (xs ++ rest) i v d at
 

@@ -1,4 +1,4 @@
--- For callers: after a batch all seats of a ledger are all seats of it still.
+-- For callers: after a batch, the seats that were all seats of a ledger still are.
 use Rattle.std.proofs.Common.{◌≡◌, ◌<◌, List, length, get_or, ◌∙◌, arith}
 use Rattle.std.proofs.lemmas.Option.{slice_get-get_or, slice_get_within}
 use Rattle.ledger_core.specs.Closing.{AreAllSeats}

@@ -9,7 +9,7 @@ use Rattle.crew_core.specs.Lanes.{BatchView, AreLanes, IsWorked, ended}
 use Rattle.crew_core.specs.Places.{PlacesView, all_jobs, no_places}
 use Rattle.crew_core.proofs.OrderLemmas.{all_jobs-append}
 
--- lanes, and those behind them
+-- lanes, and those after them
 pub lanes_joined : (batch : BatchView) (count : ℕ) (old new old' new' : List SeatView)
     (places places' : List PlacesView) → length old ≡ count → AreLanes batch 0 old new places → AreLanes batch count old' new' places'
     → AreLanes batch 0 (old ++ old') (new ++ new') (places ++ places')

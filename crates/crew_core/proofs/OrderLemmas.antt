@@ -91,7 +91,7 @@ times_set x (p ∷ ps) (suc lane) after below =
     let there = times_set x ps lane after (omega arith) in
     omega arith
 
--- where no smaller job is left, the next one stands first
+-- where no smaller job is left, the next one is first
 first_is : (n : ℕ) (done : List Done) → 0 < times n (jobs_of done) → Ascends (jobs_of done)
     → ((x : ℕ) → x < n → times x (jobs_of done) ≡ 0) → BeginsWith n done
 first_is n [] has up smaller = absurd (omega arith)
@@ -112,7 +112,7 @@ nothing_left (d ∷ ds) nothing =
     let is = nothing d.job in
     absurd (omega arith)
 
--- of what a lane did a part is in order, and the rest is left
+-- of what a lane did, a part is in order, and the rest is left
 abbrev pub IsTaken : ℕ → List Outcome → List Done → List Done → Type 0
 IsTaken lane out all left = (taken : List Done) × (all ≡ taken ++ left) × (of_seat lane out ≡ outcomes_of taken)
 
@@ -156,7 +156,7 @@ next_lane jobs job whole left out inside w =
           omega arith),
     )
 
--- what one outcome more adds to those of a seat
+-- what one more outcome adds to those of a seat
 of_seat_same : (lane : ℕ) (out : List Outcome) (o : Outcome) → seat_of o ≡ lane
     → of_seat lane (out ++ o ∷ []) ≡ of_seat lane out ++ o ∷ []
 of_seat_same lane out o is =
@@ -170,7 +170,7 @@ of_seat_other lane out o other =
     ∙ ap (λ b. of_seat lane out ++ cond b (o ∷ []) []) (ne_eqb (seat_of o) lane other)
     ∙ append-nil (of_seat lane out)
 
--- one job more
+-- one more job
 module _ (jobs job lane : ℕ) (whole left left' : List PlacesView) (out : List Outcome) (o : Outcome)
     (after : PlacesView) (drawn : AreDrawn jobs whole) (w : IsOrdering jobs job whole left out) (below : lane < length left)
     (is : left' ≡ set left lane after) (taken : done_at left lane ≡ done_of job o ∷ after.done) where

@@ -1,4 +1,4 @@
--- A body in rounds, one behind the other.
+-- A body in consecutive rounds.
 use Rattle.std.proofs.Common.{◌≡◌, ℕ, ◌+◌, ◌*◌, ◌-◌, ◌<◌, ◌≤◌, true, List, ◌++◌, length, take, drop, Option, Some, None, Result, Err, inl, inr, ap, sym, ◌∙◌, arith, append_assoc, length-take-le}
 use Rattle.std.proofs.lemmas.Bool.{cases_lt}
 use Rattle.container_core.specs.declared.fault.OpenFault.{OpenFault}
@@ -14,7 +14,7 @@ use Rattle.round_core.specs.Views.{PlacesView}
 use Rattle.worker_core.specs.Crew.{CrewView}
 use Rattle.crew_core.specs.Rounds.{CanMake}
 
--- who can make some pieces can make fewer
+-- what can make some pieces can make fewer
 pub can-less : (task : Task) (size most few : ℕ) (crew : CrewView) (places : PlacesView) → few ≤ most
     → CanMake task size most crew places → CanMake task size few crew places
 can-less task size most few crew places less can = record {
@@ -24,7 +24,7 @@ can-less task size most few crew places less can = record {
   rooms = (omega (arith, can.rooms.0), omega (arith, can.rooms.1));
 }
 
--- one more round was made, and the bytes of the one before were appended
+-- one more round was made, and the bytes of the previous one were appended
 pub sealed-next : (done out body rest next now whole : List ℕ) → out ≡ done → now ≡ body → next ≡ body ++ rest → done ++ next ≡ whole
     → (out ++ now) ++ rest ≡ whole
 sealed-next done out body rest next now whole is made split before =
@@ -38,12 +38,12 @@ opened-next done out now rest next whole is opens before =
     before ∙ ap (λ (r : Result (List ℕ) OpenFault). behind done r) opens ∙ behind-behind done now rest
     ∙ ap (λ (l : List ℕ). behind (l ++ now) rest) (sym is)
 
--- a round doesn't: nor does the whole
+-- a round doesn't, so the whole doesn't
 pub opened-not : (done : List ℕ) (fault : OpenFault) (next whole : Result (List ℕ) OpenFault) → next ≡ Err fault
     → whole ≡ behind done next → whole ≡ Err fault
 opened-not done fault next whole fails before = before ∙ ap (λ (r : Result (List ℕ) OpenFault). behind done r) fails
 
--- how much is left behind a full round of an opening
+-- how much is left after a full round of an opening
 pub round-fits : (size round n : ℕ) → 0 < size → 0 < round → round * (size + 16) < body_length size n → round * size < n
 round-fits size round n some many long =
     elim (cases_lt (round * size) n) [
@@ -74,7 +74,7 @@ count-within size round n some many few =
     let whole = count-whole size round some many in
     omega (arith, grows, whole)
 
--- the same of sealed chunks
+-- the same for sealed chunks
 pub sealed-within : (size round n : ℕ) → 0 < size → 0 < round → body_length size n ≤ round * (size + 16) → chunk_count size n ≤ round
 sealed-within size round n some many few =
     elim (cases_lt (round * size) n) [
@@ -113,13 +113,13 @@ unfolding opening
 opening-fault key bytes most fault early =
     ap (λ (e : Option OpenFault). unless e (unsealed key (take (header_length bytes) bytes) 0 (sealed_chunks (size_in bytes) (drop (header_length bytes) bytes)))) early
 
--- the body behind the header
+-- the body after the header
 pub rest-behind : (bytes header body : List ℕ) → header ≡ take (header_length bytes) bytes → header_length bytes ≤ length bytes
     → body ≡ drop (length header) bytes → body ≡ drop (header_length bytes) bytes
 rest-behind bytes header body is enough back =
     back ∙ ap (λ (n : ℕ). drop n bytes) (ap (λ (l : List ℕ). length l) is ∙ length-take-le (header_length bytes) bytes enough)
 
--- a header, and the round of all chunks, the last, are the container
+-- a header and the round of all chunks, the last, are the container
 pub container-round : (key prefix plain header front out : List ℕ) (shape : ShapeView) → header ≡ header_of key shape prefix
     → size_in (header_of key shape prefix) ≡ size_of shape → front ≡ header
     → stream_by key header 0 true (chunks (size_in header) plain) ≡ stream key header 0 (chunks (size_in header) plain)

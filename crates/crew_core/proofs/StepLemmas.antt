@@ -1,4 +1,4 @@
--- One job's step at a seat: a number just granted is open there, and later issues leave it so.
+-- One job's step at a seat: a number just granted is open there, and later issues leave it open.
 use Rattle.std.proofs.Common.{◌≡◌, ◌⊎◌, All, nat_eq, ne_eqb, ℕ, ◌+◌, ◌<◌, ◌≤◌, cond, List, [], ◌∷◌, ◌++◌, length, map, get_or, refl, sym, ap, ◌∙◌, subst, arith, eq-eqb, append_assoc, append-nil, inl, inr}
 use mathlib.Core.Logic.{dite}
 use native.Mathlib.Decide.{ℕ_discrete}
@@ -147,7 +147,7 @@ ascends_push (x ∷ xs) n up below =
       ascends_push xs n up.1 (λ y has. below y (omega arith)),
     )
 
--- a lane has done one job more
+-- a lane has done one more job
 pub worked_next : (batch : BatchView) (lane job : ℕ) (old was new : SeatView) (done : List Done) (o : Outcome)
     → IsWorked batch lane old was done → IsStep batch.key batch.shape (get_or batch.jobs job []) lane was new o
     → ((x : ℕ) → 0 < times x (jobs_of done) → x < job) → IsWorked batch lane old new (done ++ done_of job o ∷ [])

@@ -1,4 +1,4 @@
--- What a batch answers to its jobs, and what it does to its seats.
+-- What a batch returns for its jobs, and what it does to its seats.
 use Rattle.std.specs.Prelude.{◌≡◌, ℕ, ◌<◌, nat_eq, List, [], ◌∷◌, ◌++◌, length, map, filter, slice_get, Some, ⊤}
 use Rattle.std.specs.List.{flat_map}
 use Rattle.container_core.specs.Container.{container}
@@ -22,7 +22,7 @@ seat_of (Sealed seat bytes spent) = seat
 seat_of (Spoiled seat spent) = seat
 seat_of (Unissued seat fault) = seat
 
--- the issue behind a fault: that no number is left is one, the other faults come before any
+-- the issue that a fault comes from: NoNumber is one, the other faults come before any
 abbrev pub refusal_of : IssueFault → List Event
 refusal_of NoNumber = Exhausted ∷ []
 refusal_of SeatClosed = []
@@ -42,8 +42,8 @@ issues number outcomes = map (entry number) (flat_map issue_of outcomes)
 abbrev pub of_seat : ℕ → List Outcome → List Outcome
 of_seat place outcomes = filter (λ o. nat_eq (seat_of o) place) outcomes
 
--- the outcome is one of this job: its container in a shape, under the prefix of a number spent as sealed, or a number
--- spent as void, or no number
+-- the outcome is one of this job: its container in a shape, under the prefix of a number spent as sealed; or a number
+-- spent as void; or no number
 abbrev pub IsOutcome : List ℕ → ShapeView → List ℕ → Outcome → Type 0
 IsOutcome key shape job (Sealed seat bytes spent) =
     (bytes.items ≡ container key shape (prefix_of spent.device spent.number) job) × (spent.way ≡ AsSealed)
@@ -57,7 +57,7 @@ pub record AreOutcomes (key : List ℕ) (shape : ShapeView)
   pub each : (n : ℕ) (job : List ℕ) (o : Outcome) → slice_get jobs n ≡ Some job
       → slice_get outcomes n ≡ Some o → IsOutcome key shape job o
 
--- what a fault says of the seat: one that got no number, or is closed, has met the end of the range
+-- what a fault says of the seat: one that got no number, or is closed, has reached the end of the range
 abbrev pub IsFaultAt : SeatView → IssueFault → Type 0
 IsFaultAt seat NoNumber = IsClosedSeat seat
 IsFaultAt seat SeatClosed = IsClosedSeat seat
@@ -69,17 +69,16 @@ IsAt seat (Sealed place bytes spent) = Holds seat spent
 IsAt seat (Spoiled place spent) = Holds seat spent
 IsAt seat (Unissued place fault) = IsFaultAt seat fault
 
--- the outcome names one of so many seats, and says of it what holds
+-- the outcome names one of the first `lanes` seats, and what it says of that seat holds
 abbrev pub IsAmong : ℕ → List SeatView → Outcome → Type 0
 IsAmong lanes seats o =
     (seat_of o < lanes) × ((seat : SeatView) × (slice_get seats (seat_of o) ≡ Some seat) × IsAt seat o)
 
--- each outcome names one of so many seats, and says of it what holds
+-- each outcome names one of the first `lanes` seats, and what it says of that seat holds
 abbrev pub AreAmong : ℕ → List SeatView → List Outcome → Type 0
 AreAmong lanes seats outcomes = (n : ℕ) (o : Outcome) → slice_get outcomes n ≡ Some o → IsAmong lanes seats o
 
--- each seat's own operations have grown by the issues that the outcomes name of it, each once and in the order of their
--- jobs
+-- each seat's own operations have grown by the issues of its outcomes, each once and in the order of their jobs
 abbrev pub AreIssued : List SeatView → List SeatView → List Outcome → Type 0
 AreIssued old new outcomes = (i : ℕ) (v w : SeatView) → slice_get old i ≡ Some v → slice_get new i ≡ Some w
     → w.mine ≡ v.mine ++ issues v.number (of_seat i outcomes)

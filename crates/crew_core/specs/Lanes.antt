@@ -1,4 +1,4 @@
--- Inside: what all lanes of a batch share, and what one lane leaves behind it.
+-- Inside: what all lanes of a batch share, and what one lane leaves.
 use Rattle.std.specs.Prelude.{◌≡◌, ℕ, ◌+◌, ◌<◌, ◌≤◌, List, [], ◌∷◌, ◌++◌, length, slice_index_or, All}
 use Rattle.container_core.specs.declared.TheConstants.{MAX_PLAIN}
 use Rattle.container_core.specs.Shape.{ShapeView}
@@ -11,7 +11,7 @@ use Rattle.crew_core.specs.declared.places.Done.{Done}
 use Rattle.crew_core.specs.Batch.{seat_of, issues, IsOutcome, IsAt}
 use Rattle.crew_core.specs.Places.{PlacesView, Ascends, done_at, jobs_of, outcomes_of}
 
--- what all lanes share: the claims are on the numbers of the jobs, and lanes are their workers
+-- what all lanes share: the claims are on the numbers of the jobs, and the lanes are their workers
 pub record BatchView : Type 0 where
   pub key : List ℕ
   pub shape : ShapeView
@@ -23,7 +23,7 @@ abbrev pub batch_of : List ℕ → ShapeView → LedgerId → List (List ℕ) �
 batch_of key shape ledger jobs claims =
     record { key = key; shape = shape; ledger = ledger; jobs = jobs; claims = claims }
 
--- at most 65,535 jobs, each of at most 2^40 bytes, whose numbers are those that are claimed
+-- at most 65,535 jobs, each of at most 2^40 bytes; their numbers are those that are claimed
 pub record IsBatch (batch : BatchView) : Type 0 where
   pub few : length batch.jobs ≤ MAX_JOBS
   pub short : All (λ job. length job ≤ MAX_PLAIN) batch.jobs
@@ -33,7 +33,7 @@ abbrev pub claimant_of : ClaimsView → ℕ → List ℕ → ℕ → ClaimantVie
 claimant_of claims workers drawn ends =
     record { id = claims.id; count = claims.count; workers = workers; drawn = drawn; ends = ends }
 
--- the claimant of so many lanes that have drawn these jobs, and have all ended
+-- the claimant of `lanes` lanes that have drawn these jobs and have all ended
 abbrev pub ended : ClaimsView → ℕ → List ℕ → ClaimantView
 ended claims lanes drawn = claimant_of claims lanes drawn lanes
 
@@ -47,7 +47,7 @@ pub record IsStep (key : List ℕ) (shape : ShapeView) (job : List ℕ) (lane : 
   pub seen : Begins old.seen new.seen
   pub same : IsSameSeat old new
 
--- a job that a lane has done, and its outcome, which names the lane's seat and says of it what holds by now
+-- a job that a lane has done, and its outcome, which names the lane's seat; what it says of the seat holds by now
 pub record IsDone (batch : BatchView) (lane : ℕ) (now : SeatView) (d : Done) : Type 0 where
   pub outcome : IsOutcome batch.key batch.shape (slice_index_or batch.jobs d.job []) d.outcome
   pub seat : seat_of d.outcome ≡ lane
@@ -65,14 +65,14 @@ pub record IsWorked (batch : BatchView) (lane : ℕ) (old new : SeatView) (done 
 abbrev pub AreFree : BatchView → PlacesView → Type 0
 AreFree batch places = (places.done ≡ []) × (length batch.jobs ≤ places.room)
 
--- so many seats with their places, before the first lane starts
+-- `count` seats with their places, before the first lane starts
 pub record AreReady (batch : BatchView) (count : ℕ) (seats : List SeatView) (places : List PlacesView) : Type 0 where
   pub seats_count : length seats ≡ count
   pub places_count : length places ≡ count
   pub ours : All (λ seat. seat.ledger ≡ batch.ledger) seats
   pub free : All (AreFree batch) places
 
--- the lanes from this one on, each with the seat and the places of its number less this one
+-- the lanes from `from` on, each with the seat and the places at its number less `from`
 pub record AreLanes (batch : BatchView) (from : ℕ) (old new : List SeatView) (places : List PlacesView) : Type 0 where
   pub seats_count : length new ≡ length old
   pub places_count : length places ≡ length old

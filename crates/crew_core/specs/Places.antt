@@ -39,8 +39,8 @@ abbrev pub Ascends : List ℕ → Type 0
 Ascends [] = Unit {0}
 Ascends (x ∷ xs) = ((y : ℕ) → 0 < times y xs → x < y) × Ascends xs
 
--- together the lanes have done each of so many jobs once, each lane in the order of their numbers, and every outcome
--- names the seat of its lane
+-- together the lanes have drawn each of `jobs` jobs once, each lane in the order of their numbers; every outcome names
+-- the seat of its lane
 pub record AreDrawn (jobs : ℕ) (places : List PlacesView) : Type 0 where
   pub once : (x : ℕ) → times x (all_jobs places) ≡ once_below x jobs
   pub ascends : (lane : ℕ) → lane < length places → Ascends (jobs_of (done_at places lane))
@@ -55,7 +55,7 @@ BeginsWith job (d ∷ ds) = d.job ≡ job
 abbrev pub IsFrom : List PlacesView → ℕ → Outcome → Type 0
 IsFrom places n o = (lane : ℕ) × (lane < length places) × Contains (done_at places lane) (done_of n o)
 
--- the outcomes of all jobs, in their order: of each lane those of the jobs that it did
+-- the outcomes of all jobs, in their order: from each lane those of the jobs that it did
 pub record AreInOrder (jobs : ℕ) (places : List PlacesView) (out : List Outcome) : Type 0 where
   pub count : length out ≡ jobs
   pub each : (n : ℕ) (o : Outcome) → slice_get out n ≡ Some o → IsFrom places n o

@@ -1,4 +1,4 @@
-//! A batch: many texts sealed under one key, each under a number of its own, by several lanes with a seat each.
+//! A batch: many plaintexts sealed under one key, each under its own number, with several lanes that have a seat each.
 ghost use Rattle.std.specs.Prelude.{◌≡◌, ℕ, ◌<◌, ◌≤◌, length, map, slice_get, Some, All, IfOk, OnErr};
 ghost use Rattle.crew_core.specs.Batch.{AreOutcomes, AreAmong, AreIssued, GoOn};
 ghost use Rattle.ledger_core.specs.Shared.{SeatView};
@@ -13,15 +13,15 @@ use ledger_core::{Ledger, Seat};
 use std::alloc::{AllocError, Global};
 use std::thread::Threads;
 
-/// Seals at most 65,535 jobs, each of at most 2^40 bytes, in one shape, by 1 to 16 lanes. Lane i uses the seat at place
-/// i. The lanes draw the jobs in the order of their numbers, each its next when it is done with the last, till none is
-/// left: for each a lane passes the gate with the job's number, issues a number, and seals the job on its own thread.
-/// So a lane that is held up holds up one job alone. The caller's thread is lane 0, and a lane that can't be started is
-/// left out. There are no more lanes than jobs.
+/// Seals at most 65,535 jobs, each of at most 2^40 bytes, in one shape, with 1 to 16 lanes. Lane i uses the seat at
+/// place i. The lanes draw the jobs in the order of their numbers, until none is left; a lane draws the next when it is
+/// done with one. For each job it passes the gate with the job's number, issues a number, and seals the job on its own
+/// thread. So a lane that is held up delays only one job. The caller's thread is lane 0, and a lane that can't be
+/// started is left out. There are no more lanes than jobs.
 ///
-/// The answer has one outcome for each job, in the order of the jobs. Nothing is settled: that is the caller's. Where
-/// memory for what the lanes share, or for the places of all outcomes, is refused, nothing was issued. Each lane has
-/// places for all jobs.
+/// Returns one outcome for each job, in the order of the jobs. Settles nothing; the caller does. Where memory for what
+/// the lanes share, or for the places of all outcomes, is refused, nothing was issued. Each lane has places for all
+/// jobs.
 pub fn seal_batch<R: Threads + Sync, G: Gate + Sync>(
     rt: &R,
     alloc: Global,
@@ -46,7 +46,7 @@ pub fn seal_batch<R: Threads + Sync, G: Gate + Sync>(
     ensures refused { OnErr result (seats.new ≡ seats.old) }
 {
     let count = jobs.len() as u32;
-    // A lane more than there are jobs would have none.
+    // More lanes than jobs would have nothing to do.
     let lanes = lanes.min(count).max(1);
     let mut outcomes = Vec::with_capacity(alloc, jobs.len())?;
     let mut all = all_places(alloc, jobs.len(), lanes)?;

@@ -1,5 +1,5 @@
-//! The lanes of a batch: each draws its jobs from the claims that all share, one after the other till none is left, and
-//! works on them with a seat of its own, in places of its own. So a lane that is held up holds up one job alone.
+//! The lanes of a batch. Each draws jobs from the claims that all share, one after another until none is left. It works
+//! with its own seat and its own places. So a lane that is held up delays only one job.
 ghost use Rattle.std.specs.Prelude.{◌≡◌, ℕ, ◌+◌, ◌<◌, ◌≤◌, [], length, map, All, IfOk};
 ghost use Rattle.std.specs.Prelude.{OnOk, OnErr, IfSome, IfNone, slice_index_or};
 ghost use Rattle.std.specs.Thread.{IsSync};
@@ -46,7 +46,7 @@ impl<'a> Model for Batch<'a> {
 }
 
 impl<'a> Batch<'a> {
-    /// A batch of these jobs for so many lanes, and the claimant that stands for all of them.
+    /// Makes a batch of these jobs for `lanes` lanes, and the claimant that represents all of them.
     pub(crate) fn open(
         alloc: Global,
         key: &'a Key,
@@ -76,7 +76,7 @@ impl<'a> Batch<'a> {
         Ok((batch, claimant))
     }
 
-    // The next job, or None where none is left.
+    // Draws the next job, or None where none is left.
     fn draw(&self, claimant: &mut Claimant) -> Option<u32>
         requires ours { IsOf self.now.claims claimant.old }
         requires may { claimant.old.ends < claimant.old.workers }
@@ -89,7 +89,7 @@ impl<'a> Batch<'a> {
         self.claims.draw(claimant)
     }
 
-    // The claimant of one lane, cut off: so many are left with the other.
+    // Cuts off the claimant of one lane. The other still has `_left` lanes.
     fn cut_off(&self, claimant: &mut Claimant, _left: u32) -> Claimant
         requires left { 0 < _left }
         requires fresh { claimant.old ≡ newcomer self.now.claims (_left + 1) }
@@ -99,7 +99,7 @@ impl<'a> Batch<'a> {
         self.claims.split(claimant)
     }
 
-    // Takes in the claimant of a lane that has ended, behind so many others.
+    // Joins the claimant of a lane that has ended to that of the lanes before it.
     fn take_in(&self, claimant: &mut Claimant, other: Claimant)
         requires ours { IsOf self.now.claims claimant.old }
         requires other { IsOf self.now.claims other }
@@ -145,7 +145,7 @@ impl<'a> Batch<'a> {
     }
 }
 
-// Seals a text under a grant, which is spent by that: sealed with the container, void where memory for it was refused.
+// Seals a plaintext under a grant. The grant is spent: sealed with the container, void where memory for it was refused.
 fn seal_granted(
     alloc: Global,
     key: &Key,
@@ -161,12 +161,12 @@ fn seal_granted(
 {
     match seal(alloc, key, shape, grant.prefix(), text) {
         Ok(bytes) => (Ok(bytes), grant.used()),
-        // A text has at most 2^40 bytes, so only memory was refused.
+        // A plaintext has at most 2^40 bytes, so only memory was refused.
         Err(_) => (Err(AllocError), grant.waste()),
     }
 }
 
-// Issues a number at the seat, and seals a text under it.
+// Issues a number at the seat, and seals a plaintext under it.
 fn sealed_job(
     alloc: Global,
     key: &Key,
@@ -195,7 +195,7 @@ fn sealed_job(
     }
 }
 
-// Works on one job after the other, till none is left.
+// Works on one job after another, until none is left.
 fn work_lane<G: Gate>(
     alloc: Global,
     batch: &Batch,
@@ -218,7 +218,7 @@ fn work_lane<G: Gate>(
     }
 }
 
-// Works off one lane, with the one seat and the one places.
+// Runs one lane, with its seat and its places, each alone in its slice.
 fn one_lane<G: Gate>(
     alloc: Global,
     batch: &Batch,
@@ -238,7 +238,7 @@ fn one_lane<G: Gate>(
     work_lane(alloc, batch, lane, gate, seat, places, claimant);
 }
 
-/// Works off the lanes below `upto`, each with the seat and the places of its number.
+/// Runs the lanes below `upto`, each with the seat and the places of its number.
 #[cycle(lanes)]
 pub(crate) fn work_lanes<R: Threads + Sync, G: Gate + Sync>(
     rt: &R,
@@ -269,7 +269,7 @@ pub(crate) fn work_lanes<R: Threads + Sync, G: Gate + Sync>(
     batch.take_in(claimant, theirs);
 }
 
-// Works off the lane of this number on a thread of its own, and those below it from this thread.
+// Runs the lane `last` on its own thread, and those below it from this thread.
 #[cycle(lanes)]
 fn work_both<R: Threads + Sync, G: Gate + Sync>(
     rt: &R,

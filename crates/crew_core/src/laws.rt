@@ -3,7 +3,7 @@ ghost use Rattle.std.specs.Prelude.{◌≡◌};
 
 use crate::MAX_JOBS;
 
-/// The constant is the number that users are told.
+/// The constant is the number in the documents.
 pub fn limits()
     ensures jobs { MAX_JOBS ≡ 65535 }
 {}

@@ -1,9 +1,9 @@
-//! Sealing and opening by several workers, with the answer of one thread.
+//! Sealing and opening with several workers, with the result of one thread.
 //!
-//! `seal_whole`, `seal_round` and `open_whole` make the pieces of a body round by round, each piece by the worker that
-//! draws its number. The caller's thread is worker 0. The workers share nothing that changes but the word from which
-//! numbers are drawn, and the gate. `seal_batch` draws its jobs in the same way. Works, pieces and shelves are those of
-//! `piece_core`.
+//! `seal_whole`, `seal_round` and `open_whole` make the pieces of a body round by round. Each piece is made by the
+//! worker that draws its number. The caller's thread is worker 0. The workers share only two things that change: the
+//! word from which numbers are drawn, and the gate. `seal_batch` draws its jobs in the same way. Works, pieces and
+//! shelves are those of `piece_core`.
 #![tactic(auto)]
 
 pub mod batch;

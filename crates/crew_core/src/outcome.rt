@@ -3,7 +3,7 @@
 use ledger_core::{IssueFault, Spent};
 
 /// What became of one job of a batch. `seat` is the place of the seat that worked on it, among the seats that the batch
-/// was handed: of seats in the order of their numbers, its number. Nothing is settled yet.
+/// was given. Where these are in the order of their numbers, it is the seat's number. Nothing is settled yet.
 #[derive(Debug, Drop)]
 pub enum Outcome {
     /// The job's container, under the prefix of a number that is spent as sealed.

@@ -1,6 +1,6 @@
-//! What the lanes of a batch have done, in places that were made before the first of them started, and all of it put in
-//! the order of the jobs once they have ended: each lane has drawn its jobs in the order of their numbers, so the next
-//! job is always the first that some lane has left.
+//! What the lanes of a batch have done, in places that were made before the first lane started. Once the lanes have
+//! ended, all of it is put in the order of the jobs. Each lane has drawn its jobs in the order of their numbers, so the
+//! next job is always the first that some lane has left.
 ghost use Rattle.std.specs.Prelude.{◌≡◌, ◌↔◌, ℕ, ◌<◌, ◌≤◌, ◌++◌, [], ◌∷◌, length, All, IfOk, IsTrue};
 ghost use Rattle.std.specs.Prelude.{vec_len, vec_capacity};
 ghost use Rattle.crew_core.specs.Places.{AreDrawn, AreInOrder, BeginsWith, done_at, done_of};
@@ -34,7 +34,7 @@ impl Model for Places {
 }
 
 impl Places {
-    // Room for so many jobs.
+    // Makes room for `room` jobs.
     fn new(alloc: Global, room: usize) -> Result<Places, AllocError>
         ensures { IfOk result (λ places. (places.done ≡ []) × (room ≤ places.room)) }
     {
@@ -50,7 +50,7 @@ impl Places {
         self.done.push_back_reserved(done);
     }
 
-    // Whether the first is the job of this number.
+    // Whether the first job left is the one of this number.
     fn begins_with(&self, job: u32) -> bool
         ensures { IsTrue result ↔ BeginsWith job self.now.done }
     {
@@ -60,7 +60,7 @@ impl Places {
         }
     }
 
-    // Takes out the outcome of the first, which is that of the job of this number.
+    // Takes out the outcome of the first job, which has the number `_job`.
     fn take(&mut self, _job: u32) -> Outcome
         requires { BeginsWith _job self.old.done }
         ensures { self.old.done ≡ done_of _job result ∷ self.new.done }
@@ -72,7 +72,7 @@ impl Places {
     }
 }
 
-/// Places for each lane, with room for so many jobs.
+/// Makes places for each lane, with room for `room` jobs.
 pub(crate) fn all_places(alloc: Global, room: usize, lanes: u32) -> Result<Vec<Places>, AllocError>
     ensures { IfOk result (λ all. (vec_len all ≡ lanes)
         × All (λ places. (places.done ≡ []) × (room ≤ places.room)) all.items) }
@@ -84,7 +84,7 @@ pub(crate) fn all_places(alloc: Global, room: usize, lanes: u32) -> Result<Vec<P
     Ok(all)
 }
 
-// The lane that has this job left as its first.
+// The lane whose first job left is this one.
 fn lane_with(places: &[Places], job: u32) -> usize
     requires { (lane : ℕ) × (lane < length places.now) × BeginsWith job (done_at places.now lane) }
     ensures below { result < length places.now }

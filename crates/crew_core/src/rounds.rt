@@ -1,8 +1,8 @@
-//! A body sealed or opened in rounds: while the crew makes one, the caller's thread appends the bytes of the one
-//! before, and then draws pieces as the others do.
+//! A body sealed or opened in rounds. While the crew makes a round, the caller's thread appends the bytes of the
+//! previous one, and then draws pieces as the others do.
 //!
-//! The room of the crew is made before the first piece is, with the words of all rounds, and so is that of the whole, by
-//! the caller: from then on nothing answers that memory was refused.
+//! The room of the crew is made before the first piece, with the words of all rounds. The caller makes the room of the
+//! whole before too. From then on no memory is refused.
 ghost use Rattle.std.specs.Prelude.{◌≡◌, ◌+◌, ◌-◌, ◌*◌, ◌^◌, ◌<◌, ◌≤◌, ◌++◌, ℕ, [], length, min, false, true, Ok, Err};
 ghost use Rattle.std.specs.Prelude.{vec_len, vec_capacity, IfOk, IfErr, OnOk};
 ghost use Rattle.container_core.specs.declared.fault.OpenFault.TheVariants.{Forged};
@@ -25,8 +25,8 @@ use std::alloc::{AllocError, Global};
 use std::thread::Threads;
 use worker_core::Crew;
 
-// Plaintext bytes of a round that isn't the last: 4 MiB, sealed in some 5 ms by one worker, where a thread starts in
-// less than 0.1 ms. It has 4 chunks of 1 MiB, 64 of 64 KiB, or 1,024 of 4 KiB.
+// Plaintext bytes of a round that isn't the last: 4 MiB. One worker seals them in some 5 ms, and a thread starts in
+// less than 0.1 ms. A round has 4 chunks of 1 MiB, 64 of 64 KiB, or 1,024 of 4 KiB.
 const ROUND: usize = 1 << 22;
 
 // How many chunks of this size a round has that isn't the last.
@@ -41,7 +41,7 @@ fn chunks_of_round(size: usize) -> u32
     (ROUND / size) as u32
 }
 
-// So many whole chunks of a plaintext, and what stands behind them.
+// The first `count` chunks of a plaintext, all of them whole, and what follows them.
 fn split_plain(size: usize, count: u32, rest: &[u8]) -> (&[u8], &[u8])
     requires size { 0 < size }
     requires full { count * size < length rest.now }
@@ -53,7 +53,7 @@ fn split_plain(size: usize, count: u32, rest: &[u8]) -> (&[u8], &[u8])
     rest.split_at(count as usize * size)
 }
 
-// So many whole sealed chunks of a body that has so many plaintext bytes, and what stands behind them.
+// The first `count` sealed chunks of a body of `plain` plaintext bytes, all of them whole, and what follows them.
 fn split_sealed(size: usize, count: u32, plain: u64, rest: &[u8]) -> (&[u8], &[u8])
     requires size { 0 < size }
     requires count { 0 < count }
@@ -101,8 +101,8 @@ pub(crate) struct Rooms {
 }
 
 impl Rooms {
-    // The room for a body of so many chunks of a size, for no more workers than a round has pieces. `AllocError` where
-    // memory was refused.
+    // Makes the room for a body of `chunks` chunks of `size` bytes, for no more workers than a round has pieces. Fails
+    // with `AllocError` where memory was refused.
     pub(crate) fn new(
         alloc: Global,
         task: Task,
@@ -128,7 +128,7 @@ impl Rooms {
     }
 }
 
-// Appends the bytes of the pieces on their places, for which there is room.
+// Appends the bytes of the pieces on their places. There is room for them.
 fn append_pieces(out: &mut Vec<u8>, places: &Places)
     requires room { vec_len out.old + length (joined places.now.values) ≤ vec_capacity out.old }
     ensures items { out.new.items ≡ out.old.items ++ joined places.now.values }
@@ -140,7 +140,7 @@ fn append_pieces(out: &mut Vec<u8>, places: &Places)
     }
 }
 
-// Makes a round, and puts its pieces on their places, from which those of the round before are appended.
+// Makes a round, and puts its pieces on their places. Meanwhile those of the previous round are appended from there.
 fn make_round<R: Threads + Sync, G: Gate + Sync>(
     rt: &R,
     alloc: Global,
@@ -168,8 +168,8 @@ fn make_round<R: Threads + Sync, G: Gate + Sync>(
     crew.put(round, places);
 }
 
-// Appends the chunks of a plaintext sealed, the first of which has this number; the flag says whether its last chunk is
-// the last of all. The room for them is there.
+// Appends the sealed chunks of a plaintext, the first of which has the number `first`. `last` says whether its last
+// chunk is the last of all. There is room for them.
 pub(crate) fn seal_rounds<R: Threads + Sync, G: Gate + Sync>(
     rt: &R,
     alloc: Global,
@@ -192,7 +192,7 @@ pub(crate) fn seal_rounds<R: Threads + Sync, G: Gate + Sync>(
     ensures { out.new.items ≡ out.old.items
         ++ stream_by key.now header.now first last (chunks (size_in header.now) plain.now) }
 {
-    // Rounds one behind the other are STREAM, and the pieces of a round its part of it.
+    // Consecutive rounds are STREAM, and the pieces of a round are its part of STREAM.
     rounds_of_a_stream();
     rounds_are_sealed();
     pieces_by_number();
@@ -215,8 +215,8 @@ pub(crate) fn seal_rounds<R: Threads + Sync, G: Gate + Sync>(
     append_pieces(out, &rooms.places);
 }
 
-// Whether all pieces of a round of an opening check, the first of which has this number in the whole; or the least that
-// doesn't.
+// Whether all pieces of a round of an opening check, else the number of the first that doesn't. The round's first piece
+// has the number `first`.
 fn checked(places: &Places, first: u32) -> Result<(), u32>
     requires numbers { first + length places.now.values ≤ 2 ^ 32 }
     ensures ok { OnOk result (named first (answer places.now.values) ≡ Ok (joined places.now.values)) }
@@ -229,8 +229,8 @@ fn checked(places: &Places, first: u32) -> Result<(), u32>
     }
 }
 
-// Appends the plaintext of sealed chunks, cut so and numbered from 0 on, or names the least of them that doesn't check.
-// The room for it is there.
+// Appends the plaintext of the sealed chunks of a body with this cut, numbered from 0 on. Returns the number of the
+// first that doesn't check, if there is one. There is room for the plaintext.
 pub(crate) fn open_rounds<R: Threads + Sync, G: Gate + Sync>(
     rt: &R,
     alloc: Global,
@@ -254,7 +254,7 @@ pub(crate) fn open_rounds<R: Threads + Sync, G: Gate + Sync>(
     ensures refused { IfErr result (λ chunk.
         unsealed_by key.now header.now 0 true (sealed_chunks cut.size body.now) ≡ Err (Forged chunk)) }
 {
-    // Rounds one behind the other open as all chunks do, and the pieces of a round as its chunks.
+    // Consecutive rounds open as all chunks do, and the pieces of a round as its chunks.
     rounds_open();
     rounds_are_opened();
     pieces_by_number();

@@ -1,4 +1,4 @@
-//! A whole container sealed or opened by several workers, and a round of one sealed.
+//! A whole container sealed or opened with several workers, and a round of one sealed.
 ghost use Rattle.std.specs.Prelude.{◌≡◌, ℕ, ◌+◌, ◌*◌, ◌^◌, ◌<◌, ◌≤◌, ◌++◌, ◌⊎◌};
 ghost use Rattle.std.specs.Prelude.{List, true, false, None, length, Ok, Err};
 ghost use Rattle.std.specs.Prelude.{IfOk, IfErr, OnOk, OnErr};
@@ -23,7 +23,7 @@ use round_core::Task;
 use std::alloc::{AllocError, Global};
 use std::thread::Threads;
 
-// Chunks sealed, behind what stands in front of them. All memory is taken before the first is sealed.
+// Returns `front` and after it the sealed chunks. Allocates all memory before the first is sealed.
 fn sealed_behind<R: Threads + Sync, G: Gate + Sync>(
     rt: &R,
     alloc: Global,
@@ -58,11 +58,11 @@ fn sealed_behind<R: Threads + Sync, G: Gate + Sync>(
     Ok(out)
 }
 
-/// Seals a plaintext of at most 2^40 bytes under the prefix of a grant, in a shape, by 1 to 16 workers, of which the
-/// caller's thread is the first. The answer is the container, whatever the number of workers and the gate; or that
-/// memory was refused, before any chunk was sealed. The grant comes back spent: sealed with the container, void without
-/// one. Beside the container it takes room for 4 MiB of chunks, or as many as there are, and for as many again for each
-/// worker. Of chunks of 1 MiB a round has 4, of 512 KiB 8, and no more workers start.
+/// Seals a plaintext of at most 2^40 bytes under the prefix of a grant, in a shape, with 1 to 16 workers. The caller's
+/// thread is the first of them. Returns the container, whatever the number of workers and the gate, or `AllocError`
+/// where memory was refused, before any chunk was sealed. The grant comes back spent: sealed with the container, void
+/// without one. Allocates, besides the container, room for 4 MiB of chunks, or for all where there are fewer, and as
+/// much again for each worker. A round has 4 chunks of 1 MiB, or 8 of 512 KiB, and no more workers start.
 pub fn seal_whole<R: Threads + Sync, G: Gate + Sync>(
     rt: &R,
     alloc: Global,
@@ -101,13 +101,16 @@ pub fn seal_whole<R: Threads + Sync, G: Gate + Sync>(
     }
 }
 
-/// Seals a part of STREAM, at most 256 chunks numbered from `first` on, by 1 to 16 workers, of which the caller's
-/// thread is the first. With `last` its last chunk is the last of all, and the answer is STREAM of the chunks. Without
-/// it the part has whole chunks, and the answer is what each STREAM begins with that begins with these chunks and goes
-/// on. A part without a byte is that of an empty plaintext alone: numbered 0, and the last. The last number is below
-/// 2^32. `AllocError` where memory was refused, before any chunk was sealed; it takes as much as `seal_whole`, and
-/// starts no more workers. No grant is spent here: that under one header each number is sealed once, and one chunk as
-/// the last, is the caller's part.
+/// Seals a part of STREAM, at most 256 chunks numbered from `first` on, with 1 to 16 workers. The caller's thread is
+/// the first of them. The last number is below 2^32.
+///
+/// - With `last` the part's last chunk is the last of all. Returns STREAM of the chunks.
+/// - Without it the part has whole chunks. Returns the bytes with which every STREAM of these chunks and more begins.
+/// - A part without a byte is only that of an empty plaintext: numbered 0, and the last.
+///
+/// Fails with `AllocError` where memory was refused, before any chunk was sealed. Allocates as much as `seal_whole`,
+/// and starts no more workers. No grant is spent here: the caller must seal each number under a header once, and one
+/// chunk as the last.
 pub fn seal_round<R: Threads + Sync, G: Gate + Sync>(
     rt: &R,
     alloc: Global,
@@ -132,10 +135,10 @@ pub fn seal_round<R: Threads + Sync, G: Gate + Sync>(
         ≡ out.items
         ++ stream key.now header.now (first + chunk_count (size_in header.now) (length plain.now)) more) }
 {
-    // STREAM is a round that is the last, and two rounds, one behind the other, are one.
+    // STREAM is a round that is the last, and two consecutive rounds are one.
     rounds_of_a_stream();
     chunks_by_number();
-    // A header's chunks are of at most 2^20 bytes.
+    // A header's chunks have at most 2^20 bytes.
     header.chunk();
     sealed_behind(
         rt,
@@ -151,10 +154,11 @@ pub fn seal_round<R: Threads + Sync, G: Gate + Sync>(
     )
 }
 
-/// Opens a container under a key by 1 to 16 workers, of which the caller's thread is the first. The answer is that of
-/// `container_core::open`, whatever the number of workers and the gate: the plaintext, or the fault that `begin` names,
-/// or else `Forged` of the least chunk that doesn't check; or `OutOfMemory` where memory was refused, before any chunk
-/// was opened. Beside the plaintext it takes as much as `seal_whole` beside the container, and starts no more workers.
+/// Opens a container under a key with 1 to 16 workers. The caller's thread is the first of them. Returns what
+/// `container_core::open` does, whatever the number of workers and the gate: the plaintext, or the fault that `begin`
+/// names, else `Forged` for the first chunk that doesn't check. Fails with `OutOfMemory` where memory was refused,
+/// before any chunk was opened. Allocates, besides the plaintext, as much as `seal_whole` besides the container, and
+/// starts no more workers.
 pub fn open_whole<R: Threads + Sync, G: Gate + Sync>(
     rt: &R,
     alloc: Global,
@@ -168,7 +172,7 @@ pub fn open_whole<R: Threads + Sync, G: Gate + Sync>(
     ensures fault { IfErr result (λ fault. (fault ≡ OpenFault.OutOfMemory)
         ⊎ (opening key.now MAX_OPENED container.now ≡ Err fault)) }
 
-    // Memory is taken only where neither the length nor the header has a fault.
+    // Memory is taken only where the length and the header have no fault.
     ensures memory { result ≡ Err OpenFault.OutOfMemory → early_fault key.now MAX_OPENED container.now ≡ None }
 {
     // No early fault is one of memory, and all chunks are a round that is the last.

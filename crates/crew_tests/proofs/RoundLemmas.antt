@@ -1,4 +1,4 @@
--- How many chunks of 65,536 bytes a round of the tests has.
+-- Bounds on the number of 65,536-byte chunks in a round of the tests.
 use Rattle.std.proofs.Common.{◌≡◌, ℕ, ◌+◌, ◌-◌, ◌*◌, ◌/◌, ◌<◌, ◌≤◌, ap, arith}
 use Rattle.container_core.specs.Chunks.{chunk_count}
 

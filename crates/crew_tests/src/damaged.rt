@@ -1,4 +1,4 @@
-//! Containers that were changed: every number of workers names the first chunk that does not check.
+//! Altered containers: with any number of workers, the first chunk that does not check is named.
 use crate::sealed::sealed;
 use crate::{counting_key, flip, pattern};
 use container_core::{CHUNK, HEADER, OpenFault, SEALED};
@@ -6,7 +6,7 @@ use crew_core::{Free, MAX_WORKERS, open_whole};
 use std::alloc::Global;
 use std::thread::Threads;
 
-// A container of so many full chunks, with one bit changed in the ciphertext of each of two chunks.
+// A container of `chunks` full chunks. One ciphertext bit is flipped in each of the chunks `bad` and `other`.
 fn damaged<R: Threads + Sync>(
     rt: &R,
     alloc: Global,
@@ -32,7 +32,7 @@ fn damaged<R: Threads + Sync>(
     Some(bytes)
 }
 
-// Whether so many workers refuse a container for this chunk.
+// Whether opening with `workers` workers fails with `Forged` for this chunk.
 pub fn is_refused_for<R: Threads + Sync>(
     rt: &R,
     alloc: Global,
@@ -50,14 +50,14 @@ pub fn is_refused_for<R: Threads + Sync>(
     }
 }
 
-// How many full chunks there are, two that don't check, the lesser one behind, and how many workers open them.
+// The number of full chunks, two that don't check (the lower number second), and the numbers of workers.
 static DAMAGED: [(u8, u8, u8, &[u32]); 2] = [
     (8, 5, 2, &[1, 4, 16]),
-    // In the last round of several: no fault stands in its place, `OutOfMemory` among them.
+    // The two are in the last of several rounds. No other fault is reported instead, such as `OutOfMemory`.
     (100, 99, 97, &[1, 2, 3, 4]),
 ];
 
-// Whether each of these numbers of workers refuses a container for this chunk.
+// Whether opening with each of these numbers of workers fails with `Forged` for this chunk.
 fn all_refuse<R: Threads + Sync>(
     rt: &R,
     alloc: Global,
@@ -73,7 +73,7 @@ fn all_refuse<R: Threads + Sync>(
     true
 }
 
-// Whether the least chunk that doesn't check is named by all of them.
+// Whether all of them name the lowest chunk that doesn't check.
 fn is_least_named<R: Threads + Sync>(
     rt: &R,
     alloc: Global,

@@ -1,5 +1,5 @@
-//! Containers of version 2 that are cut or altered: 1 and 4 workers answer what the tables of `container_tests` say,
-//! which are of the format.
+//! Cut or altered containers of version 2: 1 and 4 workers return what the tables of `container_tests` expect. The
+//! format fixes those results.
 ghost use Rattle.std.specs.Prelude.{◌<◌, ◌≤◌};
 
 use crate::counting_key;
@@ -9,7 +9,7 @@ use std::alloc::Global;
 use std::test::Fail;
 use std::thread::Threads;
 
-// Whether so many workers have the answer of a case.
+// Whether opening with `workers` workers returns what a case expects.
 fn is_answered_by<R: Threads + Sync>(rt: &R, alloc: Global, case: &Case, workers: u32) -> bool
     requires { (0 < workers) × (workers ≤ MAX_WORKERS) }
 {
@@ -17,7 +17,7 @@ fn is_answered_by<R: Threads + Sync>(rt: &R, alloc: Global, case: &Case, workers
     case.is_answered(&open_whole(rt, alloc, &key, case.bytes(), workers, &Free))
 }
 
-// Whether there are so many cases, and 1 and 4 workers have the answer of each.
+// Whether there are `count` cases, and 1 and 4 workers return what each expects.
 fn are_answered<R: Threads + Sync>(rt: &R, alloc: Global, cases: &[Case], count: usize) -> bool {
     for case in cases {
         if !is_answered_by(rt, alloc, case, 1) || !is_answered_by(rt, alloc, case, 4) {

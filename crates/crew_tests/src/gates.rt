@@ -1,4 +1,4 @@
-//! What a gate sees of the workers.
+//! How workers pass a gate.
 ghost use Rattle.std.specs.Prelude.{◌<◌, ◌≤◌, length};
 
 use crate::sealed::{opens_to, sealed};
@@ -9,18 +9,18 @@ use std::alloc::Global;
 use std::test::Fail;
 use std::thread::Threads;
 
-// How often a pass looks for the others, where workers are to meet, and where they can't.
+// How often a pass checks for the others: where workers can meet, and (`FEW_TURNS`) where they can't.
 const TURNS: u64 = 1_000_000_000;
 
 const FEW_TURNS: u64 = 1000;
 
-// A gate that so many passes have to meet, with few turns where it is to give up.
+// A gate that `wanted` passes must meet, with few turns if it is expected to give up.
 fn meeting(wanted: u64, gives_up: bool) -> Meeting {
     Meeting::new(wanted, if gives_up { FEW_TURNS } else { TURNS })
 }
 
-// Whether so many workers open a container to this plaintext at a gate that holds all passes until so many have come as
-// are wanted, which is how many there are, and whether the gate gives up is `gives_up`.
+// Whether `workers` workers open a container to this plaintext at a gate that holds all passes until `wanted` have
+// come. There must be `wanted` passes, and the gate gives up exactly if `gives_up`.
 fn opens_held<R: Threads + Sync>(
     rt: &R,
     alloc: Global,
@@ -36,8 +36,8 @@ fn opens_held<R: Threads + Sync>(
     opens_to(rt, alloc, bytes, plain, workers, &gate) && gate.is_met(wanted, gives_up)
 }
 
-// The container that so many workers seal at such a gate, where it and the gate at which as many open the container
-// both give up if `gives_up`, and both don't else.
+// The container that `workers` workers seal at such a gate. They then open it at another. Each gate must give up
+// exactly if `gives_up`.
 fn held<R: Threads + Sync>(
     rt: &R,
     alloc: Global,
@@ -68,19 +68,18 @@ fn held<R: Threads + Sync>(
     }
 }
 
-// How many zero bytes are sealed and opened, and by how many workers; how many have to meet, and whether the gate gives
-// up.
+// The number of zero bytes to seal and open, the number of workers, how many must meet, and whether the gate gives up.
 static MEETINGS: [(usize, u32, u64, bool); 4] = [
     (65_537, 2, 2, false),
-    // That this can fail: by one worker the container is the same.
+    // Shows that the test can fail: with one worker the container is the same.
     (65_537, 1, 2, true),
-    // A thread of its own for each worker: with fewer, four would not all be held at once.
+    // Each worker has its own thread: with fewer threads, four passes couldn't all be held at once.
     (196_609, 4, 4, false),
-    // That this can fail: with three workers three pass at first.
+    // Shows that the test can fail: of three workers only three passes come at first.
     (196_609, 3, 4, true),
 ];
 
-// Whether so many workers meet so at a gate, or don't; where there are two chunks, their container is the known one.
+// Whether `held` returns a container with these arguments. For two chunks it must be the known one.
 fn is_met<R: Threads + Sync>(
     rt: &R,
     alloc: Global,
@@ -107,7 +106,7 @@ fn as_many_workers_meet_as_are_asked_for(rt: HostRuntime) {
     }
 }
 
-// Whether each of so many pieces is passed once, as so many workers open a container to this plaintext.
+// Whether each of `pieces` pieces is passed once when `workers` workers open a container to this plaintext.
 fn are_opened_once<R: Threads + Sync>(
     rt: &R,
     alloc: Global,
@@ -122,7 +121,7 @@ fn are_opened_once<R: Threads + Sync>(
     Some(opens_to(rt, alloc, bytes, plain, workers, &gate) && gate.is_each_once(u64::from(workers)))
 }
 
-// The same as they seal this plaintext, and open its container.
+// The same when they seal this plaintext, and when they open its container.
 fn are_passed_once<R: Threads + Sync>(
     rt: &R,
     alloc: Global,
@@ -142,7 +141,7 @@ fn are_passed_once<R: Threads + Sync>(
 #[test]
 fn each_piece_is_passed_once(rt: HostRuntime) -> Result<(), Fail> {
     let plain = pattern(rt.alloc(), 1_114_113)?;
-    // 1, 4, 7, 10, 13 and 16.
+    // 1, 4, 7, 10, 13 and 16 workers.
     for third in 0..6 {
         let workers = 3 * third + 1;
         assert!(rt; are_passed_once(&rt, rt.alloc(), plain.as_slice(), 18, workers) == Some(true));
@@ -150,7 +149,7 @@ fn each_piece_is_passed_once(rt: HostRuntime) -> Result<(), Fail> {
     Ok(())
 }
 
-// More pieces than two rounds of 64 have.
+// More pieces than two rounds of 64.
 #[test]
 fn each_piece_is_passed_once_in_three_rounds(rt: HostRuntime) -> Result<(), Fail> {
     let plain = pattern(rt.alloc(), 128 * 65_536 + 1)?;
@@ -160,18 +159,18 @@ fn each_piece_is_passed_once_in_three_rounds(rt: HostRuntime) -> Result<(), Fail
     Ok(())
 }
 
-// Whether the gate let nobody go too early, and one worker passed seven times, the other once.
+// Whether the gate never gave up, and one worker passed seven times, the other once.
 fn held_one(gate: &Late) -> bool {
     !gate.gave_up() && gate.passes() == (7, 1)
 }
 
-// Whether two workers open a container of eight chunks to this plaintext, of which one is held with one piece.
+// Whether two workers open a container of eight chunks to this plaintext while one of them is held with one piece.
 fn opens_late<R: Threads + Sync>(rt: &R, alloc: Global, bytes: &[u8], plain: &[u8]) -> bool {
     let gate = Late::new(7, TURNS);
     opens_to(rt, alloc, bytes, plain, 2, &gate) && held_one(&gate)
 }
 
-// The container of eight chunks that two workers seal, of which one is held with one piece.
+// The container of eight chunks that two workers seal while one of them is held with one piece.
 fn sealed_late<R: Threads + Sync>(rt: &R, alloc: Global, plain: &[u8]) -> Option<Vec<u8>>
     requires plain { length plain.now ≤ MAX_PLAIN }
 {
@@ -180,8 +179,8 @@ fn sealed_late<R: Threads + Sync>(rt: &R, alloc: Global, plain: &[u8]) -> Option
     if held_one(&gate) { Some(bytes) } else { None }
 }
 
-// A worker that is held holds one piece: the other one makes the seven others, and nobody waits for ever. With a share
-// dealt beforehand it would pass four times, and the gate give up.
+// A held worker holds one piece: the other makes the remaining seven, and nobody waits forever. With shares dealt
+// beforehand it would pass four times, and the gate would give up.
 #[test]
 fn a_held_worker_holds_one_piece(rt: HostRuntime) -> Result<(), Fail> {
     let plain = pattern(rt.alloc(), 524_288)?;

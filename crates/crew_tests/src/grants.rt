@@ -1,4 +1,4 @@
-//! Grants, each of a ledger of its own.
+//! Grants, each from its own ledger.
 use ledger_core::{Device, Grant, Ledger, Range};
 use std::alloc::Global;
 
@@ -9,8 +9,8 @@ fn first_of(alloc: Global, number: u32) -> Option<Grant> {
     ledger.issue(seat).ok()
 }
 
-/// The grant of this number of device 1, or `None` where memory was refused. A refusal that was asked for is tried
-/// again.
+/// Returns the grant of this number for device 1, or `None` if memory is refused twice. An injected refusal comes once,
+/// so the second try succeeds.
 pub fn grant_of(alloc: Global, number: u32) -> Option<Grant> {
     match first_of(alloc, number) {
         None => first_of(alloc, number),

@@ -1,17 +1,17 @@
-//! Containers of version 1 whose digests are those of Python's `cryptography` and `hashlib`.
+//! Containers of version 1 with digests from Python's `cryptography` and `hashlib`.
 use crate::plain::PREFIX;
 use container_core::{Shape, seal};
 use container_tests::samples::counting_key;
 use sha2::{Digest, Sha256};
 use std::alloc::Global;
 
-/// 65,537 zero bytes that no allocation is asked for.
+/// 65,537 zero bytes, without an allocation.
 pub static ZERO_BYTES: [u8; 65_537] = [0; 65_537];
 
-/// How many bytes their container has.
+/// The length of their container in bytes.
 pub const ZEROS_SEALED: usize = 65_593;
 
-/// Their container under file 0.
+/// The digest of their container as file 0.
 pub static ZEROS: [u8; 32] = [
     0x09, 0x45, 0xc8, 0xfb, 0xab, 0xf2, 0x3b, 0x7b, 0xdb, 0x61, 0xd4, 0x5d, 0x8e, 0x2b, 0x69, 0x57,
     0x92, 0x3e, 0x22, 0x49, 0x9b, 0xda, 0x51, 0xae, 0x09, 0xa1, 0xfa, 0x7c, 0xb8, 0x36, 0xbf, 0x66,
@@ -29,7 +29,7 @@ pub static EIGHTEEN: [u8; 32] = [
     0x15, 0x9d, 0x2d, 0x11, 0x54, 0x18, 0x75, 0x4c, 0xbb, 0xb1, 0x3f, 0xc3, 0x97, 0x62, 0x97, 0x0a,
 ];
 
-/// Whether these are so many bytes, with this digest.
+/// Whether there are `count` bytes, with this digest.
 pub fn is_digest(bytes: &[u8], count: usize, digest: &[u8; 32]) -> bool {
     bytes.len() == count && Sha256::digest(bytes) == *digest
 }
@@ -38,7 +38,7 @@ fn zeros_once(alloc: Global) -> Option<Vec<u8>> {
     seal(alloc, &counting_key(), &Shape::one(), PREFIX, &ZERO_BYTES).ok()
 }
 
-/// The container of `ZERO_BYTES`. A refusal that was asked for is met once, so the same call finds memory at once.
+/// Returns the container of `ZERO_BYTES`. An injected refusal of memory comes once, so the second try succeeds.
 pub fn sealed_zeros(alloc: Global) -> Option<Vec<u8>> {
     let bytes = match zeros_once(alloc) {
         None => zeros_once(alloc)?,

@@ -1,9 +1,9 @@
-//! A gate that holds one worker, or lane, with its piece, or job, until the other has passed with all others.
+//! A gate that holds one worker (or lane) with its piece (or job) until the other has passed with all the others.
 use crew_core::Gate;
 use std::sync::atomic::{AtomicU64, Ordering};
 
-/// For two workers or lanes. It holds number 0 until number 1 has come, and number 1 until number 0 has passed so many
-/// times. It gives up after so many turns.
+/// For two workers or lanes. It holds number 0 until number 1 has come, and number 1 until number 0 has passed `others`
+/// times. It gives up after `turns` turns.
 #[derive(Drop)]
 pub struct Late {
     others: u64,
@@ -14,7 +14,7 @@ pub struct Late {
 }
 
 impl Late {
-    /// The gate before any pass.
+    /// Returns the gate before any pass.
     pub fn new(others: u64, turns: u64) -> Late {
         Late {
             others,
@@ -25,7 +25,7 @@ impl Late {
         }
     }
 
-    /// How often lane 0 has passed, and how often lane 1.
+    /// Returns how often lane 0 has passed, and how often lane 1.
     pub fn passes(&self) -> (u64, u64) {
         (
             self.first.load(Ordering::SeqCst),
@@ -33,12 +33,12 @@ impl Late {
         )
     }
 
-    /// Whether a lane was let go too early.
+    /// Whether a lane was released too early.
     pub fn gave_up(&self) -> bool {
         self.gave_up.load(Ordering::SeqCst) > 0
     }
 
-    // Waits for so many passes.
+    // Waits until there are `wanted` passes, at most `turns` turns.
     fn wait(&self, passes: &AtomicU64, wanted: u64) {
         for _turn in 0..self.turns {
             if passes.load(Ordering::SeqCst) >= wanted {

@@ -1,5 +1,5 @@
-//! The tests of `crew_core`, and what they share: a key, grants, plaintexts and containers, a gate that two workers
-//! must meet, one that holds a worker back, and one that keeps who passed with what.
+//! The tests of `crew_core`, and what they share: a key, grants, plaintexts, containers, and three gates. Two workers
+//! must meet at the first, the second holds a worker back, and the third records who passed with what.
 #![tactic(auto)]
 
 #[cfg(test)]

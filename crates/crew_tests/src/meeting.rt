@@ -2,20 +2,20 @@
 use crew_core::Gate;
 use std::sync::atomic::{AtomicU64, Ordering};
 
-/// Holds the passes until so many have come as are wanted, and gives up after so many turns. Where fewer threads do the
-/// work, the one that is wanted last doesn't come while the others are held.
+/// Holds the passes until `wanted` have come, and gives up after `turns` turns. With fewer threads, the last pass
+/// wanted doesn't come while the others are held.
 #[derive(Drop)]
 pub struct Meeting {
     wanted: u64,
     turns: u64,
     passes: AtomicU64,
-    // Four bits for each worker, the least for worker 0: how often it passed.
+    // Four bits for each worker, the lowest for worker 0: how often it passed.
     workers: AtomicU64,
     gave_up: AtomicU64,
 }
 
 impl Meeting {
-    /// The gate before any pass.
+    /// Returns the gate before any pass.
     pub fn new(wanted: u64, turns: u64) -> Meeting {
         Meeting {
             wanted,
@@ -26,17 +26,18 @@ impl Meeting {
         }
     }
 
-    /// How many passes there were.
+    /// Returns how many passes there were.
     pub fn passes(&self) -> u64 {
         self.passes.load(Ordering::SeqCst)
     }
 
-    /// Whether a pass was let go before as many had come as are wanted.
+    /// Whether a pass was released before `wanted` had come.
     pub fn gave_up(&self) -> bool {
         self.gave_up.load(Ordering::SeqCst) > 0
     }
 
-    /// Whether so many passed, and the gate gave up where it is to; where not, each was another worker, of 16.
+    /// Whether there were `passes` passes, and the gate gave up exactly if `gives_up`. If it didn't, each pass must be
+    /// by a different worker, out of 16.
     pub fn is_met(&self, passes: u64, gives_up: bool) -> bool {
         let twice = self.workers.load(Ordering::SeqCst) & 0xeeee_eeee_eeee_eeee;
         self.passes() == passes && self.gave_up() == gives_up && (gives_up || twice == 0)

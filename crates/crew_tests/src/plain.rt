@@ -1,4 +1,4 @@
-//! The prefix and the plaintexts of the tests, and damage to containers.
+//! The prefix and plaintexts of the tests, and how to damage containers.
 ghost use Rattle.std.specs.Prelude.{◌≡◌, length, IfOk};
 
 use std::alloc::{AllocError, Global};
@@ -6,7 +6,7 @@ use std::alloc::{AllocError, Global};
 /// Device 1, file 0.
 pub const PREFIX: [u8; 7] = [0, 0, 1, 0, 0, 0, 0];
 
-/// So many zero bytes.
+/// Returns `count` zero bytes.
 pub fn zeros(alloc: Global, count: usize) -> Result<Vec<u8>, AllocError>
     ensures { IfOk result (λ v. length v.items ≡ count) }
 {
@@ -19,7 +19,7 @@ fn fill(bytes: &mut [u8]) {
     }
 }
 
-/// So many bytes that don't repeat at a chunk's length: byte i is i modulo 251.
+/// Returns `count` bytes that don't repeat at a chunk's length: byte i is i modulo 251.
 pub fn pattern(alloc: Global, count: usize) -> Result<Vec<u8>, AllocError>
     ensures { IfOk result (λ v. length v.items ≡ count) }
 {
@@ -28,7 +28,7 @@ pub fn pattern(alloc: Global, count: usize) -> Result<Vec<u8>, AllocError>
     Ok(bytes)
 }
 
-/// Changes bits of one byte.
+/// Flips bits of one byte; does nothing if `place` is past the end.
 pub fn flip(bytes: &mut [u8], place: usize, bits: u8) {
     if let Some(byte) = bytes.get_mut(place) {
         *byte ^= bits;

@@ -1,13 +1,13 @@
-//! A gate that keeps who passed with what.
+//! A gate that records who passed with what.
 use crew_core::Gate;
 use std::alloc::{AllocError, Global};
 use std::sync::atomic::{AtomicU64, Ordering};
 
-// What one pass adds to its piece's word, besides the worker's number.
+// What one pass adds to its piece's word, in addition to the worker's number.
 const PASS: u64 = 1000;
 
-/// Lets all pass, and keeps a word for each piece: 1000 for each pass with it, and the number of each worker that
-/// passed. So a word of 1000 + w says that the piece was passed once, by worker w, of at most 16.
+/// Lets every pass through, and keeps a word for each piece. Each pass adds 1000 and its worker's number. So a word of
+/// 1000 + w means that the piece was passed once, by worker w of at most 16.
 #[derive(Drop)]
 pub struct Recorder {
     words: Vec<AtomicU64>,
@@ -15,7 +15,7 @@ pub struct Recorder {
 }
 
 impl Recorder {
-    /// The gate for so many pieces, before any pass.
+    /// Returns the gate for `pieces` pieces, before any pass.
     pub fn new(alloc: Global, pieces: u32) -> Result<Recorder, AllocError> {
         let mut words = Vec::new(alloc);
         for _piece in 0..pieces {
@@ -27,7 +27,7 @@ impl Recorder {
         })
     }
 
-    /// Whether each piece was passed once, by one of so many workers, and no other piece was.
+    /// Whether each piece was passed once, by one of `workers` workers, and no other piece was passed.
     pub fn is_each_once(&self, workers: u64) -> bool {
         for word in self.words.iter() {
             let passed = word.load(Ordering::SeqCst);

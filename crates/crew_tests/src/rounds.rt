@@ -1,4 +1,4 @@
-//! Rounds sealed by any number of workers. The expected bytes are those of Python's `cryptography`.
+//! Rounds sealed with any number of workers. The expected bytes are from Python's `cryptography`.
 ghost use Rattle.std.specs.Prelude.{◌≡◌, ◌+◌, ◌*◌, ◌<◌, ◌≤◌, length};
 ghost use Rattle.container_core.specs.Container.{size_in};
 
@@ -10,7 +10,7 @@ use std::alloc::{AllocError, Global};
 use std::test::Fail;
 use std::thread::Threads;
 
-// `a text`, the last chunk of all, under the number 4,294,967,295, device 1, file 0.
+// `a text` as the last chunk, with number 4,294,967,295, device 1, file 0.
 static LAST: [u8; 22] = [
     0x5f, 0x7e, 0xc2, 0x61, 0xcd, 0x7f, 0xf1, 0x90, 0x4b, 0x9a, 0x48, 0xa8, 0xca, 0x6e, 0xdd, 0xbb,
     0x26, 0xd9, 0xa4, 0x58, 0x36, 0x11,
@@ -24,7 +24,7 @@ fn header_one(key: &Key, prefix: [u8; 7]) -> Header
     Header::of(key, &Shape::one(), prefix)
 }
 
-// Whether a round was sealed, and appended.
+// Whether a round was sealed and could be appended.
 fn append(whole: &mut Vec<u8>, round: Result<Vec<u8>, AllocError>) -> bool {
     match round {
         Ok(bytes) => whole.extend_from_slice(bytes.as_slice()).is_ok(),
@@ -32,7 +32,7 @@ fn append(whole: &mut Vec<u8>, round: Result<Vec<u8>, AllocError>) -> bool {
     }
 }
 
-// A container of 18 chunks, the last of one byte, in rounds of seven chunks, of one, and of the rest.
+// A container of 18 chunks, the last of one byte, in rounds of seven chunks, one chunk, and the rest.
 fn in_three_rounds<R: Threads + Sync, G: Gate + Sync>(
     rt: &R,
     alloc: Global,
@@ -61,7 +61,7 @@ fn in_three_rounds<R: Threads + Sync, G: Gate + Sync>(
     }
 }
 
-// Whether so many workers seal this container in rounds, each passing with a piece's chunk number in the whole.
+// Whether `workers` workers seal this container in rounds, and pass with each piece's chunk number in the whole.
 fn are_parts<R: Threads + Sync>(rt: &R, alloc: Global, plain: &[u8], workers: u32) -> Option<bool>
     requires plain { length plain.now ≡ 17 * CHUNK + 1 }
     requires workers { (0 < workers) × (workers ≤ MAX_WORKERS) }
@@ -80,7 +80,8 @@ fn rounds_one_behind_the_other_are_the_container(rt: HostRuntime) -> Result<(), 
     Ok(())
 }
 
-// Seals two chunks by so many workers at a gate that holds all passes until two have come. Answers whether it gave up.
+// Seals two chunks with `workers` workers at a gate that holds all passes until two have come. Returns whether it gave
+// up.
 fn gave_up<R: Threads + Sync>(
     rt: &R,
     alloc: Global,
@@ -104,12 +105,12 @@ fn gave_up<R: Threads + Sync>(
 fn two_workers_meet_in_a_round(rt: HostRuntime) -> Result<(), Fail> {
     let plain = pattern(rt.alloc(), CHUNK + 1)?;
     assert!(rt; gave_up(&rt, rt.alloc(), plain.as_slice(), 2, 1_000_000_000) == Some(false));
-    // That the test can fail.
+    // Shows that the test can fail.
     assert!(rt; gave_up(&rt, rt.alloc(), plain.as_slice(), 1, 1000) == Some(true));
     Ok(())
 }
 
-// The last chunk that has a number: its nonce ends in ff ff ff ff 01.
+// The highest chunk number: its nonce ends in ff ff ff ff 01.
 #[test]
 fn a_round_has_the_last_number(rt: HostRuntime) -> Result<(), Fail> {
     let key = counting_key();

@@ -1,4 +1,4 @@
-//! Containers and plaintexts by any number of workers. The expected digests are those of Python's `cryptography` and
+//! Containers sealed and opened with any number of workers. The expected digests are from Python's `cryptography` and
 //! `hashlib`.
 ghost use Rattle.std.specs.Prelude.{◌<◌, ◌≤◌, length};
 
@@ -9,7 +9,7 @@ use ledger_core::{Spent, Way};
 use std::alloc::{AllocError, Global};
 use std::thread::Threads;
 
-// No bytes, file 0: 40 bytes.
+// The empty plaintext, file 0: 40 bytes.
 static EMPTY: [u8; 32] = [
     0xd3, 0xc5, 0x91, 0x6e, 0x88, 0x96, 0xf4, 0x57, 0xcd, 0x10, 0x35, 0xf6, 0xc8, 0x2a, 0xe1, 0x19,
     0x5d, 0xfe, 0xcf, 0xe8, 0x5c, 0x44, 0xb4, 0x0b, 0x99, 0xa2, 0xa5, 0x48, 0x9a, 0x57, 0xda, 0x05,
@@ -20,7 +20,7 @@ pub fn is_spent(spent: &Spent, number: u32, way: Way) -> bool {
     spent.number() == number && spent.device().number() == 1 && spent.way() == way
 }
 
-// One try at a container in a shape under a grant of this number, whose way has to say whether it was sealed.
+// Tries once to seal a container in a shape under a grant of this number. The number's way must match the result.
 fn tried<R: Threads + Sync, G: Gate + Sync>(
     rt: &R,
     alloc: Global,
@@ -48,8 +48,8 @@ fn tried<R: Threads + Sync, G: Gate + Sync>(
     }
 }
 
-// The container of a plaintext in a shape under a grant of this number; a refusal that was asked for leaves a void
-// number, and is tried again.
+// The container of a plaintext in a shape under a grant of this number. An injected refusal of memory makes the number
+// void, and is tried again.
 pub fn sealed_in<R: Threads + Sync, G: Gate + Sync>(
     rt: &R,
     alloc: Global,
@@ -68,7 +68,7 @@ pub fn sealed_in<R: Threads + Sync, G: Gate + Sync>(
     }
 }
 
-// The container of version 1.
+// The same for version 1.
 pub fn sealed<R: Threads + Sync, G: Gate + Sync>(
     rt: &R,
     alloc: Global,
@@ -83,7 +83,7 @@ pub fn sealed<R: Threads + Sync, G: Gate + Sync>(
     sealed_in(rt, alloc, &Shape::one(), number, plain, workers, gate)
 }
 
-// Whether so many workers open a container to this plaintext; a refusal that was asked for is tried again.
+// Whether `workers` workers open a container to this plaintext. An injected refusal of memory is tried again.
 pub fn opens_to<R: Threads + Sync, G: Gate + Sync>(
     rt: &R,
     alloc: Global,
@@ -105,7 +105,7 @@ pub fn opens_to<R: Threads + Sync, G: Gate + Sync>(
     }
 }
 
-// Whether so many workers seal a plaintext to these bytes.
+// Whether `workers` workers seal a plaintext to these bytes.
 fn seals_to<R: Threads + Sync>(
     rt: &R,
     alloc: Global,
@@ -123,7 +123,7 @@ fn seals_to<R: Threads + Sync>(
     }
 }
 
-// Whether any number of workers seals a plaintext to one container, of so many bytes with this digest.
+// Whether any number of workers seals a plaintext to the same container, with this length and digest.
 fn is_sealed_by_any<R: Threads + Sync>(
     rt: &R,
     alloc: Global,
@@ -144,7 +144,7 @@ fn is_sealed_by_any<R: Threads + Sync>(
     Some(is_digest(first, count, digest))
 }
 
-// The same of so many bytes of the pattern.
+// The same for a plaintext of `bytes` bytes of the pattern.
 fn is_pattern_sealed_by_any<R: Threads + Sync>(
     rt: &R,
     alloc: Global,
@@ -159,7 +159,7 @@ fn is_pattern_sealed_by_any<R: Threads + Sync>(
     is_sealed_by_any(rt, alloc, number, plain.as_slice(), count, digest)
 }
 
-// Of two chunks, and of more than there are workers.
+// Two chunks, and more chunks than workers.
 #[test]
 fn any_number_of_workers_gives_one_container(rt: HostRuntime) {
     let alloc = rt.alloc();
@@ -168,7 +168,8 @@ fn any_number_of_workers_gives_one_container(rt: HostRuntime) {
     assert!(rt; eighteen == Some(true));
 }
 
-// Whether so many workers seal a plaintext to so many bytes with this digest, and so many open them to it.
+// Whether workers seal a plaintext to bytes of this length and digest, and workers open them to it. The two numbers of
+// workers are for sealing and for opening.
 fn is_made<R: Threads + Sync>(
     rt: &R,
     alloc: Global,
@@ -192,7 +193,7 @@ fn is_made<R: Threads + Sync>(
     }
 }
 
-// The same of so many bytes of the pattern.
+// The same for a plaintext of `bytes` bytes of the pattern.
 fn is_pattern_made<R: Threads + Sync>(
     rt: &R,
     alloc: Global,
@@ -210,7 +211,7 @@ fn is_pattern_made<R: Threads + Sync>(
     Some(is_made(rt, alloc, number, plain.as_slice(), workers, count, digest))
 }
 
-// No byte is one empty chunk.
+// The empty plaintext is one empty chunk.
 #[test]
 fn containers_are_sealed_and_opened(rt: HostRuntime) {
     let alloc = rt.alloc();
@@ -223,8 +224,8 @@ fn containers_are_sealed_and_opened(rt: HostRuntime) {
     assert!(rt; eighteen == Some(true));
 }
 
-// Where a growth is refused, also that of a claim word, the helpers see it, `OutOfMemory` of an opening, and that the
-// number is void; they call again.
+// When memory for a growth or a claim word is refused, the helpers check the result and call again. Opening returns
+// `OutOfMemory`, and sealing makes the number void.
 #[test]
 fn a_refused_growth_is_out_of_memory(rt: HostRuntime) {
     assert!(rt; is_made(&rt, rt.alloc(), 0, &ZERO_BYTES, (2, 2), 65_593, &ZEROS));

@@ -1,4 +1,4 @@
-//! A seat over a sealing: the number that a refused growth makes void is gone, and the seat goes on with the next.
+//! A seat across a sealing: a refused growth makes the number void, and the seat goes on with the next.
 ghost use Rattle.std.specs.Prelude.{◌≡◌};
 
 use crate::sealed::is_spent;
@@ -9,7 +9,7 @@ use ledger_core::{Device, Grant, IssueFault, Ledger, Range, Seat, Way};
 use std::alloc::{AllocError, Global};
 use std::thread::Threads;
 
-// The seat's next grant. An issue whose memory was refused is made again.
+// The seat's next grant. If memory is refused, it is issued again.
 fn next_grant(ledger: &Ledger, seat: &mut Seat) -> Option<Grant>
     requires { seat.old.ledger ≡ ledger.now.ledger }
     ensures { seat.new.ledger ≡ seat.old.ledger }
@@ -20,8 +20,8 @@ fn next_grant(ledger: &Ledger, seat: &mut Seat) -> Option<Grant>
     }
 }
 
-// Whether the number 0, issued at a seat, is sealed with the container of 65,537 zeros by two workers, or void without
-// it.
+// Seals 65,537 zeros with two workers under number 0, issued at a seat. Whether the number is sealed with the known
+// container, or void without one.
 fn is_spent_by_its_result<R: Threads + Sync>(
     rt: &R,
     alloc: Global,
@@ -42,8 +42,8 @@ fn is_spent_by_its_result<R: Threads + Sync>(
     }
 }
 
-// Whether the seat of a ledger of two numbers spends number 0 on a sealing, whether or not that was refused memory, and
-// is granted number 1 next.
+// Whether the seat of a ledger of two numbers spends number 0 on a sealing and is then granted number 1. Memory may be
+// refused to the sealing.
 fn goes_on_at<R: Threads + Sync>(
     rt: &R,
     alloc: Global,
@@ -56,7 +56,7 @@ fn goes_on_at<R: Threads + Sync>(
     Some(spent && next_grant(ledger, seat)?.number() == 1)
 }
 
-// Where memory is refused for the ledger it is opened again.
+// If memory for the ledger is refused, it is opened again.
 fn goes_on<R: Threads + Sync>(rt: &R, alloc: Global) -> Option<bool> {
     let range = Range::new(Device::new(1)?, 0, 2).ok()?;
     let (ledger, mut seats) = match Ledger::open(alloc, range, 1) {

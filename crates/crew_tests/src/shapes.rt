@@ -1,6 +1,6 @@
-//! Containers of version 2, in chunks of 4 KiB and of 1 MiB, by several workers. What they must be is what one thread
-//! seals, and their digests are those of Python's `cryptography` and `hashlib`; a round has 1,024 of the small chunks,
-//! or 4 of the great ones.
+//! Containers of version 2, in chunks of 4 KiB and of 1 MiB, with several workers. They must equal what one thread
+//! seals, and their digests are from Python's `cryptography` and `hashlib`. A round has 1,024 of the small chunks or 4
+//! of the large ones.
 ghost use Rattle.std.specs.Prelude.{◌<◌, ◌≤◌, length};
 
 use crate::damaged::is_refused_for;
@@ -13,10 +13,10 @@ use std::alloc::Global;
 use std::test::Fail;
 use std::thread::Threads;
 
-// The label of all of them but the empty one.
+// The label of all these containers but the empty one.
 const LABEL: &[u8] = b"db-dump";
 
-// Bytes of their headers.
+// The length of their headers in bytes.
 const FRONT: usize = 25 + 7;
 
 // 4,198,401 bytes of the pattern in chunks of 4 KiB: 1,026 chunks, the last of one byte, 4,214,849 bytes.
@@ -37,7 +37,7 @@ static FIVE: [u8; 32] = [
     0x7e, 0xb9, 0xbb, 0x51, 0xd1, 0x76, 0x18, 0x46, 0x7f, 0xcd, 0xf6, 0x98, 0x11, 0x92, 0xaf, 0x1b,
 ];
 
-// Whether so many workers seal a plaintext to these bytes, and open them to it.
+// Whether `workers` workers seal a plaintext to these bytes, and open them to it.
 fn is_made_by<R: Threads + Sync>(
     rt: &R,
     alloc: Global,
@@ -57,7 +57,7 @@ fn is_made_by<R: Threads + Sync>(
     }
 }
 
-// The container of a plaintext in chunks of 2^exponent bytes, which 1, 4 and 16 workers seal and open as one thread
+// The container of a plaintext in chunks of 2^exponent bytes, if 1, 4 and 16 workers seal and open it as one thread
 // does.
 fn made_by_all<R: Threads + Sync>(
     rt: &R,
@@ -77,14 +77,14 @@ fn made_by_all<R: Threads + Sync>(
     Some(whole)
 }
 
-// Changes one bit of the ciphertext of a chunk of a container in chunks of so many bytes.
+// Flips one ciphertext bit of chunk `number` in a container with chunks of `chunk` bytes.
 fn damage(bytes: &mut [u8], chunk: usize, number: u16) {
     if chunk <= 1 << 20 {
         flip(bytes, FRONT + number as usize * (chunk + TAG), 4);
     }
 }
 
-// Whether 1 and 4 workers refuse a container for this chunk.
+// Whether opening with 1 and with 4 workers fails with `Forged` for this chunk.
 fn is_refused_by_both<R: Threads + Sync>(rt: &R, alloc: Global, bytes: &[u8], chunk: u32) -> bool {
     is_refused_for(rt, alloc, bytes, 1, chunk) && is_refused_for(rt, alloc, bytes, 4, chunk)
 }
@@ -100,7 +100,7 @@ fn five_small_chunks(rt: HostRuntime) -> Result<(), Fail> {
     Ok(())
 }
 
-// The empty plaintext, one empty chunk, with the label `ab`, whose 43 bytes `cryptography` made.
+// The empty plaintext, one empty chunk, with the label `ab`. Its 43 bytes are from `cryptography`.
 #[test]
 fn no_byte_under_another_label(rt: HostRuntime) -> Result<(), Fail> {
     let shape = Shape::two(12, b"ab")?;
@@ -110,7 +110,7 @@ fn no_byte_under_another_label(rt: HostRuntime) -> Result<(), Fail> {
     Ok(())
 }
 
-// The container in chunks of 2^exponent bytes that four workers seal of so many bytes of the pattern, and open to them.
+// The container that four workers seal of `length` bytes of the pattern, in chunks of 2^exponent bytes, and open again.
 fn made_by_four<R: Threads + Sync>(
     rt: &R,
     alloc: Global,
@@ -130,7 +130,7 @@ fn made_by_four<R: Threads + Sync>(
     }
 }
 
-// More chunks than a round has: two of the second round don't check.
+// More chunks than one round: two of the second round don't check.
 #[test]
 fn two_rounds_of_small_chunks(rt: HostRuntime) -> Result<(), Fail> {
     let mut bytes = made_by_four(&rt, rt.alloc(), 12, 4_198_401).ok_or("not made")?;

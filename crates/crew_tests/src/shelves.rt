@@ -1,4 +1,4 @@
-//! What a shelf takes and refuses.
+//! What a shelf accepts and refuses.
 ghost use Rattle.std.specs.Prelude.{◌≤◌, length};
 
 use crate::{PREFIX, counting_key, flip, pattern};
@@ -10,7 +10,7 @@ use std::test::Fail;
 // Device 1, file 1.
 const OTHER: [u8; 7] = [0, 0, 1, 0, 0, 0, 1];
 
-// Puts a piece of a work on a shelf. Answers why not, with what the piece that came back says of itself; `None` where
+// Puts a piece of a work on a shelf. Returns why it was refused, with the returned piece's own data. Returns `None` if
 // there is no such piece.
 fn refusal(
     alloc: Global,
@@ -28,12 +28,12 @@ fn refusal(
     }
 }
 
-// Whether a piece of a work is taken.
+// Whether a piece of a work is accepted.
 fn is_taken(alloc: Global, shelf: &mut Shelf, work: &Work, number: u32) -> bool {
     refusal(alloc, shelf, work, number) == Some(None)
 }
 
-// Whether a new shelf takes piece 1 once, and misses the other piece.
+// Whether a new shelf accepts piece 1 once, and reports the other as missing.
 fn is_taken_once(alloc: Global, work: &Work) -> Option<bool> {
     let mut shelf = Shelf::new(alloc, work).ok()?;
     let first = is_taken(alloc, &mut shelf, work, 1);
@@ -68,7 +68,7 @@ fn is_stranger(
     refused == Some(Some((PutFault::Stranger, kind, prefix, number)))
 }
 
-// Whether a shelf for a work under `PREFIX` refuses piece 0 of one under `OTHER`, and of an opening.
+// Whether a shelf for a work under `PREFIX` refuses piece 0 of a work under `OTHER`, and of an opening.
 fn refuses_both(alloc: Global, work: &Work, other: &Work, opening: &Work) -> bool {
     match Shelf::new(alloc, work) {
         Ok(mut shelf) => {
@@ -80,7 +80,7 @@ fn refuses_both(alloc: Global, work: &Work, other: &Work, opening: &Work) -> boo
     }
 }
 
-// Whether a shelf for a work of one piece refuses piece 1 of another.
+// Whether a shelf for a work of one piece refuses piece 1 of another work.
 fn refuses_past(alloc: Global, small: &Work, work: &Work) -> bool {
     match Shelf::new(alloc, small) {
         Ok(mut shelf) => is_stranger(alloc, &mut shelf, work, 1, Kind::Sealing, PREFIX),
@@ -102,7 +102,7 @@ fn strangers_are_refused(rt: HostRuntime) -> Result<(), Fail> {
     Ok(())
 }
 
-// Whether a shelf for a work refuses piece 0 of another under the same prefix.
+// Whether a shelf for a work refuses piece 0 of another work under the same prefix.
 fn refuses_other(alloc: Global, work: &Work, other: &Work) -> bool {
     match Shelf::new(alloc, work) {
         Ok(mut shelf) => is_stranger(alloc, &mut shelf, other, 0, Kind::Sealing, PREFIX),
@@ -110,7 +110,7 @@ fn refuses_other(alloc: Global, work: &Work, other: &Work) -> bool {
     }
 }
 
-// Whether a shelf for a work in one shape refuses piece 0 of the same plaintext in another.
+// Whether a shelf for a work in one shape refuses piece 0 of the same plaintext in another shape.
 fn refuses_shape(alloc: Global, plain: &[u8], shape: &Shape, other: &Shape) -> bool
     requires { length plain.now ≤ MAX_PLAIN }
 {
@@ -120,7 +120,7 @@ fn refuses_shape(alloc: Global, plain: &[u8], shape: &Shape, other: &Shape) -> b
     work.count() == 17 && refuses_other(alloc, &work, &other)
 }
 
-// Whether it refuses that of another label, of another size of the chunks, and of version 1.
+// Whether it refuses a piece with another label, with another chunk size, and of version 1.
 fn refuses_shapes(alloc: Global) -> Option<bool> {
     let plain = pattern(alloc, 65_537).ok()?;
     let plain = plain.as_slice();
@@ -134,13 +134,13 @@ fn refuses_shapes(alloc: Global) -> Option<bool> {
     )
 }
 
-// In version 2 the label and the size of the chunks are of the header, so they tell pieces apart, as the version does.
+// In version 2 the header contains the label and the chunk size, so they distinguish pieces, as the version does.
 #[test]
 fn pieces_of_another_shape_are_strangers(rt: HostRuntime) {
     assert!(rt; refuses_shapes(rt.alloc()) == Some(true));
 }
 
-// The whole of a work, whose pieces are put from the last to the first.
+// The whole of a work. Its pieces are put from the last to the first.
 fn whole_of(alloc: Global, work: &Work) -> Option<Vec<u8>> {
     let mut shelf = Shelf::new(alloc, work).ok()?;
     for number in 0..work.count() {
@@ -151,7 +151,7 @@ fn whole_of(alloc: Global, work: &Work) -> Option<Vec<u8>> {
     shelf.finish(alloc).ok()
 }
 
-// Whether these are the bytes of the whole of a work.
+// Whether these bytes are the whole of a work.
 fn is_whole(alloc: Global, work: &Work, bytes: &[u8]) -> bool {
     match whole_of(alloc, work) {
         Some(whole) => whole.as_slice() == bytes,
@@ -171,7 +171,7 @@ fn pieces_in_any_order(rt: HostRuntime) -> Result<(), Fail> {
     Ok(())
 }
 
-// The whole of another work's piece 0 and this one's piece 1.
+// The whole made of another work's piece 0 and this work's piece 1.
 fn mixed(alloc: Global, work: &Work, other: &Work) -> Option<Vec<u8>> {
     let mut shelf = Shelf::new(alloc, work).ok()?;
     let taken = is_taken(alloc, &mut shelf, other, 0) && is_taken(alloc, &mut shelf, work, 1);
@@ -181,13 +181,13 @@ fn mixed(alloc: Global, work: &Work, other: &Work) -> Option<Vec<u8>> {
     }
 }
 
-// Whether these bytes are the container of 20 bytes, and the last chunk of another, of 4 bytes.
+// Whether these bytes are the container of 20 bytes and then the last chunk of another, which has 4 bytes.
 fn are_joined(bytes: &[u8], twenty: &[u8], long: &[u8]) -> bool {
     let begin = long.len().saturating_sub(4 + 16);
     bytes.get(..24 + 20 + 16) == Some(twenty) && bytes.get(24 + 20 + 16..) == long.get(begin..)
 }
 
-// Whether that whole is these bytes joined.
+// Whether that whole consists of these bytes.
 fn is_mixed(alloc: Global, work: &Work, other: &Work, twenty: &[u8], long: &[u8]) -> bool {
     match mixed(alloc, work, other) {
         Some(bytes) => are_joined(bytes.as_slice(), twenty, long),
@@ -195,7 +195,7 @@ fn is_mixed(alloc: Global, work: &Work, other: &Work, twenty: &[u8], long: &[u8]
     }
 }
 
-// A piece of another plaintext, sealed under the same prefix, may have another length than its place.
+// A piece of another plaintext under the same prefix may have a length that differs from its place's.
 #[test]
 fn a_piece_of_another_length_is_joined_too(rt: HostRuntime) -> Result<(), Fail> {
     let key = counting_key();
@@ -217,7 +217,7 @@ fn a_piece_of_another_length_is_joined_too(rt: HostRuntime) -> Result<(), Fail> 
     Ok(())
 }
 
-// A container of four chunks, of which 3 and 1 don't check.
+// A container of four chunks. Chunks 3 and 1 don't check.
 fn damaged(alloc: Global, key: &Key) -> Option<Vec<u8>> {
     let plain = pattern(alloc, 200_000).ok()?;
     let mut bytes = seal(alloc, key, &Shape::one(), PREFIX, plain.as_slice()).ok()?;
@@ -229,7 +229,7 @@ fn damaged(alloc: Global, key: &Key) -> Option<Vec<u8>> {
     Some(bytes)
 }
 
-// Whether all pieces of a work of four are taken, and the whole is refused for chunk 1.
+// Whether all pieces of a work of four are accepted, and the whole is refused for chunk 1.
 fn is_forged(alloc: Global, work: &Work) -> Option<bool> {
     let mut shelf = Shelf::new(alloc, work).ok()?;
     let taken = is_taken(alloc, &mut shelf, work, 3)

@@ -10,8 +10,8 @@ ghost use Rattle.engine_core.specs.Status.{status_of};
 use ledger_core::{AuditFault, Sink, Source, Verdict, audit};
 use std::alloc::Global;
 
-/// Audits the journal that the reader gives, and writes the verdict as one line. The answer is the exit status: 0 where
-/// the journal is legal, else 1. At `OutOfMemory` and `Read` nothing was written; at `Write` a beginning of the line.
+/// Audits the journal that the reader gives, and writes the verdict as one line. Returns the exit status: 0 where the
+/// journal is legal, else 1. At `OutOfMemory` and `Read` nothing was written, at `Write` a proper prefix of the line.
 pub fn run_audit<R: Source, W: Sink>(
     alloc: Global,
     reader: &mut R,

@@ -1,8 +1,8 @@
 //! The engines: sealing, opening and verifying from any reader to any writer, and the audit of a journal.
 //!
-//! Those that open and verify are `opening_core`'s. Of those that seal `one` has the one of one thread, `run` those
-//! with workers, which write the same container, and `pipe` the one that seals a stream of any length; `reading` reads
-//! a plaintext whole. `auditor` has the audit.
+//! The engines that open and verify are `opening_core`'s. Those that seal are here: `one` on one thread, `run` with
+//! workers, and `pipe` for a stream of any length. `run` writes the container that one thread makes. `reading` reads a
+//! whole plaintext, and `auditor` has the audit.
 #![tactic(auto)]
 
 pub mod auditor;

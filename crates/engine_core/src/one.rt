@@ -1,5 +1,5 @@
-//! Sealing on one thread, where the plaintext is read whole before anything is written: so at a refusal other than a
-//! failed write the writer is as it was.
+//! Sealing on one thread. The plaintext is read whole before anything is written, so every fault but a failed write
+//! leaves the writer as it was.
 ghost use Rattle.std.specs.Prelude.{◌≡◌, ◌≢◌, ◌≤◌, Err};
 ghost use Rattle.container_core.specs.Shape.{one};
 ghost use Rattle.engine_core.specs.Engine.{HasReadPlain, HasWrittenContainer};
@@ -10,11 +10,10 @@ use container_core::{Key, MAX_PLAIN, SealFault, Shape, seal};
 use io_core::{Failed, Sink, Source, write_all};
 use std::alloc::Global;
 
-/// Reads all of an input of at most `max_bytes` bytes (2^40 at most) and writes its container of version 1 under a key
-/// and a prefix.
-/// Answers the input's length. `TooLong` where a byte more was read, and nothing past it is; at `TooLong`,
-/// `OutOfMemory` and `Read` nothing was written; at `Write` the whole input was read, and a beginning of its container
-/// was written, and not the whole.
+/// Reads all of an input of at most `max_bytes` bytes (2^40 at most). Writes its container of version 1 under a key and
+/// a prefix. Returns the input's length. At `TooLong` one byte more was read, and no other. At `TooLong`, `OutOfMemory`
+/// and `Read` nothing was written. At `Write` the whole input was read, and a proper prefix of its container was
+/// written.
 pub fn seal_one<R: Source, W: Sink>(
     alloc: Global,
     key: &Key,

@@ -1,4 +1,4 @@
-//! The engine that seals a stream of any length, in the memory of so many chunks.
+//! The engine that seals a stream of any length, in the memory of `depth` chunks.
 ghost use Rattle.std.specs.Prelude.{◌≡◌, ℕ, ◌<◌, ◌≤◌, List, OnOk, OnErr};
 ghost use Rattle.container_core.specs.Container.{container};
 ghost use Rattle.engine_core.specs.Piped.{HasPipedContainer};
@@ -17,12 +17,15 @@ use std::alloc::Global;
 use std::sync::Wait;
 use std::thread::Threads;
 
-/// Reads a stream of at most `max_chunks` chunks (at least 1) to its end and writes its container in a shape, under a
-/// key and a grant's prefix, sealed by 1 to 16 workers that live as long as the stream, where at most `depth` chunks (1
-/// to 64) are read and not yet written. Answers the stream's length. `TooManyChunks` where a byte stands behind so many
-/// full chunks, and nothing past it is read; never `TooLong`. At every fault what was written begins the container of
-/// the whole stream. At `Write` it isn't all of that, and at `OutOfMemory` no more than the header. The header is
-/// written before anything is read. Memory is taken for at most `depth` chunks, two queues and a bell for each worker.
+/// Reads a stream of at most `max_chunks` chunks (at least 1) to its end. Writes its container in a shape, under a key
+/// and a grant's prefix. 1 to 16 workers seal it, which live as long as the stream. At most `depth` chunks (1 to 64)
+/// are read and not yet written. The header is written before anything is read. Returns the stream's length in bytes,
+/// and the grant spent: sealed with `Ok`, else void.
+///
+/// Fails with `TooManyChunks` where a byte follows `max_chunks` full chunks; nothing past it is read. Never fails with
+/// `TooLong`. At every fault what was written begins the container of the whole stream. At `Write` it isn't all of
+/// that, and at `OutOfMemory` no more than the header. Allocates at most `depth` chunks, two queues, and a bell for
+/// each worker.
 ///
 /// What the writer may hold, where that is bounded, has to allow the container of any plaintext.
 pub fn run_pipe<T: Threads + Wait + Sync, R: Source, W: Output, G: Gate + Sync>(

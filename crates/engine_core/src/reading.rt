@@ -1,4 +1,4 @@
-//! Reading a plaintext to its end: a reader's fault becomes the engine's.
+//! Reading a plaintext to its end. A reader's fault becomes the engine's.
 ghost use Rattle.std.specs.Prelude.{◌≡◌, ◌≢◌, ◌≤◌, vec_len, Err, IfOk};
 ghost use Rattle.io_core.specs.Streams.{Consumes};
 ghost use Rattle.engine_core.specs.Engine.{HasReadPlain};
@@ -7,7 +7,7 @@ use container_core::{MAX_PLAIN, SealFault};
 use io_core::{ReadFault, Source, read_to_limit};
 use std::alloc::Global;
 
-/// Reads a plaintext of at most `max_bytes` bytes to its end. Of a longer one one byte more is read.
+/// Reads a plaintext of at most `max_bytes` bytes to its end. Of a longer one, one more byte is read.
 pub fn read_plain<R: Source>(
     alloc: Global,
     reader: &mut R,

@@ -1,8 +1,8 @@
-//! Sealing with any number of workers, a round of the input at a time: what is written is the container that one thread
+//! Sealing with any number of workers, a round of the input at a time. What is written is the container that one thread
 //! makes.
 //!
-//! A container is written as its plaintext is read, and the grant comes back spent: sealed with `Ok`, else void. A
-//! round is so many chunks of the size that the shape names, 2^12 to 2^20 bytes.
+//! A container is written while its plaintext is read. The grant comes back spent: sealed with `Ok`, else void. A round
+//! is `window` chunks of the size that the shape names, 2^12 to 2^20 bytes.
 ghost use Rattle.std.specs.Prelude.{◌≡◌, ◌≢◌, ℕ, ◌<◌, ◌≤◌, List, Err, OnOk, OnErr};
 ghost use Rattle.container_core.specs.Container.{container};
 ghost use Rattle.journal_core.specs.declared.entry.Way.TheVariants.{Sealed, Void};
@@ -21,17 +21,18 @@ use std::alloc::Global;
 use std::sync::Wait;
 use std::thread::Threads;
 
-/// Reads all of an input of at most `max_bytes` bytes (2^40 at most) and writes its container in a shape, under a key
-/// and a grant's prefix, in rounds of `window` chunks (1 to 256), sealed by 1 to 16 workers that live as long as the
-/// input, where at most two windows of chunks are read and not written. Answers the input's length. `TooLong` where a
-/// byte more was read, and nothing past it is; the round in hand is dropped then, and those before it were written. At
-/// every fault what was written begins the container of the input (or, where the reader tells nothing, of some
-/// plaintext). At `Write` it isn't all of that, and at `OutOfMemory` it is nothing. Memory is taken before anything is
-/// written: two windows of chunks, two queues and a bell for each worker; of an input that ends within the first round
-/// a buffer for each chunk, or for each block of small ones, and no queue where one worker suffices.
+/// Reads all of an input of at most `max_bytes` bytes (2^40 at most). Writes its container in a shape, under a key and
+/// a grant's prefix, in rounds of `window` chunks (1 to 256). 1 to 16 workers seal it, which live as long as the input.
+/// At most two windows of chunks are read and not yet written. Returns the input's length.
 ///
-/// What the writer may hold, where that is bounded, has to allow the container of any plaintext. So a run
-/// that is killed left no more than a beginning of that.
+/// At `TooLong` one byte more was read, and no other; the current round is dropped, and those before it were written.
+/// At every fault what was written begins the container of the input, or of some plaintext where the reader doesn't
+/// show its bytes. At `Write` it isn't all of that, and at `OutOfMemory` it is nothing. Allocates before anything is
+/// written: two windows of chunks, two queues, and a bell for each worker. An input that ends within the first round
+/// needs only a buffer for each chunk, or for each block of small ones. It needs no queue where one worker suffices.
+///
+/// What the writer may hold, where that is bounded, has to allow the container of any plaintext. So a run that is
+/// killed leaves no more than a prefix of the container.
 pub fn run_seal_by<T: Threads + Wait + Sync, R: Source, W: Output, G: Gate + Sync>(
     rt: &T,
     alloc: Global,

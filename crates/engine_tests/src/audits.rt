@@ -1,4 +1,4 @@
-//! Audits: journals and their verdicts by hand, from the rules in docs/FORMATS.md.
+//! Audits: journals with verdicts derived by hand from the rules in docs/FORMATS.md.
 use engine_core::run_audit;
 use io_memory::{FromMemory, Schedule, ToMemory};
 use ledger_core::AuditFault;
@@ -25,7 +25,7 @@ static AUDITS: [(&str, &str); 37] = [
         "range 1 4294967295 1 1\n0 issue 4294967295\n",
         "legal: 1 granted, 0 sealed, 0 void, 1 open, 0 refused\n",
     ),
-    // Each line of the journal altered.
+    // Each line of the journal, altered.
     ("range 16777216 7 2 2\n", "malformed line 1\n"),
     ("range 1 7 0 2\n", "malformed line 1\n"),
     ("range 1 7 65536 2\n", "malformed line 1\n"),
@@ -79,7 +79,7 @@ static AUDITS: [(&str, &str); 37] = [
         "range 1 7 2 2\n0 issue 7\n1 issue 8\n0 issue none\n1 sealed 8\n0 void 9\n",
         "illegal line 6\n",
     ),
-    // The longest line that there is, a byte more, and 64 more.
+    // The longest possible line, then one byte longer, and 64 longer.
     (
         "range 16777215 4294901760 65535 64\n",
         "legal: 0 granted, 0 sealed, 0 void, 0 open, 0 refused\n",
@@ -92,7 +92,7 @@ static AUDITS: [(&str, &str); 37] = [
         "range 16777215 4294901760 65535 64                                                                \n",
         "malformed line 1\n",
     ),
-    // The first fault is named, whatever follows.
+    // The first fault is named, whatever follows it.
     ("range 1 7 2 2\n0 issue 8\nnonsense\n", "illegal line 2\n"),
     (
         "range 1 7 2 2\n0 issue 7\nnonsense\n0 issue 7\n",
@@ -100,7 +100,7 @@ static AUDITS: [(&str, &str); 37] = [
     ),
 ];
 
-// Whether the audit of `journal`, by a reader that gives `most` bytes a call, writes `line` and has its status.
+// Whether the audit of `journal` writes `line` and has its status. The reader returns at most `most` bytes a call.
 fn is_audited(alloc: Global, journal: &str, line: &str, most: usize) -> Option<bool> {
     let mut reader = FromMemory::new(journal.as_bytes(), most, Schedule::Never);
     let mut writer = ToMemory::new(alloc, 100, 100, Schedule::Never).ok()?;
@@ -121,7 +121,7 @@ fn journals_have_their_verdict_also_by_a_byte_a_call(rt: HostRuntime) {
     }
 }
 
-// Whether the audit by a reader that fails midway gives that fault and writes nothing.
+// Whether the audit fails with `Read` and writes nothing if the reader fails midway.
 fn is_read_failed(alloc: Global) -> Option<bool> {
     let mut reader = FromMemory::new(JOURNAL.as_bytes(), 9, Schedule::Bytes(40));
     let mut writer = ToMemory::new(alloc, 100, 100, Schedule::Never).ok()?;

@@ -1,5 +1,5 @@
-//! Containers under the key 00 01 .. 1f, device 1 and file 0, and digests of longer ones, of Python's `cryptography`
-//! and `hashlib`.
+//! Containers with the key 00 01 .. 1f, device 1 and file 0, and digests of longer ones. All are from Python's
+//! `cryptography` and `hashlib`.
 
 // The container of `1`.
 pub(crate) static ONE: [u8; 41] = [
@@ -29,8 +29,8 @@ pub(crate) static OVER_STD: [u8; 48] = [
     0x4a, 0x61, 0x6f, 0x7d, 0xf7, 0xd6, 0x27, 0x77, 0x52, 0x95, 0x17, 0x1f, 0x4e, 0x8a, 0xaf, 0x56,
 ];
 
-// Of version 2: an exponent, the bytes of a label of letters a, how many bytes of the pattern, and the bytes of their
-// container and its SHA-256.
+// For version 2: an exponent, the length of a label of letters a, the number of bytes of the pattern, and the length
+// and SHA-256 of their container.
 pub(crate) static SHAPED: [(u32, usize, usize, usize, [u8; 32]); 9] = [
     (
         12,

@@ -1,6 +1,6 @@
-//! Version 1: a container of three chunks is cut to each length near the ends of its header and its chunks, a byte of
-//! its header is changed, or its chunks are moved. All engines refuse it and write nothing. The faults follow from the
-//! rules of docs/FORMATS.md.
+//! Version 1, a container of three chunks. It is cut to each length near the ends of its header and chunks, a header
+//! byte is changed, or chunks are moved. All engines refuse it and write nothing. The faults follow from
+//! docs/FORMATS.md.
 use crate::damages::refusal_of;
 use container_core::{HEADER, OpenFault, SEALED, Shape};
 use container_tests::{MOVES, counting_key, moved, zeros_sealed};
@@ -8,10 +8,10 @@ use crew_tests::flip;
 use std::alloc::Global;
 use std::thread::Threads;
 
-// Bytes of the container of 131,073 zero bytes.
+// The length of the container of 131,073 zero bytes.
 const LENGTH: usize = 131_145;
 
-// That container, of this file.
+// That container, for this file.
 fn three_chunks(alloc: Global, file: u8) -> Option<Vec<u8>> {
     let bytes = zeros_sealed(alloc, &counting_key(), &Shape::one(), file, 131_073).ok()?;
     if bytes.len() == LENGTH {
@@ -21,7 +21,7 @@ fn three_chunks(alloc: Global, file: u8) -> Option<Vec<u8>> {
     }
 }
 
-// The lengths to which the container is cut, from the first number to before the second, and the fault.
+// The lengths that the container is cut to: first, end (exclusive), and the fault.
 static CUTS: [(usize, usize, OpenFault); 8] = [
     (0, 24, OpenFault::ShortHeader),
     (24, 40, OpenFault::BadLength),
@@ -68,7 +68,7 @@ fn each_cut_is_refused(rt: HostRuntime) {
     assert!(rt; are_cuts_refused(&rt, rt.alloc()) == Some(true));
 }
 
-// The bytes of the header that are changed, one at a time, from the first number to before the second, and the fault.
+// The header bytes changed one at a time: first, end (exclusive), and the fault.
 static CHANGES: [(usize, usize, OpenFault); 5] = [
     (0, 8, OpenFault::BadMagic),
     (8, 9, OpenFault::BadVersion),
@@ -77,7 +77,7 @@ static CHANGES: [(usize, usize, OpenFault); 5] = [
     (17, 24, OpenFault::KeyMismatch),
 ];
 
-// Whether the change of each of these bytes has this fault. It is undone again.
+// Whether the change of each of these bytes has this fault. Each change is undone.
 fn are_noticed<R: Threads + Sync>(
     rt: &R,
     alloc: Global,
@@ -128,7 +128,7 @@ fn is_move_refused<R: Threads + Sync>(
     Some(refusal_of(rt, alloc, made.as_slice()) == Some(OpenFault::Forged { chunk }))
 }
 
-// Whether each order is. The other container is that of another file number.
+// Whether each order of `MOVES` is refused. `other` is the container for another file number.
 fn are_moves_refused<R: Threads + Sync>(rt: &R, alloc: Global, other: &[u8]) -> Option<bool> {
     let bytes = three_chunks(alloc, 0)?;
     for (_, order, chunk) in &MOVES {

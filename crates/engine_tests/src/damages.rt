@@ -1,5 +1,5 @@
-//! Version 2: containers that are cut or altered, or whose chunks were exchanged or moved. All engines refuse them as
-//! the tables of `container_tests` say, which are of the format, and before anything is written. The first bad chunk is
+//! Version 2: containers that are cut or altered, or with chunks exchanged or moved. All engines refuse them as the
+//! tables of `container_tests` say, before anything is written. The format fixes the faults. The first bad chunk is
 //! named, even after a thousand good ones.
 ghost use Rattle.std.specs.Prelude.{◌<◌, ◌≤◌};
 
@@ -17,7 +17,7 @@ use std::thread::Threads;
 
 const MOST: usize = usize::MAX;
 
-// Why so many workers refuse these bytes, where opening and verifying say the same and nothing is written.
+// The fault for these bytes with `workers` workers, if opening and verifying agree and nothing is written.
 fn refusal_by<R: Threads + Sync>(
     rt: &R,
     alloc: Global,
@@ -48,13 +48,13 @@ fn refusal_by<R: Threads + Sync>(
     }
 }
 
-// Why one thread refuses them.
+// The fault with one thread.
 fn refusal_by_one(alloc: Global, bytes: &[u8]) -> Option<OpenFault> {
     let mut reader = FromMemory::new(bytes, MOST, Schedule::Never);
     verify_one(alloc, &counting_key(), &mut reader, LIMIT).err()
 }
 
-// Why all refuse them, where that is one fault: one thread, 1 and 4 workers, and 2 in windows of one chunk.
+// The fault for these bytes, if all agree: one thread, 1 and 4 workers, and 2 workers in windows of one chunk.
 pub(crate) fn refusal_of<R: Threads + Sync>(
     rt: &R,
     alloc: Global,
@@ -67,7 +67,7 @@ pub(crate) fn refusal_of<R: Threads + Sync>(
     if is_one { fault } else { None }
 }
 
-// Whether all engines refuse the bytes of a case as it says.
+// Whether all engines refuse the bytes of a case with the expected fault.
 fn is_refused<R: Threads + Sync>(rt: &R, alloc: Global, case: &Case) -> bool {
     match refusal_of(rt, alloc, case.bytes()) {
         Some(fault) => case.is_answered(&Err(fault)),
@@ -75,7 +75,7 @@ fn is_refused<R: Threads + Sync>(rt: &R, alloc: Global, case: &Case) -> bool {
     }
 }
 
-// Whether there are so many cases, of which all but the first, a good container, are refused.
+// Whether there are `count` cases, and all but the first (a good container) are refused.
 fn are_refused<R: Threads + Sync>(rt: &R, alloc: Global, cases: &[Case], count: usize) -> bool {
     let Some(damaged) = cases.get(1..) else {
         return false;
@@ -100,7 +100,7 @@ fn damaged_headers_are_refused(rt: HostRuntime) -> Result<(), Fail> {
     Ok(())
 }
 
-// Cut, and with chunks exchanged, inserted again, taken out, or of another file.
+// Containers that are cut, or have chunks exchanged, inserted again, removed, or taken from another file.
 #[test]
 fn damaged_chunks_are_refused(rt: HostRuntime) -> Result<(), Fail> {
     for (exponent, label) in &SHAPES {
@@ -113,8 +113,8 @@ fn damaged_chunks_are_refused(rt: HostRuntime) -> Result<(), Fail> {
     Ok(())
 }
 
-// Bytes that are changed in a container of two whole chunks and a byte: how many whole chunks stand before it behind
-// the header, how many bytes of its own chunk, how many of all are taken off again, and the chunk that is named.
+// The place of a byte changed in a container of two whole chunks and a byte: how many whole chunks after the header,
+// plus how many bytes, minus how many. Then the chunk that is named.
 static CHANGES: [(u8, u8, u8, u32); 8] = [
     (0, 0, 0, 0),
     (1, 0, 17, 0),
@@ -126,7 +126,7 @@ static CHANGES: [(u8, u8, u8, u32); 8] = [
     (2, 16, 0, 2),
 ];
 
-// Whether each of these changes is seen, where a header and a sealed chunk have so many bytes.
+// Whether each of these changes is detected. A header has `header` bytes, and a sealed chunk `sealed`.
 fn are_seen<R: Threads + Sync>(
     rt: &R,
     alloc: Global,
@@ -161,7 +161,7 @@ fn three_chunks(alloc: Global, exponent: u32, label: usize) -> Option<Vec<u8>> {
     }
 }
 
-// Whether they are seen in the container of this exponent, with a label of so many bytes.
+// Whether they are detected in the container with this exponent and a label of `label` bytes.
 fn are_named<R: Threads + Sync>(
     rt: &R,
     alloc: Global,
@@ -184,7 +184,7 @@ fn changed_chunks_are_named(rt: HostRuntime) {
     }
 }
 
-// A label that is a byte longer than it was leaves a last chunk without a byte of plaintext.
+// A label length that is one too great leaves a last chunk without a byte of plaintext.
 fn is_length_wrong<R: Threads + Sync>(rt: &R, alloc: Global) -> Option<bool> {
     let mut bytes = three_chunks(alloc, 12, 0)?;
     flip(bytes.as_mut_slice(), FRONT - 1, 1);
@@ -196,17 +196,17 @@ fn a_longer_label_is_a_wrong_length(rt: HostRuntime) {
     assert!(rt; is_length_wrong(&rt, rt.alloc()) == Some(true));
 }
 
-// The SHA-256, by Python's `hashlib`, of the container that `cryptography` made of 4,501,505 zero bytes in chunks of 4
-// KiB under an empty label: 1,100 chunks, the last of one byte.
+// The SHA-256 (from Python's `hashlib`) of the container that `cryptography` made of 4,501,505 zero bytes. It has
+// chunks of 4 KiB and an empty label: 1,100 chunks, the last of one byte.
 static MANY: [u8; 32] = [
     0x4b, 0x08, 0x48, 0x35, 0x1d, 0x29, 0xfb, 0xca, 0xd0, 0x99, 0xff, 0xca, 0x22, 0x9b, 0x46, 0x57,
     0xb8, 0x25, 0xac, 0x50, 0x48, 0xfc, 0x1d, 0x38, 0x83, 0x7e, 0x86, 0x9e, 0x68, 0x4d, 0xda, 0x8f,
 ];
 
-// Bytes of a sealed chunk of 4 KiB.
+// The length of a sealed chunk of 4 KiB.
 const SMALL: usize = 4_112;
 
-// That container, with chunks 1,090 and 1,060 changed.
+// That container with chunks 1,090 and 1,060 changed.
 fn late_damaged(alloc: Global) -> Option<Vec<u8>> {
     let plain = zeros(alloc, 4_501_505).ok()?;
     let mut bytes = container_of(alloc, 12, 0, plain.as_slice())?;
@@ -218,7 +218,7 @@ fn late_damaged(alloc: Global) -> Option<Vec<u8>> {
     Some(bytes)
 }
 
-// Why `run_read` with so many workers refuses these bytes.
+// The fault of `run_read` for these bytes with `workers` workers.
 fn read_refusal<R: Threads + Sync>(
     rt: &R,
     alloc: Global,

@@ -1,5 +1,5 @@
-//! What a gate sees of the engines: as many workers as are asked for work, and all of them pass the gate that was
-//! given. And whatever the gate does, the answer is the container or the plaintext.
+//! How engines use a gate: as many workers as asked for do work, and each passes the given gate. Whatever the gate
+//! does, the result is the container or the plaintext.
 ghost use Rattle.std.specs.Prelude.{◌<◌, ◌≤◌};
 
 use crate::windows::LIMIT;
@@ -15,7 +15,7 @@ use std::thread::Threads;
 
 const MOST: usize = usize::MAX;
 
-// How often a pass looks for the others, where workers are to meet, and where they can't.
+// How often a pass checks for the others: where workers can meet, and (`FEW_TURNS`) where they can't.
 const TURNS: u64 = 1_000_000_000;
 
 const FEW_TURNS: u64 = 1000;
@@ -42,7 +42,7 @@ static ENGINES: [Engine; 7] = [
     Engine::Check,
 ];
 
-// Whether an engine does its work over this plaintext, or over its container, and answers as it has to.
+// Whether an engine works on this plaintext or its container, and returns what it must.
 fn runs<R: Threads + Wait + Sync, G: Gate + Sync>(
     rt: &R,
     alloc: Global,
@@ -169,7 +169,7 @@ fn begins(bytes: &[u8], front: &[u8]) -> bool {
     bytes.get(..front.len()) == Some(front)
 }
 
-// Whether `run_read` answers the header and the plaintext.
+// Whether `run_read` returns the header and the plaintext.
 fn reads_all<R: Threads + Sync, G: Gate + Sync>(
     rt: &R,
     alloc: Global,
@@ -204,17 +204,17 @@ fn opens<R: Threads + Sync, G: Gate + Sync>(
     Some(opened == Ok(plain.len() as u64) && writer.bytes() == plain)
 }
 
-// How many chunks there are, which is how many passes have to meet, by how many workers; how often a pass looks for the
-// others, and whether the gate gives up.
+// The number of chunks, which is also how many passes must meet; the number of workers; how often a pass checks for the
+// others; and whether the gate gives up.
 static MEETINGS: [(u32, u32, u64, bool); 4] = [
     (2, 2, TURNS, false),
     (4, 4, TURNS, false),
-    // That these can fail: with a worker less one passes twice, and the gate gives up.
+    // Shows that these can fail: with one worker fewer, one passes twice, and the gate gives up.
     (2, 1, FEW_TURNS, true),
     (4, 3, FEW_TURNS, true),
 ];
 
-// Whether so many workers of each engine meet so, or don't.
+// Whether `workers` workers of each engine meet (or don't) as expected.
 fn are_met<R: Threads + Wait + Sync>(
     rt: &R,
     alloc: Global,
@@ -247,7 +247,7 @@ fn as_many_workers_meet_in_each_engine_as_are_asked_for(rt: HostRuntime) {
     }
 }
 
-// That a meeting can fail where the gate doesn't give up: a worker that passes twice has met nobody.
+// Shows that a meeting can fail even if the gate doesn't give up: a worker that passes twice has met nobody.
 #[test]
 fn a_worker_does_not_meet_itself(rt: HostRuntime) {
     let alone = Meeting::new(1, TURNS);
@@ -260,7 +260,7 @@ fn a_worker_does_not_meet_itself(rt: HostRuntime) {
     assert!(rt; both.is_met(2, false));
 }
 
-// Whether two workers meet over a container of two chunks of 1 MiB, whose windows have a chunk for each worker.
+// Whether two workers meet over a container of two chunks of 1 MiB. Its windows have a chunk for each worker.
 fn meet_over_great_chunks<R: Threads + Sync>(rt: &R, alloc: Global, plain: &[u8]) -> Option<bool> {
     let shape = Shape::two(20, b"").ok()?;
     let container = seal(alloc, &counting_key(), &shape, PREFIX, plain).ok()?;
@@ -281,7 +281,7 @@ fn two_workers_meet_over_great_chunks(rt: HostRuntime) -> Result<(), Fail> {
     Ok(())
 }
 
-// Whether so many workers of an engine pass with each piece of 18 once.
+// Whether `workers` workers of an engine pass once with each of 18 pieces.
 fn passes_each_once<R: Threads + Wait + Sync>(
     rt: &R,
     alloc: Global,
@@ -321,7 +321,7 @@ fn all_workers_pass_with_each_piece_once(rt: HostRuntime) -> Result<(), Fail> {
     Ok(())
 }
 
-// Whether four workers pass with each piece of a stream once, at each depth.
+// Whether four workers pass once with each piece of a stream, at each depth.
 fn pass_at_any_depth<R: Threads + Wait + Sync>(rt: &R, alloc: Global, plain: &[u8]) -> bool {
     for depth in 1..65 {
         if passes_each_once(rt, alloc, Engine::Pipe(depth), plain, 4) != Some(true) {
@@ -338,7 +338,7 @@ fn all_pieces_of_a_stream_pass_at_any_depth(rt: HostRuntime) -> Result<(), Fail>
     Ok(())
 }
 
-// Whether the second worker of each engine makes seven pieces while the first is held with one.
+// Whether each engine's second worker makes seven pieces while the first is held with one.
 fn are_held_with_one<R: Threads + Wait + Sync>(rt: &R, alloc: Global, plain: &[u8]) -> bool {
     for engine in &ENGINES {
         let gate = Late::new(7, TURNS);
@@ -350,7 +350,7 @@ fn are_held_with_one<R: Threads + Wait + Sync>(rt: &R, alloc: Global, plain: &[u
     true
 }
 
-// A worker that is slow with one piece keeps no other waiting: the second worker makes the seven others meanwhile.
+// A worker that is slow with one piece holds up no other: the second worker meanwhile makes the other seven.
 #[test]
 fn a_held_worker_holds_one_piece(rt: HostRuntime) -> Result<(), Fail> {
     let plain = pattern(rt.alloc(), 8 * CHUNK)?;

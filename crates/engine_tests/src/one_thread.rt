@@ -1,5 +1,5 @@
-//! The engines of one thread over readers and writers in memory that give or take a few bytes a call, and over those of
-//! `std`. The expected bytes, of Python's `cryptography`, are in `containers`.
+//! The engines of one thread, with readers and writers in memory that transfer a few bytes a call, and with those of
+//! `std`. The expected bytes are in `containers` and come from Python's `cryptography`.
 ghost use Rattle.std.specs.Prelude.{◌≤◌};
 
 use crate::containers::{ONE, OVER_STD, PLAIN};
@@ -11,7 +11,7 @@ use io_memory::{FromMemory, Schedule, ToMemory};
 use ledger_core::{FromRead, ToWrite};
 use std::alloc::Global;
 
-// What sealing answers, from a reader that gives three bytes a call.
+// The result of sealing from a reader that returns three bytes a call.
 fn seal_from(
     alloc: Global,
     plain: &[u8],
@@ -31,7 +31,7 @@ fn seal_from(
     )
 }
 
-// What opening answers, from one that gives seven.
+// The result of opening from a reader that returns seven bytes a call.
 fn open_from(
     alloc: Global,
     bytes: &[u8],
@@ -44,7 +44,7 @@ fn open_from(
     open_one(alloc, &counting_key(), &mut reader, writer, max_bytes)
 }
 
-// What verifying answers, from the same.
+// The result of verifying from such a reader.
 fn verify_from(alloc: Global, bytes: &[u8], max_bytes: u64) -> Result<u64, OpenFault>
     requires { max_bytes ≤ 1099511627776 }
 {
@@ -52,8 +52,8 @@ fn verify_from(alloc: Global, bytes: &[u8], max_bytes: u64) -> Result<u64, OpenF
     verify_one(alloc, &counting_key(), &mut reader, max_bytes)
 }
 
-// Whether a writer with room for the container gets it, and one with room for the plaintext that, where just so many
-// bytes are allowed, nine at most.
+// Whether sealing works into a writer with room for exactly the container, and opening into one with room for exactly
+// the plaintext. Exactly that many bytes are allowed, at most nine.
 fn has_room(alloc: Global, plain: &[u8], sealed: &[u8]) -> Option<bool> {
     let bytes = plain.len() as u64;
     if bytes > 9 {
@@ -69,7 +69,7 @@ fn has_room(alloc: Global, plain: &[u8], sealed: &[u8]) -> Option<bool> {
     Some(is_sealed && is_opened && verify_from(alloc, sealed, bytes) == Ok(bytes))
 }
 
-// Whether sealing tells of a byte too many, with nothing written, and of a writer with room for ten bytes.
+// Whether sealing reports a byte too many, with nothing written, and a writer that has room for only ten bytes.
 fn sealing_tells(alloc: Global) -> Option<bool> {
     let mut writer = ToMemory::new(alloc, 64, 7, Schedule::Never).ok()?;
     let result = seal_from(alloc, b"plain", &mut writer, 4);
@@ -80,7 +80,7 @@ fn sealing_tells(alloc: Global) -> Option<bool> {
     Some(is_long && result == Err(SealFault::Write) && is_begun)
 }
 
-// Whether opening and verifying so many bytes of a container tell this fault, with nothing written.
+// Whether opening and verifying the first `taken` bytes of a container fail with `fault`, with nothing written.
 fn opening_tells(
     alloc: Global,
     whole: &[u8],
@@ -105,11 +105,11 @@ fn faults_of_one_thread_are_told(rt: HostRuntime) {
     let forged = OpenFault::Forged { chunk: 0 };
     assert!(rt; opening_tells(rt.alloc(), &PLAIN, 44, 5, forged) == Some(true));
     assert!(rt; opening_tells(rt.alloc(), &PLAIN, 39, 5, OpenFault::BadLength) == Some(true));
-    // A byte where none is allowed.
+    // One byte where none is allowed.
     assert!(rt; opening_tells(rt.alloc(), &ONE, 41, 0, OpenFault::TooLong) == Some(true));
 }
 
-// A writer that takes all and fails at the next call, which nobody makes.
+// A writer that takes everything and would fail at the next call, which nobody makes.
 #[test]
 fn room_for_all_and_no_more(rt: HostRuntime) {
     assert!(rt; has_room(rt.alloc(), b"", &EMPTY) == Some(true));

@@ -1,4 +1,4 @@
-//! Containers of several windows that open, containers of no byte where none is allowed, and readers that fail in any
+//! Containers of several windows that open, empty containers where no byte is allowed, and readers that fail in any
 //! window.
 use crate::containers::{ONE, ONE_OF_TWO};
 use crate::windows::{LIMIT, fault_of, forty_chunks};
@@ -14,7 +14,7 @@ use std::thread::Threads;
 
 const MOST: usize = usize::MAX;
 
-// Whether the container of no byte opens and verifies where no plaintext byte is allowed, and writes nothing.
+// Whether the container of the empty plaintext opens and verifies where no byte is allowed, and writes nothing.
 fn is_empty_opened<R: Threads + Sync>(
     rt: &R,
     alloc: Global,
@@ -45,14 +45,14 @@ fn is_none_allowed<R: Threads + Sync>(rt: &R, alloc: Global, empty: &[u8], one: 
     true
 }
 
-// Of version 1, and of version 2, whose header has two bytes of label.
+// Version 1, and version 2 with a label of two bytes in the header.
 #[test]
 fn no_plaintext_byte_allowed(rt: HostRuntime) {
     assert!(rt; is_none_allowed(&rt, rt.alloc(), &EMPTY, &ONE));
     assert!(rt; is_none_allowed(&rt, rt.alloc(), &EMPTY_TWO, &ONE_OF_TWO));
 }
 
-// Whether a container opens to this plaintext and verifies, by so many workers in windows of so many chunks.
+// Whether a container opens to this plaintext and verifies, with `workers` workers in windows of `window` chunks.
 pub(crate) fn opens_in<R: Threads + Sync>(
     rt: &R,
     alloc: Global,
@@ -74,7 +74,7 @@ pub(crate) fn opens_in<R: Threads + Sync>(
     }
 }
 
-// Whether it does by these workers in these windows.
+// Whether it does with these workers and windows.
 fn all_open<R: Threads + Sync>(rt: &R, alloc: Global, bytes: &[u8], plain: &[u8]) -> bool {
     for (workers, window) in [(1, 16), (3, 16), (2, 1), (4, 5), (3, 256)] {
         if opens_in(rt, alloc, bytes, plain, workers, window) != Some(true) {
@@ -84,7 +84,7 @@ fn all_open<R: Threads + Sync>(rt: &R, alloc: Global, bytes: &[u8], plain: &[u8]
     true
 }
 
-// The same of so many bytes of the pattern.
+// The same for `length` bytes of the pattern.
 fn are_opened<R: Threads + Sync>(rt: &R, alloc: Global, length: usize) -> Option<bool> {
     let plain = pattern(alloc, length).ok()?;
     let plain = plain.as_slice();
@@ -104,8 +104,7 @@ fn whole_windows_open(rt: HostRuntime) {
     }
 }
 
-// Whether opening and verifying by a reader that fails behind so many bytes have the fault of a failed read, and
-// nothing is written.
+// Whether opening and verifying fail with `Read` if the reader fails after `after` bytes, with nothing written.
 fn is_failure_seen<R: Threads + Sync>(
     rt: &R,
     alloc: Global,
@@ -138,7 +137,7 @@ fn is_failure_seen<R: Threads + Sync>(
     Some(both && plain == Some(OpenFault::Read) && writer.bytes().is_empty())
 }
 
-// Whether each of these numbers of workers sees it behind each of so many bytes.
+// Whether each of these numbers of workers reports it at each of `places`.
 pub(crate) fn are_failures_seen<R: Threads + Sync>(
     rt: &R,
     alloc: Global,
@@ -156,7 +155,7 @@ pub(crate) fn are_failures_seen<R: Threads + Sync>(
     true
 }
 
-// Behind so many bytes of a container of 40 chunks: of the header, and of the first, second and third window.
+// Places in a container of 40 chunks: in the header, and in the first, second and third window.
 static FAILED_READS: [u64; 7] = [
     0,
     23,
@@ -167,7 +166,7 @@ static FAILED_READS: [u64; 7] = [
     (HEADER + 35 * SEALED) as u64,
 ];
 
-// A reader that fails in any window is Read, and nothing else.
+// A reader that fails in any window causes `Read`, and no other fault.
 #[test]
 fn a_failed_read_in_any_window_is_read_failed(rt: HostRuntime) -> Result<(), Fail> {
     let bytes = forty_chunks(rt.alloc()).ok_or("no container")?;

@@ -1,4 +1,4 @@
-//! A file is read while it is worked: a reader that goes on only once a second worker has begun isn't kept waiting.
+//! A file is read while it is processed: a reader that waits for a second worker to begin isn't kept waiting.
 ghost use Rattle.std.specs.Prelude.{◌<◌, ◌≤◌};
 
 use container_core::{CHUNK, HEADER, OpenFault, SEALED, SealFault, Shape, seal};
@@ -14,12 +14,12 @@ use std::sync::Wait;
 use std::sync::atomic::{AtomicU64, Ordering};
 use std::thread::Threads;
 
-// How often the reader looks for the second worker, where there is one, and where there isn't.
+// How often the reader checks for the second worker: where there is one, and (`FEW_TURNS`) where there isn't.
 const TURNS: u64 = 1_000_000_000;
 
 const FEW_TURNS: u64 = 1000;
 
-// A gate that counts the passes of all workers but the caller's thread.
+// A gate that counts the passes of all workers except the caller's thread.
 #[derive(Drop)]
 struct Others {
     passes: AtomicU64,
@@ -33,8 +33,8 @@ impl Gate for Others {
     }
 }
 
-// A reader that gives the bytes up to a place, and those behind it once another worker has passed the gate. It fails
-// after so many turns without.
+// A reader that returns the bytes up to a place, and the rest once another worker has passed the gate. It fails if none
+// passes within `turns` turns.
 #[derive(Drop)]
 struct Held<'a> {
     bytes: &'a [u8],
@@ -76,7 +76,7 @@ impl Read for Held<'_> {
     }
 }
 
-// Seals a plaintext in rounds of two chunks, where all behind the first round and a byte is held.
+// Seals a plaintext in rounds of two chunks. All bytes after the first round and one more byte are held.
 fn seal_held_from<T: Threads + Wait + Sync>(
     rt: &T,
     alloc: Global,
@@ -115,7 +115,7 @@ fn seal_held_from<T: Threads + Wait + Sync>(
     Some(result)
 }
 
-// The same of five chunks of the pattern.
+// The same for five chunks of the pattern.
 fn seal_held<T: Threads + Wait + Sync>(
     rt: &T,
     alloc: Global,
@@ -128,7 +128,7 @@ fn seal_held<T: Threads + Wait + Sync>(
     seal_held_from(rt, alloc, plain.as_slice(), workers, turns)
 }
 
-// Verifies a container likewise, or opens it.
+// Verifies or opens a container in the same way.
 fn read_held_from<T: Threads + Sync>(
     rt: &T,
     alloc: Global,
@@ -159,7 +159,7 @@ fn read_held_from<T: Threads + Sync>(
     }
 }
 
-// The same of the container of five chunks of the pattern.
+// The same for the container of five chunks of the pattern.
 fn read_held<T: Threads + Sync>(
     rt: &T,
     alloc: Global,
@@ -184,7 +184,7 @@ fn read_held<T: Threads + Sync>(
 #[test]
 fn a_round_is_sealed_while_the_next_one_is_read(rt: HostRuntime) {
     assert!(rt; seal_held(&rt, rt.alloc(), 2, TURNS) == Some(Ok(327_680)));
-    // That the test can fail: by one worker nothing is done beside the reading.
+    // Shows that the test can fail: with one worker, nothing is done while reading.
     assert!(rt; seal_held(&rt, rt.alloc(), 1, FEW_TURNS) == Some(Err(SealFault::Read)));
 }
 

@@ -1,4 +1,4 @@
-//! Version 2: how much is read of an input without end, and what a reader that fails within a header gives.
+//! Version 2: how much is read of an endless input, and what happens if a reader fails within a header.
 ghost use Rattle.std.specs.Prelude.{◌<◌, ◌≤◌};
 
 use crate::openings::are_failures_seen;
@@ -19,7 +19,7 @@ use std::thread::Threads;
 
 const MOST: usize = usize::MAX;
 
-// A reader of these bytes, and of zeros without end behind them, which counts what it gives.
+// A reader of these bytes and then of endless zeros. It counts the bytes that it returns.
 #[derive(Drop)]
 struct Endless<'a> {
     front: &'a [u8],
@@ -38,7 +38,7 @@ impl Read for Endless<'_> {
     }
 }
 
-// Bytes that opening reads of an endless input, which has this fault, and writes nothing.
+// How many bytes opening reads of an endless input, if it fails with `fault` and writes nothing.
 fn opening_reads<R: Threads + Sync>(
     rt: &R,
     alloc: Global,
@@ -70,7 +70,7 @@ fn opening_reads<R: Threads + Sync>(
     }
 }
 
-// The same of verifying.
+// The same for verifying.
 fn verifying_reads<R: Threads + Sync>(
     rt: &R,
     alloc: Global,
@@ -92,7 +92,7 @@ fn verifying_reads<R: Threads + Sync>(
     }
 }
 
-// Whether 1 and 4 workers read so many bytes of an endless input, and name this fault.
+// Whether 1 and 4 workers read `bytes` bytes of an endless input, and fail with `fault`.
 fn read_so_many<R: Threads + Sync>(
     rt: &R,
     alloc: Global,
@@ -108,7 +108,7 @@ fn read_so_many<R: Threads + Sync>(
         && verifying_reads(rt, alloc, front, max_bytes, 4, fault) == wanted
 }
 
-// How many plaintext bytes are allowed, and how many tags their chunks of 4 KiB, of 64 KiB and of 1 MiB have.
+// How many plaintext bytes are allowed, and how many tags their chunks of 4 KiB, 64 KiB and 1 MiB have.
 static READS: [(u64, [u64; 3]); 8] = [
     (0, [1, 1, 1]),
     (1, [1, 1, 1]),
@@ -120,8 +120,8 @@ static READS: [(u64, [u64; 3]); 8] = [
     (1_048_577, [257, 17, 2]),
 ];
 
-// Whether of an endless input whose header has so many bytes one byte past the longest container is read. Its chunks
-// are those of 4 KiB, 64 KiB or 1 MiB.
+// Whether an endless input is read one byte past the longest container allowed. The header has `header` bytes, and the
+// chunks 4 KiB, 64 KiB or 1 MiB.
 fn are_reads_bound<R: Threads + Sync>(
     rt: &R,
     alloc: Global,
@@ -140,7 +140,7 @@ fn are_reads_bound<R: Threads + Sync>(
     true
 }
 
-// Whether that is so of what begins as a container of version 2.
+// Whether that holds for an input that begins as a container of version 2.
 fn are_second_reads_bound<R: Threads + Sync>(
     rt: &R,
     alloc: Global,
@@ -164,8 +164,8 @@ fn an_endless_input_is_read_to_the_bound(rt: HostRuntime) {
     assert!(rt; are_second_reads_bound(&rt, rt.alloc(), 20, 2, 1) == Some(true));
 }
 
-// Of an endless input of version 2 whose header has a fault the header is read, and no more: the exponent is 11, behind
-// which stand zeros; or the hint is another key's, and the label has 255 bytes.
+// If the header of an endless input of version 2 has a fault, the header is read and no more. The exponent is 11, with
+// zeros after it; or the hint is another key's, and the label has 255 bytes.
 #[test]
 fn nothing_is_read_behind_a_bad_header(rt: HostRuntime) -> Result<(), Fail> {
     let exponent = b"STRMSEAL\x02\x0b";
@@ -185,15 +185,15 @@ fn an_endless_input_of_another_version_is_read_to_its_bound(rt: HostRuntime) -> 
     Ok(())
 }
 
-// Whether 1 and 4 workers see a reader fail that does so behind 24 bytes of a container with a label of so many bytes,
-// behind 25, and behind all of its header but a byte.
+// Whether 1 and 4 workers report a reader that fails after 24 bytes of a container, after 25, and one byte before the
+// end of the header. The label has `label` bytes.
 fn is_end_no_failure<R: Threads + Sync>(rt: &R, alloc: Global, label: usize) -> Option<bool> {
     let bytes = container_of(alloc, 12, label, b"1")?;
     let header = (FRONT + label.min(255)) as u64;
     Some(are_failures_seen(rt, alloc, bytes.as_slice(), &[24, 25, header - 1], &[1, 4]))
 }
 
-// An input that ends there has a header that is too short.
+// If the input ended there, the header would be too short.
 #[test]
 fn a_failed_read_within_a_header_is_no_end(rt: HostRuntime) {
     assert!(rt; is_end_no_failure(&rt, rt.alloc(), 0) == Some(true));

@@ -1,4 +1,4 @@
-//! Sealing in rounds of 1, 2, 16 and 256 chunks: the same container, the round that is dropped, and what failures leave.
+//! Sealing in rounds of 1, 2, 16 and 256 chunks: the same container, the dropped round, and what failures leave.
 use crate::containers::PLAIN;
 use crate::windows::LIMIT;
 use container_core::{CHUNK, HEADER, SEALED, SealFault, Shape, seal};
@@ -16,8 +16,8 @@ use std::thread::Threads;
 
 const MOST: usize = usize::MAX;
 
-// Seals under a grant of device 1 and file 0, by `run_seal` in rounds of 16 chunks. Answers what the engine does, and
-// how the grant ended; or `None` where it is asked for what it doesn't take.
+// Seals under a grant of device 1 and file 0, with `run_seal` in rounds of 16 chunks. Returns the engine's result and
+// how the grant ended, or `None` if the arguments are out of range.
 pub(crate) fn seal_by<T: Threads + Wait + Sync, R: Source, W: Sink>(
     rt: &T,
     alloc: Global,
@@ -50,7 +50,7 @@ pub(crate) fn seal_by<T: Threads + Wait + Sync, R: Source, W: Sink>(
     Some((result, spent.way()))
 }
 
-// What is asked for: which calls of the reader and the writer fail, at most how many bytes are sealed, and by whom.
+// The arguments: which reader and writer calls fail, how many bytes may be sealed, and with how many workers.
 #[derive(Clone, Copy)]
 struct Asked {
     reads: Schedule,
@@ -60,7 +60,7 @@ struct Asked {
     window: u32,
 }
 
-// Asks for rounds of a window by so many workers, where nothing fails.
+// Rounds of `window` chunks with `workers` workers, where nothing fails.
 fn steady(max_bytes: u64, workers: u32, window: u32) -> Asked {
     Asked {
         reads: Schedule::Never,
@@ -71,7 +71,7 @@ fn steady(max_bytes: u64, workers: u32, window: u32) -> Asked {
     }
 }
 
-// Whether these bytes are sealed with this answer, the grant ends as the answer says, and this was written.
+// Whether sealing these bytes returns `answer`, the grant ends accordingly, and the expected bytes are written.
 fn ends_as<T: Threads + Wait + Sync>(
     rt: &T,
     alloc: Global,
@@ -99,15 +99,15 @@ fn ends_as<T: Threads + Wait + Sync>(
     Some(result == answer && way == wanted && writer.bytes() == written)
 }
 
-// The container of these bytes under device 1 and file 0.
+// The container of these bytes for device 1 and file 0.
 fn container_of(alloc: Global, plain: &[u8]) -> Option<Vec<u8>> {
     seal(alloc, &counting_key(), &Shape::one(), PREFIX, plain).ok()
 }
 
-// Chunks of a window, and how many workers seal.
+// The window in chunks, and the number of workers.
 static WINDOWS: [(u32, u32); 7] = [(1, 1), (1, 4), (2, 1), (2, 4), (16, 3), (256, 1), (256, 4)];
 
-// Whether all windows give this container of a plaintext.
+// Whether all windows produce this container of a plaintext.
 fn all_give<T: Threads + Wait + Sync>(rt: &T, alloc: Global, plain: &[u8], whole: &[u8]) -> bool {
     let bytes = plain.len() as u64;
     for (window, workers) in &WINDOWS {
@@ -119,7 +119,7 @@ fn all_give<T: Threads + Wait + Sync>(rt: &T, alloc: Global, plain: &[u8], whole
     true
 }
 
-// Whether they do of so many bytes of the pattern.
+// Whether they do for `length` bytes of the pattern.
 fn gives_the_container<T: Threads + Wait + Sync>(
     rt: &T,
     alloc: Global,
@@ -153,7 +153,7 @@ fn any_window_gives_the_container(rt: HostRuntime) {
     }
 }
 
-// Of two chunks and a byte, which is one too many, so much of the container of the two is written.
+// Of two chunks and a byte too many, the first `written` bytes of the container of the two chunks are written.
 fn drops_the_rest<T: Threads + Wait + Sync>(
     rt: &T,
     alloc: Global,
@@ -169,8 +169,8 @@ fn drops_the_rest<T: Threads + Wait + Sync>(
     ends_as(rt, alloc, plain, asked, Err(SealFault::TooLong), front)
 }
 
-// How many workers seal, in rounds of how many chunks, and what is written then. The byte too many stands behind chunk
-// 1: by rounds of one chunk 0 was written, and chunk 1 is dropped.
+// The number of workers, the chunks of a round, and how much is written. The byte too many follows chunk 1. With rounds
+// of one chunk, chunk 0 was written and chunk 1 is dropped.
 static DROPPED: [(u32, u32, usize); 5] = [
     (1, 1, HEADER + SEALED),
     (1, 2, 0),
@@ -189,14 +189,14 @@ fn a_byte_too_many_drops_the_round_in_hand(rt: HostRuntime) {
     }
 }
 
-// In the header, at its end and behind it; before the end of chunk 0's ciphertext, in its tag, at its end and behind
-// it; behind chunk 3; and before the last byte, and all of the container.
+// In the header, at its end and after it; near the end of chunk 0's ciphertext, in its tag, at its end and after it;
+// after chunk 3; and before the last byte, and the whole container.
 static ROOMS: [usize; 12] = [
     0, 1, 23, 24, 25, 65_535, 65_575, 65_576, 65_592, 262_232, 262_252, 262_253,
 ];
 
-// Whether a writer with this room gets just so much of the container of four chunks and five bytes, and fails unless it
-// is room for all.
+// Whether a writer with this room gets exactly that much of the container of four chunks and five bytes. It must fail
+// unless there is room for all.
 fn ends_in_room<T: Threads + Wait + Sync>(
     rt: &T,
     alloc: Global,
@@ -233,8 +233,8 @@ fn a_failed_write_leaves_a_beginning(rt: HostRuntime) -> Result<(), Fail> {
     Ok(())
 }
 
-// How many workers seal, in rounds of how many chunks; behind how many bytes the reader fails, and what is written
-// then: the rounds before the one that was being sealed.
+// The number of workers, the chunks of a round, after how many bytes the reader fails, and how much is then written:
+// the rounds before the one being sealed.
 static FAILED_READS: [(u32, u32, usize, usize); 10] = [
     (1, 1, 0, 0),
     (1, 1, CHUNK, 0),
@@ -248,7 +248,7 @@ static FAILED_READS: [(u32, u32, usize, usize); 10] = [
     (4, 4, 4 * CHUNK + 5, 0),
 ];
 
-// Of four chunks and five bytes so much of the container is written, and this is the answer.
+// Whether sealing four chunks and five bytes returns `answer` and writes the first `written` bytes of the container.
 fn leaves<T: Threads + Wait + Sync>(
     rt: &T,
     alloc: Global,

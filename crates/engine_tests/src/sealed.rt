@@ -1,4 +1,4 @@
-//! A plaintext is sealed into an output that knows what it may hold, in which any other write has no proof.
+//! A plaintext sealed into an output whose contracts say what it may hold. No other write could be proved.
 ghost use Rattle.std.specs.Prelude.{◌≤◌, ◌<◌};
 
 use container_core::{Shape, seal};
@@ -11,13 +11,13 @@ use std::alloc::Global;
 use std::sync::Wait;
 use std::thread::Threads;
 
-// The limit of a plaintext's bytes.
+// The limit on a plaintext's bytes.
 const MOST: u64 = 1 << 20;
 
-// Chunks of a window.
+// The chunks of a window.
 const WINDOW: u32 = 2;
 
-// Whether the output holds the container of a plaintext that so many workers sealed into it, under file 5.
+// Whether the output holds the container of a plaintext, sealed into it with `workers` workers as file 5.
 fn holds_sealed<T: Threads + Wait + Sync>(
     rt: &T,
     alloc: Global,
@@ -49,10 +49,10 @@ fn holds_sealed<T: Threads + Wait + Sync>(
     Some(result == Ok(plain.len() as u64) && output.bytes.as_slice() == whole.as_slice())
 }
 
-// Of no chunk's length, of one or two windows of small chunks, and beside these.
+// Lengths at the ends of chunks and windows, next to them, and elsewhere.
 static COUNTS: [usize; 7] = [0, 1, 4_096, 4_097, 8_192, 8_193, 30_000];
 
-// Whether it does of each number of bytes, in version 1 and in small chunks, by one worker and by two.
+// Whether it does for each of these lengths, in version 1 and in small chunks, with one worker and with two.
 fn all_hold<T: Threads + Wait + Sync>(rt: &T, alloc: Global) -> Option<bool> {
     let one = Shape::one();
     let two = Shape::two(12, b"home").ok()?;

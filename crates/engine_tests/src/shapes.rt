@@ -1,5 +1,5 @@
-//! Version 2: chunks of 2^12, 2^16 and 2^20 bytes under labels of 0, 1 and 255 bytes, made and opened by all engines.
-//! The digests are those of Python's `cryptography` and `hashlib`.
+//! Version 2: chunks of 2^12, 2^16 and 2^20 bytes with labels of 0, 1 and 255 bytes, sealed and opened with all
+//! engines. The digests are from Python's `cryptography` and `hashlib`.
 ghost use Rattle.std.specs.Prelude.{◌<◌, ◌≤◌};
 ghost use Rattle.container_core.specs.Chunks.{most_chunk};
 
@@ -18,17 +18,17 @@ use std::thread::Threads;
 
 const MOST: usize = usize::MAX;
 
-// Bytes of a header of version 2 before its label.
+// The length of a header of version 2 before its label.
 pub(crate) const FRONT: usize = 25;
 
 static LABEL: [u8; 255] = [0x61; 255];
 
-// Version 2 with a label of so many bytes.
+// Version 2 with a label of `label` bytes.
 fn shape_of(exponent: u32, label: usize) -> Option<Shape> {
     Shape::two(exponent, &LABEL[..label.min(255)]).ok()
 }
 
-// Plaintext bytes of a full chunk.
+// The plaintext bytes of a full chunk.
 pub(crate) fn size_of(exponent: u32) -> usize
     ensures { result ≤ most_chunk }
 {
@@ -39,7 +39,7 @@ pub(crate) fn size_of(exponent: u32) -> usize
     }
 }
 
-// The container of a plaintext of version 2 under device 1 and file 0.
+// The container of a plaintext in version 2, for device 1 and file 0.
 pub(crate) fn container_of(
     alloc: Global,
     exponent: u32,
@@ -84,7 +84,7 @@ fn seals_to<R: Threads + Wait + Sync>(
     Some(is_sealed && writer.bytes() == bytes)
 }
 
-// Whether a container opens to this plaintext, all of which is written.
+// Whether a container opens to this plaintext, and all of it is written.
 fn opens_to<R: Threads + Sync>(
     rt: &R,
     alloc: Global,
@@ -113,7 +113,7 @@ fn opens_to<R: Threads + Sync>(
     Some(result == Ok(plain.len() as u64) && writer.bytes() == plain)
 }
 
-// The same of the engines of one thread.
+// The same for the engines of one thread.
 fn opens_by_one(alloc: Global, bytes: &[u8], plain: &[u8]) -> Option<bool> {
     let key = counting_key();
     let mut reader = FromMemory::new(bytes, 1001, Schedule::Never);
@@ -144,7 +144,7 @@ fn goes_round<R: Threads + Wait + Sync>(
     opens_by_one(alloc, bytes, plain) == Some(true)
 }
 
-// The container of so many bytes of the pattern, which all engines make and open.
+// The container of `length` bytes of the pattern, if all engines make and open it.
 fn made_by_all<R: Threads + Wait + Sync>(
     rt: &R,
     alloc: Global,
@@ -162,7 +162,7 @@ fn made_by_all<R: Threads + Wait + Sync>(
     }
 }
 
-// Whether all engines make and open the container of so many bytes, which has this length and digest.
+// Whether all engines make and open the container of `count` bytes, and it has this length and digest.
 fn is_known<R: Threads + Wait + Sync>(
     rt: &R,
     alloc: Global,
@@ -188,7 +188,7 @@ fn containers_made_elsewhere(rt: HostRuntime) {
     }
 }
 
-// Whether all engines make and open the containers of no byte, one, a full chunk, and one byte more.
+// Whether all engines make and open the containers of no byte, one byte, a full chunk, and a byte more.
 fn all_lengths_go_round<R: Threads + Wait + Sync>(
     rt: &R,
     alloc: Global,
@@ -204,7 +204,7 @@ fn all_lengths_go_round<R: Threads + Wait + Sync>(
     true
 }
 
-// Exponents, and bytes of labels.
+// Exponents and label lengths.
 static ASKED: [(u32, usize); 7] = [
     (12, 0),
     (12, 1),
@@ -223,6 +223,6 @@ fn all_lengths_are_made_and_opened(rt: HostRuntime) {
             "{exponent} {label}"
         );
     }
-    // More rounds than one, in each window.
+    // More than one round, in each window.
     assert!(rt; made_by_all(&rt, rt.alloc(), 12, 1, 81_921).is_some());
 }

@@ -1,5 +1,5 @@
-//! Opening by two readings: what is written where both give a container, where the first one has a fault, and where the
-//! second one gives other bytes.
+//! Opening with two readings: what is written if both return a container, if the first has a fault, and if the second
+//! returns other bytes.
 ghost use Rattle.std.specs.Prelude.{◌≤◌, ◌<◌, Some};
 
 use container_core::{Key, MAX_OPENED, OpenFault, Shape, seal};
@@ -13,7 +13,7 @@ use std::thread::Threads;
 
 const MOST: usize = usize::MAX;
 
-// Bytes in memory: each reading gives the same.
+// Bytes in memory: each reading returns the same.
 #[derive(Drop)]
 struct Same<'a> {
     bytes: &'a [u8],
@@ -29,7 +29,7 @@ impl<'a> Readings for Same<'a> {
     }
 }
 
-// Bytes that are others at the second reading. Nothing is told of them.
+// Bytes that differ at the second reading. No contract describes them.
 #[derive(Drop)]
 struct Changed<'a> {
     first: &'a [u8],
@@ -73,7 +73,7 @@ fn sealed(alloc: Global, file: u8, plain: &[u8]) -> Option<Vec<u8>> {
     seal(alloc, &key(), &shape, [0, 0, 1, 0, 0, 0, file], plain).ok()
 }
 
-// The answer, and how many bytes were written, all of which begin the text.
+// The result, and how many bytes were written. They must be a prefix of the text.
 fn opened<R: Threads + Sync, S: Readings>(
     rt: &R,
     alloc: Global,
@@ -98,7 +98,7 @@ fn opened<R: Threads + Sync, S: Readings>(
     }
 }
 
-// Both readings give the container: all is written, by whatever number of workers.
+// If both readings return the container, everything is written, with any number of workers.
 fn opens<R: Threads + Sync>(rt: &R, alloc: Global, length: u32, workers: u32) -> Option<bool>
     requires { (0 < workers) × (workers ≤ MAX_WORKERS) }
 {
@@ -148,7 +148,7 @@ fn altered<R: Threads + Sync>(
     opened(rt, alloc, &mut source, plain.as_slice(), Schedule::Never, 1)
 }
 
-// Where chunk `n` of 4 KiB begins, behind a header of 26 bytes.
+// Where chunk `n` of 4 KiB begins, after a header of 26 bytes.
 fn place_of(n: usize) -> usize
     requires { n ≤ 1000 }
 {
@@ -182,7 +182,7 @@ fn a_change_between_the_readings_stops_before_its_window(rt: HostRuntime) -> Res
     Ok(())
 }
 
-// At the second reading there is another container of the key, or the first one cut, or a read fails.
+// The second reading returns another container under the key, or the first one cut, or a read fails.
 fn swapped<R: Threads + Sync>(
     rt: &R,
     alloc: Global,
@@ -223,7 +223,7 @@ fn another_container_is_not_written(rt: HostRuntime) -> Result<(), Fail> {
     Ok(())
 }
 
-// The writer fails after so many bytes.
+// The writer fails after `bytes` bytes.
 fn broken<R: Threads + Sync>(
     rt: &R,
     alloc: Global,

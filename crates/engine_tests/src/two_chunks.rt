@@ -1,6 +1,6 @@
-//! 65,537 zero bytes, two chunks, by two workers in windows of one chunk: readers and writers that move a byte a call,
-//! writers that fail after so many bytes, and a growth that is refused. The container's digest is that of Python's
-//! `cryptography` and `hashlib`.
+//! 65,537 zero bytes (two chunks) with two workers in windows of one chunk. Readers and writers transfer a byte a call,
+//! writers fail after n bytes, and a growth is refused. The container's digest is from Python's `cryptography` and
+//! `hashlib`.
 use container_core::{OpenFault, SealFault, Shape};
 use crew_core::Free;
 use crew_tests::{
@@ -24,8 +24,8 @@ fn is_container(bytes: &[u8]) -> bool {
     is_digest(bytes, ZEROS_SEALED, &ZEROS)
 }
 
-// A writer with room for all, which takes so many bytes a call and fails by a schedule. A refusal that was asked for is
-// met once, so the same call finds memory at once.
+// A writer with room for everything, which takes `step` bytes a call and fails by a schedule. An injected refusal of
+// memory comes once, so the second call succeeds.
 fn writer_of(alloc: Global, step: usize, schedule: Schedule) -> Option<ToMemory> {
     match ToMemory::new(alloc, ZEROS_SEALED, step, schedule) {
         Err(AllocError) => ToMemory::new(alloc, ZEROS_SEALED, step, schedule).ok(),
@@ -33,8 +33,8 @@ fn writer_of(alloc: Global, step: usize, schedule: Schedule) -> Option<ToMemory>
     }
 }
 
-// Seals the zeros, of which so many are read a call, under a grant of file 0. Answers what the engine does, and how the
-// grant ended.
+// Seals the zeros under a grant of file 0, reading `step` bytes a call. Returns the engine's result, and how the grant
+// ended.
 fn seal_zeros<R: Threads + Wait + Sync>(
     rt: &R,
     alloc: Global,
@@ -93,7 +93,7 @@ fn verify_bytes<R: Threads + Sync>(
     run_verify_by(rt, alloc, &key, &mut reader, BYTES, 2, WINDOW, &Free)
 }
 
-// ---- so many bytes a call
+// ---- n bytes a call
 
 fn is_sealed_by_steps<R: Threads + Wait + Sync>(
     rt: &R,
@@ -119,12 +119,12 @@ fn a_byte_a_call_changes_no_answer(rt: HostRuntime) {
     assert!(rt; is_opened_by_steps(&rt, rt.alloc(), 1) == Some(true));
 }
 
-// ---- writers that fail after so many bytes
+// ---- writers that fail after n bytes
 
-// No room, and some; behind chunk 0, of which 65,536 bytes are, and a byte before; and room for all, and more.
+// No room, and some; one byte less than chunk 0's 65,536 bytes, exactly those, and all bytes; and room for more.
 static ROOMS: [usize; 9] = [0, 1, 23, 24, 25, 65_535, 65_536, 65_537, 65_593];
 
-// Whether an opening into this room ends with `Write`, unless it is room for all, and has written just so much.
+// Whether opening into this room writes exactly that much, and fails with `Write` unless there is room for everything.
 fn is_opened_into<R: Threads + Sync>(
     rt: &R,
     alloc: Global,
@@ -157,10 +157,10 @@ fn an_opening_writes_what_there_is_room_for(rt: HostRuntime) {
     assert!(rt; are_opened_into(&rt, rt.alloc()) == Some(true));
 }
 
-// ---- a growth that is refused. Run these with each allocation refused in turn (`tools/refused_tests.py`).
+// ---- a refused growth. Run these with each allocation refused in turn (`tools/refused_tests.py`).
 
-// Whether a sealing gives the container and a sealed number, or a void one without memory and nothing written. `None`
-// is that memory was refused.
+// Whether a sealing returns the container and a sealed number. If memory is refused, the number must be void and
+// nothing written, and the result is `None`.
 fn is_sealed_or_refused<R: Threads + Wait + Sync>(rt: &R, alloc: Global) -> Option<Option<bool>> {
     let mut writer = writer_of(alloc, MOST, Schedule::Never)?;
     Some(match seal_zeros(rt, alloc, MOST, &mut writer)? {

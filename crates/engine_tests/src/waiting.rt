@@ -1,4 +1,4 @@
-//! What is written before what is read: sealing in rounds, and sealing a stream with some chunks in hand.
+//! What is written before what is read: sealing in rounds, and sealing a stream with some chunks pending.
 use crate::rounds::seal_by;
 use container_core::{SealFault, Shape};
 use crew_core::{Free, MAX_DEPTH};
@@ -12,7 +12,7 @@ use std::sync::Wait;
 use std::sync::atomic::{AtomicU64, Ordering};
 use std::thread::Threads;
 
-// A reader of zeros that fails where the bytes from `from` on are asked for and fewer than `wanted` were written.
+// A reader of zeros. It fails if bytes from `from` on are requested before `wanted` bytes were written.
 #[derive(Drop)]
 struct Waiting<'a> {
     given: u64,
@@ -39,7 +39,7 @@ impl Read for Waiting<'_> {
     }
 }
 
-// A writer that counts what it takes.
+// A writer that counts the bytes it takes.
 #[derive(Drop)]
 struct Counting<'a> {
     written: &'a AtomicU64,
@@ -56,7 +56,7 @@ impl Write for Counting<'_> {
     }
 }
 
-// Seals five chunks of zeros, where what stands behind so many bytes is given once so much was written.
+// Seals five chunks of zeros. The bytes from `from` on are returned only after `wanted` bytes were written.
 fn seal_waiting<T: Threads + Wait + Sync>(
     rt: &T,
     alloc: Global,
@@ -86,15 +86,15 @@ fn seal_waiting<T: Threads + Wait + Sync>(
     Some(result)
 }
 
-// Behind how many bytes the reader waits until how much was written; how many workers seal, in rounds of how many
-// chunks; and the answer. The first byte of chunk 3 is number 196,608, that of chunk 4 262,144.
+// After how many bytes the reader waits, until how many are written; the number of workers, the chunks of a round, and
+// the result. Chunk 3 begins at byte 196,608, and chunk 4 at byte 262,144.
 static WAITING: [(u64, u64, u32, u32, Result<u64, SealFault>); 5] = [
-    // Rounds 0 and 1 are written before round 3 is asked for, so a reader that waits for that is not kept waiting for
-    // ever. Round 2 is not: that this can fail.
+    // Rounds 0 and 1 are written before round 3 is read, so a reader that waits for that isn't kept waiting forever.
+    // Round 2 isn't: this shows that the test can fail.
     (196_609, 131_128, 1, 1, Ok(327_680)),
     (196_609, 196_680, 1, 1, Err(SealFault::Read)),
-    // By several workers: rounds 0 and 1 of one chunk before round 3, and round 0 of two chunks before round 2; but not
-    // chunk 2, which is of the round before.
+    // With several workers: rounds 0 and 1 of one chunk before round 3, and round 0 of two chunks before round 2; but
+    // not chunk 2, which is part of the previous round.
     (196_609, 131_128, 4, 1, Ok(327_680)),
     (262_145, 131_128, 4, 2, Ok(327_680)),
     (262_145, 131_129, 4, 2, Err(SealFault::Read)),
@@ -110,8 +110,8 @@ fn a_round_is_written_before_the_second_behind_it_is_read(rt: HostRuntime) {
     }
 }
 
-// Seals a stream of five chunks of zeros with one worker at this depth. The reader gives the bytes from `from` on only
-// once so many were written.
+// Seals a stream of five chunks of zeros with one worker at this depth. The reader returns the bytes from `from` on
+// only after `wanted` bytes were written.
 fn pipe_waiting<T: Threads + Wait + Sync>(
     rt: &T,
     alloc: Global,
@@ -149,10 +149,10 @@ fn pipe_waiting<T: Threads + Wait + Sync>(
     Some(result)
 }
 
-// After how many bytes the reader waits, until how many were written; the depth, and the answer. The header is written
+// After how many bytes the reader waits, until how many are written; the depth, and the result. The header is written
 // first, and chunk 0 ends at byte 65,576 of the container.
 static IN_HAND: [(u64, u64, u32, Result<u64, SealFault>); 7] = [
-    // Chunk 0, and nothing more, is written before the first, second or fourth chunk after it is read.
+    // Chunk 0 and nothing more is written before the first, second or fourth chunk after it is read.
     (65_537, 65_576, 1, Ok(327_680)),
     (131_073, 65_576, 2, Ok(327_680)),
     (131_073, 65_577, 2, Err(SealFault::Read)),

@@ -1,5 +1,5 @@
-//! A container of several windows, which are read one at a time: damaged, cut, and longer than allowed. Nothing of it
-//! is written.
+//! A container of several windows, which are read one at a time: damaged, cut, and longer than allowed. None of it is
+//! written.
 use container_core::{CHUNK, HEADER, OpenFault, SEALED, Shape, open, seal};
 use crew_core::{Free, MAX_WINDOW, MAX_WORKERS};
 use crew_tests::{PREFIX, counting_key, flip, pattern};
@@ -11,13 +11,13 @@ use std::thread::Threads;
 
 const MOST: usize = usize::MAX;
 
-// The greatest number of plaintext bytes that the engines are asked for.
+// The highest plaintext limit that the engines are given.
 pub(crate) const LIMIT: u64 = 1 << 24;
 
-// Bytes of a container of 39 full chunks and one of a byte: of two full windows and eight chunks.
+// The length of a container of 39 full chunks and one of a byte: two full windows and eight chunks.
 const FORTY: usize = HEADER + 39 * SEALED + 17;
 
-// Its plaintext bytes.
+// The length of its plaintext.
 const PLAIN: u64 = 39 * (CHUNK as u64) + 1;
 
 pub(crate) fn forty_chunks(alloc: Global) -> Option<Vec<u8>> {
@@ -37,8 +37,8 @@ pub(crate) fn forty_chunks(alloc: Global) -> Option<Vec<u8>> {
     }
 }
 
-// Why these bytes don't verify, by so many workers in windows of so many chunks, where opening them says the same and
-// writes nothing, and what answers the plaintext says it too.
+// The fault of verifying these bytes with `workers` workers in windows of `window` chunks. Opening them must fail in
+// the same way and write nothing, and so must the engine that returns the plaintext.
 pub(crate) fn fault_in<R: Threads + Sync>(
     rt: &R,
     alloc: Global,
@@ -99,7 +99,7 @@ pub(crate) fn fault_in<R: Threads + Sync>(
     }
 }
 
-// The same, which has to be one answer, in windows of 16 chunks and of one.
+// The same in windows of 16 chunks and of one, which must agree.
 pub(crate) fn fault_of<R: Threads + Sync>(
     rt: &R,
     alloc: Global,
@@ -115,7 +115,8 @@ pub(crate) fn fault_of<R: Threads + Sync>(
     }
 }
 
-// Whether so many bytes of a container are refused so, by so many workers where so many plaintext bytes are allowed.
+// Whether the first `kept` bytes of a container fail with `fault`, with `workers` workers and at most `max_bytes` bytes
+// of plaintext.
 fn is_refused_so<R: Threads + Sync>(
     rt: &R,
     alloc: Global,
@@ -131,22 +132,22 @@ fn is_refused_so<R: Threads + Sync>(
     }
 }
 
-// Changes a bit of each of these chunks.
+// Flips a bit of each of these chunks.
 fn flip_chunks(bytes: &mut [u8], chunks: &[u8]) {
     for chunk in chunks {
         flip(bytes, HEADER + usize::from(*chunk) * SEALED, 1);
     }
 }
 
-// Chunks that are changed, how many workers open the container, and the chunk that is named.
+// Chunks that are changed, the number of workers, and the chunk that is named.
 static BAD_CHUNKS: [(&[u8], u32, u32); 11] = [
-    // One of any window.
+    // One chunk, in any window.
     (&[0], 4, 0),
     (&[15], 1, 15),
     (&[16], 4, 16),
     (&[31], 1, 31),
     (&[39], 1, 39),
-    // Two of two windows, and of one.
+    // Two chunks, in two windows and in one.
     (&[3, 20], 4, 3),
     (&[17, 30], 4, 17),
     (&[33, 38], 4, 33),
@@ -155,7 +156,7 @@ static BAD_CHUNKS: [(&[u8], u32, u32); 11] = [
     (&[5, 2], 16, 2),
 ];
 
-// Whether one thread names this fault, over a reader and in memory.
+// Whether one thread reports this fault, from a reader and in memory.
 fn is_named_alone(alloc: Global, bytes: &[u8], fault: OpenFault) -> bool {
     let key = counting_key();
     let mut reader = FromMemory::new(bytes, MOST, Schedule::Never);
@@ -163,8 +164,7 @@ fn is_named_alone(alloc: Global, bytes: &[u8], fault: OpenFault) -> bool {
     verified == Some(fault) && open(alloc, &key, bytes).err() == Some(fault)
 }
 
-// Whether so many workers, and one thread, name this chunk of the container where these are changed. It is whole again
-// then.
+// Whether `workers` workers and one thread name the lowest of these changed chunks. The changes are undone.
 fn is_least_named<R: Threads + Sync>(
     rt: &R,
     alloc: Global,
@@ -202,22 +202,22 @@ fn the_least_bad_chunk_of_any_window_is_named(rt: HostRuntime) -> Result<(), Fai
 
 // How many bytes are left of the container, and the fault.
 static CUTS: [(usize, OpenFault); 15] = [
-    // A container that ends with a window, or a chunk, has a last chunk that was sealed as one before the last.
+    // A container that ends at a window's or chunk's end has a last chunk that wasn't sealed as the last.
     (HEADER + SEALED, OpenFault::Forged { chunk: 0 }),
     (HEADER + 15 * SEALED, OpenFault::Forged { chunk: 14 }),
     (HEADER + 16 * SEALED, OpenFault::Forged { chunk: 15 }),
     (HEADER + 17 * SEALED, OpenFault::Forged { chunk: 16 }),
     (HEADER + 32 * SEALED, OpenFault::Forged { chunk: 31 }),
     (HEADER + 39 * SEALED, OpenFault::Forged { chunk: 38 }),
-    // Nothing, a header cut short, and all of it.
+    // Nothing, a header cut short, and a whole header.
     (0, OpenFault::ShortHeader),
     (HEADER - 1, OpenFault::ShortHeader),
     (HEADER, OpenFault::BadLength),
-    // Of chunk 0 less than a tag, as much, and all but a byte.
+    // Of chunk 0: less than a tag, exactly a tag, and all but a byte.
     (HEADER + 15, OpenFault::BadLength),
     (HEADER + 16, OpenFault::Forged { chunk: 0 }),
     (HEADER + SEALED - 1, OpenFault::Forged { chunk: 0 }),
-    // Of chunk 1 a byte, a tag, and both.
+    // Of chunk 1: a byte, a tag, and both.
     (HEADER + SEALED + 1, OpenFault::BadLength),
     (HEADER + SEALED + 16, OpenFault::BadLength),
     (HEADER + SEALED + 17, OpenFault::Forged { chunk: 1 }),
@@ -236,7 +236,7 @@ fn a_cut_is_seen_at_a_window_and_elsewhere(rt: HostRuntime) -> Result<(), Fail> 
 }
 
 // How many bytes are left of the container whose chunk 0 doesn't check, how many plaintext bytes are allowed, and the
-// fault. Reading goes on behind a bad chunk, since a length that is wrong, or too great, comes before it.
+// fault. Reading continues after a bad chunk, since a wrong or too great length takes precedence.
 static LENGTHS: [(usize, u64, OpenFault); 6] = [
     (HEADER + 16 * SEALED + 1, LIMIT, OpenFault::BadLength),
     (HEADER + 16 * SEALED + 16, LIMIT, OpenFault::BadLength),
@@ -269,12 +269,12 @@ fn a_wrong_length_comes_before_a_bad_chunk(rt: HostRuntime) -> Result<(), Fail> 
     Ok(())
 }
 
-// A byte of the header that is changed, how many plaintext bytes are allowed, and the fault. A header with a fault is
-// named only once it is known that the container isn't too long.
+// A changed byte of the header, how many plaintext bytes are allowed, and the fault. A fault of the header is reported
+// only after it is known that the container isn't too long.
 static HEADERS: [(usize, u64, OpenFault); 9] = [
     (8, PLAIN - 1, OpenFault::TooLong),
     (8, PLAIN, OpenFault::BadVersion),
-    // The magic's first and last, the exponent, the prefix's first and last, and the hint's.
+    // The magic's first and last byte, the exponent, the prefix's first and last byte, and the hint's.
     (0, PLAIN, OpenFault::BadMagic),
     (7, PLAIN, OpenFault::BadMagic),
     (9, PLAIN, OpenFault::BadExponent),
@@ -284,7 +284,7 @@ static HEADERS: [(usize, u64, OpenFault); 9] = [
     (23, PLAIN, OpenFault::KeyMismatch),
 ];
 
-// Whether the container is refused so by 1 and 4 workers where this byte is changed. It is whole again then.
+// Whether 1 and 4 workers refuse the container with `fault` after this byte is changed. The change is undone.
 fn is_header_refused<R: Threads + Sync>(
     rt: &R,
     alloc: Global,

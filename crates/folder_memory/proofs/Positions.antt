@@ -1,4 +1,4 @@
--- Where an element passes a test, its image does so of the image's list.
+-- The first element that passes a test has the same position as its image in the mapped list.
 use Rattle.std.proofs.Common.{◌≡◌, ℕ, ◌+◌, Bool, not, cond, nat_lt, List, [], ◌∷◌, length, map, Option}
 use Rattle.std.proofs.Common.{Some, None, refl, ap, ◌∙◌}
 use Rattle.std.specs.List.{position, position_or_len}

@@ -1,4 +1,4 @@
--- A session that is noted stays sound: a container more has a number of the range, under which no other began.
+-- A noted session stays sound: one more container has a number of the range, under which no other began.
 use mathlib.Core.Option.{none}
 use Rattle.std.proofs.Common.{◌≡◌, ◌⊎◌, inl, inr, ◌∙◌, ℕ, ◌+◌, ◌<◌, ◌≤◌, Bool, true, false, cond, nat_eq}
 use Rattle.std.proofs.Common.{List, [], ◌∷◌, length, map, Option, Some, None, refl, sym, ap, subst, arith, eqb-true}

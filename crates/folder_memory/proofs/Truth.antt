@@ -1,4 +1,4 @@
--- What the folder tells stays true of its files: by a file more, by each event, by an output finished and one removed.
+-- What the folder records stays true of its files: after one more file, each event, an output finished and one removed.
 use Rattle.std.proofs.Common.{◌≡◌, ◌∙◌, ℕ, ◌<◌, zero, suc, Bool, true, false, not, cond, if◌then◌else◌, List, [], ◌∷◌}
 use Rattle.std.proofs.Common.{◌++◌, get_or, length, map, Option, Some, None, IfSome, refl, sym, ap, subst, bytes_eq}
 use Rattle.std.proofs.Common.{string_bytes, arith, set}
@@ -68,7 +68,7 @@ true_finished files files' log log' told name bytes is does held others was =
         pick true same is = ap (bytes_of files') (sym (equal name other same)) ∙ held ∙ is
         pick false same is = others other same ∙ was other whole is
 
--- the output was given up, and whether it is there any more, nothing is said of it
+-- the output was discarded: the record says nothing of it, whether it is still there or not
 pub true_discarded : (files files' : List FileView) (log log' : Option (List Event)) (told : Option Told)
     (name bytes : List ℕ) → IfSome told (λ t. event_of t ≡ Discarded name bytes) → Does (IsEvent told) log log'
     → ((other : List ℕ) → bytes_eq name other ≡ false → bytes_of files' other ≡ bytes_of files other)
@@ -89,7 +89,7 @@ true_discarded files files' log log' told name bytes is does others was =
 
 -- ---- the files
 
--- the bytes of a file are those that were told
+-- the bytes of a file are those recorded
 pub told_held : (files : List FileView) (log : Option (List Event)) (name bytes : List ℕ) → AreAsTold files log
     → IfSome (bytes_of files name) (λ whole. bytes ≡ whole)
     → IfSome log (λ events. IfSome (told_of events name) (λ whole. bytes ≡ whole))
@@ -101,7 +101,7 @@ told_held files (Some events) name bytes was held = pick (told_of events name) r
     pick None is = tt
     pick (Some whole) is = subst (λ (h : Option (List ℕ)). IfSome h (λ whole. bytes ≡ whole)) (was name whole is) held
 
--- nothing was told
+-- nothing was recorded
 pub true_of_none : (files : List FileView) → AreAsTold files (Some [])
 unfolding AreAsTold
 true_of_none files name bytes is = absurd (cc)
@@ -122,7 +122,7 @@ held_more (one ∷ files) file name bytes is = pick (bytes_eq one.name name) (he
     pick true rest is = is
     pick false rest is = rest is
 
--- a file more
+-- one more file
 true_with_more : (files : List FileView) (file : FileView) (log : Option (List Event)) → AreAsTold files log
     → AreAsTold (files ++ file ∷ []) log
 unfolding AreAsTold
@@ -188,7 +188,7 @@ true_once_finished files files' log log' told i d file name bytes is does place 
     (λ other not. set_other other files i d file found.0 (other_named (get_or files i d) name other found.1 not)
     (other_named file name other same not)) was)
 
--- of a file of another name the files of other names tell the same
+-- for a file of another name, the files of other names give the same
 left_other : (name other : List ℕ) (files : List File) → bytes_eq name other ≡ false
     → bytes_of (map file_of (others name files)) other ≡ bytes_of (map file_of files) other
 left_other name other [] apart = refl
@@ -204,7 +204,7 @@ left_other name other (one ∷ files) apart =
         rest ∙ sym (ap (λ b. if b then whole_of one.content else bytes_of (map file_of files) other) differs)
     pick false is rest = ap (λ held. if bytes_eq (named one) other then whole_of one.content else held) rest
 
--- an output was given up, and removed
+-- an output was discarded and removed
 pub true_once_removed : (files files' : List File) (log log' : Option (List Event)) (told : Option Told)
     (name bytes : List ℕ)
     → IfSome told (λ t. event_of t ≡ Discarded name bytes) → Does (IsEvent told) log log'

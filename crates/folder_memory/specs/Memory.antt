@@ -1,4 +1,4 @@
--- What a folder in memory stands for.
+-- The view of a folder in memory.
 use Rattle.std.specs.Prelude.{◌≡◌, ◌⊎◌, ⊤, ℕ, ◌-◌, ◌==◌, Bool, false, not, List, [], ◌∷◌, filter, Option, Some, None}
 use Rattle.std.specs.Prelude.{if◌then◌else◌, IfSome, is_some, option_map, position, bytes_eq, string_bytes}
 use Rattle.command_core.specs.Session.{IsSound, Session}
@@ -29,7 +29,7 @@ whole_of (Written shown) = None
 abbrev pub file_of : File → FileView
 file_of file = file_view (string_bytes file.name) (whole_of file.content)
 
--- the bytes of the file of this name, where there is one and it is whole
+-- the bytes of the file of this name, if there is one and it is whole
 abbrev pub bytes_of : List FileView → List ℕ → Option (List ℕ)
 bytes_of [] name = None
 bytes_of (file ∷ files) name = if bytes_eq file.name name then file.whole else bytes_of files name
@@ -42,13 +42,13 @@ is_there files name = is_some (position (λ file. bytes_eq file.name name) files
 abbrev pub without : List FileView → List ℕ → List FileView
 without files name = filter (λ file. not (bytes_eq file.name name)) files
 
--- the files, of which the first one of this name is whole, and has these bytes
+-- the files, of which the first one of this name is whole and has these bytes
 abbrev pub with_bytes : List FileView → List ℕ → List ℕ → List FileView
 with_bytes [] name bytes = []
 with_bytes (file ∷ files) name bytes =
     if bytes_eq file.name name then file_view file.name (Some bytes) ∷ files else file ∷ with_bytes files name bytes
 
--- where so many calls are still answered before one fails: whether it is this one, and what is left behind it
+-- given how many calls succeed before one fails: whether this call fails, and the number left after it
 abbrev pub fails_now : Option ℕ → Bool
 fails_now None = false
 fails_now (Some number) = number == 0
@@ -57,15 +57,15 @@ abbrev pub after_call : Option ℕ → Option ℕ
 after_call None = None
 after_call (Some number) = if number == 0 then None else Some (number - 1)
 
--- the name under which an output was created, and what its writer tells
+-- the name under which an output was created, and the bytes that its writer took
 abbrev pub name_of : MemoryWriter → List ℕ
 name_of writer = string_bytes writer.name
 
 abbrev pub taken_by : MemoryWriter → Option (List ℕ)
 taken_by writer = Some (tape (name_of writer) writer.bytes.taken)
 
--- its files, how many calls are still answered before one fails, how readers and writers that are made from now on move
--- their bytes, what happened, unless something was forgotten, and the note of the session, where there is one
+-- its files, how many calls succeed before one fails, how readers and writers made from now on move their bytes, what
+-- happened (unless something was forgotten), and the note of the session, if there is one
 pub record MemoryView : Type 0 where
   pub files : List FileView
   pub refused : Option ℕ
@@ -78,7 +78,7 @@ abbrev pub memory_view : List FileView → Option ℕ → Pace → Pace → Opti
 memory_view files refused readers writers log session =
     record { files = files; refused = refused; readers = readers; writers = writers; log = log; session = session }
 
--- the session that the folder tells, by its note
+-- the folder's session, by its note
 abbrev pub session_told : MemoryView → Option Session
 session_told folder = option_map (λ note. session_of note.place.me.0) folder.session
 
@@ -96,16 +96,16 @@ event_of (Refused name fault) = trace.Refused (string_bytes name) fault
 event_of (Finished name bytes) = trace.Finished (string_bytes name) bytes.items
 event_of (Discarded name bytes) = trace.Discarded (string_bytes name) bytes.items
 
--- this event is to be told, for which there was memory
+-- this event is to be recorded, and there was memory for it
 abbrev pub IsEvent : Option Told → List Event → Type 0
 IsEvent None events = ⊥
 IsEvent (Some told) events = events ≡ event_of told ∷ []
 
--- what was told so far is as it was, or was forgotten
+-- the record so far is as it was, or was forgotten
 abbrev pub KeepsOrForgets : Option (List Event) → Option (List Event) → Type 0
 KeepsOrForgets log log' = (log' ≡ log) ⊎ (log' ≡ None)
 
--- what an event leaves of the output of this name: its bytes where it was finished, nothing where it was given up
+-- what an event leaves of the output of this name: its bytes if it was finished, nothing if it was discarded
 abbrev pub left_by : List ℕ → Option (List ℕ) → Event → Option (List ℕ)
 left_by name left (trace.Reading other bytes) = left
 left_by name left (trace.Unread other) = left
@@ -118,11 +118,11 @@ abbrev pub left_after : List ℕ → Option (List ℕ) → List Event → Option
 left_after name left [] = left
 left_after name left (event ∷ events) = left_after name (left_by name left event) events
 
--- the bytes with which the output of this name was finished, unless it was given up since
+-- the bytes with which the output of this name was finished, unless it was discarded since
 abbrev pub told_of : List Event → List ℕ → Option (List ℕ)
 told_of events name = left_after name None events
 
--- What is told is true of the files: an output that was finished, and wasn't given up since, has those bytes.
+-- The record is true of the files: an output that was finished, and not discarded since, has those bytes.
 unfoldable pub AreAsTold : List FileView → Option (List Event) → Type 0
 AreAsTold files None = ⊤
 AreAsTold files (Some events) =

@@ -1,5 +1,5 @@
-//! A folder in memory, for tests of the commands: its calls, readers and writers fail where they are told to, and it
-//! keeps what happened.
+//! A folder in memory, for tests of the commands. Its calls, readers and writers fail where a test asks for it, and it
+//! records what happened.
 #![tactic(auto)]
 
 pub mod memory;

@@ -1,7 +1,7 @@
-//! A folder in memory, whose calls fail where they are told to.
+//! A folder in memory, whose calls fail where a test asks for it.
 //!
-//! It keeps what happened and tells it, refused calls too. Where memory is refused to a call, or for its event, it
-//! forgets, and tells nothing from then on: what it tells is never for want of memory.
+//! It records what happened, refused calls too, and gives the record to contracts. If memory is refused to a call or
+//! for its event, it forgets the record and keeps none from then on. So no recorded failure is due to a lack of memory.
 ghost use Rattle.std.specs.Prelude.{◌≡◌, ◌≢◌, ◌⊎◌, ◌↔◌, Err, ◌<◌, [], ◌∷◌, ◌++◌, None, Some, true, false, length};
 ghost use Rattle.std.specs.Prelude.{IfErr, IfNone, IfOk, IfSome, OnErr, OnOk, map, option_map, position, bytes_eq};
 ghost use Rattle.std.specs.Prelude.{string_bytes};
@@ -45,13 +45,13 @@ struct File {
 pub struct MemoryFolder {
     alloc: Global,
     files: Vec<File>,
-    // How many calls are still answered before one fails.
+    // How many calls succeed before one fails.
     refused: Option<u64>,
     readers: Pace,
     writers: Pace,
-    // What happened, as long as nothing was forgotten.
+    // What happened, unless something was forgotten.
     told: Option<Vec<Told>>,
-    // The session that it was told of, unless that was forgotten.
+    // The session that it was given, unless that was forgotten.
     session: Option<SessionNote>,
 }
 
@@ -64,13 +64,13 @@ impl Model for MemoryFolder {
     ghost view = { λ f. memory_view (map file_of f.files.items) f.refused f.readers f.writers
         (option_map (λ told. map event_of told.items) f.told) f.session };
 
-    // An output that was finished has the bytes that were told, until it is given up.
+    // An output that was finished has the recorded bytes, until it is discarded.
     ghost invariant = { λ f. AreAsTold (map file_of f.files.items)
         (option_map (λ told. map event_of told.items) f.told) };
 }
 
 impl MemoryFolder {
-    /// An empty folder, in which nothing fails.
+    /// Makes an empty folder, in which nothing fails.
     pub fn new(alloc: Global) -> MemoryFolder
         ensures { result ≡ memory_view [] None STEADY STEADY (Some []) None }
     {
@@ -85,7 +85,7 @@ impl MemoryFolder {
         }
     }
 
-    /// Puts a file of these bytes into the folder. `Exists` where the name is there. It is no event.
+    /// Puts a file of these bytes into the folder. `Exists` if the name is in use. It is no event.
     pub fn put(&mut self, name: &str, bytes: &[u8]) -> Result<(), FolderFault>
         ensures ok { OnOk result
             (self.new ≡ record self.old { files = self.old.files ++ file_view name.now (Some bytes.now) ∷ [] }) }
@@ -99,40 +99,40 @@ impl MemoryFolder {
         }
     }
 
-    /// The folder's call of this number fails, counted from 0 and from now on.
+    /// Makes the folder's call of this number fail, counted from 0 and from now on.
     pub fn refuse_call(&mut self, number: u64)
         ensures { self.new ≡ record self.old { refused = Some number } }
     {
         self.refused = Some(number);
     }
 
-    /// How readers that are opened from now on move their bytes.
+    /// Sets how readers opened from now on move their bytes.
     pub fn pace_readers(&mut self, pace: Pace)
         ensures { self.new ≡ record self.old { readers = pace } }
     {
         self.readers = pace;
     }
 
-    /// How writers that are created from now on move their bytes.
+    /// Sets how writers created from now on move their bytes.
     pub fn pace_writers(&mut self, pace: Pace)
         ensures { self.new ≡ record self.old { writers = pace } }
     {
         self.writers = pace;
     }
 
-    /// Whether there is a file of this name.
+    /// Returns whether there is a file of this name.
     pub fn has(&self, name: &str) -> bool
         ensures { result ≡ is_there self.now.files name.now }
     {
         place_of(self.files.as_slice(), name).is_some()
     }
 
-    /// The bytes of a file: of an output that wasn't finished those that it shows.
+    /// Returns the bytes of a file. For an output that wasn't finished, these are the bytes shown so far.
     pub fn bytes(&self, name: &str) -> Result<Vec<u8>, FolderFault>
         ensures held { IfOk result (λ bytes.
             IfSome (bytes_of self.now.files name.now) (λ whole. bytes.items ≡ whole)) }
         ensures there { OnOk result (is_there self.now.files name.now ≡ true) }
-        // An output that was finished has the bytes that were told, until it is given up.
+        // An output that was finished has the recorded bytes, until it is discarded.
         ensures told { IfOk result (λ bytes. IfSome self.now.log (λ events.
             IfSome (told_of events name.now) (λ whole. bytes.items ≡ whole))) }
     {
@@ -145,7 +145,7 @@ impl MemoryFolder {
         }
     }
 
-    /// What happened so far, unless something was forgotten.
+    /// Returns what happened so far, or `None` if something was forgotten.
     pub fn told(&self) -> Option<&[Told]>
         ensures { option_map (λ told. map event_of told.now) result ≡ self.now.log }
     {
@@ -155,7 +155,7 @@ impl MemoryFolder {
         }
     }
 
-    /// A run is over: of its session the folder knows nothing any more, and the next run starts its own.
+    /// Ends a run: the folder forgets its session, and the next run starts its own.
     pub fn end_session(&mut self)
         ensures { self.new ≡ record self.old { session = None } }
     {
@@ -181,7 +181,7 @@ impl MemoryFolder {
         }
     }
 
-    // The bytes of a file that is to be read, unless this call fails.
+    // The bytes of a file to be read, unless this call fails.
     fn bytes_to_read(&mut self, name: &str) -> Option<Vec<u8>>
         ensures same { self.new ≡ record self.old { refused = after_call self.old.refused; log = self.new.log } }
         ensures told { IfSome result (λ bytes. self.new.log ≡ self.old.log) }
@@ -208,7 +208,7 @@ impl MemoryFolder {
         }
     }
 
-    // A new output, which is in the folder, unless this call fails.
+    // A new output in the folder, unless this call fails.
     fn new_output(&mut self, name: &str) -> Result<MemoryWriter, FolderFault>
         ensures empty { IfOk result (λ writer. (string_bytes writer.name ≡ name.now) × (writer.bytes.taken ≡ [])) }
         ensures added { OnOk result (self.new ≡ record self.old {
@@ -239,7 +239,7 @@ impl MemoryFolder {
         }
     }
 
-    // The writer of an output that was added, unless memory is refused or the name is there.
+    // The writer of an output that was added, unless memory is refused or the name is in use.
     fn added(&mut self, name: &str) -> Option<MemoryWriter>
         ensures empty { IfSome result (λ writer. (string_bytes writer.name ≡ name.now) × (writer.bytes.taken ≡ [])) }
         ensures some { IfSome result (λ writer.
@@ -309,9 +309,10 @@ impl Folder for MemoryFolder {
         ensures fault { result ≢ Err FolderFault.Exists }
         ensures opened { IfOk result (λ reader. Does (Opens name.now (Some reader)) self.old.log self.new.log) }
         ensures unopened { OnErr result (Does (FailsToOpen name.now) self.old.log self.new.log) }
-        // What its reader has to give is what the file holds, where that is whole.
+        // Its reader gives the bytes of the file, if that is whole.
         ensures held { IfOk result (λ reader. IfSome (bytes_of self.old.files name.now) (λ whole. reader ≡ whole)) }
-        // There is such a file, and this call wasn't to fail; else there is none, or it was, or the folder forgot.
+        // On success there is such a file and this call wasn't to fail. Otherwise there is none, the call was to fail,
+        // or the folder forgot.
         ensures there { OnOk result
             ((is_there self.old.files name.now ≡ true) × (fails_now self.old.refused ≡ false)) }
         ensures cause { OnErr result ((is_there self.old.files name.now ≡ false)
@@ -333,14 +334,14 @@ impl Folder for MemoryFolder {
     fn create(&mut self, name: &str) -> Result<MemoryWriter, FolderFault>
         ensures created { IfOk result (λ output. Does (Creates name.now (taken_by output)) self.old.log self.new.log) }
         ensures uncreated { IfErr result (λ fault. Does (Refuses name.now fault) self.old.log self.new.log) }
-        // A file more, of this name and without bytes; no file had the name, and this call wasn't to fail.
+        // One more file, of this name and without bytes. No file had the name, and this call wasn't to fail.
         ensures added { OnOk result (self.new.files ≡ self.old.files ++ file_view name.now None ∷ []) }
         ensures unnamed { OnOk result
             ((is_there self.old.files name.now ≡ false) × (fails_now self.old.refused ≡ false)) }
-        // `Exists` exactly where a file has the name, and this call wasn't to fail.
+        // `Exists` exactly if a file has the name, and this call wasn't to fail.
         ensures exists { (result ≡ Err FolderFault.Exists)
             ↔ ((is_there self.old.files name.now ≡ true) × (fails_now self.old.refused ≡ false)) }
-        // `Failed` where this call was to fail, or the folder forgot.
+        // `Failed` only if this call was to fail, or the folder forgot.
         ensures cause { result ≡ Err FolderFault.Failed → (fails_now self.old.refused ≡ true) ⊎ (self.new.log ≡ None) }
         ensures kept { OnErr result (self.new.files ≡ self.old.files) }
         ensures counted { self.new.refused ≡ after_call self.old.refused }
@@ -364,8 +365,8 @@ impl Folder for MemoryFolder {
         ensures finished { OnOk result (Does (Finishes (taken_by output)) self.old.log self.new.log) }
         ensures back { IfErr result (λ back. taken_by back ≡ taken_by output) }
         ensures unfinished { OnErr result (Does Nothing self.old.log self.new.log) }
-        // The file of its name is whole, and the others are as they were. There is such a file, and this call wasn't to
-        // fail; else there is none, or it was, or the folder forgot.
+        // On success the file of its name is whole, and the others are as they were. There is such a file, and this
+        // call wasn't to fail. Otherwise there is none, the call was to fail, or the folder forgot.
         ensures whole { OnOk result
             (self.new.files ≡ with_bytes self.old.files (name_of output) output.bytes.taken) }
         ensures there { OnOk result
@@ -392,11 +393,11 @@ impl Folder for MemoryFolder {
         Ok(())
     }
 
-    // Told whatever becomes of the removal.
+    // Recorded whether or not the removal succeeds.
     fn discard(&mut self, output: MemoryWriter) -> Result<(), FolderFault>
         ensures fault { result ≢ Err FolderFault.Exists }
         ensures discarded { Does (Discards (taken_by output)) self.old.log self.new.log }
-        // The files of other names are left. It fails where this call was to fail, and where no file has the name.
+        // The files of other names are left. It fails if this call was to fail, or if no file has the name.
         ensures removed { OnOk result (self.new.files ≡ without self.old.files (name_of output)) }
         ensures kept { OnErr result (self.new.files ≡ self.old.files) }
         ensures there { OnOk result
@@ -424,7 +425,7 @@ impl Folder for MemoryFolder {
 }
 
 impl OpeningFolder for MemoryFolder {
-    // It tells no bound of what an output may hold.
+    // It gives no bound for an output.
     fn allow_plain(
         &mut self,
         output: &mut MemoryWriter,
@@ -437,7 +438,7 @@ impl OpeningFolder for MemoryFolder {
     {}
 }
 
-// It tells no bound of what an output may hold. Both calls leave files, what happened, and what is to fail as they are.
+// It gives no bound for an output. Both calls leave the files, the record and the calls that are to fail as they are.
 impl SealingFolder for MemoryFolder {
     fn start<S: Fold>(&mut self, _file: &LedgerFile<S>, key: &Key, ledger: &Ledger)
         ensures folder { self.new ≡ record self.old { session = self.new.session } }
@@ -447,7 +448,7 @@ impl SealingFolder for MemoryFolder {
         self.session = SessionNote::new(self.alloc, key, ledger);
     }
 
-    // It forgets the session only where the shape isn't one: each shape is, but no contract of a shape says so.
+    // It forgets the session only if the shape isn't one. Each shape is one, but no contract of a shape says so.
     fn allow_container(
         &mut self,
         output: &mut MemoryWriter,
@@ -463,7 +464,7 @@ impl SealingFolder for MemoryFolder {
         ensures folder { self.new ≡ record self.old { session = self.new.session } }
         ensures begun { IfSome (session_told self.new) (λ session.
             (was : Session) × (session_told self.old ≡ Some was) × (session ≡ with_begun number shape.now was)) }
-        // Of a shape nothing is forgotten.
+        // With a valid shape nothing is forgotten.
         ensures kept { IsShape shape.now
             → session_told self.new ≡ option_map (with_begun number shape.now) (session_told self.old) }
         ensures output { output.new ≡ output.old }

@@ -1,6 +1,6 @@
-//! A note of the session that a folder was told of: the key's id, the range, and the containers that began.
+//! A note of the session that a folder was given: the key ID, the range, and the containers that began.
 //!
-//! At run time a ledger doesn't tell its range. So the note is what the seat of an atomic table knows: it is there for
+//! At run time a ledger doesn't give its range. So the note is what the seat of an atomic table knows. It exists for
 //! proofs, and takes no memory but the table's.
 ghost use Rattle.std.specs.Prelude.{◌≡◌, ◌↔◌, IfSome, IsTrue};
 ghost use Rattle.sha2.specs.Sha256.{sha256};
@@ -41,14 +41,15 @@ impl TableRule<(), Noted, ()> for AnySession {
     ghost first = { nothing };
 }
 
-/// Names the session that is noted. A kind of step is a type, which can't hold one: it has a parameter of this trait.
+/// Names the session that is noted. A kind of step is a type, and can't hold a session. So it has a parameter of this
+/// trait.
 pub trait Naming {
     ghost use Rattle.command_core.specs.Session.{Session};
 
     ghost session: { Session };
 }
 
-// A call that passes `Brand` picks the session for itself. This one is nobody's.
+// A call that passes `Brand` picks its own session. This one is nobody's.
 impl Naming for Brand {
     ghost use Rattle.folder_memory.specs.Noted.{no_session};
 
@@ -123,7 +124,7 @@ fn put_started<N: Naming>(word: &Word, place: &mut Place, _key: &Key, _ledger: &
     word.shared.load::<Put<N>>(place, 0);
 }
 
-// A session is noted in which a container began under this number, in this shape.
+// Notes a session in which a container began under this number, in this shape.
 fn put_begun<N: Naming>(word: &Word, place: &mut Place, _number: u32, _shape: &Shape)
     requires same { place.old.table_id ≡ word.now.shared.table_id }
     requires word { word.now.shared.table_id.words ≡ 1 }
@@ -133,7 +134,7 @@ fn put_begun<N: Naming>(word: &Word, place: &mut Place, _number: u32, _shape: &S
     word.shared.load::<Put<N>>(place, 0);
 }
 
-// Whether it is a shape. Each one is, but no contract says so: where this is false the folder forgets its session.
+// Whether it is a shape. Each one is, but no contract says so. If this is false, the folder forgets its session.
 pub(crate) fn is_shape(key: &Key, shape: &Shape) -> bool
     ensures { IsTrue result ↔ IsShape shape.now }
 {

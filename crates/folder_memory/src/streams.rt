@@ -1,4 +1,5 @@
-//! Readers and writers of the files of a folder in memory: they move their bytes at a pace, and tell them.
+//! Readers and writers of the files of a folder in memory. They move their bytes at a pace, and contracts see the
+//! bytes.
 ghost use Rattle.std.specs.Prelude.{◌≡◌, [], IfOk, string_bytes};
 
 use io_memory::{FromMemory, Schedule, ToMemory};
@@ -8,10 +9,10 @@ use std::cell::RefCell;
 use std::marker::Model;
 use std::rc::Rc;
 
-/// How a reader or a writer moves its bytes: at most so many a call, failing by a schedule.
+/// How a reader or a writer moves its bytes: the most bytes of a call, and the schedule of failures.
 #[derive(Clone, Copy, PartialEq, Eq, Debug)]
 pub struct Pace {
-    /// Bytes a call, at most. 0 is taken as 1.
+    /// The most bytes of a call. 0 is taken as 1.
     pub most: usize,
     /// Which calls fail.
     pub schedule: Schedule,
@@ -73,7 +74,7 @@ impl Source for MemoryReader {
     }
 }
 
-// What is left of a schedule after so many calls that moved so many bytes.
+// What is left of a schedule after `calls` calls that moved `bytes` bytes.
 fn schedule_after(schedule: Schedule, calls: u64, bytes: u64) -> Schedule {
     match schedule {
         Schedule::Never => Schedule::Never,
@@ -88,7 +89,7 @@ fn schedule_after(schedule: Schedule, calls: u64, bytes: u64) -> Schedule {
     }
 }
 
-// What the writer of an output took so far, which it shows to the folder.
+// What the writer of an output took so far, shared with the folder.
 pub(crate) type Shown = Rc<RefCell<Vec<u8>>>;
 
 /// A writer of a file in memory.
@@ -121,7 +122,7 @@ impl Sink for MemoryWriter {
     }
 }
 
-// Shows these bytes, unless memory for them is refused.
+// Appends these bytes to those shown, unless memory for them is refused.
 fn show(shown: &Shown, bytes: &[u8]) {
     if let Ok(mut shown) = shown.try_borrow_mut() {
         let _ = shown.extend_from_slice(bytes);

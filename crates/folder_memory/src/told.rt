@@ -1,4 +1,4 @@
-//! What happened in a folder in memory, and how it is kept.
+//! What happened in a folder in memory, and how it is recorded.
 ghost use Rattle.std.specs.Prelude.{◌≡◌, IfSome, map, option_map};
 ghost use Rattle.command_core.specs.Trace.{Created, Discarded, Does, Finished, Reading, Refused, Unread};
 ghost use Rattle.folder_memory.specs.Memory.{IsEvent, event_of};
@@ -9,21 +9,21 @@ use std::alloc::Global;
 /// What happened in a folder.
 #[derive(Drop)]
 pub enum Told {
-    /// A file of this name was opened to be read, and these were its bytes.
+    /// A file of this name was opened for reading, and these were its bytes.
     Reading(String, Vec<u8>),
     /// A file could not be opened.
     Unread(String),
     /// An output was created.
     Created(String),
-    /// An output could not be created, by this fault.
+    /// An output could not be created, with this fault.
     Refused(String, FolderFault),
     /// An output was finished, and these were all its bytes.
     Finished(String, Vec<u8>),
-    /// An output was given up with these bytes, and its removal was tried.
+    /// An output was discarded with these bytes, and its removal was tried.
     Discarded(String, Vec<u8>),
 }
 
-/// Keeps what happened, or forgets all where memory for it was refused.
+/// Records what happened, or forgets the record if memory for it was refused.
 pub(crate) fn tell(told: &mut Option<Vec<Told>>, event: Option<Told>)
     ensures { Does (IsEvent event) (option_map (λ told. map event_of told.items) told.old)
         (option_map (λ told. map event_of told.items) told.new) }
@@ -41,7 +41,7 @@ pub(crate) fn tell(told: &mut Option<Vec<Told>>, event: Option<Told>)
     }
 }
 
-/// That a file was opened to be read.
+/// The event that a file was opened for reading.
 pub(crate) fn reading(alloc: Global, name: &str, bytes: &[u8]) -> Option<Told>
     ensures { IfSome result (λ told. event_of told ≡ Reading name.now bytes.now) }
 {
@@ -50,7 +50,7 @@ pub(crate) fn reading(alloc: Global, name: &str, bytes: &[u8]) -> Option<Told>
     Some(Told::Reading(name, bytes))
 }
 
-/// That a file could not be opened.
+/// The event that a file could not be opened.
 pub(crate) fn unread(alloc: Global, name: &str) -> Option<Told>
     ensures { IfSome result (λ told. event_of told ≡ Unread name.now) }
 {
@@ -58,7 +58,7 @@ pub(crate) fn unread(alloc: Global, name: &str) -> Option<Told>
     Some(Told::Unread(name))
 }
 
-/// That an output was created.
+/// The event that an output was created.
 pub(crate) fn created(alloc: Global, name: &str) -> Option<Told>
     ensures { IfSome result (λ told. event_of told ≡ Created name.now) }
 {
@@ -66,7 +66,7 @@ pub(crate) fn created(alloc: Global, name: &str) -> Option<Told>
     Some(Told::Created(name))
 }
 
-/// That an output could not be created.
+/// The event that an output could not be created.
 pub(crate) fn refused(alloc: Global, name: &str, fault: FolderFault) -> Option<Told>
     ensures { IfSome result (λ told. event_of told ≡ Refused name.now fault) }
 {
@@ -74,7 +74,7 @@ pub(crate) fn refused(alloc: Global, name: &str, fault: FolderFault) -> Option<T
     Some(Told::Refused(name, fault))
 }
 
-/// That an output was finished.
+/// The event that an output was finished.
 pub(crate) fn finished(alloc: Global, name: &str, bytes: &[u8]) -> Option<Told>
     ensures { IfSome result (λ told. event_of told ≡ Finished name.now bytes.now) }
 {
@@ -83,7 +83,7 @@ pub(crate) fn finished(alloc: Global, name: &str, bytes: &[u8]) -> Option<Told>
     Some(Told::Finished(name, bytes))
 }
 
-/// That an output was given up.
+/// The event that an output was discarded.
 pub(crate) fn discarded(alloc: Global, name: &str, bytes: &[u8]) -> Option<Told>
     ensures { IfSome result (λ told. event_of told ≡ Discarded name.now bytes.now) }
 {

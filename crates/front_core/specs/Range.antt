@@ -17,8 +17,8 @@ use Rattle.reserve_core.specs.Lasting.{StillLast}
 abbrev pub operations_of : List SeatView → List Entry
 operations_of seats = flat_map (λ seat. seat.mine) seats
 
--- A range of so many numbers of the device was reserved: where the database holds lists, it stands at the end of that
--- of the key id and device, and every crash leaves it there.
+-- A range of `count` numbers of the device was reserved. Where the database holds lists, the range is at the end of the
+-- list of the key ID and device, and every crash leaves it there.
 pub record IsReserved (key_id : List ℕ) (device count : ℕ) (old new : State) (range : Numbers) : Type 0 where
   pub asked : (range.device ≡ device) × (range.size ≡ count)
   pub appended : HasCleanDisk new → (lists : Lists) → Holds old.now lists
@@ -33,8 +33,8 @@ FoldsARange g kept folded is_folded key_id device count old new range =
     × IsReserved key_id device count (state g was) (state g mid) range × StillLast g was mid
     × LeftBy g is_folded mid left
 
--- The ledger file was folded with this range, which it then has for good: it was reserved under this key, over a file
--- that a run had opened.
+-- The ledger file was folded with this range, and so has it for good. The range was reserved under this key, over a
+-- file that a run had opened.
 abbrev pub StandsIn : {S L F : Type 0} → Ghosts S → (Held S → F) → (L → F) → (S → L → Type 0) → List ℕ → F → Numbers
     → Type 0
 StandsIn g kept folded is_folded key file range = (count : ℕ) × (before : _) × IsLawfulRange range

@@ -11,11 +11,11 @@ use container_core::{Key, Shape};
 use ledger_core::{Ledger, Seat};
 use reserve_core::{Fold, LedgerFile};
 
-/// A folder into whose outputs containers are written, each under a number of its own. Its two calls say what is going
-/// to happen, and do nothing to files: who makes them shows, before anything is written, that it may be.
+/// A folder into whose outputs containers are written, each under its own number. Its two calls declare what will
+/// happen and do nothing to files. Their contracts make the caller show, before anything is written, that it may be.
 pub trait SealingFolder: Folder {
-    /// Containers from here on are sealed under this key and numbers of the ledger's range, which the ledger file has
-    /// for good. None began in this folder before, where it knows that.
+    /// Declares that containers from here on are sealed under this key and numbers of the ledger's range. The ledger
+    /// file has that range for good. No container began in this folder before, where it knows that.
     fn start<S: Fold>(&mut self, file: &LedgerFile<S>, key: &Key, ledger: &Ledger)
         requires idle { IfSome (Self.session self.old) (λ session. session.begun ≡ []) }
         requires stands { StandsIn S.Store LedgerFile.Kept LedgerFile.Folded S.is_folded key.now file.now
@@ -24,8 +24,8 @@ pub trait SealingFolder: Folder {
         ensures started { IfSome (Self.session self.new) (λ session.
             session ≡ started (sha256 key.now) ledger.now.terms.range) };
 
-    /// A new output, to which nothing can be written yet, is to hold the container of some plaintext under this number,
-    /// which a seat of the ledger holds, and under which no other container began.
+    /// Declares that a new output is to hold the container of some plaintext under this number. Nothing can be written
+    /// to the output yet. A seat of the ledger holds the number, and no other container began under it.
     fn allow_container(
         &mut self,
         output: &mut Self::Writer,

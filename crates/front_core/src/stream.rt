@@ -13,9 +13,9 @@ use reserve_core::{Fold, LedgerFile};
 
 /// What a container is written to that isn't an output of a folder.
 pub trait SealingStream: Output {
-    /// The stream, to which nothing can be written yet, is to hold, behind what it took, the container of some
-    /// plaintext under this number, which a seat of the ledger holds, and of whose range the ledger file has all
-    /// numbers for good.
+    /// Declares that the stream is to hold, after what it took, the container of some plaintext under this number.
+    /// Nothing can be written to the stream yet. A seat of the ledger holds the number, and the ledger file has its
+    /// range for good.
     fn allow_stream<S: Fold>(
         &mut self,
         file: &LedgerFile<S>,

@@ -1,16 +1,17 @@
-//! What every worker passes before each piece of work, and every lane before each job: a place for tests, and for
-//! whoever wants to watch or hold workers.
+//! What each worker calls before each piece of work, and each lane before each job. Tests use it, and so may a caller
+//! that watches or blocks workers.
 
-/// A gate, shared by all workers or lanes. A crew's workers draw the pieces of a round, and the lanes of a batch
-/// their jobs: a gate that holds one holds up the piece or job that it has drawn, and may hold it until others have
-/// passed with all others of that round or batch, and not until one has passed in a later round. Where a file is
-/// sealed in chunks of less than 64 KiB a worker takes several at a time, and passes with each of them, from the last
-/// to the first: one that is held holds those before it too. Where no thread can be started, or the word of a round
-/// finds no memory, a worker is alone: a gate that waits for another has to give up.
+/// A gate, shared by all workers or lanes. A crew's workers draw the pieces of a round, and the lanes of a batch draw
+/// jobs. A gate that blocks one blocks the piece or job that it has drawn. It may wait until others have passed with
+/// all other pieces of that round, or jobs of that batch. It must not wait for a call in a later round.
+///
+/// If a file is sealed in chunks of less than 64 KiB, a worker takes several at a time. It passes with each of them,
+/// from the last to the first; blocking one blocks those before it too. If no thread can be started, or memory for the
+/// word of a round is refused, a worker is alone. Then a gate that waits for another must give up.
 pub trait Gate {
-    /// Called by a worker right before it seals or opens a chunk: the worker's number, from 0 on, and the chunk's
-    /// number. In a batch called by the lane that has drawn a job, once for each job, right before it issues a
-    /// number: the lane's number, from 0 on, and the job's.
+    /// Called by a worker right before it seals or opens a chunk, with the worker's number, from 0, and the chunk
+    /// number. In a batch, called by the lane that has drawn a job, once for each job, right before it issues a number.
+    /// Then the arguments are the lane's number, from 0, and the job's.
     fn pass(&self, worker: u32, piece: u32);
 }
 

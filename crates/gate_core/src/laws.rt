@@ -1,4 +1,4 @@
-//! What the limits are, as the contract of a function that does nothing.
+//! The limits, as the contract of a function that does nothing.
 ghost use Rattle.std.specs.Prelude.{◌≡◌, ◌^◌};
 
 use crate::{
@@ -6,7 +6,7 @@ use crate::{
     ROUND_BYTES,
 };
 
-/// The constants are the numbers that users are told.
+/// The constants are the numbers in the documents.
 pub fn limits()
     ensures workers { MAX_WORKERS ≡ 16 }
     ensures lanes { MAX_LANES ≡ 16 }

@@ -1,8 +1,8 @@
-//! What every worker and lane passes before a piece of work, and how many there may be of what is worked on: of
-//! workers, of lanes, of the chunks of a round, and of those of a stream that are held.
+//! The gate that each worker and lane calls before a piece of work, and the limits: of workers, of lanes, of the chunks
+//! of a round, and of the chunks that a stream holds.
 //!
-//! `gate` has what they pass, `window` how many chunks a round has where no number of them is asked for, `laws` what the
-//! limits are.
+//! `gate` has the gate, `window` the number of chunks of a round if none is asked for, and `laws` the limits as a
+//! contract.
 #![tactic(auto)]
 
 pub mod gate;
@@ -18,8 +18,7 @@ pub const MAX_WORKERS: u32 = 16;
 pub const MAX_LANES: u32 = 16;
 /// The most chunks of a round of a file.
 pub const MAX_WINDOW: u32 = 256;
-/// The chunks of a round of a file by one worker where no other number is asked for and 1 MiB has so many: 1 MiB of
-/// chunks of 64 KiB.
+/// The most chunks of a round of a file with one worker, if no number is asked for: 1 MiB of chunks of 64 KiB.
 pub const DEFAULT_WINDOW: u32 = 16;
 /// The most chunks of a stream that are read and not yet written.
 pub const MAX_DEPTH: u32 = 64;

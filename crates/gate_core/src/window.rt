@@ -1,25 +1,24 @@
-//! How many chunks a round of a file has where no number of them is asked for.
+//! The number of chunks of a round of a file, if none is asked for.
 //!
-//! A file is sealed by workers that live as long as it: a round need be no longer than a processor's nearer cache
-//! holds. What is opened starts its workers anew for each round, so by several a round is long; one starts none, and is
-//! quickest where a round and the one that is read behind it stay in that cache.
+//! The workers that seal a file run until its end, so a round needs no more bytes than a processor's nearer cache
+//! holds. Opening starts workers anew for each round, so with several a round is long. One worker starts none. It is
+//! fastest if a round and the next, which is read after it, stay in that cache.
 ghost use Rattle.std.specs.Prelude.{◌≡◌, ◌<◌, ◌≤◌};
 ghost use Rattle.gate_core.specs.Window.{chunks_in, usual, usual_opening};
 
 use crate::{DEFAULT_WINDOW, MAX_WINDOW, MAX_WORKERS};
 
-/// Plaintext bytes of a round of a file that is sealed, where no number of chunks is asked for and the limits on that
-/// number allow it.
+/// Plaintext bytes of a round of a file that is sealed, if no number of chunks is asked for and its limits allow this.
 pub const ROUND_BYTES: usize = 1 << 20;
 
-/// The same of a container that one worker opens or checks.
+/// The same for a container that one worker opens or checks.
 pub const OPENING_BYTES: usize = 1 << 18;
 
-/// The same where several do.
+/// The same with several workers.
 pub const CREW_BYTES: usize = 1 << 21;
 
-// As many chunks as so many bytes have: by one worker at most `DEFAULT_WINDOW` and at least one, by several at most
-// `MAX_WINDOW` and at least one each.
+// As many chunks as `bytes` have. With one worker: at least one, at most `DEFAULT_WINDOW`. With several: at least one
+// each, at most `MAX_WINDOW`.
 fn chunks_in(bytes: usize, chunk: usize, workers: u32) -> u32
     requires chunk { 0 < chunk }
     requires workers { (0 < workers) × (workers ≤ MAX_WORKERS) }
@@ -35,9 +34,9 @@ fn chunks_in(bytes: usize, chunk: usize, workers: u32) -> u32
     }
 }
 
-/// The chunks of a round of a file that is sealed, where no number of them is asked for and a chunk has so many
-/// plaintext bytes: as many as `ROUND_BYTES` have, by one worker at most `DEFAULT_WINDOW` and at least one, by several
-/// at most `MAX_WINDOW` and at least one each.
+/// Returns the chunks of a round of a file that is sealed, if no number is asked for; `chunk` is the plaintext bytes of
+/// a chunk. They are as many as `ROUND_BYTES` have. With one worker: at least one, at most `DEFAULT_WINDOW`. With
+/// several: at least one each, at most `MAX_WINDOW`.
 pub fn usual_window(chunk: usize, workers: u32) -> u32
     requires chunk { 0 < chunk }
     requires workers { (0 < workers) × (workers ≤ MAX_WORKERS) }
@@ -48,8 +47,8 @@ pub fn usual_window(chunk: usize, workers: u32) -> u32
     chunks_in(ROUND_BYTES, chunk, workers)
 }
 
-/// The same of a container that is opened or checked: as many as `OPENING_BYTES` have by one worker, and as many as
-/// `CREW_BYTES` have by several, within the same limits.
+/// The same for a container that is opened or checked: as many as `OPENING_BYTES` have with one worker, or `CREW_BYTES`
+/// with several, within the same limits.
 pub fn usual_opening(chunk: usize, workers: u32) -> u32
     requires chunk { 0 < chunk }
     requires workers { (0 < workers) × (workers ≤ MAX_WORKERS) }

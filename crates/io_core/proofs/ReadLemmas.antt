@@ -4,7 +4,7 @@ use Rattle.std.proofs.lemmas.List.{take-append-le}
 use borrow.Rule.Slice.PartMut.{put_mid, post_of}
 use Rattle.std.proofs.Math.Seq.{take-append-add}
 
--- n bytes were read into a buffer behind the first a
+-- n bytes were read into a buffer after the first a
 pub filled_more : (a k n : ℕ) (xs ys : List ℕ) → a ≤ length xs → n ≤ length ys → take (a + n) (put_mid a k xs ys) ≡ take a xs ++ take n ys
 filled_more a k n xs ys h i =
     let rest = ys ++ post_of a k xs in

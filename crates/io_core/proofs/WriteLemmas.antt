@@ -1,4 +1,4 @@
--- What one more write adds, and what a failed one lacks.
+-- What one more write adds, and what is missing after a failed one.
 use Rattle.std.proofs.Common.{◌≡◌, ℕ, ◌-◌, ◌<◌, List, ◌++◌, length, take, drop, Option, None, Some, Result, Ok, Err, OnErr, sym, ap, ◌∙◌, append_assoc, take-append-drop, arith, length-append}
 use Rattle.std.proofs.lemmas.List.{take_rest}
 use Rattle.io_core.specs.Streams.{Appends, Keeps, LacksSome}
@@ -8,7 +8,7 @@ pub written_more : (all done rest : List ℕ) (n : ℕ) → all ≡ done ++ rest
 written_more all done rest n e =
     e ∙ ap (λ l. done ++ l) (sym (take-append-drop n rest)) ∙ sym (append_assoc done (take n rest) (drop n rest)) ∙ ap (λ l. (done ++ take n rest) ++ l) (sym (take_rest rest n))
 
--- where a write failed with some bytes left, not all were written
+-- if a write failed with some bytes left, not all were written
 pub lacks_rest : (old before new : Option (List ℕ)) (all done rest : List ℕ) → all ≡ done ++ rest → 0 < length rest
     → Appends old before done → Keeps before new → LacksSome old new all
 lacks_rest None before new all done rest split some wrote kept = tt

@@ -1,10 +1,10 @@
--- What the contracts of readers to the end cite.
+-- Definitions for the contracts of functions that read to the end.
 use Rattle.std.specs.Prelude.{◌≡◌, ℕ, ◌<◌, ◌≤◌, Bool, true, false, List, length, Option, Result, Ok, Err}
 use Rattle.io_core.specs.Streams.{Consumes}
 use Rattle.io_core.specs.declared.input.ReadFault.{ReadFault}
 use Rattle.io_core.specs.declared.input.ReadFault.TheVariants.{TooLong, OutOfMemory, Read}
 
--- known bytes lost this many at the front
+-- known bytes lost their first n
 abbrev pub ConsumesExactly : Option (List ℕ) → Option (List ℕ) → ℕ → Type 0
 ConsumesExactly old new n = (front : List ℕ) × Consumes old new front × (length front ≡ n)
 
@@ -16,7 +16,7 @@ ConsumesUpTo old new most = (front : List ℕ) × Consumes old new front × (len
 abbrev pub ConsumesFewer : Option (List ℕ) → Option (List ℕ) → ℕ → Type 0
 ConsumesFewer old new room = (front : List ℕ) × Consumes old new front × (length front < room)
 
--- whether the reader failed
+-- whether it failed because the reader did
 abbrev pub is_read : {A : Type 0} → Result A ReadFault → Bool
 is_read (Ok value) = false
 is_read (Err TooLong) = false

@@ -1,6 +1,6 @@
-//! What reads all of an input, or fills a buffer from it.
+//! Functions that read a whole input, or fill a buffer from it.
 //!
-//! A failed read is never taken for the end: only a read of 0 into a buffer that isn't empty is.
+//! A failed read is never taken for the end. Only a read of 0 bytes into a nonempty buffer is the end.
 ghost use Rattle.std.specs.Prelude.{◌≡◌, ◌+◌, ◌<◌, ◌≤◌, ◌^◌, length, take, vec_len, Err, is_err, IfOk, OnOk, OnErr};
 ghost use Rattle.std.specs.Io.{ReadsAtMost};
 ghost use Rattle.io_core.specs.Streams.{Consumes, IsAtEnd, counted};
@@ -12,16 +12,16 @@ use std::alloc::Global;
 /// Why an input wasn't read to its end.
 #[derive(Clone, Copy, PartialEq, Eq, Debug)]
 pub enum ReadFault {
-    /// It has more bytes than were allowed.
+    /// It has more bytes than allowed.
     TooLong,
-    /// Memory was refused.
+    /// Memory allocation failed.
     OutOfMemory,
     /// The reader failed.
     Read,
 }
 
-/// Reads until the buffer is full or the end is met, and answers how many bytes were read. A failure leaves room in
-/// the buffer.
+/// Reads until the buffer is full or the input ends, and returns the number of bytes read. On failure the buffer isn't
+/// full.
 pub fn fill<R: Source>(source: &mut R, buffer: &mut [u8]) -> Result<usize, Failed>
     ensures bound { ReadsAtMost result buffer.new }
     ensures bytes { IfOk result (λ n. Consumes (R.left source.old) (R.left source.new) (take n buffer.new)) }
@@ -41,10 +41,11 @@ pub fn fill<R: Source>(source: &mut R, buffer: &mut [u8]) -> Result<usize, Faile
     Ok(filled)
 }
 
-// Bytes asked of the reader in one call.
+// Most bytes requested from the reader in one call.
 const WINDOW: usize = 1 << 14;
 
-/// Reads to the end of an input of at most `max` bytes. Of a longer one it reads one byte more, and no other.
+/// Reads to the end of an input of at most `max` bytes. From a longer input it reads exactly `max` + 1 bytes, and
+/// returns `TooLong`.
 pub fn read_to_limit<R: Source>(
     alloc: Global,
     source: &mut R,

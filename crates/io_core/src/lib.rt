@@ -1,6 +1,7 @@
-//! Readers and writers: the traits that contracts speak of, std's as such, and what reads or writes to the end.
+//! Readers and writers: the traits that contracts mention, adapters for std's, and functions that read or write to the
+//! end.
 //!
-//! Begin with `stream`: what a reader and a writer tell of their bytes and of their failures.
+//! Begin with `stream`: what is known of the bytes and the failures of a reader and a writer.
 #![tactic(auto)]
 
 pub mod adapter;

@@ -1,10 +1,10 @@
-//! What writes all of a list of bytes.
+//! Writes all of a list of bytes.
 ghost use Rattle.std.specs.Prelude.{◌≡◌, OnOk, OnErr, is_err};
 ghost use Rattle.io_core.specs.Streams.{Appends, AppendsFront, LacksSome, counted};
 
 use crate::stream::{Failed, Sink};
 
-/// Writes all of `bytes`. It fails where a write fails: then a front of them was written, and not all.
+/// Writes all of `bytes`. Fails if a write fails; then a front of `bytes` was written, but not all.
 pub fn write_all<W: Sink>(sink: &mut W, bytes: &[u8]) -> Result<(), Failed>
     ensures ok { OnOk result (Appends (W.taken sink.old) (W.taken sink.new) bytes.now) }
     ensures err { OnErr result (AppendsFront (W.taken sink.old) (W.taken sink.new) bytes.now) }

@@ -1,12 +1,12 @@
--- What the readers and writers in memory stand for.
+-- The views of the readers and writers in memory.
 use Rattle.std.specs.Prelude.{ℕ, List, Option}
 
--- what a reader in memory stands for: the bytes left, and how many calls failed
+-- the view of a reader in memory: the bytes left, and how many calls failed
 pub record Reading : Type 0 where
   pub left : List ℕ
   pub failures : Option ℕ
 
--- what a writer in memory stands for: the bytes taken, and how many calls failed
+-- the view of a writer in memory: the bytes taken, and how many calls failed
 pub record Writing : Type 0 where
   pub taken : List ℕ
   pub failures : Option ℕ

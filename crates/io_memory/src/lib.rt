@@ -1,7 +1,7 @@
-//! Readers and writers in memory that fail by a schedule: for the tests of crates over readers and writers.
+//! Readers and writers in memory that fail by a schedule, to test crates that use readers and writers.
 //!
-//! A caller whose bytes are in memory needs none of this: std's readers over slices and writers over `Vec` tell their
-//! bytes too, through `FromRead` and `ToWrite` of `io_core`.
+//! A caller whose bytes are in memory needs none of this. The contracts of std's readers over slices and writers over
+//! `Vec` give their bytes too, through `FromRead` and `ToWrite` of `io_core`.
 #![tactic(auto)]
 
 pub mod memory;

@@ -1,4 +1,4 @@
-//! A reader and a writer in memory, which tell their bytes, and fail where they are told to.
+//! A reader and a writer in memory. Their contracts give their bytes, and they fail by a schedule.
 ghost use Rattle.std.specs.Prelude.{◌≡◌, ◌≤◌, ◌<◌, [], Some, true, IfSome, IfOk, is_none};
 ghost use Rattle.io_core.specs.Streams.{counted};
 ghost use Rattle.io_memory.specs.Memory.{reading, writing};
@@ -12,16 +12,16 @@ use std::marker::Model;
 pub enum Schedule {
     /// None.
     Never,
-    /// This one alone, counted from 0.
+    /// Only this call, counted from 0.
     Call(u64),
-    /// Each that comes once this many bytes were moved. The call that reaches the number moves no byte past it.
+    /// Each call after this many bytes were moved. The call that reaches the number moves no byte past it.
     Bytes(u64),
 }
 
 // How many bytes a call moves, and which calls fail.
 #[derive(Clone, Copy)]
 struct Pace {
-    // At most this many bytes a call; 0 is taken as 1.
+    // The most bytes of a call; 0 is taken as 1.
     most: usize,
     schedule: Schedule,
     failures: Option<u64>,
@@ -37,7 +37,7 @@ fn one_more(count: Option<u64>) -> Option<u64>
 }
 
 impl Pace {
-    // How many of `wanted` bytes this call moves, or None where it fails.
+    // How many of `wanted` bytes this call moves, or `None` if it fails.
     fn step(&mut self, wanted: usize) -> Option<usize>
         ensures within { IfSome result (λ n. n ≤ wanted) }
         ensures some { IfSome result (λ n. 0 < wanted → 0 < n) }
@@ -84,7 +84,7 @@ impl<'a> Model for FromMemory<'a> {
 }
 
 impl<'a> FromMemory<'a> {
-    /// A reader of these bytes, which gives at most `most` (0 is taken as 1) a call and fails by the schedule.
+    /// Makes a reader of these bytes. A call returns at most `most` bytes (0 is taken as 1) and fails by the schedule.
     pub fn new(bytes: &'a [u8], most: usize, schedule: Schedule) -> FromMemory<'a>
         ensures { result ≡ reading bytes.entry.now (Some 0) }
     {
@@ -113,7 +113,7 @@ impl<'a> Source for FromMemory<'a> {
     }
 }
 
-/// A writer that keeps what it takes. A growth that is refused is a failure.
+/// A writer that keeps the bytes it takes. If memory for them is refused, the call fails.
 #[derive(Drop)]
 pub struct ToMemory {
     bytes: Vec<u8>,
@@ -129,7 +129,7 @@ impl Model for ToMemory {
 }
 
 impl ToMemory {
-    /// A writer with room for `room` bytes, which takes at most `most` (0 is taken as 1) a call and fails by the
+    /// Makes a writer with room for `room` bytes. A call takes at most `most` bytes (0 is taken as 1) and fails by the
     /// schedule.
     pub fn new(
         alloc: Global,
@@ -148,7 +148,7 @@ impl ToMemory {
         Ok(ToMemory { bytes, pace })
     }
 
-    /// The bytes that were taken.
+    /// Returns the bytes that were taken.
     pub fn bytes(&self) -> &[u8]
         ensures { result.now ≡ self.now.taken }
     {

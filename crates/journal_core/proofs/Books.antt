@@ -1,4 +1,4 @@
--- A book's journal and what stands beside it, before the first call and after each.
+-- A book's journal and its standing, before the first call and after each.
 use Rattle.std.proofs.Common.{◌≡◌, ◌↔◌, ℕ, ◌<◌, ◌≤◌, Bool, true, false, nat_lt, if◌then◌else◌, [], ◌∷◌, ◌++◌, length, sym, ap, ◌∙◌, subst, arith, refl, ◌+◌, IsTrue}
 use Rattle.std.proofs.lemmas.Bool.Decides.{nat_tests}
 use Rattle.journal_core.specs.declared.entry.Event.TheVariants.{Granted, Exhausted, Settled}
@@ -32,7 +32,7 @@ book_small s j book =
 pub book_legal : (s : StandingView) (j : JournalView) (e : Entry) → IsBook s j → CanFollow s e → Legal j.terms (j.history ++ e ∷ [])
 book_legal s j e book can = legal_push j.terms j.history e book.sound.legal ((book_may s j e book).0 can)
 
--- an open seat may issue, and be answered so
+-- an open seat may issue and get this reply
 pub can_answer : (s : StandingView) (j : JournalView) (seat : ℕ) → IsBook s j → is_closed s seat ≡ false → CanReply s seat (answer_of s)
 can_answer s j seat book open_seat = go (nat_lt (length s.numbers) s.terms.range.size) refl
   where
@@ -61,11 +61,11 @@ book_step s next j grown e book can p q =
     same : (x : Entry) → (after s x.seat x.event).terms ≡ s.terms
     same x = elim x.event as (λ v. (after s x.seat v).terms ≡ s.terms) [ Granted n ↦ refl | Exhausted ↦ refl | Settled n way ↦ refl ]
 
--- a push that went well added the entry
+-- a successful push added the entry
 pub pushed : (j grown : JournalView) (e : Entry) (went : Bool) → grown ≡ (if went then adds j e.seat e.event else j) → went ≡ true → grown ≡ adds j e.seat e.event
 pushed j grown e went is well = is ∙ ap (λ b. if b then adds j e.seat e.event else j) well
 
--- a settle may follow where the number is open at the seat
+-- a settlement may follow if the number is open at the seat
 pub open_test : (s : StandingView) (j now : JournalView) (seat n : ℕ) (way : Way) (can : Bool) → IsBook s j → j ≡ now → seat < s.terms.seats
     → IsTrue can ↔ CanFollow s (entry seat (Settled n way)) → (IsTrue can ↔ IsOpen seat n now.history) × (seat < now.terms.seats)
 open_test s j now seat n way can book is low test =

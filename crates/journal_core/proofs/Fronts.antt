@@ -1,17 +1,17 @@
--- Fronts of lists of bytes.
+-- Prefixes of lists of bytes.
 use Rattle.std.proofs.Common.{◌≡◌, ℕ, ◌+◌, ◌-◌, ◌<◌, ◌≤◌, ⊎_elim, min, List, ◌++◌, length, take, sym, ap, ◌∙◌, append-nil, arith, length-take-le}
 use Rattle.std.proofs.lemmas.Bool.{cases_lt}
 use borrow.Rule.Slice.PartMut.{put_mid, post_of}
 use Rattle.std.proofs.Math.Seq.{take-append-add}
 use Rattle.std.proofs.lemmas.List.{take-append-le, take_all, length-take}
 
--- n bytes were copied into a buffer behind the first a
+-- n bytes were copied into a buffer after the first a
 pub filled_more : (a k n : ℕ) (xs ys : List ℕ) → a ≤ length xs → n ≤ length ys → take (a + n) (put_mid a k xs ys) ≡ take a xs ++ take n ys
 filled_more a k n xs ys h i =
     let rest = ys ++ post_of a k xs in
     ap (λ m. take (m + n) (take a xs ++ rest)) (sym (length-take-le a xs h)) ∙ take-append-add (take a xs) rest n ∙ ap (λ l. take a xs ++ l) (take-append-le n ys (post_of a k xs) i)
 
--- the first `most` bytes, where as many of the piece as fit are put behind those of the rest
+-- the first `most` bytes, if what fits of the piece is appended to those of the rest
 pub kept_more : (most k n : ℕ) (rest piece : List ℕ) → length (take most rest) ≡ k → n ≡ min (length piece) (most - k) → take most rest ++ take n piece ≡ take most (rest ++ piece)
 kept_more most k n rest piece long fits = ⊎_elim short whole (cases_lt (length rest) most)
   where

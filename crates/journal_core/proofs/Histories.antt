@@ -1,4 +1,4 @@
--- Histories that grow by an entry: their counts, their fronts, and what every legal history keeps.
+-- Histories that grow by an entry: their counts, their prefixes, and what every legal history preserves.
 use Rattle.std.proofs.Common.{◌≡◌, ◌⊎◌, ℕ, ◌+◌, Bool, true, false, cond, nat_eq, List, [], ◌∷◌, ◌++◌, count_by, refl, sym, ap, ◌∙◌, subst, inl, inr, ⊎_elim, arith, append_assoc, append-nil, ◌<◌}
 use Rattle.std.proofs.lemmas.List.Sums.{sum_by_push}
 use Rattle.std.proofs.lemmas.List.Elements.{filter-append}
@@ -7,7 +7,7 @@ use Rattle.journal_core.specs.declared.entry.Event.TheVariants.{Granted, Exhaust
 use Rattle.journal_core.specs.declared.entry.Entry.{Entry}
 use Rattle.journal_core.specs.History.{Terms, entry, granted, refused, calls_of, IsOpen, MayFollow, Legal, Begins}
 
--- what an entry may be, by its event
+-- the kinds of entry, by event
 abbrev pub MayReply : Terms → List Entry → ℕ → Event → Type 0
 MayReply terms before seat (Granted n) = (n ≡ terms.range.lo + granted before) × (granted before < terms.range.size) × (refused (calls_of seat before) ≡ 0)
 MayReply terms before seat Exhausted = (granted before ≡ terms.range.size) × (refused (calls_of seat before) ≡ 0)
@@ -44,7 +44,7 @@ count_calls p t history e = ap (count_by p) (calls_push t history e) ∙ go (nat
     go true = count_push p (calls_of t history) e
     go false = ap (count_by p) (append-nil (calls_of t history)) ∙ omega arith
 
--- fronts
+-- prefixes
 
 pub begins_refl : (xs : List Entry) → Begins xs xs
 begins_refl xs = ([], sym (append-nil xs))

@@ -1,4 +1,4 @@
--- From the lines so far to one line more.
+-- The step from the lines so far to one more line.
 use Rattle.std.proofs.Common.{◌≡◌, ℕ, ◌+◌, ◌<◌, ◌≤◌, ◌^◌, min, List, [], ◌∷◌, ◌++◌, length, take, true, nat_lt, refl, sym, ap, ◌∙◌, subst, inl, arith, append_assoc, length-append, codes}
 use Rattle.std.specs.Fmt.{decimal}
 use Rattle.std.specs.Str.{IsUtf8, IsAscii}
@@ -23,7 +23,7 @@ use Rattle.journal_core.proofs.Histories.{legal_none, legal_push}
 use Rattle.journal_core.proofs.Lines.{both_true, four_small, terms_split, event_split, word_of, rest_of}
 use Rattle.journal_core.proofs.Tracking.{tracks_none, can-may, small, tracks_after}
 
--- a short text is told from its first 35 bytes
+-- the first 35 bytes determine a short text
 pub same_text : (line whole text : List ℕ) → SameFront line whole → length text < 35 → whole ≡ text → line ≡ text
 same_text line whole text same few is =
     let t : take 35 text ≡ text = take_all 35 text (omega arith) in

@@ -29,7 +29,7 @@ tests_no_space [] all i within = absurd (omega arith)
 tests_no_space (b ∷ bs) all zero within = no_space_here b (both_true _ _ all).0
 tests_no_space (b ∷ bs) all (suc i) within = tests_no_space bs (both_true _ _ all).1 i (omega arith)
 
--- the first word of an event's text, and what follows the space behind it
+-- the first word of an event's text, and what follows the space after it
 
 abbrev pub word_of : Event → List ℕ
 word_of (Granted n) = codes "issue"
@@ -69,14 +69,14 @@ not_none n small is =
     let digit = digit_at (decimal n) 0 (decimal_is_IsNumeral n low).0.1 (decimal_nonempty n low) in
     let e : get_or (decimal n) 0 0 ≡ 110 = ap (λ l. get_or l 0 0) is in omega arith
 
--- the words `issue` and `none` name a refusal alone
+-- the words `issue` and `none` mean a refusal, and no other event
 pub names_none : (event : Event) → IsNumberOf32Bits event → codes "issue" ≡ word_of event → codes "none" ≡ rest_of event → Exhausted ≡ event
 names_none (Granted n) small word rest = absurd (not_none n small (sym rest))
 names_none Exhausted small word rest = refl
 names_none (Settled n Sealed) small word rest = absurd (cc)
 names_none (Settled n Void) small word rest = absurd (cc)
 
--- a first word that is no way, and isn't `issue`, names no event
+-- a first word that is neither a way nor `issue` gives no event
 pub names_nothing : (event : Event) (word : List ℕ) → word ≡ word_of event → (word ≡ codes "issue" → ⊥) → ((way : Way) → word ≡ way_text way → ⊥) → ⊥
 names_nothing (Granted n) word is issue ways = issue is
 names_nothing Exhausted word is issue ways = issue is
@@ -98,7 +98,7 @@ four_small terms lawful =
       seats = omega arith;
     }
 
--- a range that was refused is not lawful, and one that was made has the numbers asked for
+-- a range that was refused is not lawful, and a range that was made has the numbers asked for
 pub refused_range : {E : Type 0} (r : Result Numbers E) (range : Numbers) → OkIff r (IsLawfulRange range) range → None ≡ result_ok r → IsLawfulRange range → ⊥
 refused_range (Ok made) range is none lawful = cc
 refused_range (Err e) range is none lawful = is lawful

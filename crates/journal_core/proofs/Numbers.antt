@@ -12,7 +12,7 @@ use Rattle.journal_core.specs.Line.{HasNoSpace}
 own : IsNumeralModel (AllDigits 10) (digits_value 10)
 own = numerals_by_value (AllDigits 10) tells_digits
 
--- what `parse` reads from a text with no sign and no leading zero is the number that it writes
+-- a text without sign and leading zero that `parse` reads is the decimal text of the number it returns
 pub number_sound : {E : Type 0} (bs : List ℕ) (r : Result ℕ E) → 0 < length bs → get_or bs 0 0 ≢ 43 → (get_or bs 0 0 ≡ 48 → length bs ≡ 1) → ParsesUnsigned 32 10 bs r
     → IfSome (result_ok r) (λ n. bs ≡ decimal n)
 number_sound {E} bs (Ok n) some plus zero parses =

@@ -1,4 +1,4 @@
--- Each number granted belongs to one seat, which alone may settle it, once.
+-- Each number granted belongs to one seat. Only that seat may settle it, once.
 use Rattle.std.proofs.Common.{◌≡◌, ◌≢◌, ℕ, zero, suc, ◌+◌, ◌-◌, ◌<◌, ◌≤◌, Bool, true, false, cond, nat_eq, List, [], ◌∷◌, ◌++◌, count_by, refl, sym, ap, ◌∙◌, subst, arith, eq-eqb, ne_eqb}
 use mathlib.Core.Logic.{dite}
 use native.Mathlib.Decide.{ℕ_discrete, dec_le}
@@ -12,7 +12,7 @@ use Rattle.journal_core.specs.History.{Terms, entry, is_granted, is_sealed, is_v
 use Rattle.journal_core.proofs.Histories.{MayReply, reply_of, count_push, count_calls, induct, legal_none, legal_push}
 use Rattle.journal_core.proofs.Bounds.{within, sum_below, sum_below_more, sum_below_ones}
 
--- each number granted is one of the first, and is known to the seat that has it
+-- each number granted to a seat is among the first `granted` numbers of the range
 abbrev InRange : Terms → List Entry → Type 0
 InRange terms history = (t n : ℕ) → 0 < times_granted n (calls_of t history) → (terms.range.lo ≤ n) × (n < terms.range.lo + granted history)
 
@@ -111,7 +111,7 @@ numbered : (terms : Terms) (history : List Entry) → Legal terms history → Nu
 numbered terms = induct terms (Numbered terms) (sym (sum_below_start terms.range.size (λ i. times_settled (terms.range.lo + i) []) (λ i. refl)), legal_none terms)
     (λ history e may p. (grow_numbered terms history e.seat e.event (reply_of terms history e may) p.1 p.0, legal_push terms history e p.1 may))
 
--- no more settled than the range has numbers
+-- the range has at least as many numbers as were settled
 pub few_settled : (terms : Terms) (history : List Entry) → Legal terms history → sealed history + voided history ≤ terms.range.size
 few_settled terms history legal =
     let s : Numbered terms history = numbered terms history legal in
@@ -131,7 +131,7 @@ none_more : (b : Bool) → cond {A = ℕ} b 0 0 ≡ 0
 none_more true = refl
 none_more false = refl
 
--- an entry that does not pass changes fails count
+-- an entry for which p is false changes no count of p
 pub calls_same : (p : Entry → Bool) (t : ℕ) (history : List Entry) (e : Entry) → p e ≡ false → count_by p (calls_of t (history ++ e ∷ [])) ≡ count_by p (calls_of t history)
 calls_same p t history e fails =
     let c = count_calls p t history e in
@@ -217,18 +217,18 @@ owned terms = induct terms (Owned terms)
       below = λ n. (g n).2;
     })
 
--- what is open at its seat is settled nowhere
+-- a number that is open at its seat was not settled
 pub still_open : (terms : Terms) (history : List Entry) (t n : ℕ) → Legal terms history → 0 < times_granted n (calls_of t history) → times_settled n (calls_of t history) ≡ 0 → times_settled n history ≡ 0
 still_open terms history t n legal held none_yet = (owned terms history legal).by_it n t held ∙ none_yet
 
--- where each term is at most 1 and none stands past a place, the sum is at most that place
+-- if each term is at most 1 and all terms from some index on are 0, the sum is at most that index
 sum_below_cut : (n m : ℕ) (f : ℕ → ℕ) → ((t : ℕ) → f t ≤ 1) → ((t : ℕ) → m ≤ t → f t ≡ 0) → sum_below n f ≤ m
 sum_below_cut zero m f ones none = omega arith
 sum_below_cut (suc n) m f ones none = dite (dec_le m n)
     (λ past. let r = sum_below_cut n m f ones none in let e = none n past in omega arith)
     (λ before. let r = sum_below_ones n f ones in let e = ones n in omega arith)
 
--- no more settled than granted
+-- no more numbers are settled than granted
 pub settled_were_granted : (terms : Terms) (history : List Entry) → Legal terms history → sealed history + voided history ≤ granted history
 settled_were_granted terms history legal =
     let s : Numbered terms history = numbered terms history legal in

@@ -1,4 +1,4 @@
--- No prefix is granted twice: the numbers granted rise along a legal history, and a prefix tells its number.
+-- No prefix is granted twice: the numbers granted rise along a legal history, and a prefix determines its number.
 use Rattle.std.proofs.Common.{◌≡◌, ◌≢◌, ◌⊎◌, ℕ, zero, suc, ◌+◌, ◌/◌, ◌%◌, ◌<◌, ◌≤◌, cond, List, [], ◌∷◌, ◌++◌, length, refl, ap, subst, inl, inr, ⊎_elim, arith}
 use mathlib.Core.Logic.{dite}
 use native.Mathlib.Decide.{dec_le}
@@ -11,7 +11,7 @@ use Rattle.journal_core.specs.Prefixes.{GrantsOnce}
 use Rattle.journal_core.proofs.Histories.{count_push, induct, reply_of}
 use Rattle.journal_core.proofs.Bounds.{within}
 
--- the entry at a place of a list that is one longer
+-- the entry at an index of a list that is one longer
 at_snoc : (l : List Entry) (e x : Entry) (i : ℕ) → slice_get (l ++ e ∷ []) i ≡ Some x → ((slice_get l i ≡ Some x) × (i < length l)) ⊎ ((e ≡ x) × (i ≡ length l))
 at_snoc [] e x zero at = inr (cc, refl)
 at_snoc [] e x (suc i) at = absurd (cc)
@@ -55,7 +55,7 @@ grow_rising terms history e may p = record {
 are_rising : (terms : Terms) (history : List Entry) → Legal terms history → AreRising terms history
 are_rising terms = induct terms (AreRising terms) record { below = λ i n s at. absurd (cc); rising = λ i j m n s t less ati atj. absurd (cc) } (grow_rising terms)
 
--- a prefix tells its device and its number
+-- a prefix determines its device and its number
 pub prefix_tells : (device number other another : ℕ) → device ≤ most_device → number < number_limit
     → other ≤ most_device → another < number_limit
     → prefix_of device number ≡ prefix_of other another → (device ≡ other) × (number ≡ another)
@@ -69,7 +69,7 @@ prefix_tells device number other another d n e m same =
     let last : number % 256 ≡ another % 256 = cc in
     (omega arith, omega arith)
 
--- all numbers granted lie in the range, and none is granted twice
+-- all numbers granted are in the range, and none is granted twice
 pub record NumbersOnce (terms : Terms) (history : List Entry) : Type 0 where
   pub inside : (i number seat : ℕ) → slice_get history i ≡ Some (entry seat (Granted number))
       → (terms.range.lo ≤ number) × (number < terms.range.lo + terms.range.size)

@@ -1,4 +1,4 @@
--- The reply of the next issue: the history fixes it, and an open seat has one.
+-- The reply of the next issue: the history determines it, and an open seat has one.
 use Rattle.std.proofs.Common.{◌≡◌, ℕ, ◌+◌, ◌<◌, ◌≤◌, ⊎_elim, List, refl, sym, ap, ◌∙◌, arith}
 use Rattle.std.proofs.lemmas.Bool.{cases_lt}
 use Rattle.journal_core.specs.declared.entry.Event.{Event}

@@ -1,4 +1,4 @@
--- A list is cut at the first separator in one way.
+-- There is one way to cut a list at its first separator.
 use Rattle.std.proofs.Common.{◌≡◌, ◌≢◌, ℕ, suc, ◌<◌, List, [], ◌∷◌, ◌++◌, length, get_or, refl, sym, ◌∙◌, subst, All, arith, append_assoc}
 use Rattle.journal_core.specs.Text.{ended_lines}
 use Rattle.journal_core.specs.Verdict.{IsLine, IsCut}
@@ -43,6 +43,6 @@ cut_from (x ∷ xs) (y ∷ ys) r s ls ms rl sl is =
     let later = cut_from xs ys r s (All-tail IsLine x xs ls) (All-tail IsLine y ys ms) rl sl first.1 in
     ((λ i. first.0 i ∷ later.0 i), later.1)
 
--- bytes are cut into lines and a rest in one way
+-- there is one way to cut bytes into lines and a rest
 pub cut_same : (bytes : List ℕ) (l m : List (List ℕ)) (r s : List ℕ) → IsCut bytes l r → IsCut bytes m s → (l ≡ m) × (r ≡ s)
 cut_same bytes l m r s a b = cut_from l m r s a.each b.each a.last b.last (sym a.whole ∙ b.whole)

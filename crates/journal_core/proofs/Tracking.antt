@@ -1,4 +1,4 @@
--- What a running ledger keeps decides what may follow its history, and follows it step by step.
+-- What a running ledger keeps determines what may follow its history, and stays right at each step.
 use Rattle.std.proofs.Common.{◌≡◌, ◌≢◌, ◌↔◌, ℕ, ◌+◌, ◌-◌, ◌<◌, ◌≤◌, Bool, true, false, nat_lt, List, [], ◌∷◌, ◌++◌, length, refl, sym, ap, ◌∙◌, subst, arith, eq-eqb, ne_eqb, length-append, length-set, get_or-set_same, get_or-set_other}
 use mathlib.Core.Logic.{dite}
 use native.Mathlib.Decide.{ℕ_discrete}
@@ -116,7 +116,7 @@ tally_step s h t event tracks = ap (λ (y : Tally). tally_after y event) tracks.
 still_closed : (s : StandingView) (h : List Entry) (e : Entry) → Tracks s h → is_exhausted e ≡ false → (seat : ℕ) → seat < 64 → is_closed s seat ≡ nat_lt 0 (refused (calls_of seat (h ++ e ∷ [])))
 still_closed s h e tracks is seat low = tracks.closed seat low ∙ ap (nat_lt 0) (sym (calls_same is_exhausted seat h e is))
 
--- the seat of a number whose grants stay as they were
+-- the seat of a number whose grants did not change
 still_seat : (s : StandingView) (h : List Entry) (e : Entry) (k seat : ℕ) → Tracks s h → k < granted h → grants (s.terms.range.lo + k) e ≡ false
     → (number_at s k).seat ≡ seat ↔ (0 < times_granted (s.terms.range.lo + k) (calls_of seat (h ++ e ∷ [])))
 still_seat s h e k seat tracks inside is =

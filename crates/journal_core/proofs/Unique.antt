@@ -1,7 +1,7 @@
--- Every list of bytes has one verdict at most.
+-- Every list of bytes has at most one verdict.
 --
--- A line tells its entry, and the range line its range and seats. So a fault stops at one place: what stands before it is
--- sound, and no sound list goes on with the line there. Two faults stop at the same place, and a legal journal at none.
+-- A line determines its entry, and a range line its range and seats. So a fault has one place: the lines before it are
+-- sound, and no sound list goes on with its line. Two faults have the same place, and a legal journal has none.
 use Rattle.std.proofs.Common.{◌≡◌, ◌≢◌, ⊎_elim, ℕ, ◌+◌, ◌<◌, ◌^◌, List, [], ◌∷◌, ◌++◌, length, map, All, true, not, nat_eq, eq-eqb, refl, sym, ap, ◌∙◌, subst, arith, append_assoc, append-nil, length-append, codes}
 use Rattle.std.specs.Fmt.{decimal}
 use Rattle.std.proofs.lemmas.Fmt.{decimal_injective, decimal_is_IsNumeral}
@@ -28,7 +28,7 @@ use Rattle.journal_core.proofs.Numbers.{no_space}
 use Rattle.journal_core.proofs.Lines.{both_true, word_of, rest_of, event_split, word_no_space, range_no_space, terms_split, four_small, not_none}
 use Rattle.journal_core.proofs.Separators.{split_same, cut_same}
 
--- a text tells what it is the text of
+-- a text determines what it is the text of
 
 same_number : (m n : ℕ) → m < 4294967296 → n < 4294967296 → decimal m ≡ decimal n → m ≡ n
 same_number m n a b is = decimal_injective m n (omega arith) (omega arith) is
@@ -102,7 +102,7 @@ writable terms history e lawful legal may =
       number = writable_by terms history e.seat e.event lawful legal (reply_of terms history e may);
     }
 
--- lists of entries, from the lines that they make
+-- entries, from the lines that they make
 
 same_entries : (terms : Terms) (g h : List Entry) → IsLawful terms → ((before : List Entry) (e : Entry) (after : List Entry) → g ≡ before ++ e ∷ after → IsWritable e)
     → ((before : List Entry) (e : Entry) (after : List Entry) → h ≡ before ++ e ∷ after → IsWritable e) → map entry_text g ≡ map entry_text h → g ≡ h
@@ -126,7 +126,7 @@ same_journal t u g h a b lg lh is =
     let tail : map entry_text g ≡ map entry_text h = cc in
     (same_terms t u a b head, same_entries t g h a (each_writable t g a lg) (each_writable u h b lh) tail)
 
--- lines that begin with others, and go on with a line, are those of a history cut there
+-- lines that start with others, and go on with a line, are those of a history cut there
 cut_history : (before later : List (List ℕ)) (line : List ℕ) (history : List Entry) → before ++ line ∷ later ≡ map entry_text history
     → (front : List Entry) × (e : Entry) × (back : List Entry) × (history ≡ front ++ e ∷ back) × (before ≡ map entry_text front) × (line ≡ entry_text e)
 cut_history [] later line [] is = absurd (cc)
@@ -164,7 +164,7 @@ no_illegal terms history e later lawful legal may_write sound =
     let entries = same_entry e at.1 may_write this at.5 in
     subst (λ (z : Terms × (List Entry × Entry)). MayFollow z.0 z.1.0 z.1.1) (λ i. (sym same i, (sym histories i, sym entries i))) (sound.4 at.0 at.1 at.2 at.3)
 
--- where a fault stops
+-- the place of a fault
 
 record Stop (lines before : List (List ℕ)) : Type 0 where
   tail : List (List ℕ)
@@ -222,7 +222,7 @@ illegal_stop terms history lines lawful legal bad = record {
       bad.4 (no_illegal terms history bad.0 more lawful legal bad.3 (subst (λ l. IsSound (journal_lines terms history ++ l ∷ more)) (sym same) goes));
 }
 
--- a list that is sound to its end stops nowhere but at its end
+-- a sound list has no place of a fault before its end
 no_stop : (lines before : List (List ℕ)) → IsSound lines → (s : Stop lines before) → lines ≡ before
 no_stop lines before sound s = go s.tail refl
   where
@@ -230,7 +230,7 @@ no_stop lines before sound s = go s.tail refl
     go [] is = s.split ∙ ap (λ l. before ++ l) is ∙ append-nil before
     go (x ∷ xs) is = absurd (s.ends x xs xs is (subst IsSound (s.split ∙ ap (λ l. before ++ l) is) sound))
 
--- one kind of fault at a place excludes the other, and a legal journal both
+-- one kind of fault at a place excludes the other, and a legal journal excludes both
 
 not_both : (before lines : List (List ℕ)) (rest : List ℕ) (terms : Terms) (history : List Entry) → IsSound before → IsMalformed before lines rest → IsLawful terms → Legal terms history → IsIllegal terms history lines → ⊥
 not_both before lines rest terms history sound bad lawful legal wrong =
@@ -285,7 +285,7 @@ same_judgement lines rest (Illegal m) (Illegal n) a b =
     let y = length-map b.1 entry_text in
     ap (λ k. Illegal k) (omega arith)
 
--- every list of bytes has one verdict at most
+-- every list of bytes has at most one verdict
 pub same_verdict : (bytes : List ℕ) (v w : Verdict) → IsVerdict bytes v → IsVerdict bytes w → v ≡ w
 same_verdict bytes v w a b =
     let cut = cut_same bytes a.lines b.lines a.rest b.rest a.cut b.cut in

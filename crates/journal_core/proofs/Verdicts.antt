@@ -1,4 +1,5 @@
--- No list of bytes is without a verdict: the bytes have lines, and from a sound front the next line is sound or at fault.
+-- No list of bytes is without a verdict: the bytes have lines, and after a sound prefix the next line is sound or at
+-- fault.
 use Rattle.std.proofs.Common.{◌≡◌, ◌≢◌, ℕ, ◌+◌, List, [], ◌∷◌, ◌++◌, length, refl, sym, ap, ◌∙◌, subst, inl, inr, append_assoc, append-nil}
 use mathlib.Core.Logic.{dite}
 use native.Mathlib.Decide.{ℕ_discrete}
@@ -54,7 +55,7 @@ cut_of (b ∷ bytes) =
     })
     (λ (other : b ≢ 10). one_more b bytes c.rest c.lines other c.cut)
 
--- behind a legal history
+-- after a legal history
 later : (lines : List (List ℕ)) (terms : Terms) (history : List Entry) (rest : List ℕ) → IsLawful terms → Legal terms history
     → ((v : Verdict) → ¬ Judges (journal_lines terms history ++ lines) rest v) → ⊥
 later [] terms history [] lawful legal none =

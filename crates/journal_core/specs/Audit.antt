@@ -5,7 +5,7 @@ use Rattle.journal_core.specs.Judged.{Judged}
 use Rattle.journal_core.specs.Text.{ended_lines}
 use Rattle.journal_core.specs.Verdict.{IsLine}
 
--- the audit has read these lines and the beginning of one more
+-- the audit has read these lines and the prefix of one more
 pub record Audits (progress : Progress) (lines : List (List ℕ)) (rest : List ℕ) : Type 0 where
   pub count : progress.lines ≡ length lines
   pub kept : take progress.kept_len progress.kept ≡ take 35 rest

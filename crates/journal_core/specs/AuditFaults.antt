@@ -1,4 +1,4 @@
--- Why an audit gave up.
+-- Why an audit failed.
 use Rattle.std.specs.Prelude.{ℕ, Bool, true, false, Result, Ok, Err}
 use Rattle.journal_core.specs.declared.auditing.AuditFault.{AuditFault}
 use Rattle.journal_core.specs.declared.auditing.AuditFault.TheVariants.{OutOfMemory, Read, Write}

@@ -71,11 +71,11 @@ times_settled number history = count_by (settles number) history
 abbrev pub calls_of : ℕ → List Entry → List Entry
 calls_of seat history = filter (λ e. nat_eq e.seat seat) history
 
--- the seat was answered that no number is left, and is closed for issue
+-- an issue at the seat found no number left, so the seat is closed for issue
 abbrev pub IsClosed : ℕ → List Entry → Type 0
 IsClosed seat history = 0 < refused (calls_of seat history)
 
--- the number was granted to the seat, and nobody settled it
+-- the number was granted to the seat and is not settled
 abbrev pub IsOpen : ℕ → ℕ → List Entry → Type 0
 IsOpen seat number history = (0 < times_granted number (calls_of seat history)) × (times_settled number history ≡ 0)
 
@@ -106,13 +106,13 @@ IfSettled (Granted n) P = ⊤
 IfSettled Exhausted P = ⊤
 IfSettled (Settled n way) P = P n
 
--- the five conditions of a legal history, each on an entry and on what stands before it
+-- the five conditions of a legal history, each on an entry and on the entries before it
 pub record MayFollow (terms : Terms) (before : List Entry) (e : Entry) : Type 0 where
   -- the seat is one of the seats
   pub seat : e.seat < terms.seats
   -- the k-th number granted, counted from 0, is lo + k, and k is below size
   pub number : IfGranted e.event (λ n. (n ≡ terms.range.lo + granted before) × (granted before < terms.range.size))
-  -- a refusal stands behind exactly size grants
+  -- a refusal comes after exactly `size` grants
   pub exhausted : OnExhausted e.event (granted before ≡ terms.range.size)
   -- a seat that was refused issues no more
   pub closed : OnIssue e.event (refused (calls_of e.seat before) ≡ 0)
@@ -124,6 +124,6 @@ abbrev pub Legal : Terms → List Entry → Type 0
 Legal terms history =
     (before : List Entry) (e : Entry) (after : List Entry) → history ≡ before ++ e ∷ after → MayFollow terms before e
 
--- a list is a front of another
+-- a list is a prefix of another
 abbrev pub Begins : List Entry → List Entry → Type 0
 Begins front whole = (rest : List Entry) × (whole ≡ front ++ rest)

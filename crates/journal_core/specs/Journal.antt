@@ -1,4 +1,4 @@
--- What a journal, and a ledger of one thread, stand for: what the ledger was opened with, and its history.
+-- The value of a journal and of a ledger of one thread: what the ledger was opened with, and its history.
 use Rattle.std.specs.Prelude.{ℕ, List, [], ◌∷◌, ◌++◌}
 use Rattle.journal_core.specs.declared.entry.Entry.{Entry}
 use Rattle.journal_core.specs.declared.entry.Event.{Event}

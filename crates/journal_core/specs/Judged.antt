@@ -1,4 +1,4 @@
--- What the lines of a journal so far are.
+-- What the lines of a journal so far amount to.
 use Rattle.std.specs.Prelude.{◌≡◌, ℕ, List, [], ◌++◌, take}
 use Rattle.journal_core.specs.declared.entry.Entry.{Entry}
 use Rattle.journal_core.specs.declared.state.State.{State}

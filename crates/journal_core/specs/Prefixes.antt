@@ -5,7 +5,7 @@ use Rattle.journal_core.specs.declared.entry.Entry.{Entry}
 use Rattle.journal_core.specs.Range.{prefix_of}
 use Rattle.journal_core.specs.History.{Terms, entry}
 
--- all numbers granted lie in the range, and no two grants have one prefix
+-- all numbers granted are in the range, and no two grants have one prefix
 pub record GrantsOnce (terms : Terms) (history : List Entry) : Type 0 where
   pub inside : (i number seat : ℕ) → slice_get history i ≡ Some (entry seat (Granted number))
       → (terms.range.lo ≤ number) × (number < terms.range.lo + terms.range.size)

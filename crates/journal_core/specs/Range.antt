@@ -2,7 +2,7 @@
 use Rattle.std.specs.Prelude.{ℕ, ◌+◌, ◌<◌, ◌≤◌, List, ◌++◌}
 use Rattle.std.specs.Int.{bytes_high_first}
 
--- the greatest number of a device: what 3 bytes hold
+-- the greatest device number that fits in 3 bytes
 abbrev pub most_device : ℕ
 most_device = 16777215
 
@@ -10,7 +10,7 @@ most_device = 16777215
 abbrev pub most_size : ℕ
 most_size = 65535
 
--- each number is below this: what 4 bytes hold
+-- numbers are below this, so they fit in 4 bytes
 abbrev pub number_limit : ℕ
 number_limit = 4294967296
 
@@ -23,13 +23,13 @@ pub record Numbers : Type 0 where
 abbrev pub range_of : ℕ → ℕ → ℕ → Numbers
 range_of device lo size = record { device = device; lo = lo; size = size }
 
--- a device of 3 bytes, from 1 to 65,535 numbers, and each of them in 4 bytes
+-- a device of 3 bytes, and 1 to 65,535 numbers of 4 bytes each
 pub record IsLawfulRange (range : Numbers) : Type 0 where
   pub device : range.device ≤ most_device
   pub some : 0 < range.size
   pub few : range.size ≤ most_size
   pub end : range.lo + range.size ≤ number_limit
 
--- the prefix of a number: the device in 3 and the number in 4 big-endian bytes
+-- the prefix of a number: the device in 3 big-endian bytes, then the number in 4
 abbrev pub prefix_of : ℕ → ℕ → List ℕ
 prefix_of device number = bytes_high_first 3 device ++ bytes_high_first 4 number

@@ -31,17 +31,17 @@ number_at standing k = slice_index_or standing.numbers k (issued 64 true)
 abbrev pub standing_of : Terms → Tally → List Bool → List Issued → StandingView
 standing_of terms tally closed numbers = record { terms = terms; tally = tally; closed = closed; numbers = numbers }
 
--- nothing happened yet
+-- nothing has happened yet
 abbrev pub fresh : Terms → StandingView
 fresh terms = standing_of terms (record { granted = 0; refused = 0; sealed = 0; void = 0 }) (replicate 64 false) []
 
--- what an issue is answered
+-- the reply to the next issue
 abbrev pub answer_of : StandingView → Event
 answer_of standing =
     if nat_lt (length standing.numbers) standing.terms.range.size
     then Granted (standing.terms.range.lo + length standing.numbers) else Exhausted
 
--- the seat may make this call and be answered so
+-- the seat may make this call and get this reply
 abbrev pub CanReply : StandingView → ℕ → Event → Type 0
 CanReply standing seat (Granted n) =
     (length standing.numbers < standing.terms.range.size) × (n ≡ standing.terms.range.lo + length standing.numbers)
@@ -55,11 +55,11 @@ CanReply standing seat (Settled n way) =
 abbrev pub CanFollow : StandingView → Entry → Type 0
 CanFollow standing e = (e.seat < standing.terms.seats) × CanReply standing e.seat e.event
 
--- the greatest count: what 32 bits hold
+-- the greatest count that fits in 32 bits
 abbrev pub most_tally : ℕ
 most_tally = 4294967295
 
--- no count is at its end
+-- no count is at its maximum
 pub record IsSmall (tally : Tally) : Type 0 where
   pub granted : tally.granted < most_tally
   pub refused : tally.refused < most_tally
@@ -72,7 +72,7 @@ tally_after tally Exhausted = record tally { refused = tally.refused + 1 }
 tally_after tally (Settled n Sealed) = record tally { sealed = tally.sealed + 1 }
 tally_after tally (Settled n Void) = record tally { void = tally.void + 1 }
 
--- what stands after one more operation
+-- the state after one more operation
 abbrev pub after : StandingView → ℕ → Event → StandingView
 after standing seat (Granted n) =
     standing_of standing.terms (tally_after standing.tally (Granted n)) standing.closed
@@ -84,7 +84,7 @@ after standing seat (Settled n way) =
     standing_of standing.terms (tally_after standing.tally (Settled n way)) standing.closed
     (slice_set standing.numbers (n - standing.terms.range.lo) (issued seat true))
 
--- what stands is what this history left
+-- the state is what this history left
 pub record Tracks (standing : StandingView) (history : List Entry) : Type 0 where
   pub tally : standing.tally ≡ tally_of history
   pub seats : length standing.closed ≡ 64

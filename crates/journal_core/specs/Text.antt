@@ -1,4 +1,4 @@
--- The journal's text: a range line, then a line for each entry, each ended by a line feed.
+-- The journal's text: a range line, then a line for each entry. Each ends with a line feed.
 use Rattle.std.specs.Prelude.{ℕ, List, [], ◌∷◌, ◌++◌, map, codes}
 use Rattle.std.specs.Fmt.{decimal}
 use Rattle.journal_core.specs.declared.entry.Way.{Way}
@@ -28,7 +28,7 @@ event_text (Settled number way) = way_text way ++ 32 ∷ decimal number
 abbrev pub entry_text : Entry → List ℕ
 entry_text e = decimal e.seat ++ codes " " ++ event_text e.event
 
--- lines, each ended by a line feed
+-- lines, each followed by a line feed
 abbrev pub ended_lines : List (List ℕ) → List ℕ
 ended_lines [] = []
 ended_lines (line ∷ lines) = line ++ 10 ∷ ended_lines lines

@@ -14,7 +14,7 @@ use Rattle.journal_core.specs.Text.{terms_text, entry_text, ended_lines, journal
 abbrev pub IsLine : List ℕ → Type 0
 IsLine line = All (λ byte. byte ≢ 10) line
 
--- the bytes are ended lines, cut at each line feed, and a rest: what follows the last line feed, or all where there
+-- the bytes are ended lines, cut at each line feed, and a rest: what follows the last line feed, or all bytes if there
 -- is none
 pub record IsCut (bytes : List ℕ) (lines : List (List ℕ)) (rest : List ℕ) : Type 0 where
   pub whole : bytes ≡ ended_lines lines ++ rest
@@ -26,7 +26,7 @@ IsNumberOf32Bits (Granted n) = n < number_limit
 IsNumberOf32Bits Exhausted = ⊤
 IsNumberOf32Bits (Settled n way) = n < number_limit
 
--- the entry can stand in a line: its seat is from 0 to 63, and its number one of 32 bits
+-- the entry can be written as a line: its seat is 0 to 63, and its number is below 2^32
 pub record IsWritable (e : Entry) : Type 0 where
   pub seat : e.seat < 64
   pub number : IsNumberOf32Bits e.event
@@ -43,20 +43,20 @@ IsSound (first ∷ lines) =
     (terms : Terms) × (history : List Entry) × (first ∷ lines ≡ journal_lines terms history) × IsLawful terms
     × Legal terms history
 
--- an ended line stands behind these, and isn't well formed
+-- an ended line follows these, and isn't well formed
 abbrev pub IsIllFormed : List (List ℕ) → List (List ℕ) → Type 0
 IsIllFormed before lines =
     (line : List ℕ) × (later : List (List ℕ)) × (lines ≡ before ++ line ∷ later) × ¬ IsWellFormed before line
 
--- what follows the last line feed is an unended line: it has a byte, or the input has no byte at all
+-- what follows the last line feed is an unended line: it has a byte, or the input is empty
 abbrev pub IsUnended : List (List ℕ) → List ℕ → Type 0
 IsUnended lines rest = rest ≡ [] → lines ≡ []
 
--- the line behind the sound ones is malformed: an ended line that isn't well formed, or an unended one
+-- the line after the sound ones is malformed: an ended line that isn't well formed, or an unended one
 abbrev pub IsMalformed : List (List ℕ) → List (List ℕ) → List ℕ → Type 0
 IsMalformed before lines rest = IsIllFormed before lines ⊎ ((lines ≡ before) × IsUnended before rest)
 
--- the line behind the sound ones is an entry that may not follow them
+-- the line after the sound ones is an entry that may not follow them
 abbrev pub IsIllegal : Terms → List Entry → List (List ℕ) → Type 0
 IsIllegal terms history lines =
     (e : Entry) × (later : List (List ℕ)) × (lines ≡ journal_lines terms history ++ entry_text e ∷ later)
@@ -80,7 +80,7 @@ pub record IsVerdict (bytes : List ℕ) (verdict : Verdict) : Type 0 where
   pub cut : IsCut bytes lines rest
   pub judged : Judges lines rest verdict
 
--- the line that tells the verdict; open numbers are those granted and not settled
+-- the verdict's line; open numbers are those granted and not settled
 abbrev pub verdict_text : Verdict → List ℕ
 verdict_text (IsLegal tally) =
     codes "legal: " ++ decimal tally.granted ++ codes " granted, " ++ decimal tally.sealed ++ codes " sealed, "

@@ -1,6 +1,6 @@
-//! The audit of a journal: a reader read to its end, the verdict on its bytes, and its line written.
+//! The audit of a journal: reads to the end of the input, judges its bytes, and writes the verdict as a line.
 //!
-//! `progress` keeps what the audit needs of the bytes so far, `state` what the lines so far are.
+//! `progress` keeps what the audit needs of the bytes so far, and `state` what the lines so far amount to.
 ghost use Rattle.std.specs.Prelude.{◌≡◌, ◌≢◌, ◌<◌, List, [], ◌∷◌, ◌++◌, length};
 ghost use Rattle.std.specs.Prelude.{IfOk, IfErr, IfSome, IsErrOf, OnOk, Some};
 ghost use Rattle.journal_core.specs.declared.entry.Entry.{Entry};
@@ -16,16 +16,16 @@ use io_core::{Failed, Sink, Source, write_all};
 use std::alloc::Global;
 use thiserror::Error;
 
-/// Why an audit gave up.
+/// Why an audit failed.
 #[derive(Clone, Copy, PartialEq, Eq, Debug, Error)]
 pub enum AuditFault {
-    /// Memory was refused. Nothing was written.
+    /// Memory could not be allocated. Nothing was written.
     #[error("out of memory")]
     OutOfMemory,
-    /// The reader failed, or gave 2^64 - 1 bytes. Nothing was written.
+    /// The reader failed, or gave 2^64 - 1 bytes or more. Nothing was written.
     #[error("read failed")]
     Read,
-    /// The writer failed. A beginning of the verdict's line was written, and not the whole.
+    /// The writer failed. A proper prefix of the verdict's line was written.
     #[error("write failed")]
     Write,
 }
@@ -43,7 +43,7 @@ impl AuditFault {
     }
 }
 
-// How many bytes are read at a time.
+// How many bytes one read asks for.
 const BLOCK: usize = 1 << 16;
 
 // Reads to the end of the input, and judges it.
@@ -77,16 +77,17 @@ fn judge_all<R: Source>(alloc: Global, reader: &mut R) -> Result<Verdict, AuditF
     }
 }
 
-/// Reads a journal to its end and writes the verdict on it as one line. At `OutOfMemory` and `Read` nothing was
-/// written; at `Write` a beginning of the line, and not the whole.
+/// Reads a journal to its end and writes the verdict on it as one line. After `OutOfMemory` or `Read` nothing was
+/// written. After `Write` a proper prefix of the line was written.
 ///
-/// It keeps at most 35 bytes of any line, and memory in the order of the range's size, whatever the input's length.
+/// Memory: a block of 64 KiB, at most 35 bytes of any line, and some bytes for each number of the range, whatever the
+/// input's length.
 pub fn audit<R: Source, W: Sink>(
     alloc: Global,
     reader: &mut R,
     writer: &mut W,
 ) -> Result<Verdict, AuditFault>
-    // Nothing is left unread, the verdict is that of all that was left to read, and its line was written.
+    // Nothing is left unread, the verdict is that of all bytes that were left to read, and its line was written.
     ensures end { OnOk result (IsAtEnd (R.left reader.new)) }
     ensures verdict { IfOk result (λ verdict. IfSome (R.left reader.old) (λ input. IsVerdict input verdict)) }
     ensures written { IfOk result (λ verdict.

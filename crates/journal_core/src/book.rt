@@ -1,7 +1,6 @@
 //! The ledger of one thread: it issues the numbers of a range to seats, settles them, and stores its journal.
 //!
-//! It is the sequential ledger by which every other one is measured: what it replies is what any ledger replies at
-//! that point of its history.
+//! It is the reference for every other ledger: any ledger replies what a book replies at that point of its history.
 ghost use Rattle.std.specs.Prelude.{◌≡◌, ◌≢◌, ◌<◌, ◌≤◌, ◌↔◌, ◌⊎◌, [], IfOk, IfErr, OnOk, OnErr};
 ghost use Rattle.journal_core.specs.Book.{fault_number};
 ghost use Rattle.journal_core.specs.History.{IsClosed, IsOpen, tally_of};
@@ -19,19 +18,19 @@ use thiserror::Error;
 /// Why a book refused a call.
 #[derive(Clone, Copy, PartialEq, Eq, Debug, Error)]
 pub enum BookFault {
-    /// The range has no number left. This is an operation: the seat is closed for issue from then on.
+    /// The range has no number left. This is recorded as an operation, and closes the seat for issue.
     #[error("no file number")]
     Exhausted,
-    /// The seat was answered Exhausted before.
+    /// The seat got `Exhausted` before.
     #[error("no file number")]
     SeatClosed,
-    /// The number isn't open at this seat.
+    /// The number is not open at this seat.
     #[error("number not open")]
     NotOpen,
-    /// Memory was refused.
+    /// Memory could not be allocated.
     #[error("out of memory")]
     OutOfMemory,
-    /// No such seat, or not 1 to 64 seats.
+    /// No such seat, or a number of seats outside 1 to 64.
     #[error("bad seats")]
     BadSeats,
 }
@@ -51,7 +50,7 @@ impl BookFault {
     }
 }
 
-/// The ledger of one thread. It stands for its journal.
+/// The ledger of one thread. Its value in contracts is its journal.
 #[derive(Drop)]
 pub struct Book {
     standing: Standing,
@@ -70,8 +69,8 @@ impl Model for Book {
 }
 
 impl Book {
-    /// An empty book over the range, with 1 to 64 seats, numbered from 0. BadSeats where `seats` is 0 or over 64,
-    /// else OutOfMemory where memory was refused.
+    /// Makes an empty book over the range, with 1 to 64 seats, numbered from 0. Returns `BadSeats` if `seats` is 0 or
+    /// over 64, else `OutOfMemory` if memory could not be allocated.
     pub fn new(alloc: Global, range: Range, seats: u32) -> Result<Book, BookFault>
         ensures empty { IfOk result (λ book. book ≡ journal_of range seats []) }
         ensures bad_seats { result ≡ Err BookFault.BadSeats ↔ ((seats ≡ 0) ⊎ (MAX_SEATS < seats)) }
@@ -80,7 +79,7 @@ impl Book {
         if seats == 0 || seats > MAX_SEATS {
             return Err(BookFault::BadSeats);
         }
-        // The call tells the prover that the range is lawful.
+        // This call gives the prover the fact that the range is lawful.
         let _ = range.size();
         let Ok(standing) = Standing::new(alloc, Terms { range, seats }) else {
             return Err(BookFault::OutOfMemory);
@@ -89,8 +88,8 @@ impl Book {
         Ok(Book { standing, journal })
     }
 
-    /// Issues the next number to a seat. Tested in this order: BadSeats (no such seat), SeatClosed, OutOfMemory,
-    /// Exhausted. All but Exhausted leave the book as it was.
+    /// Issues the next number to a seat. Errors, tested in this order: `BadSeats` (no such seat), `SeatClosed`,
+    /// `OutOfMemory`, `Exhausted`. All but `Exhausted` leave the book unchanged.
     pub fn issue(&mut self, seat: u32) -> Result<u32, BookFault>
         ensures granted { IfOk result (λ n. self.new ≡ adds self.old seat (Event.Granted n)) }
         ensures exhausted { result ≡ Err BookFault.Exhausted → self.new ≡ adds self.old seat Event.Exhausted }
@@ -119,8 +118,8 @@ impl Book {
         }
     }
 
-    /// Settles a number that is open at a seat, as sealed or void. Tested in this order: BadSeats (no such seat),
-    /// NotOpen, OutOfMemory. Each leaves the book as it was.
+    /// Settles a number that is open at a seat, as sealed or void. Errors, tested in this order: `BadSeats` (no such
+    /// seat), `NotOpen`, `OutOfMemory`. Each leaves the book unchanged.
     pub fn settle(&mut self, seat: u32, number: u32, way: Way) -> Result<(), BookFault>
         ensures settled { OnOk result (self.new ≡ adds self.old seat (Event.Settled number way)) }
         ensures unchanged { OnErr result (self.new ≡ self.old) }
@@ -147,14 +146,14 @@ impl Book {
         Ok(())
     }
 
-    /// How many entries of each kind the journal has.
+    /// Counts the journal's entries of each kind.
     pub fn tally(&self) -> Tally
         ensures { result ≡ tally_of self.now.history }
     {
         self.standing.tally()
     }
 
-    /// The journal so far.
+    /// Returns the journal so far.
     pub fn journal(&self) -> &Journal
         ensures journal { result.now ≡ self.now }
         ensures legal { IsJournal self.now }

@@ -1,6 +1,6 @@
 //! Devices and the prefixes of their nonces: the deterministic construction of NIST SP 800-38D, section 8.2.1.
 //!
-//! The fixed field is the device's number in 3 bytes. Under one key no two devices have one number.
+//! The fixed field is the device's number in 3 bytes. No two devices share a number under one key.
 ghost use Rattle.std.specs.Prelude.{◌≡◌, ◌≤◌, SomeIff};
 ghost use Rattle.journal_core.specs.Range.{prefix_of};
 
@@ -26,10 +26,10 @@ impl Model for Device {
 }
 
 impl Device {
-    /// The greatest number of a device: what 3 bytes hold.
+    /// The greatest device number that fits in 3 bytes.
     pub const MAX: u32 = (1 << 24) - 1;
 
-    /// The device of this number, or `None` over 16,777,215.
+    /// Returns the device with this number, or `None` if it is over 16,777,215.
     pub fn new(number: u32) -> Option<Device>
         ensures { SomeIff result (number ≤ Device.MAX) number }
     {
@@ -39,7 +39,7 @@ impl Device {
         Some(Device { number })
     }
 
-    /// The device's number.
+    /// Returns the device's number, 0 to 16,777,215.
     pub fn number(self) -> u32
         ensures value { result ≡ self }
         ensures small { result ≤ Device.MAX }
@@ -48,8 +48,8 @@ impl Device {
     }
 }
 
-/// The first 7 bytes of every nonce of the file `number` of `device`: the device in 3 and the number in 4 big-endian
-/// bytes.
+/// Returns the first 7 bytes of every nonce of file `number` of `device`: the device in 3 big-endian bytes, then the
+/// number in 4.
 pub fn prefix(device: Device, number: u32) -> [u8; 7]
     ensures { result ≡ prefix_of device number }
 {

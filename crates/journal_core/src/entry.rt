@@ -4,27 +4,27 @@ ghost use Rattle.journal_core.specs.Text.{entry_text};
 
 use std::fmt;
 
-/// How a granted number ended.
+/// How an issued number was settled.
 #[derive(Clone, Copy, PartialEq, Eq, Debug)]
 pub enum Way {
     /// A container was sealed under it.
     Sealed,
-    /// It was given up.
+    /// It was given up, and nothing was sealed under it.
     Void,
 }
 
 /// A call of the ledger with its reply.
 #[derive(Clone, Copy, PartialEq, Eq, Debug)]
 pub enum Event {
-    /// An issue, answered by this number.
+    /// An issue that returned this number.
     Granted(u32),
-    /// An issue, answered by the word that no number is left.
+    /// An issue that found no number left.
     Exhausted,
-    /// A settle of this number.
+    /// A settlement of this number.
     Settled(u32, Way),
 }
 
-/// One operation of the ledger: the seat that called, and its call with the reply.
+/// One operation of the ledger: the seat that called, and the call with its reply.
 #[derive(Clone, Copy, PartialEq, Eq, Debug)]
 pub struct Entry {
     pub seat: u32,

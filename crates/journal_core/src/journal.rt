@@ -28,7 +28,7 @@ impl Model for Journal {
 }
 
 impl Journal {
-    /// The journal of these entries, which are a legal history over the range and at most 64 seats.
+    /// Makes the journal of these entries. They must be a legal history over the range and 1 to 64 seats.
     pub fn new(range: Range, seats: u32, entries: Vec<Entry>) -> Journal
         requires { IsJournal (journal_of range seats entries.items) }
         ensures { result ≡ journal_of range seats entries.items }
@@ -37,21 +37,21 @@ impl Journal {
         Journal { terms, entries }
     }
 
-    /// The range over which the ledger was opened.
+    /// Returns the range over which the ledger was opened.
     pub fn range(&self) -> Range
         ensures { result ≡ self.now.terms.range }
     {
         self.terms.range
     }
 
-    /// The number of seats: 1 to 64.
+    /// Returns the number of seats: 1 to 64.
     pub fn seats(&self) -> u32
         ensures { result ≡ self.now.terms.seats }
     {
         self.terms.seats
     }
 
-    /// The operations, in order. They are a legal history.
+    /// Returns the operations, in order. They are a legal history.
     pub fn entries(&self) -> &[Entry]
         ensures history { result.now ≡ self.now.history }
         ensures legal { IsJournal self.now }
@@ -59,7 +59,7 @@ impl Journal {
         self.entries.as_slice()
     }
 
-    // Adds an entry, which must be the next of a legal history. At an error nothing changes.
+    // Appends an entry, which must be the next of a legal history. On an error nothing changes.
     pub(crate) fn push(&mut self, entry: Entry) -> Result<(), AllocError>
         requires { Legal self.old.terms (self.old.history ++ entry ∷ []) }
         ensures { self.new ≡ (if is_ok result then adds self.old entry.seat entry.event else self.old) }
@@ -68,7 +68,7 @@ impl Journal {
         Ok(())
     }
 
-    /// The journal's text: the range line, then a line for each operation, each ended by a line feed.
+    /// Returns the journal's text: the range line, then one line for each operation. Each ends with a line feed.
     pub fn text(&self, alloc: Global) -> Result<String, AllocError>
         ensures { IfOk result (λ text. string_bytes text ≡ journal_text self.now.terms self.now.history) }
     {

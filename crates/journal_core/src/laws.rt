@@ -1,4 +1,4 @@
-//! Laws of the words that the ledger's contracts use. Each function's contract is the law, and it does nothing.
+//! Laws of the terms that the ledger's contracts use. Each law is the contract of a function that does nothing.
 ghost use Rattle.std.specs.Prelude.{◌≡◌, ◌<◌, ◌≤◌, ◌+◌, ℕ, List};
 ghost use Rattle.journal_core.specs.declared.entry.Entry.{Entry};
 ghost use Rattle.journal_core.specs.declared.entry.Event.{Event};
@@ -25,21 +25,20 @@ ghost use Rattle.journal_core.specs.Verdict.{IsVerdict};
 
 use crate::journal::Journal;
 
-/// Each beginning of a legal history is legal.
+/// Every prefix of a legal history is legal.
 pub fn a_beginning_is_legal()
     ensures { (terms : Terms) (front whole : List Entry) → Legal terms whole → Begins front whole → Legal terms front }
 {}
 
-/// The counts of a legal history stay small: at most 65,535 issues are granted and 64 refused, and no more numbers
-/// are settled than were granted.
+/// The counts of a legal history stay small: at most 65,535 issues are granted and 64 refused. No more numbers are
+/// settled than were granted.
 pub fn counts_stay_small()
     ensures { (terms : Terms) (history : List Entry) → IsLawful terms → Legal terms history
         → (granted history ≤ most_size) × (refused history ≤ 64) × (sealed history + voided history ≤ granted history) }
 {}
 
-/// The history fixes the reply of the next issue. Two replies that may follow it, at whatever seats, are the same
-/// number, or both say that none is left; and a seat that isn't closed has such a reply. So what any ledger replies
-/// is what a book replies.
+/// The history determines the reply of the next issue. Two replies that may follow it, at whatever seats, are equal. A
+/// seat that isn't closed has such a reply. So any ledger replies what a book replies.
 pub fn one_reply_fits()
     ensures one { (terms : Terms) (history : List Entry) (seat other : ℕ) (reply answer : Event)
         → IsIssue reply → IsIssue answer → MayFollow terms history (entry seat reply)
@@ -64,7 +63,7 @@ pub fn a_legal_journal_is_legal()
         → IsVerdict (journal_text terms history) (Verdict.Legal (tally_of history)) }
 {}
 
-/// Two devices, or two numbers of one, have different prefixes.
+/// Different devices, or different numbers of one device, have different prefixes.
 pub fn a_prefix_tells_its_number()
     ensures { (device number other_device other_number : ℕ) → device ≤ most_device → number < number_limit
         → other_device ≤ most_device → other_number < number_limit
@@ -72,7 +71,7 @@ pub fn a_prefix_tells_its_number()
         → (device ≡ other_device) × (number ≡ other_number) }
 {}
 
-/// All prefixes granted in a journal lie in its range, and none is granted twice.
+/// All numbers granted in a journal are in its range, and no prefix is granted twice.
 pub fn grants_of_journal(journal: &Journal)
     ensures { GrantsOnce journal.now.terms journal.now.history }
 {

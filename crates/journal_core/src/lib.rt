@@ -1,9 +1,9 @@
 //! The ledger of file numbers, as a list: which device sealed under which number, and how each number ended.
 //!
-//! A number makes the prefix of every nonce of one sealing, so no number may be issued twice. This crate has the words
-//! of that promise (device, range, prefix, entry, legal history), the ledger of one thread, the journal and its audit.
-//! It stands on the readers and writers of `io_core`, whose names it passes on; the ledger of many threads stands on
-//! it, in `ledger_core`.
+//! A number makes the prefix of every nonce of one container, so no number may be issued twice. This crate defines
+//! device, range, prefix, entry and legal history. It has the ledger of one thread, the journal and its audit. It uses
+//! the readers and writers of `io_core`, and re-exports their names. `ledger_core` builds the ledger of many threads on
+//! it.
 #![tactic(auto)]
 
 pub mod auditing;

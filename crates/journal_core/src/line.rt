@@ -1,4 +1,4 @@
-//! The lines of a journal, read from text: exactly the lines that `Journal::text` writes.
+//! Parses the lines of a journal: it accepts exactly the lines that `Journal::text` writes.
 ghost use Rattle.std.specs.Prelude.{◌≡◌, ℕ, ◌∷◌, ◌++◌, ◌<◌, List, IfSome, IsTrue, MatchOption, Some, ◌↔◌};
 ghost use Rattle.std.specs.Fmt.{decimal};
 ghost use Rattle.journal_core.specs.History.{Terms, IsLawful};
@@ -18,7 +18,7 @@ fn is_word(text: &str, word: &str) -> bool
     text == word
 }
 
-// A decimal number of 32 bits without leading zeros.
+// Parses a decimal number below 2^32 without leading zeros.
 fn number(text: &str) -> Option<u32>
     ensures sound { IfSome result (λ n. text.now ≡ decimal n) }
     ensures complete { (n : ℕ) → n < number_limit → text.now ≡ decimal n → result ≡ Some n }
@@ -37,7 +37,7 @@ fn number(text: &str) -> Option<u32>
     text.parse().ok()
 }
 
-// A word up to the first space, and what follows that space.
+// Splits the text at its first space: the word before it, and what follows.
 fn word_then(text: &str) -> Option<(&str, &str)>
     ensures sound { IfSome result (λ r. text.now ≡ r.0.now ++ 32 ∷ r.1.now) }
     ensures complete { (word rest : List ℕ) → HasNoSpace word → text.now ≡ word ++ 32 ∷ rest
@@ -46,7 +46,7 @@ fn word_then(text: &str) -> Option<(&str, &str)>
     text.split_once(' ')
 }
 
-// A number, a space, and what follows.
+// Splits off a leading number and the space after it.
 fn number_then(text: &str) -> Option<(u32, &str)>
     ensures sound { IfSome result (λ r. text.now ≡ decimal r.0 ++ 32 ∷ r.1.now) }
     ensures complete { (n : ℕ) (rest : List ℕ) → n < number_limit → text.now ≡ decimal n ++ 32 ∷ rest
@@ -57,7 +57,7 @@ fn number_then(text: &str) -> Option<(u32, &str)>
     Some((n, rest))
 }
 
-// The event that this text names.
+// Parses the event of an entry line.
 fn event_in(text: &str) -> Option<Event>
     ensures sound { IfSome result (λ event. IsNumberOf32Bits event × (text.now ≡ event_text event)) }
     ensures complete { (event : Event) → IsNumberOf32Bits event → text.now ≡ event_text event → result ≡ Some event }
@@ -88,7 +88,7 @@ fn way_in(word: &str) -> Option<Way>
     }
 }
 
-// The entry that a line names, where it names one.
+// Parses an entry line. Returns `None` for any other line.
 pub(crate) fn entry_in(line: &str) -> Option<Entry>
     ensures sound { IfSome result (λ e. IsWritable e × (line.now ≡ entry_text e)) }
     ensures complete { (e : Entry) → IsWritable e → line.now ≡ entry_text e → result ≡ Some e }
@@ -101,7 +101,7 @@ pub(crate) fn entry_in(line: &str) -> Option<Entry>
     Some(Entry { seat, event })
 }
 
-// The range and the number of seats that a range line names, where it is one.
+// Parses a range line: the range and the number of seats. Returns `None` for any other line.
 pub(crate) fn terms_in(line: &str) -> Option<Terms>
     ensures sound { IfSome result (λ terms. IsLawful terms × (line.now ≡ terms_text terms)) }
     ensures complete { (terms : Terms) → IsLawful terms → line.now ≡ terms_text terms → result ≡ Some terms }

@@ -1,7 +1,7 @@
-//! How far an audit has come: what it keeps of the bytes that it has read.
+//! The progress of an audit: what it keeps of the bytes that it has read.
 //!
-//! It keeps the state of the lines so far, and of the line under way at most 35 bytes: the longest line of a journal
-//! has 34, so a longer beginning is malformed whatever follows. `auditing` drives it over a reader.
+//! It keeps the state of the lines so far, and at most 35 bytes of the current line. The longest line of a journal has
+//! 34 bytes, so a longer line is malformed whatever follows. `auditing` feeds it from a reader.
 ghost use Rattle.std.specs.Prelude.{◌≡◌, ℕ, ◌+◌, ◌≤◌, ◌<◌, List, [], ◌∷◌, ◌++◌, length, take, drop, IfOk, MatchOption};
 ghost use Rattle.journal_core.specs.Verdict.{IsLine, IsVerdict};
 
@@ -22,7 +22,7 @@ pub(crate) struct Progress {
     ghost in_range: { kept_len ≤ 35 },
 }
 
-// Where the first line of these bytes ends, if it does.
+// The index of the first line feed, if there is one.
 fn line_end(bytes: &[u8]) -> Option<usize>
     ensures { MatchOption result (IsLine bytes.now) (λ i. (i < length bytes.now)
         × (bytes.now ≡ take i bytes.now ++ 10 ∷ drop (i + 1) bytes.now) × IsLine (take i bytes.now)) }
@@ -46,7 +46,7 @@ impl Progress {
         }
     }
 
-    // Keeps what is needed of a piece of the line under way.
+    // Keeps what is needed of a piece of the current line.
     fn keep(&mut self, piece: &[u8])
         ensures count { self.new.lines ≡ self.old.lines }
         ensures read { (lines : List (List ℕ)) (rest : List ℕ) → Audits self.old lines rest → IsLine piece.now
@@ -58,7 +58,7 @@ impl Progress {
         self.kept_len = end;
     }
 
-    // Judges the line under way, which has ended.
+    // Judges the current line, which has ended.
     fn judge(&mut self) -> Result<(), AllocError>
         requires { self.old.lines < u64.MAX }
         ensures count { IfOk result (λ _. self.new.lines ≡ self.old.lines + 1) }
@@ -74,7 +74,7 @@ impl Progress {
         Ok(())
     }
 
-    // Takes the end of a line: what stands before its line feed.
+    // Takes the end of a line: the bytes before its line feed.
     fn end(&mut self, piece: &[u8]) -> Result<(), AllocError>
         requires { self.old.lines < u64.MAX }
         ensures count { IfOk result (λ _. self.new.lines ≡ self.old.lines + 1) }
@@ -101,7 +101,7 @@ impl Progress {
         Ok(())
     }
 
-    // The verdict, where the bytes taken are all.
+    // The verdict, if the bytes taken are all of the input.
     pub(crate) fn verdict(&self) -> Verdict
         requires { self.now.lines < u64.MAX }
         ensures { (bytes : List ℕ) → HasRead self.now bytes → IsVerdict bytes result }

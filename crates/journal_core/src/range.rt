@@ -6,7 +6,7 @@ use crate::device::Device;
 use std::marker::Model;
 use thiserror::Error;
 
-/// A range without a number, with more than 65,535 numbers, or with one over 4,294,967,295.
+/// A range of 0 numbers, of more than 65,535, or with a number over 4,294,967,295.
 #[derive(Clone, Copy, PartialEq, Eq, Debug, Error)]
 #[error("bad range")]
 pub struct BadRange;
@@ -44,11 +44,12 @@ impl Range {
     /// The greatest size of a range.
     pub const MAX_SIZE: u32 = 65_535;
 
-    /// The range of `size` numbers from `lo`. Refused where `size` is 0 or over 65,535, or `lo + size` is over 2^32.
+    /// Makes the range of `size` numbers from `lo`. Returns `BadRange` if `size` is 0 or over 65,535, or `lo + size` is
+    /// over 2^32.
     pub fn new(device: Device, lo: u32, size: u32) -> Result<Range, BadRange>
         ensures { OkIff result (IsLawfulRange (range_of device lo size)) (range_of device lo size) }
     {
-        // The call tells the prover that the device has 24 bits.
+        // This call gives the prover the fact that the device has 24 bits.
         let _ = device.number();
         let end = lo as u64 + size as u64;
         if size == 0 || size > Range::MAX_SIZE || end > 1 << 32 {
@@ -57,21 +58,21 @@ impl Range {
         Ok(Range { device, lo, size })
     }
 
-    /// The device whose numbers these are.
+    /// Returns the device whose numbers these are.
     pub fn device(self) -> Device
         ensures { result ≡ self.device }
     {
         self.device
     }
 
-    /// The first number.
+    /// Returns the first number.
     pub fn lo(self) -> u32
         ensures { result ≡ self.lo }
     {
         self.lo
     }
 
-    /// How many numbers there are.
+    /// Returns how many numbers the range has, 1 to 65,535.
     pub fn size(self) -> u32
         ensures value { result ≡ self.size }
         ensures lawful { IsLawfulRange self }

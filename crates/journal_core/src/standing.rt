@@ -1,7 +1,7 @@
 //! What a running ledger keeps of its history: the counts, which seats are closed, and what became of each number.
 //!
-//! It takes memory for the numbers of the range, once, and answers each call in the same few steps however long the
-//! history.
+//! It allocates memory for the numbers of the range, once. Each call then takes a constant number of steps, however
+//! long the history.
 ghost use Rattle.std.specs.Prelude.{◌≡◌, ◌<◌, ◌↔◌, false, length, IfOk, IsTrue};
 ghost use Rattle.journal_core.specs.History.{IsLawful};
 ghost use Rattle.journal_core.specs.Standing.{CanFollow, IsSmall, after, answer_of, fresh};
@@ -12,7 +12,7 @@ use crate::terms::{MAX_SEATS, Terms};
 use std::alloc::{AllocError, Global};
 use std::marker::Model;
 
-// A number that was issued: to which seat, and whether it was settled since.
+// A number that was issued: its seat, and whether it is settled.
 #[derive(Clone, Copy)]
 struct Issued {
     seat: u32,
@@ -41,7 +41,7 @@ impl Model for Standing {
 }
 
 impl Standing {
-    // Before the first call. It makes room for all numbers of the range.
+    // The state before the first call. Allocates room for all numbers of the range.
     pub(crate) fn new(alloc: Global, terms: Terms) -> Result<Standing, AllocError>
         requires { IsLawful terms }
         ensures { IfOk result (λ s. s ≡ fresh terms) }
@@ -74,7 +74,7 @@ impl Standing {
         self.closed[seat as usize]
     }
 
-    // What an issue is answered.
+    // The reply to the next issue.
     pub(crate) fn answer(&self) -> Event
         ensures { result ≡ answer_of self.now }
     {
@@ -86,7 +86,7 @@ impl Standing {
         }
     }
 
-    // Whether this entry may be the next.
+    // Whether this entry may come next.
     pub(crate) fn can_follow(&self, entry: Entry) -> bool
         ensures { IsTrue result ↔ CanFollow self.now entry }
     {
@@ -103,7 +103,7 @@ impl Standing {
         }
     }
 
-    // Whether the k-th number was issued to this seat and not settled since.
+    // Whether the k-th number, counted from 0, was issued to this seat and is not settled.
     fn is_open(&self, seat: u32, k: u32) -> bool
         ensures { IsTrue result ↔ ((k < length self.now.numbers) × (number_at self.now k ≡ issued seat false)) }
     {
@@ -113,7 +113,7 @@ impl Standing {
         }
     }
 
-    // Takes the next entry. No count of a legal history comes to its end.
+    // Records the next entry. No count of a legal history overflows.
     pub(crate) fn take(&mut self, entry: Entry)
         requires { CanFollow self.old entry }
         ensures { IsSmall self.old.tally → self.new ≡ after self.old entry.seat entry.event }

@@ -1,4 +1,4 @@
-//! What the lines of a journal so far are, and the step from line to line.
+//! What the lines of a journal read so far amount to, and the step to the next line.
 ghost use Rattle.std.specs.Prelude.{◌≡◌, ℕ, ◌+◌, List, [], ◌∷◌, ◌++◌, length, IfOk, MatchOption};
 ghost use Rattle.journal_core.specs.Judged.{Judged, SameFront};
 
@@ -7,14 +7,14 @@ use crate::standing::Standing;
 use crate::verdict::Verdict;
 use std::alloc::{AllocError, Global};
 
-// What the lines so far are.
+// What the lines so far amount to.
 #[derive(Drop)]
 pub(crate) enum State {
     // No line yet.
     Start,
-    // A range line and a legal history, which left this.
+    // A range line and a legal history, with what that history left.
     Sound(Standing),
-    // A journal that has this fault, whatever follows.
+    // A journal with this fault, whatever follows.
     Wrong(Verdict),
 }
 
@@ -31,7 +31,7 @@ fn first_line(alloc: Global, line: &[u8]) -> Result<State, AllocError>
     }
 }
 
-// Takes the entry of a later line, or says what is wrong with the line of this number.
+// Takes the entry of a later line, or returns what is wrong with the line of this number.
 fn later_line(standing: &mut Standing, line: &[u8], number: u64) -> Option<Verdict>
     ensures { (lines : List (List ℕ)) (whole : List ℕ) → SameFront line.now whole → number ≡ length lines + 1
         → Judged (State.Sound standing.old) lines
@@ -52,7 +52,8 @@ fn later_line(standing: &mut Standing, line: &[u8], number: u64) -> Option<Verdi
 }
 
 impl State {
-    // The state after one line more, of this number, whose first 35 bytes are those of `line`.
+    // Moves to the state after one more line. `number` is that line's number, and `line` begins with its first 35
+    // bytes, or with all of it if it is shorter.
     pub(crate) fn step(&mut self, alloc: Global, line: &[u8], number: u64) -> Result<(), AllocError>
         ensures { IfOk result (λ _. (lines : List (List ℕ)) (whole : List ℕ) → SameFront line.now whole
             → number ≡ length lines + 1 → Judged self.old lines

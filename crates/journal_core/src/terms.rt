@@ -5,10 +5,10 @@ ghost use Rattle.journal_core.specs.Text.{terms_text};
 use crate::range::Range;
 use std::fmt;
 
-/// The greatest number of seats.
+/// The maximum number of seats.
 pub const MAX_SEATS: u32 = 64;
 
-/// A range, and a number of seats. A ledger is opened with 1 to 64 of them, numbered from 0.
+/// A range and a number of seats. A ledger is opened with 1 to 64 seats, numbered from 0.
 #[derive(Clone, Copy, PartialEq, Eq, Debug)]
 pub struct Terms {
     pub range: Range,

@@ -5,18 +5,18 @@ ghost use Rattle.journal_core.specs.Verdict.{verdict_text};
 use crate::entry::Tally;
 use std::fmt;
 
-/// What an audit says of a journal's bytes. Lines are counted from 1.
+/// The result of auditing a journal's bytes. Lines are counted from 1.
 #[derive(Clone, Copy, PartialEq, Eq, Debug)]
 pub enum Verdict {
     /// A legal journal, with the counts of its entries.
     Legal(Tally),
-    /// This line is the first that is no line of a journal.
+    /// This line is the first that is not a line of a journal.
     Malformed(u64),
-    /// This line is the first whose entry may not follow those before it.
+    /// This line is the first whose entry may not follow the entries before it.
     Illegal(u64),
 }
 
-/// The line that `sealer audit` prints, without its line feed. Open numbers are those granted and not settled.
+/// The line that `sealer audit` prints, without its line feed. Open numbers are granted and not settled.
 impl fmt::Display for Verdict {
     ghost output = { λ v. Some (verdict_text v) };
 

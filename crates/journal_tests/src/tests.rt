@@ -1,7 +1,6 @@
-//! Runs of the plain ledger: values by hand, from the rules in docs/FORMATS.md.
+//! Runs of the plain ledger. The expected values were derived by hand from the rules in docs/FORMATS.md.
 //!
-//! What a test calls and compares stands in small functions over borrowed values, which tell whether all was as it is
-//! to be.
+//! Functions over borrowed values hold what a test calls and compares. They return whether all was as expected.
 
 use io_core::{FromRead, ToWrite};
 use io_memory::{FromMemory, Schedule, ToMemory};
@@ -19,10 +18,10 @@ static JOURNAL: &str = "range 1 7 2 2\n0 issue 7\n1 issue 8\n0 issue none\n1 sea
 // The line that its audit writes.
 static LINE: &[u8] = b"legal: 2 granted, 1 sealed, 1 void, 0 open, 1 refused\n";
 
-// A refused allocation is the one that the run was asked for, so the same call finds memory at once. A call that is
-// refused memory must leave the counts as they were.
+// The only refused allocation is the one that the test run injects, so the second call succeeds. A call that is refused
+// memory must leave the counts unchanged.
 
-// Two seats that share the numbers 7 and 8 of device 1.
+// A book whose two seats share the numbers 7 and 8 of device 1.
 fn new_book(alloc: Global) -> Option<Book> {
     let range = Range::new(Device::new(1)?, 7, 2).ok()?;
     match Book::new(alloc, range, 2) {
@@ -31,7 +30,7 @@ fn new_book(alloc: Global) -> Option<Book> {
     }
 }
 
-// Whether the seat's call is answered so.
+// Whether the seat's call returns `answer`.
 fn issues(book: &mut Book, seat: u32, answer: Result<u32, BookFault>) -> bool {
     let before = book.tally();
     let issued = book.issue(seat);
@@ -82,7 +81,7 @@ fn a_prefix_is_device_and_number_in_big_endian_bytes(rt: HostRuntime) {
     assert!(rt; Device::new(16_777_216).is_none());
 }
 
-// Firsts and sizes, and whether they make a range.
+// First numbers and sizes, and whether they make a range.
 static RANGES: [(u32, u32, bool); 8] = [
     (0, 0, false),
     (0, 1, true),
@@ -109,7 +108,7 @@ fn ranges_end_at_the_last_number(rt: HostRuntime) {
     assert!(rt; is_told(range));
 }
 
-// Whether seat 0 issues 7, seat 1 issues 8, and then no number is left for seat 0. Calls that name another seat are
+// Whether seat 0 issues 7 and seat 1 issues 8, and then seat 0 has no number left. Calls that name another seat are
 // refused.
 fn issues_7_and_8(book: &mut Book) -> bool {
     issues(book, 2, Err(BookFault::BadSeats))
@@ -159,7 +158,7 @@ fn audit_of(alloc: Global, text: &str, writer: &mut ToMemory) -> Result<Verdict,
     audit(alloc, &mut reader, writer)
 }
 
-// Whether the journal is legal. Where the audit is refused memory, nothing was written.
+// Whether the journal is legal. If the audit is refused memory, it must have written nothing.
 fn audits_as_legal(alloc: Global, text: &str) -> Result<bool, AllocError> {
     let mut writer = new_writer(alloc)?;
     let mut answer = audit_of(alloc, text, &mut writer);
@@ -169,13 +168,13 @@ fn audits_as_legal(alloc: Global, text: &str) -> Result<bool, AllocError> {
     Ok(answer.is_ok() && writer.bytes() == LINE)
 }
 
-// Whether the journal has its text, which is legal.
+// Whether the journal has its text, and that text is legal.
 fn has_legal_text(alloc: Global, book: &Book) -> Result<bool, AllocError> {
     let text = text_of(alloc, book)?;
     Ok(text.as_str() == JOURNAL && audits_as_legal(alloc, text.as_str())?)
 }
 
-// Two seats share a range, and their journal is legal, each call that memory was refused made again
+// Two seats share a range, and their journal is legal. Each call that is refused memory is repeated
 // (tools/refused_tests.py).
 #[test]
 fn a_refused_growth_changes_nothing(rt: HostRuntime) -> Result<(), AllocError> {
@@ -185,7 +184,7 @@ fn a_refused_growth_changes_nothing(rt: HostRuntime) -> Result<(), AllocError> {
     Ok(())
 }
 
-// Whether a book with these seats can be made.
+// Whether a book with this number of seats can be made.
 fn has_book(alloc: Global, range: Range, seats: u32) -> bool {
     Book::new(alloc, range, seats).is_ok()
 }
@@ -201,7 +200,7 @@ fn books_have_1_to_64_seats(rt: HostRuntime) -> Result<(), Fail> {
     Ok(())
 }
 
-// Whether the audit of the journal, by this reader and this writer, is answered so and has written this.
+// Whether the audit of the journal with this reader and writer returns `answer` and writes `written`.
 fn audits_as(
     alloc: Global,
     mut reader: FromMemory,
@@ -233,7 +232,7 @@ fn fails_at_read(alloc: Global, call: u64) -> Result<bool, AllocError> {
     Ok(audits_as(alloc, reader, writer, Err(AuditFault::Read), b""))
 }
 
-// Whether a writer that fails once it has taken these bytes fails the audit, and has taken them.
+// Whether the audit fails with a writer that fails after these bytes, and the writer has taken them.
 fn fails_after(alloc: Global, taken: &[u8]) -> Result<bool, AllocError> {
     let reader = FromMemory::new(JOURNAL.as_bytes(), 100, Schedule::Never);
     let writer = ToMemory::new(alloc, 100, 3, Schedule::Bytes(taken.len() as u64))?;
@@ -294,7 +293,7 @@ fn faults_have_their_numbers_and_texts(rt: HostRuntime) -> Result<(), AllocError
     Ok(())
 }
 
-// A reader of nothing and a writer that takes all, whose first call fails in this way.
+// A reader of nothing, and a writer that takes everything. Its first call fails in this way.
 #[derive(Drop)]
 struct FirstFails(Option<ErrorKind>);
 
@@ -320,7 +319,7 @@ impl Write for FirstFails {
     }
 }
 
-// What the audit answers whose first read, or first write, fails in these ways.
+// What the audit returns if its first read or first write fails in these ways.
 fn answer_of(
     alloc: Global,
     read: Option<ErrorKind>,

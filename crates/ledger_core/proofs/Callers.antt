@@ -1,4 +1,4 @@
--- For the crates above: all seats of a ledger stay all seats of it through its calls.
+-- For the crates above: all seats of a ledger stay all of its seats through its calls.
 use Rattle.std.proofs.Common.{◌≡◌, ◌⊎◌, ℕ, zero, suc, ◌<◌, List, [], ◌∷◌, ◌++◌, length, get_or, set, refl, sym, ap, ◌∙◌, subst, inl, inr, ⊎_elim, arith, length-append}
 use mathlib.Core.Logic.{dite}
 use native.Mathlib.Decide.{ℕ_discrete}
@@ -39,7 +39,7 @@ all_fresh ledger seats is = subst (AreAllSeats ledger) (sym is) record {
       (ap (λ (z : SeatView). z.ledger) same, ap (λ (z : SeatView). z.terms) same, ap (λ (z : SeatView). z.number) same);
 }
 
--- a call by one of them
+-- a call at one of them
 pub all_after : (ledger : LedgerView) (seats : List SeatView) (at : ℕ) (v w : SeatView) → AreAllSeats ledger seats → at < length seats → v ≡ get_or seats at v → IsSameSeat v w → AreAllSeats ledger (set seats at w)
 all_after ledger seats at v w all inside is same = record {
   count = length-set seats at w ∙ all.count;
@@ -51,7 +51,7 @@ all_after ledger seats at v w all inside is same = record {
       (λ other. all.each i x (sym (get-set_else seats at i w other) ∙ there));
 }
 
--- calls by each of them
+-- calls at each of them
 pub all_after_each : (ledger : LedgerView) (old new : List SeatView) → AreAllSeats ledger old → length new ≡ length old
     → ((i : ℕ) (d : SeatView) → i < length old → IsSameSeat (get_or old i d) (get_or new i d)) → AreAllSeats ledger new
 all_after_each ledger old new all count same = record {

@@ -1,6 +1,5 @@
--- The seats' logs, put together, are the history.
--- Each record's entry goes to its place. Of each seat the history has just its own operations, so every entry of the history is written
--- by one record, and there are as many records as entries.
+-- The seats' logs, put together, are the history. Each record's entry goes to its index. The history has exactly each
+-- seat's own operations, so one record writes each entry, and there are as many records as entries.
 use Rattle.std.proofs.Common.{◌≡◌, ◌≢◌, ℕ, zero, suc, ◌+◌, ◌<◌, ◌≤◌, Bool, true, false, cond, nat_eq, List, [], ◌∷◌, ◌++◌, map, length, get_or, set, take, refl, sym, ap, ◌∙◌, subst, arith, eq-eqb, ne_eqb, ⊎_elim, inl, inr, ◌⊎◌}
 use mathlib.Core.Logic.{dite}
 use native.Mathlib.Decide.{ℕ_discrete}
@@ -21,7 +20,7 @@ use Rattle.journal_core.proofs.Histories.{legal_front}
 use Rattle.ledger_core.proofs.Seats.{places_kept}
 use Rattle.ledger_core.proofs.Meetings.{get-set_here, get-set_else, some_at, same_at}
 
--- the entries of seat t, put one by one from place n on
+-- the entries of seat t, written one by one from index n on
 abbrev stamped : ℕ → ℕ → List Entry → List Entry → List Entry
 stamped n t [] es = es
 stamped n t (e ∷ rest) es = stamped (n + 1) t rest (cond (nat_eq e.seat t) (set es n e) es)
@@ -79,7 +78,7 @@ stamped_other n t (x ∷ rest) es zero p e at is other =
 stamped_other n t (x ∷ rest) es (suc j) p e at is other =
     stamped_other (n + 1) t rest (cond (nat_eq x.seat t) (set es n x) es) j p e at (omega arith) other ∙ put_else (nat_eq x.seat t) es n p x (λ m. omega arith)
 
--- seats one after another
+-- one seat after another
 
 get-append : (l m : List SeatView) (i : ℕ) (v : SeatView) → slice_get l i ≡ Some v → slice_get (l ++ m) i ≡ Some v
 get-append [] m i v e = absurd (cc)
@@ -99,7 +98,7 @@ get-snoc (x ∷ xs) v w (suc i) e = get-snoc xs v w i e
 pub placed_none : (entries : List Entry) → ArePlaced [] entries
 placed_none entries history places p e at room has = absurd (let x = has.2 in cc)
 
--- one seat more
+-- one more seat
 placed_more : (seats : List SeatView) (v : SeatView) (records : List Record) (entries : List Entry)
     → map recorded records ≡ v.mine → map place_in records ≡ places_from 0 v.number v.seen → ArePlaced seats entries → ArePlaced (seats ++ v ∷ []) (written records entries)
 placed_more seats v records entries are stand placed history places p e at room has =
@@ -119,7 +118,7 @@ written_length : (records : List Record) (es : List Entry) → length (written r
 written_length [] es = refl
 written_length (r ∷ rs) es = written_length rs (set es r.place r.entry) ∙ length-set es r.place r.entry
 
--- the next of the seats
+-- the next seat
 pub placed_next : (seats : List SeatView) (at : ℕ) (v : SeatView) (z : LedgerId) (k : Terms) (t : ℕ) (closed : Bool) (log : List Record) (held : List Bool) (me : Mine) (entries after : List Entry)
     → IsSeat k t closed log held me → seat_view z k t me.0.seen me.0.mine ≡ get_or seats at v → at < length seats → ArePlaced (take at seats) entries → after ≡ written log entries
     → (length after ≡ length entries) × ArePlaced (take (at + 1) seats) after
@@ -189,7 +188,7 @@ same_lists (x ∷ xs) (y ∷ ys) size h =
     let first : y ≡ x = cc in
     λ i. first i ∷ same_lists xs ys (omega arith) (λ p e at. h (suc p) e at) i
 
--- a seat that has met the others has its operations where the history has them
+-- a seat that has met the others has its operations at the indexes at which the history has them
 placed_seat : (history : List Entry) (v w : SeatView) → HasSeat history v → Sees v w → Rattle.ledger_core.specs.Shared.Knows w → Rattle.journal_core.specs.History.Begins history w.seen → PlacesSeat history w
 placed_seat history v w has sees knows begins =
     let own : calls_of w.number history ≡ w.mine = ap (λ (z : SeatView). calls_of z.number history) sees.1 ∙ has.own ∙ sym (ap (λ (z : SeatView). z.mine) sees.1) in

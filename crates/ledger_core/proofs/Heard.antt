@@ -1,4 +1,5 @@
--- What a seat has heard of stands before whatever it does: none of its numbers comes again, and no count goes back.
+-- What a seat has heard of comes before whatever it does later: none of its numbers is granted again, and no count
+-- decreases.
 use Rattle.std.proofs.Common.{◌≡◌, ◌≢◌, ℕ, ◌+◌, ◌≤◌, Bool, cond, List, [], ◌∷◌, ◌++◌, count_by, refl, ap, ◌∙◌, subst, arith, ne_eqb}
 use Rattle.std.proofs.lemmas.List.Sums.{sum_by-append}
 use Rattle.journal_core.specs.declared.entry.Event.{Event}
@@ -9,14 +10,14 @@ use Rattle.journal_core.specs.History.{Begins, Legal, entry, is_granted, grants,
 use Rattle.ledger_core.specs.Shared.{SeatView, Extends, Knows}
 use Rattle.journal_core.proofs.Histories.{MayReply, reply_of, count_push, induct, legal_front, begins_more}
 
--- what begins a list has no more of anything
+-- a prefix of a list has no more of anything than the list
 pub count_front : (p : Entry → Bool) (front whole : List Entry) → Begins front whole → count_by p front ≤ count_by p whole
 count_front p front whole b =
     let all = ap (count_by p) b.1 in
     let parts = sum_by-append (λ (x : Entry). cond {A = ℕ} (p x) 1 0) front b.0 in
     omega arith
 
--- no number from the next one on was granted yet
+-- no number from the next one on has been granted
 abbrev NotYet : Terms → List Entry → Type 0
 NotYet terms history = (n : ℕ) → terms.range.lo + granted history ≤ n → times_granted n history ≡ 0
 

@@ -1,6 +1,6 @@
--- Each step keeps the rule of the ledger's word.
--- The seat that steps adds its entry to the one history. Of every other view what was true stays true, since the entry stands behind
--- what that view has seen and is of another seat. So the whole of a step's proof is that its entry may follow, and that the word has its counts.
+-- Each step keeps the rule of the ledger's word. The seat that steps adds its entry to the one history. Every other
+-- view stays true, since the entry comes after what that view has seen and is of another seat. So a step's proof shows
+-- only that its entry may follow, and that the word has its counts.
 use Rattle.std.proofs.Common.{◌≡◌, ◌≢◌, ◌⊎◌, ℕ, zero, suc, ◌+◌, ◌-◌, ◌%◌, ◌^◌, ◌<◌, ◌≤◌, Bool, true, false, cond, nat_eq, ltb, List, [], ◌∷◌, ◌++◌, length, get_or, set, refl, sym, ap, ◌∙◌, subst, inl, inr, ⊎_elim, arith, append-nil, eq-eqb, ne_eqb, ltb-true, ltb-false}
 use mathlib.Core.Option.{none, some, some-injective, some-ne-none}
 use lib.ListN.{get_elem?}
@@ -28,7 +28,7 @@ calls_here history e t same = calls_push t history e ∙ ap (λ b. calls_of t hi
 calls_there : (history : List Entry) (e : Entry) (t : ℕ) → e.seat ≢ t → calls_of t (history ++ e ∷ []) ≡ calls_of t history
 calls_there history e t other = calls_push t history e ∙ ap (λ b. calls_of t history ++ cond b (e ∷ []) []) (ne_eqb e.seat t other) ∙ append-nil (calls_of t history)
 
--- another view, which does not stand for the seat of the new entry
+-- another view, which does not cover the seat of the new entry
 fits_on : (k : Terms) (history : List Entry) (e : Entry) (v : View) → ¬ (StandsFor v e.seat) → Fits k history v → Fits k (history ++ e ∷ []) v
 fits_on k history e v not f = record {
   terms = f.terms;
@@ -50,7 +50,7 @@ fits_here k history e v same one f = record {
   idle = λ u above below. absurd (omega arith);
 }
 
--- a view is replaced by one that stands for no other seat
+-- a view is replaced by one that covers no other seat
 apart_set : (views : List View) (id : ℕ) (old new : View) → get_elem? views id ≡ some old → ((u : ℕ) → StandsFor new u → StandsFor old u) → Apart views → Apart (set views id new)
 apart_set views id old new at less apart i j u v w ati atj sv sw =
     let one = was i v ati sv in
@@ -73,7 +73,7 @@ fits_set k history now views id new mine others i x ati =
     (λ (t : (i ≢ id) × (get_elem? views i ≡ some x)). others i x t.0 t.1)
     (at_set views id i new x ati)
 
--- a lawful entry, by the seat that stands for itself alone
+-- a lawful entry, by a seat whose view covers only itself
 grows : (k : Terms) (history : List Entry) (s : Table) (id : ℕ) (c : List (ℕ × Unit {0})) (v : View) (e : Entry) (n : ℕ)
     → HasHistory k history s → get_elem? s.views id ≡ some v → v.width ≡ 1 → e.seat ≡ v.seat → MayFollow k history e → n ≡ packed (history ++ e ∷ [])
     → HasHistory k (history ++ e ∷ []) (stepped s 0 n id c (added v history e) keeps)
@@ -142,7 +142,7 @@ begins k lawful = (
     same zero (suc j) u v w ati atj sv sw = absurd (some-ne-none w (sym atj))
     same (suc i) j u v w ati atj sv sw = absurd (some-ne-none v (sym ati))
 
--- an entry that the history allows, told to the seat
+-- an entry that the history allows, as the seat finds it
 
 adds : (k : Terms) (history : List Entry) (s : Table) (id : ℕ) (c : List (ℕ × Unit {0})) (v : View) (e : Entry) (n : ℕ)
     → HasHistory k history s → get_elem? s.views id ≡ some v → v.width ≡ 1 → e.seat ≡ v.seat → MayFollow k history e → n ≡ packed (history ++ e ∷ [])
@@ -242,7 +242,7 @@ looks k slots id me there s kept _ at _ =
       ((history, finds k history s id v h at there, refl), refl),
     )
 
--- a load after which the seat has seen what it was told
+-- a load after which the seat has seen what it heard
 pub adopts : (k : Terms) (slots id : ℕ) (me : Mine) → 0 < me.0.width → Allows (IsKept k) slots id me 0 (λ n. n) (adopted (step slots 0 0 0 none) me)
 adopts k slots id me there s kept _ at _ =
     let history : List Entry = kept.0 in
@@ -258,7 +258,7 @@ adopts k slots id me there s kept _ at _ =
       ((history, finds k history s id v h at there, refl), refl),
     )
 
--- cuts and joins
+-- splits and joins
 
 -- at the end of a list that is one longer
 snoc_at : (l : List View) (a b : View) (j : ℕ) → get_elem? (l ++ a ∷ []) j ≡ some b → (get_elem? l j ≡ some b) ⊎ ((a ≡ b) × (j ≡ length l))
@@ -297,7 +297,7 @@ divides k history s id v left right h at fl fr less_left less_right = record {
         (λ (t : (i ≢ id) × (get_elem? s.views i ≡ some x)). t.0 (h.apart i id u x v t.1 at sx (less_right u sr).0))
         (at_set s.views id i left x oi)
 
--- each seat in turn is cut from those that are left
+-- each seat in turn is split from those that are left
 pub cuts : (k : Terms) (id : ℕ) (v : View) → 1 < v.width → v.mine ≡ [] → Splits (IsKept k) id v (first_seat v) (other_seats v)
 cuts k id v some_left none_yet s kept at =
     let history : List Entry = kept.0 in
@@ -327,7 +327,7 @@ writes k id v s kept at =
           (λ u stands. absurd (nobody_stands (note_of v) u refl stands)),
     )
 
--- two views become one, and the second is spent
+-- two views are joined, and the second is spent
 merges : (k : Terms) (history : List Entry) (s : Table) (id other : ℕ) (v w both : View) → HasHistory k history s → get_elem? s.views id ≡ some v → ¬ (other ≡ id)
     → get_elem? (set s.views id both) other ≡ some w
     → (Fits k history w → Fits k history both) → ((u : ℕ) → StandsFor both u → StandsFor v u)

@@ -1,6 +1,6 @@
--- A note goes round the seats, and what it shows after the first round is the history of all.
--- No less: each seat showed it what that seat had seen, its own operations with it. No more: each seat has seen it in the second round,
--- and of its own operations a seat has seen just those that it made.
+-- A note goes round the seats. What it shows after the first round is the history of all. It shows no less: each seat
+-- added what it had seen, with its own operations. It shows no more: each seat has seen it in the second round, and has
+-- seen only those of its own operations that it made.
 use Rattle.std.proofs.Common.{◌≡◌, ◌≢◌, ℕ, zero, suc, ◌+◌, ◌<◌, ◌≤◌, ◌⊎◌, inl, inr, ⊎_elim, List, [], ◌∷◌, ◌++◌, length, get_or, set, refl, sym, ap, ◌∙◌, subst, arith, append_assoc, append-nil}
 use mathlib.Core.Logic.{dite}
 use native.Mathlib.Decide.{ℕ_discrete}
@@ -16,7 +16,7 @@ use Rattle.ledger_core.specs.Meeting.{IsPassed, ArePassed}
 use Rattle.journal_core.proofs.Histories.{begins_refl, begins_trans, legal_front, legal_none}
 use Rattle.ledger_core.proofs.Seats.{calls_both, same_between}
 
--- places of a list
+-- indexes of a list
 
 module _ {A : Type 0} where
   pub get-set_here : (l : List A) (i : ℕ) (a : A) → i < length l → slice_get (set l i a) i ≡ Some a
@@ -39,7 +39,7 @@ module _ {A : Type 0} where
   pub same_at : (l : List A) (i : ℕ) (a b : A) → slice_get l i ≡ Some a → slice_get l i ≡ Some b → a ≡ b
   same_at l i a b x y = let both : Some a ≡ Some b = sym x ∙ y in cc
 
--- the note is at seat `at`: those before it are passed, the others as they were
+-- the note is at seat `at`: it has passed the seats before it, and the others are unchanged
 pub record AreOnWay (before after : List Entry) (at : ℕ) (old now : List SeatView) : Type 0 where
   pub count : length now ≡ length old
   pub on : Begins before after
@@ -81,7 +81,7 @@ arrives before after at old now way end = record {
   each = λ i v there. way.passed i v (let inside = slice_get_within old i v there in omega arith) there;
 }
 
--- seats that were passed are of the ledger still
+-- seats that the note passed are still of the ledger
 pub still_ours : (ledger : LedgerId) (before after : List Entry) (old new : List SeatView) → ArePassed before after old new
     → ((i : ℕ) (v : SeatView) → slice_get old i ≡ Some v → v.ledger ≡ ledger) → (i : ℕ) (w : SeatView) → slice_get new i ≡ Some w → w.ledger ≡ ledger
 still_ours ledger before after old new passed ours i w there =
@@ -96,7 +96,7 @@ sees_then u v w a b =
 pub sees_begins : (v w : SeatView) → Sees v w → Begins v.seen w.seen
 sees_begins v w s = (s.0, ap (λ (z : SeatView). z.seen) s.1)
 
--- of two histories that begin a third one begins the other
+-- of two prefixes of one history, one is a prefix of the other
 begins_both : (xs ys zs : List Entry) → Begins xs zs → Begins ys zs → Begins xs ys ⊎ Begins ys xs
 begins_both [] ys zs a b = inl (ys, refl)
 begins_both (x ∷ xs) [] zs a b = inr (x ∷ xs, refl)
@@ -109,7 +109,7 @@ begins_both (x ∷ xs) (y ∷ ys) zs a b =
     (λ (r : Begins ys xs). inr (r.0, λ i. head i ∷ r.1 i))
     (begins_both xs ys (xs ++ a.0) (a.0, refl) (b.0, tail))
 
--- what a beginning has of a seat are that seat's first operations
+-- a seat's entries in a prefix are the seat's first operations
 calls_begin : (t : ℕ) (xs ys mine : List Entry) → Begins xs ys → calls_of t ys ≡ mine → Begins (calls_of t xs) mine
 calls_begin t xs ys mine b own = (calls_of t b.0, sym own ∙ ap (calls_of t) b.1 ∙ calls_both t xs b.0)
 
@@ -121,16 +121,18 @@ agree history v w a b = record {
   of_one = calls_begin v.number w.seen history v.mine b.seen a.own;
 }
 
--- what a seat sees later has of it the same operations
+-- what a seat sees later has the same operations of that seat
 own_later : (v w : SeatView) → Sees v w → Knows w → calls_of v.number w.seen ≡ v.mine
 own_later v w s knows = subst (λ (z : SeatView). calls_of z.number w.seen ≡ z.mine) (s.1 ∙ ap (λ l. record v { seen = l }) (sym (ap (λ (z : SeatView). z.seen) s.1))) knows.own
 
--- two seats agree where the first then sees xs, with what the second had seen, and the second ys, which begins with xs
+-- two seats agree if the first then sees xs, which includes what the second had seen, and the second sees ys, which
+-- extends xs
 pub agree_before : (v w : SeatView) (xs ys : List Entry) → Begins v.seen xs → Begins w.seen xs → Begins xs ys → calls_of v.number xs ≡ v.mine → calls_of w.number w.seen ≡ w.mine → calls_of w.number ys ≡ w.mine → Agree v w
 agree_before v w xs ys a b further own other_own later =
     agree xs v w record { seen = a; own = own } record { seen = b; own = same_between w.number w.mine w.seen xs ys b further other_own later }
 
--- the same, by what the steps of a meeting tell: the note `one` is of the second seat w, the note `two` of the first as it then is, x
+-- the same, from the contracts of the steps of a meeting: the note `one` is of the second seat w, the note `two` of the
+-- first as it then is, x
 pub agree_met : (v w w' x y : SeatView) (one two : List Entry) → Sees v x → Knows x → one ≡ w.seen → Begins one x.seen → w' ≡ w → two ≡ x.seen → Begins two y.seen → Sees w' y → Knows w' → Knows y → Agree v w
 agree_met v w w' x y one two sees knows shown told same shown' told' sees' known' knows' =
     let second = subst (λ (z : SeatView). Sees z y) same sees' in
@@ -138,12 +140,12 @@ agree_met v w w' x y one two sees knows shown told same shown' told' sees' known
     agree_before v w x.seen y.seen (sees_begins v x sees) (subst (λ l. Begins l x.seen) shown told) (subst (λ l. Begins l y.seen) shown' told')
     (own_later v x sees knows) known.own (own_later w y second knows')
 
--- and afterwards, where both have seen the same
+-- and afterwards, if both have seen the same
 pub agree_after : (x y : SeatView) → Knows x → Knows y → y.seen ≡ x.seen → Agree x y
 agree_after x y one other same =
     agree x.seen x y record { seen = begins_refl x.seen; own = one.own } record { seen = ([], sym same ∙ sym (append-nil y.seen)); own = ap (calls_of y.number) (sym same) ∙ other.own }
 
--- twice round
+-- after two rounds
 pub have_met : (from history to : List Entry) (old mid new : List SeatView) → ArePassed from history old mid → ArePassed history to mid new → HaveMet old new history
 have_met from history to old mid new first second = record {
   count = second.count ∙ first.count;
@@ -163,7 +165,7 @@ have_met from history to old mid new first second = record {
       (q.0, q.1, sees_then v p.0 q.0 p.2.sees q.2.sees, q.2.knows, q.2.from);
 }
 
--- a seat that is as it was
+-- a seat that is unchanged
 pub unchanged : (seats : List SeatView) (at : ℕ) (d v : SeatView) → v ≡ get_or seats at d → set seats at v ≡ seats
 unchanged seats at d v is = ap (set seats at) is ∙ set-get_or seats at d
 

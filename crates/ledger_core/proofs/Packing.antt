@@ -1,4 +1,5 @@
--- The word of a history: its three counts never carry into one another, and it tells the place and the reply of the next entry.
+-- The word of a history: its three counts never carry into one another, and it determines the index and the reply of
+-- the next entry.
 use Rattle.std.proofs.Common.{◌≡◌, ℕ, ◌+◌, ◌/◌, ◌%◌, ◌<◌, min, Bool, true, false, cond, ltb, List, [], ◌∷◌, ◌++◌, length, refl, sym, ap, ◌∙◌, arith, ltb-true, ltb-false, le-ltb}
 use Rattle.std.proofs.lemmas.List.Sums.{sum_by-cons}
 use Rattle.journal_core.specs.declared.entry.Way.TheVariants.{Sealed, Void}
@@ -27,7 +28,8 @@ packed_push history t Exhausted = let e = entry t Exhausted in omega (arith, cou
 packed_push history t (Settled n Sealed) = let e = entry t (Settled n Sealed) in omega (arith, count_push is_granted history e, count_push is_exhausted history e, count_push is_sealed history e, count_push is_void history e)
 packed_push history t (Settled n Void) = let e = entry t (Settled n Void) in omega (arith, count_push is_granted history e, count_push is_exhausted history e, count_push is_sealed history e, count_push is_void history e)
 
--- the word tells the counts: issues are at most 65,535 and 64, sealed and void together at most the size of the range, so none of the three carries
+-- the word determines the counts: issues are at most 65,535 and 64, sealed and void together at most the size of the
+-- range, so none carries
 pub record Counts (history : List Entry) (n : ℕ) : Type 0 where
   pub issues : n % 1048576 ≡ granted history + refused history
   pub sealed : (n / 1048576) % 1048576 ≡ sealed history
@@ -66,11 +68,11 @@ counted (e ∷ es) =
     let f = four e.seat e.event in
     omega (arith, sum_by-cons (λ y. cond (is_granted y) 1 0) e es, sum_by-cons (λ y. cond (is_exhausted y) 1 0) e es, sum_by-cons (λ y. cond (is_sealed y) 1 0) e es, sum_by-cons (λ y. cond (is_void y) 1 0) e es)
 
--- the three counts add up to the place of the next entry
+-- the three counts add up to the index of the next entry
 pub place_is : (terms : Terms) (history : List Entry) (n : ℕ) → IsLawful terms → Legal terms history → n ≡ packed history → place_of_word n ≡ length history
 place_is terms history n lawful legal is = let c = counts terms history n lawful legal is in let l = counted history in let a = c.issues in let b = c.sealed in let d = c.voided in omega arith
 
--- the low count tells the reply, though it counts refusals too
+-- the low count determines the reply, though it counts refusals too
 pub reply_is : (terms : Terms) (history : List Entry) (n : ℕ) → IsLawful terms → Legal terms history → n ≡ packed history → issue_reply terms (n % 1048576) ≡ issue_reply terms (granted history)
 reply_is terms history n lawful legal is = ap (issue_reply terms) (counts terms history n lawful legal is).issues ∙ go (ltb (granted history) terms.range.size) refl
   where
@@ -80,7 +82,7 @@ reply_is terms history n lawful legal is = ap (issue_reply terms) (counts terms 
         let above = ltb-false (granted history) terms.range.size e in
         ap (λ b. cond b (Granted (terms.range.lo + (granted history + refused history))) Exhausted) (le-ltb (granted history + refused history) terms.range.size (omega arith)) ∙ sym (ap (λ b. cond b (Granted (terms.range.lo + granted history)) Exhausted) e)
 
--- the counts that the word tells
+-- the counts in the word
 pub tally_is : (terms : Terms) (history : List Entry) (n : ℕ) (t : Tally) → IsLawful terms → Legal terms history → n ≡ packed history
     → t.granted + t.refused ≡ n % 1048576 → t.granted ≡ min (n % 1048576) terms.range.size → (t.sealed ≡ (n / 1048576) % 1048576) × (t.void ≡ n / 1099511627776)
     → t ≡ tally_of history

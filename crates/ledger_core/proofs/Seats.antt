@@ -1,4 +1,4 @@
--- What a step leaves in a seat's fields.
+-- What a step does to a seat's fields.
 use Rattle.std.proofs.Common.{Option, Some, None, IfSome, ◌≡◌, ◌≢◌, ℕ, zero, suc, ◌+◌, ◌-◌, ◌%◌, ◌<◌, ◌≤◌, not, ◌&&◌, ◌||◌, count_by, Bool, true, false, cond, nat_eq, ltb, List, [], ◌∷◌, ◌++◌, map, length, get_or, set, replicate, refl, sym, ap, ◌∙◌, subst, arith, length-append, append-nil, eq-eqb, ne_eqb, ltb-true, ltb-false, lt-ltb, add-zero, add-one}
 use mathlib.Core.Logic.{dite}
 use mathlib.Core.List.{map-append}
@@ -22,7 +22,7 @@ use Rattle.journal_core.proofs.Bounds.{within, few_refusals}
 use Rattle.journal_core.proofs.Owners.{in_range, few_settled, owned, count_calls_le, count_same, count_more}
 use Rattle.ledger_core.proofs.Packing.{counts, counted, place_is, reply_is}
 
--- places
+-- indexes
 
 pub places_more : (n t : ℕ) (xs ys : List Entry) → places_from n t (xs ++ ys) ≡ places_from n t xs ++ places_from (n + length xs) t ys
 places_more n t [] ys = ap (λ m. places_from m t ys) (sym (add-zero n))
@@ -49,7 +49,7 @@ same_front xs (y ∷ ys) e = let l = ap length e ∙ Rattle.std.proofs.Common.le
 pub calls_both : (t : ℕ) (xs ys : List Entry) → calls_of t (xs ++ ys) ≡ calls_of t xs ++ calls_of t ys
 calls_both t xs ys = Rattle.std.proofs.lemmas.List.Elements.filter-append (λ e. nat_eq e.seat t) xs ys
 
--- where a seat made no operation between, its places are the same
+-- if a seat made no operation in between, its indexes are the same
 pub places_kept : (t : ℕ) (xs ys : List Entry) → Begins xs ys → calls_of t xs ≡ calls_of t ys → places_from 0 t ys ≡ places_from 0 t xs
 places_kept t xs ys b same =
     let none = same_front (calls_of t xs) (calls_of t b.0) (same ∙ ap (calls_of t) b.1 ∙ calls_both t xs b.0) in
@@ -104,7 +104,7 @@ held_after_grant terms held n t mine all unsettled above are k within = dite (�
 held_after_end : (terms : Terms) (held : List Bool) (t : ℕ) (mine : List Entry) → HeldAre terms held mine → HeldAre terms held (mine ++ entry t Exhausted ∷ [])
 held_after_end terms held t mine are k within = are k within ∙ sym (held_same (terms.range.lo + k) mine (entry t Exhausted) refl refl)
 
--- the number is held no more
+-- the number is no longer held
 held_after_settle : (terms : Terms) (held : List Bool) (n t : ℕ) (way : Way) (mine : List Entry) → length held ≡ terms.range.size → terms.range.lo ≤ n
     → HeldAre terms held mine → HeldAre terms (set held (n - terms.range.lo) false) (mine ++ entry t (Settled n way) ∷ [])
 held_after_settle terms held n t way mine all above are k within = dite (ℕ_discrete k (n - terms.range.lo))
@@ -130,7 +130,7 @@ holds_now k t history mine held legal own all are Exhausted may = (refl, held_af
 holds_now k t history mine held legal own all are (Settled m way) may =
     (length-set held (m - k.range.lo) false, held_after_settle k held m t way mine all (in_range k history legal t m may.0).0 are)
 
--- a number that is held is one of the range
+-- a number that is held is in the range
 pub held_inside : (k : Terms) (t n : ℕ) (closed : Bool) (log : List Record) (held : List Bool) (me : Mine) → IsSeat k t closed log held me → IsHeld n me.0.mine
     → (k.range.lo ≤ n) × (n < k.range.lo + k.range.size)
 held_inside k t n closed log held me s h =
@@ -138,7 +138,7 @@ held_inside k t n closed log held me s h =
     let w = (within k me.0.seen s.legal).0 in
     (r.0, (let a = r.1 in omega arith))
 
--- the marks tell what is held
+-- the marks say what is held
 pub marked_iff : (k : Terms) (t n : ℕ) (closed : Bool) (log : List Record) (held : List Bool) (me : Mine) → IsSeat k t closed log held me → (IsMarked k held n → IsHeld n me.0.mine) × (IsHeld n me.0.mine → IsMarked k held n)
 marked_iff k t n closed log held me s = (
   (λ m.
@@ -204,7 +204,7 @@ seat_looks k t closed log held me w n history s f is slots =
       held_is = λ j inside. s.held_is j inside ∙ sym (ap (λ (z : View). is_held (k.range.lo + j) z.mine) is);
     }
 
--- between two histories that have the same of a seat there is no other
+-- if two histories have the same operations of a seat, so has any history between them
 pub same_between : (t : ℕ) (mine xs ys zs : List Entry) → Begins xs ys → Begins ys zs → calls_of t xs ≡ mine → calls_of t zs ≡ mine → calls_of t ys ≡ mine
 same_between t mine xs ys zs a b first last =
     let left : calls_of t ys ≡ mine ++ calls_of t a.0 = ap (calls_of t) a.1 ∙ calls_both t xs a.0 ∙ ap (λ l. l ++ calls_of t a.0) first in
@@ -216,7 +216,7 @@ same_between t mine xs ys zs a b first last =
     empty [] e = refl
     empty (x ∷ xs) e = absurd (omega arith)
 
--- and after a load by which it adopts what it was told
+-- and after a load through which it adopts what it heard
 pub seat_adopts : (k : Terms) (t : ℕ) (closed : Bool) (log : List Record) (held : List Bool) (me w : Mine) (n : ℕ) (history : List Entry)
     → IsSeat k t closed log held me → Finds me.0 n history → Begins me.0.seen me.0.told → w.0 ≡ record me.0 { seen = me.0.told } → w.1 ≡ me.1 → IsSeat k t closed log held w
 seat_adopts k t closed log held me w n history s f further is slots =
@@ -240,7 +240,7 @@ seat_adopts k t closed log held me w n history s f further is slots =
       held_is = λ j inside. s.held_is j inside ∙ sym (ap (λ (z : View). is_held (k.range.lo + j) z.mine) is);
     }
 
--- an operation of the seat, which the word told
+-- an operation of the seat, through the word that it found
 
 or_more : (a b : Bool) (n m : ℕ) → b ≡ ltb 0 n → m ≡ n + cond {A = ℕ} a 1 0 → (a || b) ≡ ltb 0 m
 or_more true b n m e more = sym (lt-ltb 0 m (omega arith))
@@ -258,7 +258,7 @@ seat_steps k t closed log held me w n history event place s adds slots at =
     seat_grows k t closed (is_exhausted e || closed) log held (held_after k.range.lo held event) me w n history e place s adds slots refl at
     (or_more (is_exhausted e) closed (refused me.0.mine) (refused (me.0.mine ++ e ∷ [])) s.closed_is (count_push is_exhausted me.0.mine e)) now_held.0 now_held.1
 
--- the word tells the reply
+-- the word determines the reply
 told_reply : (v : View) (k : Terms) (t n : ℕ) (event : Event) (w : View) → v.terms ≡ k → v.seat ≡ t → IsLawful k → (a : Issues v n w) → event ≡ issue_reply k (n % 1048576) → Adds v n a.0 (entry t event) w
 told_reply v k t n event w terms seat lawful a is =
     let history : List Entry = a.0 in
@@ -310,7 +310,7 @@ reply_room k n used room event is enough = subst (HasRoom used room) (sym is) (g
     go true = enough
     go false = omega arith
 
--- ---- the marks that are set, and the room that is owed to them
+-- ---- the marks that are set, and the room owed to them
 
 owed_set : (held : List Bool) (i : ℕ) (mark : Bool) → i < length held → count_by (λ m. m) (set held i mark) + cond {A = ℕ} (get_or held i false) 1 0 ≡ count_by (λ m. m) held + cond mark 1 0
 owed_set held i mark inside = sum_by-set (λ (m : Bool). cond {A = ℕ} m 1 0) held i mark false inside
@@ -321,7 +321,7 @@ owed_more held i inside clear = let s = owed_set held i true inside in let c = a
 pub owed_less : (held : List Bool) (i : ℕ) → i < length held → get_or held i false ≡ true → count_by (λ m. m) (set held i false) + 1 ≡ count_by (λ m. m) held
 owed_less held i inside marked = let s = owed_set held i false inside in let c = ap (λ b. cond {A = ℕ} b 1 0) marked in omega arith
 
--- one record more can be kept
+-- there is room for one more record
 pub may_keep : (lo used owed room : ℕ) (held : List Bool) (event : Event) → owed ≡ count_by (λ m. m) held → used + owed ≤ room
     → HasRoom (used + owed) room event → HasMark lo held event → used < room
 may_keep lo used owed room held (Granted n) is within enough mark = omega arith

@@ -1,4 +1,4 @@
--- The end of a ledger: all of its seats, what they have when they have met, and the whole history.
+-- The end of a ledger: all of its seats, what they have after they met, and the whole history.
 use Rattle.std.specs.Prelude.{◌≡◌, ℕ, List, length, slice_get, Some}
 use Rattle.journal_core.specs.declared.entry.Entry.{Entry}
 use Rattle.journal_core.specs.declared.terms.Terms.{Terms}
@@ -11,7 +11,7 @@ pub record AreAllSeats (ledger : LedgerView) (seats : List SeatView) : Type 0 wh
   pub each : (i : ℕ) (seat : SeatView) → slice_get seats i ≡ Some seat
       → (seat.ledger ≡ ledger.ledger) × (seat.terms ≡ ledger.terms) × (seat.number ≡ i)
 
--- the history begins with what the seat has seen, and what it has of the seat are the seat's own operations, in order
+-- what the seat has seen is a prefix of the history, whose entries of the seat are the seat's own operations, in order
 pub record HasSeat (history : List Entry) (seat : SeatView) : Type 0 where
   pub seen : Begins seat.seen history
   pub own : calls_of seat.number history ≡ seat.mine
@@ -21,7 +21,7 @@ pub record IsWhole (terms : Terms) (seats : List SeatView) (history : List Entry
   pub legal : Legal terms history
   pub each : (i : ℕ) (seat : SeatView) → slice_get seats i ≡ Some seat → HasSeat history seat
 
--- seats that have met: one history begins with what each seat had seen, and has of each its own operations; and each
+-- seats that have met: what each seat had seen is a prefix of one history, which has of each its own operations. Each
 -- seat has now seen all of it
 pub record HaveMet (old new : List SeatView) (history : List Entry) : Type 0 where
   pub count : length new ≡ length old

@@ -1,10 +1,10 @@
--- Inside: how seats meet, by a note that goes from one to the next.
+-- Internal: how seats meet, through a note that goes from one to the next.
 use Rattle.std.specs.Prelude.{◌≡◌, ℕ, List, length, slice_get, Some}
 use Rattle.journal_core.specs.declared.entry.Entry.{Entry}
 use Rattle.journal_core.specs.History.{Begins}
 use Rattle.ledger_core.specs.Shared.{SeatView, Knows, Sees}
 
--- a seat on the way of a note, which showed `before` as it came and shows `after` as it goes on
+-- a seat that the note passed: the note showed `before` when it came, and shows `after` when it goes on
 pub record IsPassed (before after : List Entry) (old new : SeatView) : Type 0 where
   pub sees : Sees old new
   pub from : Begins before new.seen

@@ -1,5 +1,4 @@
--- The shared ledger as its callers see it: of each seat its ledger, range, number, what it has seen, and its own
--- operations.
+-- The shared ledger as its callers see it: each seat's ledger, range, number, what it has seen, and its own operations.
 use Rattle.std.specs.Prelude.{◌≡◌, ◌⊎◌, ℕ, zero, suc, ◌<◌, List, [], ◌∷◌, ◌++◌}
 use Rattle.atomic_table.specs.Seated.{TableId}
 use Rattle.journal_core.specs.declared.entry.Way.{Way}
@@ -17,8 +16,8 @@ use Rattle.journal_core.specs.declared.terms.Terms.{Terms}
 use Rattle.journal_core.specs.History.{IsLawful, Legal, entry, calls_of, refused, times_granted, times_settled}
 use Rattle.journal_core.specs.History.{Begins}
 
--- which ledger it is. Clauses only compare it: a seat goes with the ledger that has its id. No clause says that two
--- ledgers differ in it.
+-- which ledger it is. Clauses only compare it: a seat belongs to the ledger that has its id. No clause says that two
+-- ledgers have different ids.
 abbrev pub LedgerId : Type 0
 LedgerId = TableId
 
@@ -54,28 +53,28 @@ pub record SpentView : Type 0 where
   pub number : ℕ
   pub way : Way
 
--- the grant's number, ended this way
+-- the grant's number, which ended this way
 abbrev pub spent_as : GrantView → Way → SpentView
 spent_as grant way = record { device = grant.device; number = grant.number; way = way }
 
--- the seat of a new ledger: it has seen nothing and done nothing
+-- a seat of a new ledger: it has seen nothing and done nothing
 abbrev pub fresh_seat : LedgerId → Terms → ℕ → SeatView
 fresh_seat ledger terms number = seat_view ledger terms number [] []
 
--- the first seats of a new ledger, in the order of their numbers
+-- the first n seats of a new ledger, in the order of their numbers
 abbrev pub fresh_seats : LedgerId → Terms → ℕ → List SeatView
 fresh_seats ledger terms zero = []
 fresh_seats ledger terms (suc n) = fresh_seats ledger terms n ++ fresh_seat ledger terms n ∷ []
 
--- what holds of every seat: what it has seen is legal, and its own operations are what that has of it
+-- what holds of every seat: what it has seen is legal, and contains exactly its own operations as this seat's entries
 pub record Knows (seat : SeatView) : Type 0 where
   pub lawful : IsLawful seat.terms
   pub inside : seat.number < seat.terms.seats
   pub legal : Legal seat.terms seat.seen
   pub own : calls_of seat.number seat.seen ≡ seat.mine
 
--- one operation: what the seat has seen goes on from before and ends with the new entry, which its own operations get
--- at their end
+-- one operation: what the seat has seen is extended and ends with the new entry, which is also appended to its own
+-- operations
 abbrev pub Extends : SeatView → Event → SeatView → Type 0
 Extends old event new =
     (between : List Entry)
@@ -84,34 +83,34 @@ Extends old event new =
       mine = old.mine ++ entry old.number event ∷ [];
     })
 
--- a look: what the seat has seen goes on from before, and its own operations stay
+-- a look: what the seat has seen is extended, and its own operations stay the same
 abbrev pub Sees : SeatView → SeatView → Type 0
 Sees old new = (between : List Entry) × (new ≡ record old { seen = old.seen ++ between })
 
--- any two seats of a ledger: of what they have seen one begins the other, and what the one has seen of the other are
--- the other's own operations, from the first on
+-- any two seats of a ledger: what one has seen is a prefix of what the other has, and what one has seen of the other is
+-- a prefix of the other's own operations
 pub record Agree (one other : SeatView) : Type 0 where
   pub history : Begins one.seen other.seen ⊎ Begins other.seen one.seen
   pub of_other : Begins (calls_of other.number one.seen) other.mine
   pub of_one : Begins (calls_of one.number other.seen) one.mine
 
--- the seat has met the end of the range
+-- an issue at the seat found no number left
 abbrev pub IsClosedSeat : SeatView → Type 0
 IsClosedSeat seat = 0 < refused seat.mine
 
--- the number is of the seat's device, and among the seat's own operations it was granted and not settled
+-- the number is of the seat's device, and the seat's own operations granted it and did not settle it
 abbrev pub Holds : SeatView → SpentView → Type 0
 Holds seat spent =
     (spent.device ≡ seat.terms.range.device)
     × (0 < times_granted spent.number seat.mine) × (times_settled spent.number seat.mine ≡ 0)
 
--- why an issue gave no number
+-- why an issue granted no number
 abbrev pub Unissued : IssueFault → SeatView → SeatView → Type 0
 Unissued SeatClosed old new = IsClosedSeat old × (new ≡ old)
 Unissued NotIssued old new = ¬ (IsClosedSeat old) × (new ≡ old)
 Unissued NoNumber old new = ¬ (IsClosedSeat old) × Extends old Exhausted new
 
--- why a number was not settled: the seat doesn't hold it. Memory is never refused.
+-- why a number was not settled: the seat doesn't hold it. Running out of memory is not possible.
 abbrev pub Unsettled : SettleFault → SeatView → SpentView → Type 0
 Unsettled NotOpen seat spent = ¬ (Holds seat spent)
 Unsettled NotSettled seat spent = ⊥

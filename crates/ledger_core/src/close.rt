@@ -1,4 +1,4 @@
-//! The end of a shared ledger: the seats meet, and each record of a seat's log goes to its place in the one history.
+//! The end of a shared ledger: the seats meet, and each log record goes to its index in the one history.
 ghost use Rattle.std.specs.Prelude.{◌≡◌, ◌≤◌, IfOk, length};
 ghost use Rattle.ledger_core.specs.Closing.{AreAllSeats, IsWhole};
 ghost use Rattle.ledger_core.specs.Placing.{ArePlaced, operations_in, written};
@@ -10,8 +10,8 @@ use crate::table::Record;
 use journal_core::{Entry, Event};
 use std::alloc::{AllocError, Global};
 
-// Writes each record's entry at its place. Of the seats of one ledger each place is below the number of entries: that
-// shows only once all logs are written, so this function tests it.
+// Writes each record's entry at its index. The indexes of one ledger's seats are in bounds, but that is provable only
+// once all logs are written. So this function checks it.
 fn fill(entries: &mut Vec<Entry>, log: &[Record])
     ensures { entries.new.items ≡ written log.now entries.old.items }
 {
@@ -23,7 +23,7 @@ fn fill(entries: &mut Vec<Entry>, log: &[Record])
     }
 }
 
-// Writes the records of all seats at their places.
+// Writes the records of all seats at their indexes.
 fn fill_all(entries: &mut Vec<Entry>, seats: &[Seat])
     ensures length { length entries.new.items ≡ length entries.old.items }
     ensures placed { ArePlaced seats.now entries.new.items }
@@ -33,7 +33,7 @@ fn fill_all(entries: &mut Vec<Entry>, seats: &[Seat])
     }
 }
 
-/// Puts the history of all seats into room for as many entries.
+/// Writes the history of all seats into `entries`, which has room for exactly that many.
 pub fn put_together(ledger: &Ledger, entries: &mut Vec<Entry>, seats: &mut [Seat])
     requires all { AreAllSeats ledger.now seats.old }
     requires room { length entries.old.items ≡ operations_in seats.old }
@@ -44,7 +44,7 @@ pub fn put_together(ledger: &Ledger, entries: &mut Vec<Entry>, seats: &mut [Seat
     fill_all(entries, seats);
 }
 
-/// Room for so many entries.
+/// Returns a vector of `count` placeholder entries.
 pub fn room(alloc: Global, count: usize) -> Result<Vec<Entry>, AllocError>
     ensures { IfOk result (λ entries. length entries.items ≡ count) }
 {
@@ -55,7 +55,7 @@ pub fn room(alloc: Global, count: usize) -> Result<Vec<Entry>, AllocError>
     Vec::from_elem(alloc, nothing, count)
 }
 
-/// How many operations all seats have made.
+/// Counts the operations of all seats.
 pub fn operations_of(seats: &[Seat]) -> usize
     requires { length seats.now ≤ 64 }
     ensures { result ≡ operations_in seats.now }

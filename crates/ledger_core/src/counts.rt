@@ -2,13 +2,13 @@
 ghost use Rattle.std.specs.Prelude.{◌≡◌, ◌^◌, ◌<◌};
 ghost use Rattle.ledger_core.specs.Rule.{issues_of, sealed_of, void_of};
 
-/// What an issue adds to the word: 1, in the count from bit 0.
+/// What an issue adds to the word: 1 in the count that starts at bit 0.
 pub const ISSUED: u64 = 1;
 
-/// What a number settled as sealed adds to the word: 1, in the count from bit 20.
+/// What a settlement as sealed adds to the word: 1 in the count that starts at bit 20.
 pub const SEALED: u64 = 1 << 20;
 
-/// What a number settled as void adds to the word: 1, in the count from bit 40.
+/// What a settlement as void adds to the word: 1 in the count that starts at bit 40.
 pub const VOID: u64 = 1 << 40;
 
 /// The three counts of a word.
@@ -20,7 +20,7 @@ pub struct Counts {
     pub void: u32,
 }
 
-/// The counts in this word.
+/// Returns the three counts of a word below 2^60.
 pub fn counts_in(word: u64) -> Counts
     requires { word < 2 ^ 60 }
     ensures issues { result.issues ≡ issues_of word }

@@ -10,7 +10,7 @@ pub enum OpenLedgerFault {
     /// The number of seats is 0 or over 64.
     #[error("bad seats")]
     BadSeats,
-    /// Memory was refused.
+    /// Memory could not be allocated.
     #[error("out of memory")]
     OutOfMemory,
 }
@@ -30,13 +30,13 @@ impl OpenLedgerFault {
 /// Why an issue granted no number.
 #[derive(Clone, Copy, PartialEq, Eq, Debug, Error)]
 pub enum IssueFault {
-    /// No number is left in the range. This is an operation of the ledger, and it closes the seat for issue.
+    /// No number is left in the range. This is recorded as an operation, and closes the seat for issue.
     #[error("no file number")]
     Exhausted,
-    /// The seat has met the end of the range before. Nothing changed.
+    /// The seat got `Exhausted` before. Nothing changed.
     #[error("no file number")]
     SeatClosed,
-    /// Memory was refused. Nothing changed.
+    /// Memory could not be allocated. Nothing changed.
     #[error("out of memory")]
     OutOfMemory,
 }
@@ -60,7 +60,7 @@ pub enum SettleFault {
     /// No number of that device is open at this seat under that number.
     #[error("number not open")]
     NotOpen,
-    /// Memory was refused. This never comes: room for the settlement is taken where the number is granted.
+    /// Memory could not be allocated. Never returned: room for the settlement is reserved when the number is granted.
     #[error("out of memory")]
     OutOfMemory,
 }

@@ -1,7 +1,7 @@
-//! A number that was granted, and a number that was used or given up.
+//! A number that was granted, and one that was used or given up.
 //!
-//! A grant can't be copied, and is spent once. Its prefix can be read any number of times, so that one sealing alone
-//! uses it is the caller's care. A grant or a spent number that is dropped leaves its number granted and open.
+//! A grant can't be copied, and is spent once. Its prefix can be read any number of times, so the caller must use it
+//! for one container only. Dropping a grant or a spent number leaves its number granted and open.
 ghost use Rattle.std.specs.Prelude.{◌≡◌};
 ghost use Rattle.journal_core.specs.declared.entry.Way.TheVariants.{Sealed, Void};
 ghost use Rattle.journal_core.specs.Range.{prefix_of};
@@ -12,7 +12,7 @@ use crate::table::Own;
 use journal_core::{Device, Way, prefix};
 use std::marker::Model;
 
-/// A number that was granted and not used yet.
+/// A number that was granted and is not yet used.
 #[derive(Debug, Drop)]
 pub struct Grant {
     device: Device,
@@ -29,7 +29,7 @@ impl Model for Grant {
 }
 
 impl Grant {
-    // The grant that a seat's last operation gave.
+    // Makes the grant of a seat's last operation.
     pub(crate) fn of(device: Device, number: u32, own: &Own) -> Grant
         requires granted { EndsByGranting number own.now.log.items }
         ensures { result ≡ record { device = device; number = number } }
@@ -41,28 +41,28 @@ impl Grant {
         }
     }
 
-    /// The number.
+    /// Returns the number.
     pub fn number(&self) -> u32
         ensures { result ≡ self.now.number }
     {
         self.number
     }
 
-    /// The device of the range.
+    /// Returns the device of the range.
     pub fn device(&self) -> Device
         ensures { result ≡ self.now.device }
     {
         self.device
     }
 
-    /// The first 7 bytes of the nonces of the file that is sealed under this number.
+    /// Returns the first 7 bytes of the nonces of the file sealed under this number.
     pub fn prefix(&self) -> [u8; 7]
         ensures { result ≡ prefix_of self.now.device self.now.number }
     {
         prefix(self.device, self.number)
     }
 
-    /// A container was sealed under the number.
+    /// Returns the number as used: a container was sealed under it.
     pub fn used(self) -> Spent
         ensures { result ≡ record { device = self.device; number = self.number; way = Sealed } }
     {
@@ -72,7 +72,7 @@ impl Grant {
         }
     }
 
-    /// The number was given up.
+    /// Returns the number as given up.
     pub fn waste(self) -> Spent
         ensures { result ≡ record { device = self.device; number = self.number; way = Void } }
     {
@@ -80,7 +80,7 @@ impl Grant {
     }
 }
 
-/// A number that was used or given up, and is to be settled.
+/// A number that was used or given up, and is yet to be settled.
 #[derive(Debug, Drop)]
 pub struct Spent {
     grant: Grant,
@@ -96,28 +96,28 @@ impl Model for Spent {
 }
 
 impl Spent {
-    /// The number.
+    /// Returns the number.
     pub fn number(&self) -> u32
         ensures { result ≡ self.now.number }
     {
         self.grant.number()
     }
 
-    /// The device of the range.
+    /// Returns the device of the range.
     pub fn device(&self) -> Device
         ensures { result ≡ self.now.device }
     {
         self.grant.device()
     }
 
-    /// How the number ended.
+    /// Returns how the number ended.
     pub fn way(&self) -> Way
         ensures { result ≡ self.now.way }
     {
         self.way
     }
 
-    /// The number is given up after all, as where its container could not be written.
+    /// Gives the number up after all, for example if its container could not be written.
     pub fn spoil(self) -> Spent
         ensures { result ≡ record { device = self.device; number = self.number; way = Void } }
     {

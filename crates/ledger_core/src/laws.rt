@@ -1,4 +1,4 @@
-//! Laws of the ledger's words, and of what a seat has seen. Each function's contract is the law, and it does nothing.
+//! Laws of the ledger's terms, and of what a seat has seen. Each law is the contract of a function that does nothing.
 ghost use Rattle.std.specs.Prelude.{◌≡◌, ◌≤◌, ◌++◌, ◌∷◌, ℕ, List, [], Some, slice_get};
 ghost use Rattle.journal_core.specs.declared.entry.Entry.{Entry};
 ghost use Rattle.journal_core.specs.declared.entry.Event.{Event};
@@ -16,15 +16,15 @@ pub use journal_core::laws::{
     bytes_have_one_verdict, counts_stay_small, grants_of_journal,
 };
 
-/// All prefixes granted in what a seat has seen lie in the range of its ledger, and none is granted twice.
+/// All prefixes granted in what a seat has seen are in the range of its ledger, and none is granted twice.
 pub fn grants_seen(seat: &Seat)
     ensures { GrantsOnce seat.now.terms seat.now.seen }
 {
     let _knows = seat.number();
 }
 
-/// Any two seats of one whole history agree: of what they have seen one begins the other, and what the one has seen
-/// of the other are the other's own operations, from the first on.
+/// Any two seats of one whole history agree. What one has seen is a prefix of what the other has. What one has seen of
+/// the other is a prefix of the other's own operations.
 pub fn seats_agree()
     ensures { (terms : Terms) (seats : List SeatView) (history : List Entry) (i j : ℕ) (one other : SeatView)
         → IsWhole terms seats history → slice_get seats i ≡ Some one → slice_get seats j ≡ Some other
@@ -37,7 +37,7 @@ pub fn seats_that_met_have_one_history()
         → AreAllSeats ledger old → HaveMet old new history → (whole : List Entry) × IsWhole ledger.terms old whole }
 {}
 
-/// The history so far fixes what an issue is answered: one number, or that none is left.
+/// The history so far determines the reply to an issue: one number, or that none is left.
 pub fn one_reply_fits()
     ensures number { (terms : Terms) (before : List Entry) (s t m n : ℕ)
         → MayFollow terms before (entry s (Granted m)) → MayFollow terms before (entry t (Granted n)) → m ≡ n }
@@ -45,20 +45,20 @@ pub fn one_reply_fits()
         → MayFollow terms before (entry s (Granted m)) → MayFollow terms before (entry t Exhausted) → ⊥ }
 {}
 
-/// What a seat has heard of stands before whatever it does from then on.
+/// What a seat has heard of comes before whatever it does later.
 pub fn heard_stands_before()
     ensures { (shown : List Entry) (old new : SeatView) (event : Event) → Begins shown old.seen → Extends old event new
         → (between : List Entry) × (new.seen ≡ (shown ++ between) ++ entry old.number event ∷ []) }
 {}
 
-/// A number that a seat has heard of as granted is not granted to it, whoever granted it and whatever became of that
+/// A number that a seat has heard of as granted is not granted to it, whichever seat got it and whatever became of that
 /// seat.
 pub fn heard_numbers_are_not_granted_again()
     ensures { (shown : List Entry) (old new : SeatView) (number : ℕ) → Begins shown old.seen
         → Extends old (Granted number) new → Knows new → times_granted number shown ≡ 0 }
 {}
 
-/// No count is behind what the seat has heard of.
+/// A tally counts at least what the seat has heard of.
 pub fn a_tally_counts_what_was_heard()
     ensures granted { (shown seen : List Entry) → Begins shown seen → granted shown ≤ granted seen }
     ensures refused { (shown seen : List Entry) → Begins shown seen → refused shown ≤ refused seen }

@@ -1,8 +1,8 @@
-//! The shared ledger: callers in any threads issue and settle numbers of one range, each with a seat of its own.
+//! The shared ledger: callers in any threads issue and settle numbers of one range, each at its own seat.
 //!
-//! An operation is one addition to one atomic word, and a tally is one load. Nobody waits: there is no lock, and no
-//! step is tried again. Whatever the schedule, the operations of all seats are one legal history, each once, and what
-//! each seat has seen is a beginning of it.
+//! An operation is one addition to one atomic word, and a tally is one load. No call waits: there is no lock, and no
+//! step is retried. Under any schedule the operations of all seats are one legal history, each once. What each seat has
+//! seen is a prefix of it.
 ghost use Rattle.std.specs.Prelude.{◌≡◌, ◌<◌, ◌↔◌, ◌⊎◌, ℕ, List, [], Some, IsOk};
 ghost use Rattle.std.specs.Prelude.{IfOk, IfErr, slice_get, replicate, false};
 ghost use Rattle.journal_core.specs.declared.entry.Entry.{Entry};
@@ -27,7 +27,7 @@ use journal_core::{Journal, MAX_SEATS, Range, Tally, Terms};
 use std::alloc::{AllocError, Global};
 use std::marker::Model;
 
-/// A ledger that callers share.
+/// A ledger shared by callers.
 #[derive(Drop)]
 pub struct Ledger {
     pub(crate) opening: Terms,
@@ -48,8 +48,8 @@ impl Model for Ledger {
 }
 
 impl Ledger {
-    /// A ledger over this range with so many seats, numbered from 0. `BadSeats` comes exactly where they are 0 or
-    /// over 64.
+    /// Opens a ledger over this range with `seats` seats, numbered from 0. Returns `BadSeats` exactly if `seats` is 0
+    /// or over 64, and `OutOfMemory` if memory could not be allocated.
     pub fn open(
         alloc: Global,
         range: Range,
@@ -70,10 +70,10 @@ impl Ledger {
         }
     }
 
-    /// Grants the next number of the range to the seat, and takes room for its settlement. It waits for nobody.
+    /// Grants the next number of the range to the seat, and reserves room for its settlement. Never waits.
     ///
-    /// `SeatClosed` and `OutOfMemory` leave everything as it was. `Exhausted` is an operation, and closes the seat
-    /// for issue.
+    /// `SeatClosed` and `OutOfMemory` leave everything unchanged. `Exhausted` is an operation, and closes the seat for
+    /// issue.
     pub fn issue(&self, seat: &mut Seat) -> Result<Grant, IssueFault>
         requires ours { seat.old.ledger ≡ self.now.ledger }
         ensures granted { IfOk result (λ grant. Extends seat.old (Granted grant.number) seat.new) }
@@ -102,8 +102,8 @@ impl Ledger {
         }
     }
 
-    /// Records how a number ended that is open at the seat. It waits for nobody, and takes no memory: a number that is
-    /// open is settled. A refusal changes nothing, and hands back what was to be settled.
+    /// Records how a number that is open at the seat ended. Never waits and allocates no memory, so an open number can
+    /// always be settled. On `NotOpen` nothing changes, and `spent` is handed back.
     pub fn settle(&self, seat: &mut Seat, spent: Spent) -> Result<(), (SettleFault, Spent)>
         requires ours { seat.old.ledger ≡ self.now.ledger }
         ensures settled { IfOk result (λ _. Holds seat.old spent
@@ -121,8 +121,8 @@ impl Ledger {
         Ok(())
     }
 
-    /// Counts the operations of all seats that this seat now knows of: all that it knew of before, and what the word
-    /// tells, which is read anew. It waits for nobody.
+    /// Loads the word and counts the operations of all seats that this seat now knows of: those that it knew before,
+    /// and those that the word adds. Never waits.
     pub fn tally(&self, seat: &mut Seat) -> Tally
         requires ours { seat.old.ledger ≡ self.now.ledger }
         ensures sees { Sees seat.old seat.new }
@@ -133,7 +133,7 @@ impl Ledger {
         tally_of_word(&seat.fields.opening, found)
     }
 
-    /// A note of what the seat has seen so far, for one other seat to hear. It waits for nobody, and takes no memory.
+    /// Makes a note of what the seat has seen so far, for one other seat to hear. Never waits and allocates no memory.
     pub fn note(&self, seat: &mut Seat) -> Note
         requires ours { seat.old.ledger ≡ self.now.ledger }
         ensures ledger { result.ledger ≡ self.now.ledger }
@@ -146,8 +146,8 @@ impl Ledger {
         }
     }
 
-    /// The seat hears what a note shows: all of that stands before whatever the seat does from now on, also where the
-    /// seat that wrote the note is gone. It waits for nobody, and takes no memory.
+    /// Lets the seat hear a note. All that the note shows comes before whatever the seat does later, even if the seat
+    /// that wrote the note no longer exists. Never waits and allocates no memory.
     pub fn hear(&self, seat: &mut Seat, note: Note)
         requires ours { seat.old.ledger ≡ self.now.ledger }
         requires note { note.ledger ≡ self.now.ledger }
@@ -159,9 +159,10 @@ impl Ledger {
         learn(&self.word, seat, token);
     }
 
-    /// Lets the first seat see what either has seen, and then the second what the first has seen. It waits for nobody.
+    /// Lets the first seat see what either has seen, and then the second what the first has seen. Never waits.
     ///
-    /// Two seats of one ledger always agree: of what they have seen one begins the other. Here this shows.
+    /// Two seats of one ledger always agree: what one has seen is a prefix of what the other has. This call proves it
+    /// to the caller.
     pub fn meet(&self, first: &mut Seat, second: &mut Seat)
         requires first { first.old.ledger ≡ self.now.ledger }
         requires second { second.old.ledger ≡ self.now.ledger }
@@ -178,8 +179,8 @@ impl Ledger {
         adopt(&self.word, second, both);
     }
 
-    /// Lets seats meet, twice round in their order: each then sees one history with all that any of them has seen and
-    /// done. It waits for nobody, and takes no memory.
+    /// Lets seats meet, in two rounds in their order. Each then sees one history with all that any of them has seen and
+    /// done. Never waits and allocates no memory.
     pub fn meet_all(&self, seats: &mut [Seat])
         requires ours { (i : ℕ) (seat : SeatView) → slice_get seats.old i ≡ Some seat → seat.ledger ≡ self.now.ledger }
         ensures { (history : List Entry) × HaveMet seats.old seats.new history }
@@ -189,10 +190,12 @@ impl Ledger {
         }
     }
 
-    /// The journal of the whole history. The seats are all that `open` gave, in the order of their numbers.
+    /// Returns the journal of the whole history. The seats must be all those that `open` gave, in the order of their
+    /// numbers.
     ///
-    /// Every seat's history begins the journal, whose entries of each seat are that seat's own operations, in order;
-    /// it has no others. Where memory is refused, everything is handed back unchanged.
+    /// Every seat's history is a prefix of the journal. The journal's entries of a seat are that seat's own operations,
+    /// in order, and it has no others. If memory could not be allocated, the ledger and seats are handed back
+    /// unchanged.
     pub fn close(self, mut seats: Vec<Seat>) -> Result<Journal, (AllocError, Ledger, Vec<Seat>)>
         requires all { AreAllSeats self seats.items }
         ensures terms { IfOk result (λ journal. journal.terms ≡ self.terms) }
@@ -209,7 +212,7 @@ impl Ledger {
     }
 }
 
-// The word of a new ledger, and its seats.
+// Makes the word of a new ledger, and its seats.
 fn deal_out(alloc: Global, opening: &Terms) -> Result<(Ledger, Vec<Seat>), AllocError>
     requires { IsLawful opening.now }
     ensures terms { IfOk result (λ r. r.0.terms ≡ opening.now) }

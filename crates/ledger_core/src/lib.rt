@@ -1,7 +1,7 @@
 //! The ledger of file numbers for many threads: one atomic word, a seat for each caller, one legal history.
 //!
-//! What a history, a journal and its audit are stands in `journal_core`, whose names this crate passes on: who issues
-//! numbers needs this crate alone.
+//! `journal_core` defines histories, journals and their audit. This crate re-exports its names, so a caller that issues
+//! numbers needs only this crate.
 #![tactic(auto)]
 
 mod close;

@@ -1,8 +1,7 @@
-//! Meetings: a seat shows by a note what it has seen, and another learns it.
+//! Meetings: a seat shows in a note what it has seen, and another learns it.
 //!
-//! A note goes twice round the seats in the order of their numbers. What the note shows after the first round has all
-//! that any seat had done, and each seat has seen it in the second, so it has of each seat no more than that seat's
-//! own operations.
+//! A note goes round the seats twice in the order of their numbers. After the first round it shows all that any seat
+//! had done. In the second round each seat has seen it, so it has only each seat's own operations.
 ghost use Rattle.std.specs.Prelude.{◌≡◌, ℕ, List, ◌<◌, [], length, slice_get, Some};
 ghost use Rattle.journal_core.specs.History.{Begins};
 ghost use Rattle.ledger_core.specs.Closing.{HaveMet};
@@ -15,7 +14,7 @@ use crate::steps::{adopt_step, hear_step, write_step};
 use crate::table::{Fields, Token, Word};
 use journal_core::Entry;
 
-// A note of what the seat has seen.
+// Makes a note of what the seat has seen.
 pub fn show(word: &Word, seat: &mut Seat) -> Token
     requires table { (seat.old.ledger ≡ word.now.shared.table_id) × (word.now.shared.table_id.words ≡ 1) }
     ensures same { seat.new ≡ seat.old }
@@ -39,7 +38,7 @@ pub fn learn(word: &Word, seat: &mut Seat, note: Token)
     look_in(word, &mut seat.fields);
 }
 
-// What the seat was told, which goes on from what it has seen, is what it has seen.
+// Makes what the seat heard, which extends what it has seen, what it has seen.
 fn adopt_in(word: &Word, fields: &mut Fields)
     requires table { fields.old.token.table_id ≡ word.now.shared.table_id }
     requires word { word.now.shared.table_id.words ≡ 1 }
@@ -53,7 +52,7 @@ fn adopt_in(word: &Word, fields: &mut Fields)
     adopt_step(word, &mut fields.token);
 }
 
-// The seat sees what a note shows, which goes on from what it has seen.
+// The seat sees what a note shows, which extends what it has seen.
 pub fn adopt(word: &Word, seat: &mut Seat, note: Token)
     requires table { (seat.old.ledger ≡ word.now.shared.table_id) × (word.now.shared.table_id.words ≡ 1) }
     requires note { (note.table_id ≡ word.now.shared.table_id) × (note.me.1 ≡ []) }
@@ -67,7 +66,7 @@ pub fn adopt(word: &Word, seat: &mut Seat, note: Token)
     adopt_in(word, &mut seat.fields);
 }
 
-// The seat sees what the note shows, and writes a note of what it has seen.
+// The seat sees what the note shows, and makes a note of what it has then seen.
 fn pass(word: &Word, seat: &mut Seat, note: Token) -> Token
     requires word { word.now.shared.table_id.words ≡ 1 }
     requires ours { seat.old.ledger ≡ word.now.shared.table_id }
@@ -79,7 +78,7 @@ fn pass(word: &Word, seat: &mut Seat, note: Token) -> Token
     show(word, seat)
 }
 
-// The note goes from seat to seat.
+// Passes the note from seat to seat.
 fn round(word: &Word, seats: &mut [Seat], mut note: Token) -> Token
     requires word { word.now.shared.table_id.words ≡ 1 }
     requires ours { (i : ℕ) (v : SeatView) → slice_get seats.old i ≡ Some v → v.ledger ≡ word.now.shared.table_id }
@@ -93,7 +92,7 @@ fn round(word: &Word, seats: &mut [Seat], mut note: Token) -> Token
     note
 }
 
-/// The seats meet in their order, twice round.
+/// Lets the seats meet in their order, in two rounds.
 pub fn meet_all(word: &Word, seats: &mut [Seat])
     requires word { word.now.shared.table_id.words ≡ 1 }
     requires ours { (i : ℕ) (v : SeatView) → slice_get seats.old i ≡ Some v → v.ledger ≡ word.now.shared.table_id }

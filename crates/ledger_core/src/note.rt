@@ -1,10 +1,10 @@
-//! A note: what one seat had seen, for another to hear. Order in time goes by notes: what a note shows stands before
-//! whatever a seat does that has heard it.
+//! A note: what one seat had seen, for another to hear. Notes order events: what a note shows comes before whatever a
+//! seat does after hearing it.
 
 use crate::table::Token;
 use std::marker::Model;
 
-/// What a seat of a ledger had seen. It has no bytes, and may go to another thread; a seat hears it once.
+/// What a seat of a ledger had seen. It occupies no bytes, and may be sent to another thread. One seat hears it, once.
 #[derive(Drop)]
 pub struct Note {
     pub(crate) token: Token,

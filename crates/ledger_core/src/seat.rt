@@ -1,8 +1,8 @@
 //! A seat of a shared ledger: what one caller has seen and done.
 //!
-//! The seat's own log has its operations in order. Record j of it has entry j of them and the place where that entry
-//! stands in what the seat has seen: the counts in the word that the step found add up to it. The log has room for the
-//! settlement of each number that is open, so that a settlement takes no memory.
+//! The seat's own log has its operations in order. Each record has an entry and its index in what the seat has seen:
+//! the sum of the counts in the word that the step found. The log has room for the settlement of each open number, so
+//! that a settlement allocates no memory.
 ghost use Rattle.std.specs.Prelude.{◌≡◌, ℕ, ◌+◌, ◌/◌, ◌%◌, ◌^◌, ◌<◌, ◌≤◌, ◌↔◌, min, false, IsTrue, length, vec_len};
 ghost use Rattle.std.specs.Prelude.{vec_capacity, [], ◌∷◌, ◌++◌, ◌||◌};
 ghost use Rattle.std.specs.List.{slice_index_or};
@@ -40,7 +40,7 @@ impl Model for Seat {
 }
 
 impl Seat {
-    // A seat that has done nothing.
+    // Makes a seat that has done nothing.
     pub(crate) fn new(opening: Terms, number: u32, own: Own, token: Token) -> Seat
         requires terms { IsLawful opening × (number < opening.seats) }
         requires own { (own.closed ≡ false) × (own.log.items ≡ []) × (length own.held.items ≡ opening.range.size) }
@@ -58,7 +58,7 @@ impl Seat {
         }
     }
 
-    /// The seat's number: `open` gives them from 0 on.
+    /// Returns the seat's number. `open` numbers seats from 0.
     pub fn number(&self) -> u32
         ensures number { result ≡ self.now.number }
         ensures knows { Knows self.now }
@@ -66,14 +66,14 @@ impl Seat {
         self.fields.number
     }
 
-    /// Whether the seat has met the end of the range, and issues no more.
+    /// Returns whether an issue found no number left, so that the seat issues no more.
     pub fn closed(&self) -> bool
         ensures { IsTrue result ↔ IsClosedSeat self.now }
     {
         self.fields.own.closed
     }
 
-    /// Whether this number is open at this seat: it is of the seat's device, was granted to the seat, and isn't
+    /// Returns whether this number is open at this seat: it is of the seat's device, was granted to the seat, and isn't
     /// settled.
     pub fn holds(&self, spent: &Spent) -> bool
         ensures { IsTrue result ↔ Holds self.now spent.now }
@@ -91,7 +91,7 @@ impl Seat {
     }
 }
 
-// Whether the number is of the range, and held.
+// Whether the number is in the range, and held.
 fn is_marked(opening: &Terms, own: &Own, number: u32) -> bool
     requires { length own.now.held.items ≡ opening.now.range.size }
     ensures { IsTrue result ↔ IsMarked opening.now own.now.held.items number }
@@ -106,7 +106,7 @@ fn is_marked(opening: &Terms, own: &Own, number: u32) -> bool
     }
 }
 
-// The place of the entry that was added where this word was found.
+// The index of the entry that a step added when it found this word.
 fn place(found: u64) -> u32
     requires { found < 2 ^ 60 }
     ensures { result ≡ place_of_word found }
@@ -115,7 +115,7 @@ fn place(found: u64) -> u32
     counts.issues + counts.sealed + counts.void
 }
 
-// The number that is granted where this word was found, or none.
+// The number granted by an issue that found this word, or `None`.
 fn reply(opening: &Terms, found: u64) -> Option<u32>
     requires numbers { opening.now.range.lo + opening.now.range.size ≤ 2 ^ 32 }
     requires word { found < 2 ^ 60 }
@@ -138,7 +138,7 @@ fn event_of(number: Option<u32>) -> Event
     }
 }
 
-// Keeps an operation that the seat has made.
+// Records an operation that the seat has made.
 fn keep(own: &mut Own, lo: u32, kept: Record)
     requires room { HasRoom (vec_len own.old.log + own.old.owing) (vec_capacity own.old.log) kept.entry.event }
     requires mark { HasMark lo own.old.held.items kept.entry.event }
@@ -160,7 +160,7 @@ fn keep(own: &mut Own, lo: u32, kept: Record)
     }
 }
 
-// What an issue makes of a seat's fields, and the number granted.
+// Issues a number and updates the seat's fields. Returns the number granted, if any.
 pub(crate) fn issue_in(word: &Word, fields: &mut Fields) -> Option<u32>
     requires table { fields.old.token.table_id ≡ word.now.shared.table_id }
     requires word { word.now.shared.table_id.words ≡ 1 }
@@ -188,7 +188,7 @@ pub(crate) fn issue_in(word: &Word, fields: &mut Fields) -> Option<u32>
     granted
 }
 
-// What the settlement of a number that a seat holds makes of its fields.
+// Settles a number that the seat holds, and updates its fields.
 pub(crate) fn settle_in(word: &Word, fields: &mut Fields, spent: &Spent)
     requires table { fields.old.token.table_id ≡ word.now.shared.table_id }
     requires word { word.now.shared.table_id.words ≡ 1 }
@@ -213,7 +213,7 @@ pub(crate) fn settle_in(word: &Word, fields: &mut Fields, spent: &Spent)
     );
 }
 
-// The word as the seat sees it now.
+// Loads the word and lets the seat see the history so far.
 pub(crate) fn look_in(word: &Word, fields: &mut Fields) -> u64
     requires table { fields.old.token.table_id ≡ word.now.shared.table_id }
     requires word { word.now.shared.table_id.words ≡ 1 }
@@ -228,7 +228,7 @@ pub(crate) fn look_in(word: &Word, fields: &mut Fields) -> u64
     look_step(word, &mut fields.token)
 }
 
-// The counts that a word tells. Of the issues, as many were granted as the range has numbers.
+// The counts in a word. At most as many issues as the range has numbers were granted; the others were refused.
 pub(crate) fn tally_of_word(opening: &Terms, found: u64) -> Tally
     requires { found < 2 ^ 60 }
     ensures issues { result.granted + result.refused ≡ issues_of found }

@@ -1,4 +1,4 @@
-//! The steps of a seat on the ledger's word, each one atomic operation.
+//! The steps of a seat on the ledger's word. Each is one atomic operation.
 ghost use Rattle.std.specs.Prelude.{◌≡◌, ◌<◌, [], IfOk};
 ghost use Rattle.journal_core.specs.declared.entry.Way.TheVariants.{Sealed, Void};
 ghost use Rattle.journal_core.specs.History.{IsLawful, refused};
@@ -12,7 +12,7 @@ use journal_core::{Terms, Way};
 use std::alloc::{AllocError, Global};
 use std::marker::Brand;
 
-// A word with all counts at 0, and a token that stands for all seats.
+// Makes a word with all counts at 0, and a token that covers all seats.
 pub fn open_word(alloc: Global, opening: &Terms) -> Result<(Word, Token), AllocError>
     requires { IsLawful opening.now }
     ensures { IfOk result (λ t. (t.0.shared.table_id.words ≡ 1) × (t.1.table_id ≡ t.0.shared.table_id)
@@ -70,7 +70,7 @@ pub fn look_step(word: &Word, token: &mut Token) -> u64
     word.shared.load::<Look>(token, 0)
 }
 
-// What the seat was told is what it has seen.
+// What the seat heard is then what it has seen.
 pub fn adopt_step(word: &Word, token: &mut Token) -> u64
     requires table { MayStep word.now.shared.table_id token.old.table_id token.old.me }
     ensures table { (token.new.table_id ≡ token.old.table_id) × (token.new.me.1 ≡ token.old.me.1) }
@@ -79,7 +79,7 @@ pub fn adopt_step(word: &Word, token: &mut Token) -> u64
     word.shared.load::<Adopt>(token, 0)
 }
 
-// A note of what this seat has seen.
+// Splits off a note of what this seat has seen.
 pub fn write_step(word: &Word, token: &mut Token) -> Token
     requires table { MayStep word.now.shared.table_id token.old.table_id token.old.me }
     ensures same { (token.new.table_id ≡ token.old.table_id) × (token.new.me ≡ token.old.me) }
@@ -88,7 +88,7 @@ pub fn write_step(word: &Word, token: &mut Token) -> Token
     word.shared.split_seat::<Write>(token)
 }
 
-// The seat is told what the note shows.
+// The seat hears what the note shows.
 pub fn hear_step(word: &Word, token: &mut Token, note: Token)
     requires table { MayStep word.now.shared.table_id token.old.table_id token.old.me }
     requires note { (note.table_id ≡ token.old.table_id) × (note.me.1 ≡ []) }
@@ -98,7 +98,7 @@ pub fn hear_step(word: &Word, token: &mut Token, note: Token)
     word.shared.join_seat::<Hear>(token, note)
 }
 
-// The first of the seats that the token stands for stays with it, and the others go.
+// Leaves the first of the token's seats with it, and returns a token for the others.
 pub fn deal_step(word: &Word, token: &mut Token) -> Token
     requires table { (token.old.table_id ≡ word.now.shared.table_id) × (word.now.shared.table_id.words ≡ 1) }
     requires new { (1 < token.old.me.0.width) × (token.old.me.0.mine ≡ []) }

@@ -1,8 +1,7 @@
 //! The ledger's word as a table of one word: what each seat knows of the history, and the kinds of step.
 //!
-//! The history stands in no memory. The rule says that there is one, that it is legal, that the word has its three
-//! counts, and that each seat has seen a beginning of it in which the seat's own operations are all that there is of
-//! that seat.
+//! The history is not stored in memory. The rule says that there is one legal history, and that the word has its three
+//! counts. Each seat has seen a prefix of it, in which the seat's own operations are all of that seat's entries.
 ghost use Rattle.std.specs.Prelude.{◌≡◌, ◌+◌, ◌≤◌, length, vec_len, vec_capacity};
 ghost use Rattle.std.specs.List.{count_by};
 ghost use Rattle.journal_core.specs.Range.{most_size};
@@ -13,7 +12,7 @@ use std::alloc::Global;
 use std::collections::LinkedList;
 use std::marker::{Brand, Model, PhantomData};
 
-/// A line of a seat's own log: its entry, and the place in the history where that stands.
+/// A record of a seat's own log: an entry and its index in the history.
 #[derive(Clone, Copy)]
 pub struct Record {
     pub entry: Entry,
@@ -23,9 +22,9 @@ pub struct Record {
 /// What a seat keeps of its own operations.
 #[derive(Drop)]
 pub struct Own {
-    /// It has met the end of the range.
+    /// Whether an issue found no number left.
     pub closed: bool,
-    /// Its operations, in order. There is room for the settlement of each number that is open.
+    /// Its operations, in order. There is room for the settlement of each open number.
     pub log: Vec<Record>,
     /// For each number of the range, in order, whether it is open at this seat.
     pub held: Vec<bool>,
@@ -36,7 +35,8 @@ pub struct Own {
     ghost few: { length held.items ≤ most_size },
 }
 
-/// The fields of a seat. Between a step and its record they are no seat, so they have no invariant of their own.
+/// The fields of a seat. Between a step and its record they don't satisfy the seat's invariant, so they have none of
+/// their own.
 #[derive(Drop)]
 pub struct Fields {
     pub opening: Terms,
@@ -46,8 +46,8 @@ pub struct Fields {
     pub token: Token,
 }
 
-/// What a token knows. It stands for `width` seats from `seat` on: one for a seat of a ledger, none for a note.
-/// No value of it is made.
+/// What a token knows. It covers `width` seats from `seat` on: one for a seat of a ledger, none for a note. It is used
+/// in proofs only: no value of it is made.
 pub struct View {
     pub terms: Terms,
     pub seat: u32,
@@ -67,7 +67,7 @@ impl TableRule<(), View, Terms> for OneHistory {
     ghost first = { newcomer };
 }
 
-/// The word is raised by 1.
+/// Adds 1 to the word.
 pub struct Issue;
 
 impl Play<(), View> for Issue {
@@ -76,7 +76,7 @@ impl Play<(), View> for Issue {
     ghost then = { issued };
 }
 
-/// Names the number that a step settles. A kind of step is a type, which can't hold a number: it has a parameter of
+/// Gives the number that a step settles. A kind of step is a type and can't contain a number, so it has a parameter of
 /// this trait.
 pub trait Naming {
     ghost use Rattle.std.specs.Prelude.{ℕ};
@@ -84,12 +84,12 @@ pub trait Naming {
     ghost number: { ℕ };
 }
 
-// A call that passes `Brand` picks the number for itself, as `settle_step` does in its proof. This 0 is nobody's.
+// A call that passes `Brand` chooses its own number, as `settle_step` does in its proof. This 0 is never used.
 impl Naming for Brand {
     ghost number = { 0 };
 }
 
-/// The word is raised by 2^20.
+/// Adds 2^20 to the word.
 pub struct Seal<N> {
     of: PhantomData<N>,
 }
@@ -101,7 +101,7 @@ impl<N: Naming> Play<(), View> for Seal<N> {
     ghost then = { settled N.number Sealed };
 }
 
-/// The word is raised by 2^40.
+/// Adds 2^40 to the word.
 pub struct Waste<N> {
     of: PhantomData<N>,
 }
@@ -113,7 +113,7 @@ impl<N: Naming> Play<(), View> for Waste<N> {
     ghost then = { settled N.number Void };
 }
 
-/// The word is loaded.
+/// Loads the word.
 pub struct Look;
 
 impl Play<(), View> for Look {
@@ -122,7 +122,7 @@ impl Play<(), View> for Look {
     ghost then = { looked };
 }
 
-/// The word is loaded, and the seat has seen what it was told.
+/// Loads the word. What the seat heard is then what it has seen.
 pub struct Adopt;
 
 impl Play<(), View> for Adopt {
@@ -131,7 +131,7 @@ impl Play<(), View> for Adopt {
     ghost then = { adopted };
 }
 
-/// The first of a new ledger's seats is cut from the others.
+/// Splits the first of a new ledger's seats from the others.
 pub struct Deal;
 
 impl Split<View> for Deal {
@@ -142,7 +142,7 @@ impl Split<View> for Deal {
     ghost right = { other_seats };
 }
 
-/// A note of what a seat has seen.
+/// Splits off a note of what a seat has seen.
 pub struct Write;
 
 impl Split<View> for Write {
@@ -153,7 +153,7 @@ impl Split<View> for Write {
     ghost right = { note_of };
 }
 
-/// A note is given to a seat.
+/// Gives a note to a seat.
 pub struct Hear;
 
 impl Join<View> for Hear {

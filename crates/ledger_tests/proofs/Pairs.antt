@@ -1,4 +1,4 @@
--- Two seats of a ledger that stay the same seats are seats of it still.
+-- After two seats of a ledger change, they are still its seats, if each is still the same seat.
 use Rattle.std.proofs.Common.{◌≡◌, ℕ, ◌-◌, ◌<◌, List, ◌++◌, length, get_or, set, refl, sym, ap, ◌∙◌, subst, arith, length-append}
 use Rattle.std.proofs.lemmas.List.{set-append_left, set-append_right, get_or_append_left, get_or-append_right}
 use Rattle.ledger_core.specs.Shared.{LedgerView, SeatView, IsSameSeat}

@@ -1,5 +1,4 @@
-//! What the tests call: a ledger by numbers, calls that are made again where memory was refused, and the text and the
-//! audit of a journal.
+//! What the tests call: a ledger by numbers, calls repeated after a refusal of memory, and a journal's text and audit.
 ghost use Rattle.std.specs.Prelude.{◌≡◌, ◌<◌, IfSome};
 
 use crate::run::Run;
@@ -10,7 +9,7 @@ use ledger_core::{
 };
 use std::alloc::{AllocError, Global};
 
-// A ledger of this device.
+// Opens a ledger of this device.
 pub fn open_of(alloc: Global, device: u32, lo: u32, size: u32, seats: u32) -> Option<Run>
     ensures { IfSome result (λ run. run.terms.seats ≡ seats) }
 {
@@ -27,7 +26,7 @@ pub fn open(alloc: Global, lo: u32, size: u32, seats: u32) -> Option<Run>
     open_of(alloc, 1, lo, size, seats)
 }
 
-// A refused allocation is the one that the run was asked for, so the same call finds memory at once.
+// The only refused allocation is the one that the test run injects, so the second call succeeds.
 
 pub fn open_twice(alloc: Global, lo: u32, size: u32, seats: u32) -> Option<Run>
     ensures { IfSome result (λ run. run.terms.seats ≡ seats) }
@@ -40,7 +39,7 @@ pub fn open_twice(alloc: Global, lo: u32, size: u32, seats: u32) -> Option<Run>
     }
 }
 
-// A call that is refused memory must leave the counts as they were: where it changes them, it isn't made again.
+// A call that is refused memory must leave the counts unchanged. If it changes them, it isn't repeated.
 
 pub fn issue(run: &mut Run, seat: usize) -> Result<Grant, IssueFault>
     requires { seat < run.old.terms.seats }
@@ -56,7 +55,7 @@ pub fn issue(run: &mut Run, seat: usize) -> Result<Grant, IssueFault>
     issued
 }
 
-// A settlement takes no memory, so it isn't made again.
+// A settlement takes no memory, so it isn't repeated.
 
 pub fn settles(run: &mut Run, seat: usize, spent: Spent) -> bool
     requires { seat < run.old.terms.seats }
@@ -65,7 +64,7 @@ pub fn settles(run: &mut Run, seat: usize, spent: Spent) -> bool
     run.settle(seat, spent).is_ok()
 }
 
-// The number that is refused since it is not open, and handed back.
+// Settles a number that isn't open. Returns the number, which the refusal hands back.
 pub fn refused(run: &mut Run, seat: usize, spent: Spent) -> Option<Spent>
     requires { seat < run.old.terms.seats }
     ensures { run.new ≡ run.old }
@@ -105,7 +104,7 @@ pub fn closes_as(alloc: Global, run: Run, text: &str) -> bool {
     }
 }
 
-// Whether the audit of this journal writes this line, or None where memory is refused.
+// Whether the audit of this journal writes this line. Returns `None` if memory is refused.
 fn audit_once(alloc: Global, text: &str, line: &[u8]) -> Option<bool> {
     let mut reader = FromMemory::new(text.as_bytes(), 4_096, Schedule::Never);
     let mut writer = ToMemory::new(alloc, 100, 100, Schedule::Never).ok()?;
@@ -116,7 +115,7 @@ fn audit_once(alloc: Global, text: &str, line: &[u8]) -> Option<bool> {
     }
 }
 
-// Whether the audit writes this line, at its second try where memory was refused.
+// Whether the audit writes this line, on the second try if memory was refused.
 pub fn audits_as(alloc: Global, text: &str, line: &[u8]) -> bool {
     match audit_once(alloc, text, line) {
         None => audit_once(alloc, text, line) == Some(true),
@@ -124,7 +123,7 @@ pub fn audits_as(alloc: Global, text: &str, line: &[u8]) -> bool {
     }
 }
 
-// Whether the seat counts so, and the audit of the journal writes this line.
+// Whether the seat's counts are `tally`, and the audit of the journal writes this line.
 pub fn ends_with(alloc: Global, mut run: Run, seat: usize, tally: Tally, line: &[u8]) -> bool
     requires { seat < run.terms.seats }
 {

@@ -1,4 +1,4 @@
-//! Runs of the shared ledger, in one thread and in four, from its opening to the text of its journal.
+//! Runs of the shared ledger, with one thread and with four, from opening it to the text of its journal.
 #![tactic(auto)]
 
 #[cfg(test)]

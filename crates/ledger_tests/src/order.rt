@@ -1,13 +1,13 @@
-//! Order in time, told by a note: what a seat has seen as it writes the note stands before whatever a seat does that
-//! has heard it.
+//! Order in time through a note. What a seat has seen when it writes the note comes before whatever a seat does after
+//! hearing it.
 ghost use Rattle.std.specs.Prelude.{◌≡◌, ◌≢◌, ◌<◌, ◌≤◌, IfOk};
 ghost use Rattle.ledger_core.specs.History.{granted, times_granted};
 ghost use Rattle.ledger_core.specs.Shared.{IsSameSeat};
 
 use ledger_core::{Grant, IssueFault, Ledger, Note, Seat, Tally, laws};
 
-/// The seat hears the note, counts, and issues. Its count is not behind the note, and its number is none that the
-/// note shows as granted, whoever wrote it.
+/// The seat hears the note, counts, and issues. It counts at least the grants of the note. Its number isn't among those
+/// that the note shows as granted, whoever wrote it.
 pub fn behind(ledger: &Ledger, seat: &mut Seat, note: Note) -> Result<(Tally, Grant), IssueFault>
     requires ours { seat.old.ledger ≡ ledger.now.ledger }
     requires note { note.ledger ≡ ledger.now.ledger }
@@ -23,8 +23,8 @@ pub fn behind(ledger: &Ledger, seat: &mut Seat, note: Note) -> Result<(Tally, Gr
     Ok((tally, grant))
 }
 
-/// The first seat issues and writes a note of it. The second hears it, counts and issues: its count has the first's
-/// grant in it, and its number is another one.
+/// The first seat issues a number and writes a note. The second hears it, counts and issues. Its count includes the
+/// first's grant, and its number is a different one.
 pub fn in_order(
     ledger: &Ledger,
     first: &mut Seat,

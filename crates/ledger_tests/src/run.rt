@@ -1,4 +1,4 @@
-//! A shared ledger with all its seats, which calls name by their numbers.
+//! A shared ledger with all its seats. Calls name the seats by number.
 ghost use Rattle.std.specs.Prelude.{◌≡◌, ◌<◌, length, IfOk, IfErr};
 ghost use Rattle.ledger_core.specs.Closing.{AreAllSeats};
 ghost use Rattle.ledger_core.specs.Journal.{terms_of};
@@ -72,7 +72,7 @@ impl Run {
         meet_two(&self.ledger, self.seats.as_mut_slice(), first, second);
     }
 
-    /// The first seat tells the second by a note, as `in_order` does.
+    /// The first seat passes a note to the second, as in `order::in_order`.
     pub fn in_order(
         &mut self,
         first: usize,
@@ -92,7 +92,7 @@ impl Run {
         meet_everyone(&self.ledger, self.seats.as_mut_slice());
     }
 
-    /// The seat of this number.
+    /// Returns the seat with this number.
     pub fn seat(&self, seat: usize) -> &Seat
         requires { seat < self.now.terms.seats }
         ensures { result.now.number ≡ seat }
@@ -100,8 +100,8 @@ impl Run {
         &self.seats[seat]
     }
 
-    /// The seats, in so many threads, issue until the range is at its end and settle every number: the even ones as
-    /// used, the odd ones as wasted.
+    /// With `threads` threads, the seats issue numbers until the range ends, and settle each: even ones as used, odd
+    /// ones as wasted.
     pub fn spend<R: Threads + Sync>(&mut self, rt: &R, threads: u32)
         ensures { self.new ≡ self.old }
     {
@@ -136,7 +136,7 @@ fn meet_two(ledger: &Ledger, seats: &mut [Seat], first: usize, second: usize)
     ledger.meet(&mut front[first], &mut back[0]);
 }
 
-// One of a ledger's seats tells another.
+// One of a ledger's seats passes a note to another.
 fn tell(
     ledger: &Ledger,
     seats: &mut [Seat],
@@ -160,7 +160,7 @@ fn meet_everyone(ledger: &Ledger, seats: &mut [Seat])
     ledger.meet_all(seats);
 }
 
-// Issues until no number is left, and settles each.
+// Issues numbers until none is left, and settles each.
 fn spend(ledger: &Ledger, seat: &mut Seat)
     requires { seat.old.ledger ≡ ledger.now.ledger }
     ensures { IsSameSeat seat.old seat.new }

@@ -1,4 +1,4 @@
-//! Ranges that seats in threads spend: each number is issued once, and settled.
+//! Ranges spent by seats in threads: each number is issued once, and settled.
 ghost use Rattle.std.specs.Prelude.{◌≡◌, ◌<◌};
 
 use crate::calls::{ends_with, open};
@@ -8,7 +8,7 @@ use std::alloc::Global;
 use std::test::*;
 use std::thread::Threads;
 
-// A range, and by how many seats and threads it is spent. Two seats then meet, if they are two, and a third counts all.
+// A range, its seats and the threads. Then the seats `meet` meet if they are two, and seat `counts` counts everything.
 #[derive(Clone, Copy)]
 struct Spending {
     lo: u32,
@@ -18,12 +18,12 @@ struct Spending {
     meet: (usize, usize),
     counts: usize,
     tally: Tally,
-    // What the audit writes.
+    // The line that the audit writes.
     line: &'static [u8],
 }
 
-// The first ends at the last number of all. Of the second all three counts of the word are at their greatest, and of
-// the third one seat's log is at its longest: a grant and a settlement of each number, and a refusal.
+// The first range ends at the last number of all. In the second, all three counts of the word reach their maximum. In
+// the third, one seat's log is as long as possible: a grant and a settlement of each number, and a refusal.
 static SPENDINGS: [Spending; 3] = [
     Spending {
         lo: 4_294_966_296,
@@ -82,12 +82,12 @@ fn meet(run: &mut Run, first: usize, second: usize)
     run.meet(first, second);
 }
 
-// Whether the range is spent, counted and audited so.
+// Whether the range is spent, counted and audited as expected.
 fn is_spent<R: Threads + Sync>(rt: &R, alloc: Global, spending: Spending) -> Option<bool> {
     let seats = spending.seats;
     let (first, second) = spending.meet;
     let counts = spending.counts;
-    // For the contracts of `meet` and `ends_with`.
+    // The contracts of `meet` and `ends_with` require this.
     if second >= seats as usize || counts >= seats as usize {
         return None;
     }

@@ -1,6 +1,6 @@
-//! Runs of the shared ledger: what seats are answered, what they count, and the text and the audit of their journal.
+//! Runs of the shared ledger: what calls return to seats, what seats count, and the text and audit of their journal.
 //!
-//! What a test does stands in functions over a borrowed ledger, which tell whether all was as it is to be.
+//! Functions over a borrowed ledger hold what a test does. They return whether all was as expected.
 ghost use Rattle.std.specs.Prelude.{◌≡◌, ◌<◌};
 
 use crate::calls::{
@@ -38,8 +38,8 @@ fn has_no_more(run: &mut Run) -> bool
     end && closed
 }
 
-// Whether each settles its own number, and seat 1 cannot settle what seat 0 issued. Seat 1 counts what seat 0 did, also
-// where it did nothing itself since it counted last.
+// Whether each settles its own number, and seat 1 can't settle what seat 0 issued. Seat 1 counts what seat 0 did, even
+// if it did nothing itself since its last count.
 fn settles_7_and_8(run: &mut Run, seven: Spent, eight: Spent) -> bool
     requires { 1 < run.old.terms.seats }
     ensures { run.new ≡ run.old }
@@ -94,7 +94,7 @@ fn issue_four(run: &mut Run) -> Option<Grant>
     if filled { Some(zero) } else { None }
 }
 
-// Whether the settlement behind that is made, and counted.
+// Whether the settlement after that succeeds and is counted.
 fn settles_behind_four(run: &mut Run) -> bool
     requires { 0 < run.old.terms.seats }
     ensures { run.new ≡ run.old }
@@ -111,7 +111,7 @@ fn settles_behind_four(run: &mut Run) -> bool
     settles(run, 0, zero.used()) && run.tally(0) == counted
 }
 
-// Whichever allocation is refused (tools/refused_tests.py), none is the settlement's.
+// Whichever allocation is refused (tools/refused_tests.py), it isn't the settlement's.
 #[test]
 fn a_settlement_takes_no_memory(rt: HostRuntime) {
     let mut run = open_twice(rt.alloc(), 0, 4, 1).expect(&rt, "a ledger");
@@ -120,7 +120,7 @@ fn a_settlement_takes_no_memory(rt: HostRuntime) {
     assert!(rt; closes_as(rt.alloc(), run, lines));
 }
 
-// Whether seat 2 counts what seat 0 told it, and issues the next number, the last.
+// Whether seat 2 counts what seat 0's note reports, and issues the next number, the last.
 fn tells_in_order(run: &mut Run) -> bool
     requires { 2 < run.old.terms.seats }
     ensures { run.new ≡ run.old }
@@ -138,19 +138,19 @@ fn tells_in_order(run: &mut Run) -> bool
     told && run.in_order(0, 1).err() == Some(IssueFault::Exhausted)
 }
 
-// The second seat has heard of the first one's grant: no count and no number of it is behind that.
+// The second seat has heard of the first one's grant: its count includes that grant, and its number is later.
 #[test]
 fn a_note_tells_what_was_done(rt: HostRuntime) {
     let mut run = open(rt.alloc(), 7, 2, 3).expect(&rt, "a ledger");
     assert!(rt; tells_in_order(&mut run));
 }
 
-// The fault of opening a ledger for so many seats, if any.
+// The fault of opening a ledger with `seats` seats, if any.
 fn fault_of_seats(alloc: Global, range: Range, seats: u32) -> Option<OpenLedgerFault> {
     Run::open(alloc, range, seats).err()
 }
 
-// Whether a ledger of this range can have 1 or 64 seats, but not 0, 65 or the most that a number tells.
+// Whether a ledger of this range can have 1 or 64 seats, but not 0, 65 or `u32::MAX`.
 fn has_from_one_to_sixty_four(alloc: Global, range: Range) -> bool {
     for seats in [0, 65, u32::MAX] {
         if fault_of_seats(alloc, range, seats) != Some(OpenLedgerFault::BadSeats) {
@@ -167,7 +167,7 @@ fn seats_are_from_one_to_sixty_four(rt: HostRuntime) -> Result<(), Fail> {
     Ok(())
 }
 
-// Whether a dropped grant counts as granted, and a used and spoiled number as void.
+// Whether a dropped grant counts as granted, and a number used and then spoiled as void.
 fn spoils_1(run: &mut Run) -> bool
     requires { 0 < run.old.terms.seats }
     ensures { run.new ≡ run.old }
@@ -211,7 +211,7 @@ fn use_0_and_1(alloc: Global) -> Option<(Spent, Spent)> {
     two_used(&mut other)
 }
 
-// Whether 1 is handed back, since it was settled, and 0 is settled.
+// Whether number 1 is handed back because it was settled, and number 0 is settled.
 fn settles_0_alone(run: &mut Run, zero: Spent, one: Spent) -> bool
     requires { 0 < run.old.terms.seats }
     ensures { run.new ≡ run.old }
@@ -231,7 +231,7 @@ fn settles_each_once(alloc: Global, run: &mut Run) -> bool
     settles_0_alone(run, zero, one) && spoiled
 }
 
-// A grant that is dropped leaves its number granted and open, and a number is settled once.
+// A dropped grant leaves its number granted and open. A number is settled only once.
 #[test]
 fn a_number_is_settled_once(rt: HostRuntime) {
     let mut run = open(rt.alloc(), 0, 3, 1).expect(&rt, "a ledger");
@@ -284,7 +284,7 @@ fn meets_between(run: &mut Run) -> bool
     settles_and_meets(run, seven.waste(), eight.used())
 }
 
-// Meetings between any two operations leave the lines as they are, and what two seats count after one is the same.
+// Meetings between any two operations leave the lines unchanged. After a meeting the two seats count the same.
 #[test]
 fn meetings_change_no_history(rt: HostRuntime) {
     let mut run = open(rt.alloc(), 7, 2, 2).expect(&rt, "a ledger");
@@ -301,7 +301,7 @@ fn is_7_until_spent(seven: Grant) -> bool {
     granted && used && way == Way::Sealed && sealed.spoil().way() == Way::Void
 }
 
-// Whether seat 0's next number is void where it is wasted.
+// Whether seat 0's next number is void if it is wasted.
 fn wastes_one(run: &mut Run) -> bool
     requires { 0 < run.old.terms.seats }
     ensures { run.new ≡ run.old }
@@ -312,7 +312,8 @@ fn wastes_one(run: &mut Run) -> bool
     }
 }
 
-// Whether seats tell their number, and their end once no number is left, and grants and spent numbers what they are.
+// Whether seats report their number, and their end once no number is left. Grants and spent numbers report what they
+// are.
 fn tell_what_they_are(run: &mut Run) -> bool
     requires { 1 < run.old.terms.seats }
     ensures { run.new ≡ run.old }
@@ -334,7 +335,7 @@ fn seats_grants_and_spent_numbers_tell_what_they_are(rt: HostRuntime) {
     assert!(rt; tell_what_they_are(&mut run));
 }
 
-// The number, and whether only the seat that issued it holds it.
+// Number 7 used, and whether only the seat that issued it holds it.
 fn use_7(run: &mut Run) -> Option<(Spent, bool)>
     requires { 1 < run.old.terms.seats }
     ensures { run.new ≡ run.old }
@@ -350,7 +351,7 @@ fn use_7_of_device_2(alloc: Global) -> Option<Spent> {
     used(&mut other)
 }
 
-// Whether this seat neither holds nor settles the stranger.
+// Whether this seat refuses to hold or settle the stranger.
 fn refuses_stranger(run: &mut Run, stranger: Spent) -> bool
     requires { 0 < run.old.terms.seats }
     ensures { run.new ≡ run.old }
@@ -373,7 +374,7 @@ fn holds_its_own(alloc: Global, run: &mut Run) -> bool
     settles(run, 0, seven) && held && refused
 }
 
-// The stranger has the number of a grant of this seat, but another device.
+// The stranger has the number of one of this seat's grants, but of another device.
 #[test]
 fn seats_hold_their_own_open_numbers(rt: HostRuntime) {
     let mut run = open(rt.alloc(), 7, 2, 2).expect(&rt, "a ledger");

@@ -1,4 +1,5 @@
--- The laws of lives: adjacent ranges are apart, so grants have different prefixes, so sealed chunks have different nonces.
+-- The laws of lives: adjacent ranges are apart, so grants have different prefixes, so sealed chunks have different
+-- nonces.
 use Rattle.std.proofs.Common.{◌≡◌, ◌≢◌, ℕ, zero, suc, ◌+◌, ◌++◌, ◌^◌, ◌<◌, ◌≤◌, Bool, List, [], ◌∷◌, length, Some, None, refl, sym, ap, ◌∙◌, subst, arith, append-nil}
 use mathlib.Core.Logic.{dite}
 use native.Mathlib.Decide.{dec_le}
@@ -215,7 +216,7 @@ pub header_prefix : (key prefix : List ℕ) (shape : ShapeView) → length prefi
 header_prefix key prefix shape seven =
     ap prefix_in (sym (append-nil (header_of key shape prefix))) ∙ prefix_in-header_of key prefix [] shape seven
 
--- a chunk has 4096 bytes at least
+-- a chunk has at least 4096 bytes
 chunks_few : (shape : ShapeView) (plain : List ℕ) → IsShape shape → length plain ≤ 2 ^ 40
     → length (chunks (size_of shape) plain) < 2 ^ 32
 chunks_few shape plain lawful few =

@@ -1,5 +1,5 @@
--- Two outputs with one prefix are one output: their number is in one run's range, and was granted once there, so it stands
--- over one output alone.
+-- Two outputs with one prefix are one output: their number is in one run's range and was granted once there, so only
+-- one output has it.
 use Rattle.std.proofs.Common.{◌≡◌, ℕ, zero, suc, ◌+◌, ◌<◌, ◌≤◌, Bool, true, false, cond, nat_eq, List, [], ◌∷◌, ◌++◌, count_by, Some, refl, sym, ap, ◌∙◌, subst, arith, eq-eqb}
 use mathlib.Core.Logic.{dite}
 use native.Mathlib.Decide.{dec_le}
@@ -34,7 +34,7 @@ module _ {A : Type 0} (p : A → Bool) where
   counted_by : (x : A) (b : Bool) → p x ≡ b → cond {A = ℕ} (p x) 1 0 ≡ cond b 1 0
   counted_by x b is = ap (λ b. cond {A = ℕ} b 1 0) is
 
-  -- an element that is counted stands somewhere
+  -- an element that is counted is in the list
   abbrev Found : List A → Type 0
   Found xs = (i : ℕ) × (x : A) × (slice_get xs i ≡ Some x) × (p x ≡ true)
 
@@ -127,7 +127,7 @@ granted_once terms history number legal =
     let there = also ∙ ap (λ (e : Entry). Some e) (granting_entry number y so) in
     not_apart i j (λ differ. once.once i j number number x.seat y.seat differ here there refl))
 
--- ---- numbers that were granted lie in the range, and no two of them are the same
+-- ---- numbers that were granted are in the range, and no two of them are the same
 
 pub granted_inside : (terms : Terms) (history : List Entry) (output : Output) → Legal terms history
     → 0 < times_granted output.number history → IsInside terms.range output
@@ -172,7 +172,7 @@ all_at P [] i x all at = absurd (cc)
 all_at P (y ∷ xs) zero x all at = let same : y ≡ x = cc in subst P same all.0
 all_at P (y ∷ xs) (suc i) x all at = all_at P xs i x all.1 at
 
--- what is known of an output that stands somewhere
+-- what is known of an output at a place
 record Standing (key : List ℕ) (runs : ℕ → List Written) (place : Place) (output : Output) : Type 0 where
   run : Written
   at_run : slice_get (runs place.device) place.run ≡ Some run
@@ -203,7 +203,7 @@ standing key runs place output are stands =
       four_bytes = omega arith;
     }
 
--- one run behind the other
+-- one run after the other
 behind : (key : List ℕ) (device : ℕ) (runs : List Written) (i j number : ℕ) (one other : Written) → AreRuns key device runs → i < j
     → slice_get runs i ≡ Some one → slice_get runs j ≡ Some other → number < one.terms.range.lo + one.terms.range.size
     → other.terms.range.lo ≤ number → ⊥

@@ -18,7 +18,7 @@ pub data Run : Type 0 where
   Refused : Run
   -- a crash or a failing disk cut its reservation off: it appended nothing, or this range. The run had no ledger
   CutOff : Option TakenRange → Run
-  -- its reservation was acknowledged: it appended this range, and a ledger with so many seats over it did this
+  -- its reservation was acknowledged: it appended this range, and a ledger with this number of seats over it did this
   Acknowledged : TakenRange → ℕ → List Entry → Run
 
 -- what a run appended

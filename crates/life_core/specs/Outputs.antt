@@ -20,7 +20,7 @@ pub record Output : Type 0 where
   pub plain : List ℕ
   pub held : List ℕ
 
--- it held a beginning of the plaintext's container
+-- it held a prefix of the plaintext's container
 pub record IsOutput (key : List ℕ) (device : ℕ) (output : Output) : Type 0 where
   pub shape : IsShape output.shape
   pub begins : IsFront output.held (container key output.shape (prefix_of device output.number) output.plain)
@@ -30,11 +30,11 @@ unfoldable pub nonces_of : List ℕ → ℕ → Output → List (List ℕ)
 nonces_of key device output = stream_nonces (header_of key output.shape (prefix_of device output.number)) 0
     (chunks (size_of output.shape) output.plain)
 
--- how many of the outputs stand under a number
+-- how many of the outputs have a number
 abbrev pub times_used : ℕ → List Output → ℕ
 times_used number outputs = count_by (λ output. nat_eq number output.number) outputs
 
--- the number of an output lies in the range
+-- the number of an output is in the range
 abbrev pub IsInside : Numbers → Output → Type 0
 IsInside range output = (range.lo ≤ output.number) × (output.number < range.lo + range.size)
 
@@ -43,8 +43,8 @@ pub record Written : Type 0 where
   pub terms : Terms
   pub outputs : List Output
 
--- The range is a lawful one of the device, each output is one of the key's under a number of the range, and no number
--- stands over two of them.
+-- The range is a lawful one of the device. Each output is one of the key's, under a number of the range that no other
+-- output has.
 pub record HasWritten (key : List ℕ) (device : ℕ) (run : Written) : Type 0 where
   pub of_device : run.terms.range.device ≡ device
   pub lawful : IsLawfulRange run.terms.range
@@ -52,31 +52,31 @@ pub record HasWritten (key : List ℕ) (device : ℕ) (run : Written) : Type 0 w
   pub inside : AllByRecursion (IsInside run.terms.range) run.outputs
   pub once : (number : ℕ) → times_used number run.outputs ≤ 1
 
--- A legal history grants each number as often at least as it stands over an output.
+-- A legal history grants each number at least as often as an output has it.
 abbrev pub AreGranted : Terms → List Entry → List Output → Type 0
 AreGranted terms history outputs = Legal terms history
     × ((number : ℕ) → times_used number outputs ≤ times_granted number history)
 
--- runs of one device, one after another: each range lies behind those before it
+-- runs of one device, one after another: each range is after those before it
 pub record AreRuns (key : List ℕ) (device : ℕ) (runs : List Written) : Type 0 where
   pub each : AllByRecursion (HasWritten key device) runs
   pub rise : (i j : ℕ) (one other : Written) → i < j → slice_get runs i ≡ Some one → slice_get runs j ≡ Some other
       → one.terms.range.lo + one.terms.range.size ≤ other.terms.range.lo
 
--- where an output stands: its device, its run among those of the device, and its place among the outputs of the run
+-- where an output is: its device, its run among those of the device, and its place among the outputs of the run
 pub record Place : Type 0 where
   pub device : ℕ
   pub run : ℕ
   pub output : ℕ
 
--- this output stands there
+-- this output is at that place
 pub record StandsAt (runs : ℕ → List Written) (place : Place) (output : Output) : Type 0 where
   pub run : Written
   pub at_run : slice_get (runs place.device) place.run ≡ Some run
   pub at_output : slice_get run.outputs place.output ≡ Some output
 
--- A chunk of the output that it held some of, of a number of 32 bits, and the nonce under which it is sealed. Before
--- it stand the header and so many chunks, each with its tag.
+-- A chunk, with a number of 32 bits, of which the output held some bytes, and its nonce. Before it are the header and
+-- `chunk` chunks, each with its tag.
 pub record HoldsChunk (key : List ℕ) (device : ℕ) (output : Output) (chunk : ℕ) (nonce : List ℕ) : Type 0 where
   pub reached : length (header_of key output.shape (prefix_of device output.number))
       + chunk * (size_of output.shape + TAG) < length output.held

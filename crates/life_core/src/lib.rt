@@ -1,5 +1,5 @@
-//! No nonce is used twice, over all runs of one key: what follows of the definitions of STREAM, ranges, legal histories
-//! and the life of a ledger file. Each law is the contract of a function that does nothing.
+//! No nonce is used twice, over all runs of one key. This follows from the definitions of STREAM, ranges, legal
+//! histories and the life of a ledger file. Each law is the contract of a function that does nothing.
 #![tactic(auto)]
 
 ghost use Rattle.std.specs.Prelude.{◌≡◌, ◌≢◌, ℕ, ◌+◌, ◌^◌, ◌<◌, ◌≤◌, ◌++◌, List, length, Some, slice_get};
@@ -32,9 +32,9 @@ pub fn no_prefix_is_granted_twice()
         → one ≡ other }
 {}
 
-/// No nonce is used twice under one key: over all runs of all its devices, where under each grant one plaintext at most
-/// is sealed, in one shape, two sealed chunks with one nonce are the same chunk of the same container, whatever the
-/// shapes are. A sealing that was broken off wrote a beginning of such a container, so its chunks are among these.
+/// No nonce is used twice under one key, over all runs of all its devices. At most one plaintext is sealed under each
+/// grant, in one shape. Then two sealed chunks with one nonce are the same chunk of the same container, in any shapes.
+/// An interrupted sealing wrote a prefix of such a container, so its chunks are among these.
 pub fn no_nonce_is_used_twice()
     ensures { (key : List ℕ) (lives : Lives) (sealed : Grant → Sealing) (one other : Grant)
         (chunk another : ℕ) (nonce : List ℕ)
@@ -46,8 +46,8 @@ pub fn no_nonce_is_used_twice()
         → (one ≡ other) × (chunk ≡ another) }
 {}
 
-/// These nonces are those of STREAM: the container of a plaintext under a grant, in a shape, is its header, and behind
-/// it the plaintext's chunks in order, each sealed by the AEAD under the nonce at its place.
+/// These nonces are those of STREAM. The container of a plaintext under a grant, in a shape, is its header and then the
+/// plaintext's chunks in order. Each is sealed by the AEAD under the nonce at its place.
 pub fn containers_are_sealed_under_their_nonces()
     ensures { (key : List ℕ) (grant : Grant) (sealing : Sealing)
         → container key sealing.shape (prefix_by grant) sealing.plain
@@ -56,10 +56,9 @@ pub fn containers_are_sealed_under_their_nonces()
         (container_nonces key grant sealing) (chunks (size_of sealing.shape) sealing.plain) }
 {}
 
-/// No two chunks of what the runs of one key wrote have one nonce. The runs of a device have ranges that lie one
-/// behind the other; each output held a beginning of the container of a plaintext under a number of its run's range,
-/// which stands over no other output of the run. Then two chunks of which their outputs held some, with one nonce,
-/// are the same chunk of the same output of the same run.
+/// No two chunks of what the runs of one key wrote have one nonce. The runs of a device have ranges in ascending order.
+/// Each output held a prefix of the container of a plaintext, under a number of its run's range that no other output of
+/// the run has. Two chunks with one nonce, of which outputs held some bytes, are the same chunk of the same output.
 pub fn no_two_chunks_have_one_nonce()
     ensures { (key : List ℕ) (runs : ℕ → List Written) (one other : Place) (this that : Output)
         (chunk another : ℕ) (nonce : List ℕ)
@@ -69,15 +68,15 @@ pub fn no_two_chunks_have_one_nonce()
         → (one ≡ other) × (chunk ≡ another) }
 {}
 
-/// Numbers that a legal history grants lie in its range, and none is granted twice: so outputs that stand under such
-/// numbers, as often at most as these were granted, are apart.
+/// Numbers that a legal history grants are in its range, and none is granted twice. So outputs under such numbers, each
+/// number at most as often as it was granted, have numbers in the range, no two the same.
 pub fn granted_outputs_are_apart()
     ensures { (terms : Terms) (history : List Entry) (outputs : List Output) → AreGranted terms history outputs
         → AllByRecursion (IsInside terms.range) outputs × ((number : ℕ) → times_used number outputs ≤ 1) }
 {}
 
-/// No two outputs of the runs of one key have one prefix: each device's numbers are its own, each number is in one
-/// run's range, and stands there over one output.
+/// No two outputs of the runs of one key have one prefix. Each device's numbers are its own, each number is in one
+/// run's range, and it has one output there.
 pub fn no_two_outputs_have_one_prefix()
     ensures { (key : List ℕ) (runs : ℕ → List Written) (one other : Place) (this that : Output)
         → AreRuns key one.device (runs one.device) → AreRuns key other.device (runs other.device)
@@ -85,8 +84,8 @@ pub fn no_two_outputs_have_one_prefix()
         → prefix_of one.device this.number ≡ prefix_of other.device that.number → one ≡ other }
 {}
 
-/// What an output held is a beginning of the header and of its plaintext's chunks in order, each sealed by the AEAD
-/// under the nonce at its place.
+/// What an output held is a prefix of the header and its plaintext's chunks in order, each sealed by the AEAD under the
+/// nonce at its place.
 pub fn outputs_are_sealed_under_their_nonces()
     ensures { (key : List ℕ) (device : ℕ) (output : Output) → IsOutput key device output
         → IsFront output.held (header_of key output.shape (prefix_of device output.number)

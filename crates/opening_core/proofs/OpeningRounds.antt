@@ -1,4 +1,4 @@
--- Opening in rounds: what opened so far, and what is in hand.
+-- Opening in rounds: what opened so far, and the current round.
 use Rattle.std.proofs.Common.{◌≡◌, ℕ, zero, suc, ◌+◌, ◌-◌, ◌*◌, ◌<◌, ◌≤◌, ◌⊎◌, inl, inr, true, List, [], ◌∷◌, ◌++◌}
 use Rattle.std.proofs.Common.{length, take, get_or, Option, Some, None, Result, Ok, Err, IfSome, IfOk, refl, ap, sym, subst, ◌∙◌}
 use lib.Seq.{take-suc}
@@ -29,7 +29,7 @@ use Rattle.opening_core.specs.Fronts.{SaysLength, ReadsOn, IsNamed, Answers}
 use Rattle.opening_core.proofs.FrontLemmas.{input-answers}
 use Rattle.opening_core.proofs.AnswerLemmas.{answers-body, opening-body}
 
--- however a body goes on behind the rounds that opened, it opens to their plaintext, and then as what goes on does
+-- however a body goes on after the rounds that opened, it opens to their plaintext, then as the rest does
 unfoldable pub OpensBehind : List ℕ → List ℕ → ℕ → List ℕ → List ℕ → Type 0
 OpensBehind key header first past plain = (rest : List ℕ) → 0 < length rest
     → unsealed_by key header 0 true (sealed_chunks (size_in header) (past ++ rest))
@@ -136,7 +136,7 @@ cut-same cut size plain body some sized is cut_is =
     ap (λ (s : ℕ). body_length s cut.plain) (sym sized) ∙ sym cut_is ∙ is in
     ap (λ (s : ℕ). chunk_count s cut.plain) sized ∙ ap (chunk_count size) (body-same size cut.plain plain some other)
 
--- what has a plaintext's length is cut
+-- what has a plaintext's length can be cut
 pub no-refusal : (size body plain : ℕ) (fault : OpenFault) → 0 < size → body ≡ body_length size plain → plain ≤ 4294967295 * size
     → RefusesCut size body fault → ⊥
 no-refusal size body plain TooLong some is few refused =
@@ -145,14 +145,14 @@ no-refusal size body plain TooLong some is few refused =
 no-refusal size body plain BadLength some is few refused = refused.1 plain is
 no-refusal size body plain _ some is few refused = absurd refused
 
--- so many pieces as it has chunks
+-- as many pieces as it has chunks
 pub count-last : (task : Task) (size : ℕ) (body : List ℕ) (n : ℕ) → (task ≡ Sealing → ⊥)
     → length (sealed_chunks size body) ≡ chunk_count size n → length (parts_of task size body) ≡ chunk_count size n
 count-last Sealing size body n not count = absurd (not refl)
 count-last Opening size body n not count = count
 count-last Checking size body n not count = count
 
--- for which there is room where there is for its bytes
+-- and there is room for them where there is room for its bytes
 pub count-room : (size n room : ℕ) → 0 < size → body_length size n ≤ room * (size + 16) → chunk_count size n ≤ room
 count-room size n room some enough =
     let count = chunk_count size n in
@@ -172,7 +172,7 @@ count-room size n room some enough =
       | inr within ↦ within
     ]
 
--- how many chunks the rounds have within the longest container, the one in hand too where a byte was seen behind it
+-- how many chunks the rounds have within the longest container, the current one too where a byte was seen after it
 pub first-few : (size header most first window held : ℕ) → 4096 ≤ size → window * (size + 16) < held
     → header + (first * (size + 16) + held) ≤ container_limit header size most + 1 → first + window ≤ 4294967295
 first-few size header most first window held least full within =
@@ -188,13 +188,13 @@ first-few size header most first window held least full within =
 
 -- ---- one round more
 
--- the bytes of a full round, and the one that was seen behind it
+-- the bytes of a full round, and the one that was seen after it
 pub ahead-of : (held : List ℕ) (size : ℕ) → length held ≡ size + 1 → held ≡ take size held ++ get_or held size 0 ∷ []
 ahead-of held size long =
     let next : length held ≡ suc size = omega arith in
     sym (take_all (length held) held (omega arith)) ∙ ap (λ (n : ℕ). take n held) next ∙ take-suc held size 0 (omega arith)
 
--- what was read is the rounds that are past, and what is in hand
+-- what was read is the rounds that are done, and the current one
 pub consumed-next : (a b c : Option (List ℕ)) (past held bytes read next : List ℕ) (ahead : ℕ) → held ≡ bytes ++ ahead ∷ []
     → next ≡ ahead ∷ read → Consumes a b (past ++ held) → Consumes b c read → Consumes a c ((past ++ bytes) ++ next)
 consumed-next a b c past held bytes read next ahead split is before more =
@@ -297,7 +297,7 @@ answers-last key header most first total a b past plain held answer says whole b
     answers-body key header most total a b (past ++ held) (behind plain answer) says reads count none
     (sym (whole (sealed_chunks (size_in header) (past ++ held))) ∙ opens-last key header first past plain held answer some is before)
 
--- a container's body has some bytes, and so has what is left of it once a byte was seen behind each round
+-- a container's body has some bytes, and so has what is left of it once a byte was seen after each round
 pub some-left : (size total header cut first held : ℕ) → total ≡ header + (first * (size + 16) + held)
     → total ≡ container_length header size cut → (0 < first → 0 < held) → 0 < held
 some-left size total header cut zero held is long some =
@@ -307,9 +307,9 @@ some-left size total header cut zero held is long some =
     omega (arith, all, one, none, is, long)
 some-left size total header cut (suc n) held is long some = some (omega arith)
 
--- ---- what opening in rounds answers
+-- ---- what opening in rounds returns
 
--- what opening what stands behind a header answers
+-- what opening a container's body returns
 abbrev pub Opened : Task → List ℕ → List ℕ → ℕ → Option (List ℕ) → Option (List ℕ) → Option (List ℕ) → Option (List ℕ) → ℕ → Type 0
 Opened task key header most left left' taken taken' n = (plain : List ℕ) × (n ≡ length plain) × Answers key header most left left' (Ok plain)
     × (task ≡ Opening → Appends taken taken' plain)

@@ -1,4 +1,4 @@
--- Opening that hands its plaintext on a round behind: what of it was sent, at every end.
+-- Opening that sends its plaintext one round later: what of it was sent, at every end.
 use Rattle.std.proofs.Common.{◌≡◌, ℕ, zero, suc, ◌+◌, ◌*◌, ◌<◌, ◌⊎◌, inl, inr, true, false, List, [], ◌∷◌, ◌++◌, length, Option, Some, None}
 use Rattle.std.proofs.Common.{Result, Ok, Err, IfSome, refl, ap, ap₂, sym, subst, ◌∙◌, arith, zero-mul, append_assoc, append-nil, length-append}
 use Rattle.std.proofs.KnownBytes.{Appends-nil, Appends-trans}
@@ -228,7 +228,7 @@ sent-last key header first left left' a b c past held plain values consumed none
 
 -- ---- what may be sent
 
--- what waits, and some bytes behind it, begin the plaintext that the output may hold
+-- what waits, and some bytes after it, begin the plaintext that the output may hold
 admits-front : (b : Bound) (held : List ℕ) (a now : Option (List ℕ)) (plain waiting more whole : List ℕ) → a ≡ Some held
     → Allows b (held ++ whole) → Sent a now plain waiting → IsFront (plain ++ more) whole → Admits (Some b) now (waiting ++ more)
 admits-front b held a now plain waiting more whole known allowed sent front =
@@ -240,7 +240,7 @@ admits-front b held a now plain waiting more whole known allowed sent front =
     )
     sent.1
 
--- a bounded output may take the pieces that wait, and what the last round opens to behind them
+-- a bounded output may take the pieces that wait, and what the last round opens to after them
 admits-known : (key header : List ℕ) (most first : ℕ) (left' now : Option (List ℕ)) (b : Bound) (rest whole kept : List ℕ) (past held plain waiting more : List ℕ)
     → header_length header ≡ length header
     → ((pieces : List (List ℕ)) → unsealed_by key header 0 true pieces ≡ unsealed key header 0 pieces)

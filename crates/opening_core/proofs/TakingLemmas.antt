@@ -7,7 +7,7 @@ use Rattle.opening_core.specs.Engine.{open_read_failed, open_write_failed}
 use Rattle.opening_core.specs.Windows.{IsTakingFault, IsTurningFault}
 use Rattle.opening_core.proofs.ReadingLemmas.{not_read, not_write, not_written}
 
--- of a room's making, or of the first read
+-- of making a room, or of the first read
 pub begins-no_write : (fault : OpenFault) → (fault ≡ OutOfMemory) ⊎ (fault ≡ Read) → ◌≡◌ {A = Result ℕ OpenFault} (Err fault) (Err Write) → ⊥
 begins-no_write fault (inl is) e = cc
 begins-no_write fault (inr is) e = cc

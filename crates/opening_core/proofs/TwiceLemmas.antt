@@ -34,7 +34,7 @@ pub nothing-written : (key : List ℕ) (most : ℕ) (left a : Option (List ℕ))
 nothing-written key most None a = tt
 nothing-written key most (Some input) a = λ plain opens. ([], (plain, refl), Appends-nil a)
 
--- what was written behind the header
+-- what was written after the header
 begun-all : (key header : List ℕ) (most : ℕ) (left left' a c : Option (List ℕ)) → Consumes left left' header
     → HasBegun key header most left' a c → IfSome left (WritesSome key most a c)
 begun-all key header most None left' a c first begun = tt

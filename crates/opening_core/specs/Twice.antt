@@ -23,23 +23,23 @@ broken_by_write (Ok n) = false
 broken_by_write (Err (Broken opening_fault.Write)) = true
 broken_by_write (Err _) = false
 
--- the input opens, and its plaintext, of so many bytes, was written
+-- the input opens, and its plaintext, of n bytes, was written
 abbrev pub WritesAll : List ℕ → ℕ → Option (List ℕ) → Option (List ℕ) → List ℕ → ℕ → Type 0
 WritesAll key most taken taken' input n =
     (plain : List ℕ) × (opening key most input ≡ Ok plain) × Appends taken taken' plain × (n ≡ length plain)
 
--- where the input opens, a beginning of its plaintext was written
+-- where the input opens, a prefix of its plaintext was written
 abbrev pub WritesSome : List ℕ → ℕ → Option (List ℕ) → Option (List ℕ) → List ℕ → Type 0
 WritesSome key most taken taken' input =
     (plain : List ℕ) → opening key most input ≡ Ok plain → AppendsFront taken taken' plain
 
--- What a second reading did, of a container that a first one checked and that has this header: its reader had `left` to
--- be read, and its writer had taken `taken`, and has `taken'` now. Of both it is counted how many calls failed.
+-- What a second reading did, of a container with this header that a first one checked. Its reader had `left` left, and
+-- its writer had taken `taken` before and `taken'` after. For both, failed calls are counted.
 pub record HasWrittenAgain (key header : List ℕ) (most : ℕ) (left taken taken' : Option (List ℕ))
     (reads reads' writes writes' : Option ℕ) (result : Result ℕ Stopped) : Type 0 where
-  -- what was written is the plaintext of just what this reading gave
+  -- what was written is the plaintext of exactly what this reading gave
   pub written : IfOk result (λ n. IfSome left (λ input. WritesAll key most taken taken' input n))
-  -- else a beginning of it, where it has one
+  -- else a prefix of it, where it has one
   pub begun : OnErr result (IfSome left (WritesSome key most taken taken'))
   -- it has the header of the first reading
   pub headed : OnOk result (IfSome left (HasHeader header))
@@ -55,7 +55,7 @@ pub record HasWrittenAgain (key header : List ℕ) (most : ℕ) (left taken take
   pub read : reads' ≡ counted (broken_by_read result) reads
   pub write : writes' ≡ counted (broken_by_write result) writes
 
--- What an opening by two readings did, each of which gives `bytes`, where they are known.
+-- What an opening by two readings did. Each reading gives `bytes`, where they are known.
 pub record HasOpenedTwice (key : List ℕ) (most : ℕ) (bytes taken taken' : Option (List ℕ))
     (writes writes' : Option ℕ) (result : Result ℕ Stopped) : Type 0 where
   -- the bytes are a container, and what was written is its plaintext
@@ -64,21 +64,21 @@ pub record HasOpenedTwice (key : List ℕ) (most : ℕ) (bytes taken taken' : Op
   pub unwritten : (fault : OpenFault) → result ≡ Err (Refused fault) → Keeps taken taken'
   pub refused : (fault : OpenFault) → result ≡ Err (Refused fault) → IsOfBytes fault
       → IfSome bytes (λ input. opening key most input ≡ Err fault)
-  -- where it was broken off after the check the bytes are a container, and a beginning of its plaintext was written
+  -- where it was broken off after the check, the bytes are a container, and a prefix of its plaintext was written
   pub begun : (fault : OpenFault) → result ≡ Err (Broken fault)
       → IfSome bytes (λ input. (plain : List ℕ) × (opening key most input ≡ Ok plain) × AppendsFront taken taken' plain)
   pub broken : (fault : OpenFault) → result ≡ Err (Broken fault) → IsOfBytes fault → ⊥
   -- by Write exactly where a write failed
   pub write : writes' ≡ counted (broken_by_write result) writes
-  -- readings that give the same bytes have none that were changed
+  -- readings that give the same bytes don't differ
   pub same : result ≡ Err Changed → IfSome bytes (λ _. ⊥)
 
--- the input opens, and a bounded output may hold its plaintext behind what it took
+-- the input opens, and a bounded output may hold its plaintext after what it took
 abbrev pub MayWrite : List ℕ → ℕ → Option (List ℕ) → Option (List ℕ) → Bound → Type 0
 MayWrite key most left taken bound = (input : List ℕ) × (plain : List ℕ) × (held : List ℕ)
     × (left ≡ Some input) × (opening key most input ≡ Ok plain) × (taken ≡ Some held) × Allows bound (held ++ plain)
 
--- where the input opens, a bounded output may hold its plaintext behind what it took
+-- where the input opens, a bounded output may hold its plaintext after what it took
 abbrev pub MayWriteIt : List ℕ → ℕ → Option (List ℕ) → Option (List ℕ) → Bound → Type 0
 MayWriteIt key most bytes taken bound = (input : List ℕ) × (held : List ℕ) × (bytes ≡ Some input) × (taken ≡ Some held)
     × ((plain : List ℕ) → opening key most input ≡ Ok plain → Allows bound (held ++ plain))

@@ -1,4 +1,4 @@
--- Inside: what the functions tell each other that open in rounds.
+-- Inside: what the functions that open in rounds say to each other.
 use Rattle.std.specs.Prelude.{◌≡◌, ◌⊎◌, ℕ, ◌+◌, ◌-◌, ◌*◌, ◌<◌, ◌≤◌, ◌++◌, Bool, true, List, [], ◌∷◌, length, Option}
 use Rattle.std.specs.Prelude.{Some, None, Result, Ok, OnOk, OnErr, IfSome}
 use Rattle.container_core.specs.Chunks.{sealed_chunks}
@@ -26,10 +26,10 @@ pub record OpensRound (task : Task) (key header : List ℕ) (first : ℕ) (last 
   pub opens : unsealed_by key header first last (sealed_chunks (size_in header) body) ≡ Ok plain
   pub kept : task ≡ Opening → joined ≡ plain
 
--- What was done with the pieces on their places and what takes them, which had taken `taken`, and has `taken'` now.
+-- What became of the pieces on their places, and of what takes them: it had taken `taken` before, and `taken'` after.
 pub record HasGathered (taken taken' : Option (List ℕ)) (failures failures' : Option ℕ) (bound bound' : Option Bound)
     (values : List (Option (List ℕ))) (result : Result (Unit {0}) OpenFault) : Type 0 where
-  -- they are behind what it took before, or at a fault a front of them
+  -- they follow what it took before, or at a fault a prefix of them does
   pub all : OnOk result (Appends taken taken' (joined values))
   pub begun : OnErr result (AppendsFront taken taken' (joined values))
   -- a failed write is Write, and no other fault is
@@ -44,10 +44,10 @@ IsTakingFault writes fault = (fault ≡ opening_fault.OutOfMemory) ⊎ ((fault �
 abbrev pub IsTurningFault : Bool → OpenFault → Type 0
 IsTurningFault writes fault = (fault ≡ opening_fault.Read) ⊎ IsTakingFault writes fault
 
--- What a turn did with its reader and the window that comes next.
+-- What a turn did with its reader and the window of the next round.
 pub record HasTurned (left left' : Option (List ℕ)) (failures failures' : Option ℕ) (next next' : WindowView)
     (ahead upto : ℕ) (result : Result (Unit {0}) OpenFault) : Type 0 where
-  -- what was read stands in the window, behind the byte that was seen
+  -- what was read is in the window, after the byte that was seen
   pub read : OnOk result ((read : List ℕ) × Consumes left left' read × (next'.held ≡ ahead ∷ read))
   pub within : OnOk result (length next'.held ≤ upto)
   pub end : OnOk result (length next'.held < upto → IsAtEnd left')
@@ -55,33 +55,32 @@ pub record HasTurned (left left' : Option (List ℕ)) (failures failures' : Opti
   pub room : next.room ≤ next'.room
   pub count : failures' ≡ counted (open_read_failed result) failures
 
--- so many bytes of a container's body, in chunks of a size, can be opened by the crew, and their pieces put on the
--- places
+-- the crew can open `bytes` bytes of a container's body, in chunks of `size` bytes, and put their pieces on the places
 pub record IsReady (task : Task) (size bytes : ℕ) (crew : CrewView) (places : PlacesView) : Type 0 where
   pub idle : crew.made ≡ []
   pub sizes : (crew.size ≡ room_of task size) × (places.size ≡ room_of task size)
   pub rooms : crew.room ≡ places.room
   pub enough : bytes ≤ places.room * (size + TAG)
 
--- where what stands behind the header makes it open, what was taken begins the plaintext
+-- where what follows the header makes it open, what was taken begins the plaintext
 abbrev pub HasBegun : List ℕ → List ℕ → ℕ → Option (List ℕ) → Option (List ℕ) → Option (List ℕ) → Type 0
 HasBegun key header most left taken taken' =
     IfSome left (λ rest. (plain : List ℕ) → opening key most (header ++ rest) ≡ Ok plain → AppendsFront taken taken' plain)
 
--- the input opens, and what was taken is the plaintext, of so many bytes
+-- the input opens, and what was taken is its plaintext of n bytes
 abbrev pub HasTaken : List ℕ → ℕ → Option (List ℕ) → Option (List ℕ) → Option (List ℕ) → ℕ → Type 0
 HasTaken key most left taken taken' n = (plain : List ℕ) × Appends taken taken' plain × (n ≡ length plain)
     × IfSome left (λ input. opening key most input ≡ Ok plain)
 
--- of a last round nothing was taken, or, where it opens, a beginning of its plaintext, behind the pieces that waited
+-- at a last round a prefix of the pieces that waited was taken, or, where it opens, a prefix of these and its plaintext
 abbrev pub HasBegunLast : List ℕ → List ℕ → ℕ → List ℕ → List (Option (List ℕ)) → Option (List ℕ) → Option (List ℕ) → Type 0
 HasBegunLast key header first held waiting taken taken' =
     AppendsFront taken taken' (joined waiting)
     ⊎ ((last : List ℕ) × (unsealed_by key header first true (sealed_chunks (size_in header) held) ≡ Ok last)
     × AppendsFront taken taken' (joined waiting ++ last))
 
--- What was written of a container that wasn't opened to its end, whatever its bytes are: a beginning of what some chunks
--- open to, from the first on, which stood behind `before` in front of what the reader had; or nothing.
+-- What was written of a container that wasn't opened to its end, whatever its bytes are: a prefix of what some chunks
+-- open to, from the first on, or nothing. These chunks follow `before`, and begin what the reader had.
 pub record HasSent (key header before : List ℕ) (left taken taken' : Option (List ℕ)) : Type 0 where
   pub body : List ℕ
   pub plain : List ℕ
@@ -90,12 +89,12 @@ pub record HasSent (key header before : List ℕ) (left taken taken' : Option (L
   pub checked : (plain ≡ []) ⊎ (unsealed_by key header 0 last (sealed_chunks (size_in header) body) ≡ Ok plain)
   pub sent : AppendsFront taken taken' plain
 
--- what stands behind the header makes it open, and a bounded output may hold the plaintext behind what it took
+-- what follows the header makes it open, and a bounded output may hold the plaintext after what it took
 abbrev pub MayTake : Task → List ℕ → List ℕ → ℕ → Option (List ℕ) → Option (List ℕ) → Bound → Type 0
 MayTake task key header most left taken bound = (task ≡ Opening) × (rest : List ℕ) × (plain : List ℕ) × (held : List ℕ)
     × (left ≡ Some rest) × (opening key most (header ++ rest) ≡ Ok plain) × (taken ≡ Some held) × Allows bound (held ++ plain)
 
--- an output may take the pieces that wait, and the plaintext of the last round behind them
+-- an output may take the pieces that wait, and the plaintext of the last round after them
 pub record MayTakeLast (task : Task) (key header : List ℕ) (first : ℕ) (held : List ℕ) (waiting : List (Option (List ℕ)))
     (bound : Option Bound) (taken : Option (List ℕ)) : Type 0 where
   pub before : Admits bound taken (joined waiting)

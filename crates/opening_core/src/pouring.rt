@@ -17,8 +17,8 @@ pub(crate) struct Pouring<W: Output + Drop> {
     pub(crate) sink: W,
 }
 
-// Writes the pieces on their places, in order, and none of a piece that doesn't check. It fails where a write fails:
-// then a front of them was written.
+// Writes the pieces on their places, in order, except those that don't check. Fails where a write fails; then a prefix
+// of them was written.
 fn pour<W: Output>(sink: &mut W, places: &Places) -> Result<(), Failed>
     requires may { Admits (W.bound sink.old) (W.taken sink.old) (joined places.now.values) }
     ensures ok { OnOk result (Appends (W.taken sink.old) (W.taken sink.new) (joined places.now.values)) }

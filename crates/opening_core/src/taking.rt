@@ -1,4 +1,4 @@
-//! What the plaintext of an opening is taken to, piece by piece: one list of bytes, the buffers in which the pieces were
+//! What takes the plaintext of an opening, piece by piece: one list of bytes, the buffers in which the pieces were
 //! made, or a writer (`pouring`).
 ghost use Rattle.std.specs.Prelude.{◌≡◌, ℕ, List, Bool, false, Option, Some, None, IfErr};
 ghost use Rattle.output_core.specs.Bounds.{Admits, Bound};
@@ -23,8 +23,8 @@ pub(crate) trait Taking {
     // What it may hold, where that is bounded.
     ghost bound: { Self → Option Bound } = { λ _. None };
 
-    /// Takes the pieces on their places behind those before. `OutOfMemory` where memory for them was refused, `Write`
-    /// where a write failed: then a front of them was taken.
+    /// Takes the pieces on their places, after those that it took before. Fails with `OutOfMemory` where memory for
+    /// them was refused, and with `Write` where a write failed. Then a prefix of them was taken.
     fn take(&mut self, alloc: Global, places: &mut Places) -> Result<(), OpenFault>
         requires may { Admits (bound self.old) (bytes self.old) (joined places.old.values) }
         ensures gathered { HasGathered (bytes self.old) (bytes self.new) (failures self.old) (failures self.new)
@@ -32,7 +32,7 @@ pub(crate) trait Taking {
         ensures fault { IfErr result (IsTakingFault writes) }
         ensures places { (places.new.room ≡ places.old.room) × (places.new.size ≡ places.old.size) };
 
-    /// The same of the last round, after which the places serve no other.
+    /// Takes the pieces of the last round, as `take`. Afterwards the places serve no other.
     fn take_last(&mut self, alloc: Global, places: &mut Places) -> Result<(), OpenFault>
         requires may { Admits (bound self.old) (bytes self.old) (joined places.old.values) }
         ensures gathered { HasGathered (bytes self.old) (bytes self.new) (failures self.old) (failures self.new)
@@ -40,7 +40,7 @@ pub(crate) trait Taking {
         ensures fault { IfErr result (IsTakingFault writes) };
 }
 
-/// Copied, behind one another.
+/// Copies the pieces, one after another.
 impl Taking for Vec<u8> {
     ghost bytes = { λ out. Some out.items };
 
@@ -59,7 +59,7 @@ impl Taking for Vec<u8> {
     }
 }
 
-/// With their buffers.
+/// Takes the pieces with their buffers.
 impl Taking for Parts {
     ghost bytes = { λ out. Some out };
 

@@ -1,8 +1,9 @@
-//! Opening what can be read twice, in the memory of a verification: the first reading checks every chunk, the second one
+//! Opening what can be read twice, in the memory of a verification. The first reading checks every chunk. The second
 //! checks each again before it writes it.
 //!
-//! The header holds the second reading to the first: it has a device and a file number, and a number is sealed once. So
-//! another container of the key is refused before a byte is written, and a chunk that was changed before it is written.
+//! The header ties the second reading to the first: it has a device and a number, and a number is sealed once. So
+//! another container of the key is refused before a byte is written, and a chunk that was changed before that chunk is
+//! written.
 ghost use Rattle.std.specs.Prelude.{◌≡◌, ℕ, ◌<◌, ◌≤◌, List, [], length, Option, None, Ok, Err};
 ghost use Rattle.std.specs.Prelude.{IfOk, IfErr, IfSome, OnErr};
 ghost use Rattle.container_core.specs.Chunks.{container_limit};
@@ -33,9 +34,10 @@ use std::thread::Threads;
 pub enum Stopped {
     /// Nothing was written.
     Refused(OpenFault),
-    /// The second reading gave other bytes than the first. What was written had passed the check again.
+    /// The second reading gave other bytes than the first. All that was written had passed the check again.
     Changed,
-    /// Memory was refused or a call failed, after the whole check: a beginning was written, or nothing.
+    /// Memory was refused or a call failed, after the whole check. A prefix of the plaintext was written, perhaps
+    /// nothing.
     Broken(OpenFault),
 }
 
@@ -44,7 +46,7 @@ pub trait Readings {
     /// What reads it once.
     type Reading: Source + Drop;
 
-    // The bytes that each reading gives, where they are known. That all give the same is for the implementor to prove.
+    // The bytes that each reading gives, where they are known. The implementor proves that all give the same.
     ghost bytes: { Self → Option (List ℕ) } = { λ _. None };
 
     /// Begins a reading.
@@ -53,7 +55,7 @@ pub trait Readings {
         ensures same { Keeps (bytes self.old) (bytes self.new) };
 }
 
-// How a fault of the second reading is answered.
+// What a fault of the second reading is returned as.
 fn stop_at(fault: OpenFault) -> Stopped
     ensures changed { result ≡ Stopped.Changed → IsOfBytes fault }
     ensures broken { (f : OpenFault) → result ≡ Stopped.Broken f → IsOfBytes f → ⊥ }
@@ -67,7 +69,7 @@ fn stop_at(fault: OpenFault) -> Stopped
     }
 }
 
-// Writes the plaintext of what stands behind a header, each round while the next is checked. The writer comes back.
+// Writes the plaintext of a container's body, each round while the next is checked. Returns the writer too.
 fn write_body<T: Threads + Sync, R: Source, W: Output + Drop, G: Gate + Sync>(
     rt: &T,
     alloc: Global,
@@ -117,10 +119,10 @@ fn write_body<T: Threads + Sync, R: Source, W: Output + Drop, G: Gate + Sync>(
     (done, sink)
 }
 
-/// Reads a container with this header, which was checked before, once more, and writes its plaintext, each chunk once it
-/// was checked again, by 1 to 16 workers. Whatever this reading gives: with `Ok` it is a container with this header, and
-/// its whole plaintext was written; else what was written is chunks that had passed the check, from the first on, and of
-/// a container with another header nothing was. The writer comes back.
+/// Reads once more a container with this header, which was checked before, with 1 to 16 workers. Writes its plaintext,
+/// each chunk once it was checked again. This holds whatever the reading gives. At `Ok` it is a container with this
+/// header, and its whole plaintext was written. Else what was written is chunks that had passed the check, from the
+/// first on; of a container with another header it is nothing. Returns the writer too.
 pub fn write_again<T: Threads + Sync, R: Source, W: Output + Drop, G: Gate + Sync>(
     rt: &T,
     alloc: Global,
@@ -154,11 +156,11 @@ pub fn write_again<T: Threads + Sync, R: Source, W: Output + Drop, G: Gate + Syn
     }
 }
 
-/// Opens what can be read twice, by 1 to 16 workers, in the memory of a verification: the first reading checks every
-/// chunk, and only then the second one writes the plaintext, of at most `max_bytes` bytes, chunk by chunk. Answers the
-/// plaintext's length. At `Refused` nothing was written. At `Broken` the bytes are a container, memory was refused or a
-/// call failed, and a beginning of the plaintext was written. `Changed` comes only where the two readings don't give the
-/// same bytes. The writer comes back.
+/// Opens what can be read twice, with 1 to 16 workers, in the memory of a verification. The first reading checks every
+/// chunk. Only then the second writes the plaintext, of at most `max_bytes` bytes, chunk by chunk. Returns the
+/// plaintext's length and the writer. At `Refused` nothing was written. At `Broken` the bytes are a container, memory
+/// was refused or a call failed, and a prefix of the plaintext was written. `Changed` comes only where the two readings
+/// differ.
 pub fn run_open_twice<T: Threads + Sync, S: Readings, W: Output + Drop, G: Gate + Sync>(
     rt: &T,
     alloc: Global,

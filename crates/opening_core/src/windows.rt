@@ -1,9 +1,9 @@
-//! Opening in rounds: a window of a container is opened, or only checked, by workers while the caller's thread takes
-//! the plaintext of the one before and reads the one behind.
+//! Opening in rounds: workers open or only check a window of a container. Meanwhile the caller's thread takes the
+//! plaintext of the previous window and reads the next.
 //!
-//! A full window is opened once one more byte was seen behind it, so its last chunk isn't the last of all. A container
-//! with a chunk that doesn't check is read to its end, or to one byte past the longest: that its length is wrong comes
-//! first.
+//! A full window is opened once one more byte was seen after it, so its last chunk isn't the last of all. A wrong
+//! length comes before a chunk that doesn't check. So a container with such a chunk is read to its end, or to one byte
+//! past the longest.
 ghost use Rattle.std.specs.Prelude.{◌≡◌, ◌≢◌, ◌⊎◌, ℕ, ◌+◌, ◌-◌, ◌*◌, ◌^◌, ◌<◌, ◌≤◌, ◌++◌, Bool, true, false, List};
 ghost use Rattle.std.specs.Prelude.{[], length, take, min, slice_index, Ok, Err, IfOk, IfErr, OnOk, OnErr, IfSome};
 ghost use Rattle.std.specs.Prelude.{Some, None};
@@ -36,7 +36,7 @@ use std::mem;
 use std::thread::Threads;
 use window_core::Window;
 
-// How many bytes so many sealed chunks have, none of which is the last, under a header.
+// How many bytes `chunks` sealed chunks have under a header, where none of them is the last.
 fn sealed_bytes(chunks: u32, header: &Header) -> usize
     requires { chunks ≤ MAX_WINDOW }
     ensures value { result ≡ chunks * (size_in header.now + TAG) }
@@ -45,7 +45,7 @@ fn sealed_bytes(chunks: u32, header: &Header) -> usize
     chunks as usize * (header.chunk() + TAG)
 }
 
-// How many plaintext bytes so many chunks have, none of which is the last, under a header.
+// How many plaintext bytes `chunks` chunks have under a header, where none of them is the last.
 fn plain_bytes(chunks: u32, header: &Header) -> u64
     requires { chunks ≤ MAX_WINDOW }
     ensures value { result ≡ chunks * size_in header.now }
@@ -54,7 +54,7 @@ fn plain_bytes(chunks: u32, header: &Header) -> u64
     u64::from(chunks) * header.chunk() as u64
 }
 
-// Takes the plaintext of the round before, and reads the next one on behind the byte of it that was seen.
+// Takes the plaintext of the previous round, and reads the rest of the next after its first byte `ahead`, seen before.
 fn turn<R: Source, O: Taking>(
     alloc: Global,
     reader: &mut R,
@@ -84,7 +84,7 @@ fn turn<R: Source, O: Taking>(
     }
 }
 
-// Whether all chunks of a round check, the first of which has this number in the whole; or the least that doesn't.
+// Whether all chunks of a round check, else the first that doesn't. The round's first chunk has the number `first`.
 fn checked(places: &Places, task: Task, first: u32) -> Result<(), OpenFault>
     requires task { task ≢ Task.Sealing }
     requires numbers { first + length places.now.values ≤ 2 ^ 32 }
@@ -108,7 +108,7 @@ fn checked(places: &Places, task: Task, first: u32) -> Result<(), OpenFault>
     }
 }
 
-// For how many chunks of a container's body there is to be room, where so many bytes are at hand.
+// For how many chunks of a container's body room is made, where `bytes` bytes were read.
 fn pieces_of(bytes: usize, header: &Header, window: u32) -> u32
     requires window { (0 < window) × (window ≤ MAX_WINDOW) }
     ensures some { 0 < result }
@@ -119,8 +119,8 @@ fn pieces_of(bytes: usize, header: &Header, window: u32) -> u32
     (most.saturating_sub(1) / sealed_bytes(1, header) + 1) as u32
 }
 
-// Reads the first round of a container's body, of which at most so many bytes are read, and makes the room of its
-// opening in rounds of `window` chunks: but for the first window no more than a body of one round needs.
+// Reads the first round of a container's body, at most `most` bytes, and makes the room for opening it in rounds of
+// `window` chunks. Beyond the first window it is no more than a body of one round needs.
 fn begin<R: Source>(
     alloc: Global,
     task: Task,
@@ -160,7 +160,7 @@ fn begin<R: Source>(
     }
 }
 
-// The full round that a window has, where a byte was seen behind it.
+// The full round that a window holds, where a byte was seen after it.
 fn full_round<'a>(
     task: Task,
     key: &'a Key,
@@ -184,8 +184,8 @@ fn full_round<'a>(
     Round::new(task, key, header, first, false, cut, bytes)
 }
 
-// Opens a full round, while the plaintext of the one before is taken and the next one is read, behind the byte of it
-// that was seen.
+// Opens a full round. Meanwhile the plaintext of the previous one is taken, and the next one is read after its first
+// byte, which was seen before.
 fn open_full<T: Threads + Sync, R: Source, G: Gate + Sync, O: Taking>(
     rt: &T,
     alloc: Global,
@@ -248,7 +248,7 @@ fn open_full<T: Threads + Sync, R: Source, G: Gate + Sync, O: Taking>(
     turned
 }
 
-// Opens the last round, and takes the plaintext of the one before and of this.
+// Opens the last round, and takes the plaintext of the previous one and of this one.
 fn open_last<T: Threads + Sync, G: Gate + Sync, O: Taking>(
     rt: &T,
     alloc: Global,
@@ -316,8 +316,8 @@ fn open_last<T: Threads + Sync, G: Gate + Sync, O: Taking>(
     }
 }
 
-// Opens all that stands behind a header in rounds, has its plaintext taken where it isn't only checked, and answers how
-// many bytes that has.
+// Opens a container's body in rounds, and has its plaintext taken where it isn't only checked. Returns how many bytes
+// the plaintext has.
 pub(crate) fn open_body<T: Threads + Sync, R: Source, G: Gate + Sync, O: Taking>(
     rt: &T,
     alloc: Global,
@@ -355,7 +355,7 @@ pub(crate) fn open_body<T: Threads + Sync, R: Source, G: Gate + Sync, O: Taking>
     ensures count { R.failures reader.new ≡ counted (open_read_failed result) (R.failures reader.old) }
     ensures writes { O.failures out.new ≡ counted (open_write_failed result) (O.failures out.old) }
 {
-    // Rounds one behind the other open as the whole does.
+    // Consecutive rounds open as the whole does.
     rounds_open();
     let image = header.bytes();
     let limit = header.longest_bytes(max_bytes) as usize + 1;
@@ -392,10 +392,10 @@ pub(crate) fn open_body<T: Threads + Sync, R: Source, G: Gate + Sync, O: Taking>
     }
 }
 
-/// Opens all that the reader has left in rounds of `window` chunks (of `usual_opening`, where no number is given), by
-/// 1 to 16 workers, has its plaintext taken where the task is `Opening`, and answers its header and
-/// how many bytes the plaintext has; or the first fault of the container. A failure leaves some of the plaintext. Of an
-/// input that is too long one byte past the longest container is read.
+/// Opens all that the reader has left with 1 to 16 workers, in rounds of `window` chunks, or of `usual_opening` where
+/// `window` is `None`. Has its plaintext taken where the task is `Opening`. Returns the header and how many bytes the
+/// plaintext has, or the first fault of the container. At a failure some of the plaintext was taken. Of an input that
+/// is too long one byte past the longest container is read.
 pub(crate) fn open_rounds<T: Threads + Sync, R: Source, G: Gate + Sync, O: Taking>(
     rt: &T,
     alloc: Global,

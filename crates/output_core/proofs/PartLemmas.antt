@@ -8,7 +8,7 @@ use lib.Seq.{take-suc}
 use Rattle.io_core.specs.Streams.{Appends, AppendsFront, LacksSome}
 
 module _ {X : Type 0} (f : X → List ℕ) (xs : List X) (n : ℕ) (d : X) where
-  -- a buffer, and those behind it
+  -- a buffer, and those after it
   pub rest_split : n < length xs → flat_map f (drop n xs) ≡ f (get_or xs n d) ++ flat_map f (drop (n + 1) xs)
   rest_split at =
       let next : suc n ≡ n + 1 = omega arith in
@@ -23,13 +23,13 @@ module _ {X : Type 0} (f : X → List ℕ) (xs : List X) (n : ℕ) (d : X) where
       ∙ flat_map-append f (take n xs) (get_or xs n d ∷ [])
       ∙ ap (λ (l : List ℕ). flat_map f (take n xs) ++ l) (flat_map-cons f (get_or xs n d) [] ∙ append-nil (f (get_or xs n d)))
 
-  -- those before it, it, and those behind it
+  -- those before it, it, and those after it
   pub all_split : n < length xs → flat_map f xs ≡ flat_map f (take n xs) ++ (f (get_or xs n d) ++ flat_map f (drop (n + 1) xs))
   all_split at =
       ap (flat_map f) (sym (take-append-drop n xs)) ∙ flat_map-append f (take n xs) (drop n xs)
       ∙ ap (λ (l : List ℕ). flat_map f (take n xs) ++ l) (rest_split at)
 
--- what was written, and a beginning of what comes next
+-- what was written, and a front of what comes next
 pub begun_within : (a b c : Option (List ℕ)) (done part rest : List ℕ) → Appends a b done → AppendsFront b c part
     → AppendsFront a c (done ++ (part ++ rest))
 begun_within a b c done part rest before begun = (
@@ -38,7 +38,7 @@ begun_within a b c done part rest before begun = (
   Appends-trans a b c done begun.0 before begun.2,
 )
 
--- where a part wasn't written whole, all wasn't
+-- if a part wasn't written whole, not all was written
 short : (xs ys zs done part rest front more : List ℕ) → ys ≡ xs ++ done → part ≡ front ++ more → zs ≡ ys ++ front
     → LacksSome (Some ys) (Some zs) part → LacksSome (Some xs) (Some zs) (done ++ (part ++ rest))
 short xs ys zs done part rest front [] wrote is put lacks = λ whole. lacks (put ∙ ap (λ (l : List ℕ). ys ++ l) (sym (append-nil front) ∙ sym is))

@@ -1,6 +1,7 @@
-//! Outputs: writers of which it is asked, before they take any bytes, that what they then hold is what they may hold.
+//! Outputs: writers that may only be given bytes that they may hold. This is proof only; nothing is checked at run
+//! time.
 //!
-//! Begin with `output`. Whatever is a `Sink` is an output that may hold anything.
+//! Begin with `output`. Each `Sink` is an output that may hold anything.
 #![tactic(auto)]
 
 pub mod output;

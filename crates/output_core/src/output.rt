@@ -1,4 +1,4 @@
-//! Outputs, and what writes all of some bytes into one.
+//! Outputs, and a function that writes all of some bytes to one.
 ghost use Rattle.std.specs.Prelude.{◌≡◌, ℕ, ◌<◌, List, length, None, Option, IfOk, OnOk, OnErr, is_err};
 ghost use Rattle.std.specs.Io.{WritesAtMost};
 ghost use Rattle.io_core.specs.Streams.{Appends, AppendsFront, LacksSome, WriteAppends, counted};
@@ -6,20 +6,20 @@ ghost use Rattle.output_core.specs.Bounds.{Admits, Bound, IsWithin};
 
 use io_core::{Failed, Sink};
 
-/// What is written to, as a `Sink` is. It may be bounded: then whoever writes shows, before the call, that what the
-/// output then holds begins what it may hold. So it does at every moment, also where the run is killed in a call.
+/// A writer like a `Sink`, which may be bounded. Before each call the caller proves that what the output then holds is
+/// a front of what it may hold. This holds at every moment, also if the run is killed in a call.
 pub trait Output {
-    // The bytes that the output took, where they are known.
+    // The bytes that the output took, if known.
     ghost taken: { Self → Option (List ℕ) } = { λ _. None };
 
-    // How many calls failed so far, where that is known.
+    // How many calls failed so far, if known.
     ghost failures: { Self → Option ℕ } = { λ _. None };
 
-    // What it may hold, where that is bounded.
+    // What it may hold, if that is bounded.
     ghost bound: { Self → Option Bound } = { λ _. None };
 
-    /// Takes a front of `bytes`, and answers how many. A call with some bytes takes at least one of them, or fails. A
-    /// call that failed took none, and raises the count of failures by one (past 2^64 - 1 the count is no longer told).
+    /// Takes a front of `bytes`, and returns its length. A call with a nonempty slice takes at least one byte, or
+    /// fails. A failed call takes none, and raises the count of failures by one (past 2^64 - 1 it is unknown).
     fn put(&mut self, bytes: &[u8]) -> Result<usize, Failed>
         requires may { Admits (bound self.old) (taken self.old) bytes.now }
         ensures most { WritesAtMost result bytes.now }
@@ -28,7 +28,7 @@ pub trait Output {
         ensures same { bound self.new ≡ bound self.old }
         ensures count { failures self.new ≡ counted (is_err result) (failures self.old) };
 
-    // At every moment what a bounded output took begins what it may hold.
+    // At every moment what a bounded output took is a front of what it may hold.
     ghost within: { (output : Self) → ∥ IsWithin (bound output) (taken output) ∥₁ };
 }
 
@@ -45,7 +45,7 @@ impl<W: Sink> Output for W {
     ghost within = { λ _. ∣ tt ∣₁ };
 }
 
-/// Writes all of `bytes`. It fails where a call fails: then a front of them was written, and not all.
+/// Writes all of `bytes`. Fails if a call fails; then a front of `bytes` was written, but not all.
 pub fn put_all<W: Output>(output: &mut W, bytes: &[u8]) -> Result<(), Failed>
     requires may { Admits (W.bound output.old) (W.taken output.old) bytes.now }
     ensures ok { OnOk result (Appends (W.taken output.old) (W.taken output.new) bytes.now) }

@@ -1,4 +1,4 @@
-//! What writes bytes that stand in several buffers.
+//! Writes bytes that are in several buffers.
 ghost use Rattle.std.specs.Prelude.{◌≡◌, OnOk, OnErr, flat_map, is_err};
 ghost use Rattle.io_core.specs.Streams.{Appends, AppendsFront, LacksSome, counted};
 ghost use Rattle.output_core.specs.Bounds.{Admits};
@@ -6,7 +6,7 @@ ghost use Rattle.output_core.specs.Bounds.{Admits};
 use crate::output::{Output, put_all};
 use io_core::Failed;
 
-/// Writes all bytes of some buffers, in order. It fails where a call fails: then a front of them was written, and not
+/// Writes all bytes of some buffers, in order. Fails if a call fails; then a front of the bytes was written, but not
 /// all.
 pub fn put_each<W: Output>(output: &mut W, buffers: &[Vec<u8>]) -> Result<(), Failed>
     requires may { Admits (W.bound output.old) (W.taken output.old) (flat_map (λ b. b.items) buffers.now) }

@@ -7,24 +7,24 @@ use io_core::Failed;
 use output_core::Output;
 use std::alloc::Global;
 
-/// An output that keeps what it takes. It may hold the container of some plaintext under its key, in its shape and
-/// under its prefix: so a write of anything else has no proof. A growth that is refused is a failure.
+/// An output that keeps what it takes. It may hold the container of some plaintext with its key, shape and prefix. A
+/// write of anything else can't be proved. A refused growth is a failure.
 #[derive(Drop)]
 pub struct Bounded<'k> {
-    /// The key of the container.
+    /// The container's key.
     pub key: &'k Key,
-    /// Its shape.
+    /// The container's shape.
     pub shape: &'k Shape,
-    /// Its prefix.
+    /// The container's prefix.
     pub prefix: [u8; 7],
-    /// What was taken.
+    /// The bytes taken.
     pub bytes: Vec<u8>,
-    // What was taken begins such a container.
+    // The bytes taken are a prefix of such a container.
     ghost begins: { ∥ IsWithin (Some (Container [] key.now shape.now prefix)) (Some bytes.items) ∥₁ },
 }
 
 impl<'k> Bounded<'k> {
-    /// An output that took nothing.
+    /// Returns an output that has taken nothing.
     pub fn new(alloc: Global, key: &'k Key, shape: &'k Shape, prefix: [u8; 7]) -> Bounded<'k>
         ensures bytes { result.bytes.items ≡ [] }
         ensures key { result.key.now ≡ key.entry.now }

@@ -1,18 +1,18 @@
-//! A container is taken in parts, wherever it is cut.
+//! A container is written in two parts, cut anywhere.
 use crate::holds_both;
 use container_core::{Key, Shape};
 use std::alloc::Global;
 
-// Of three chunks of 4 KiB, the last one of a byte.
+// Three chunks of 4 KiB in version 2, the last of one byte.
 static PLAIN: [u8; 8_193] = [9; 8_193];
 
-// Where the first part ends: in and behind the headers, before and behind the bounds of a chunk and its tag, and at the
+// Where the first part ends: in and after the headers, before and after the ends of a chunk and its tag, and at the
 // ends of both containers.
 static ENDS: [usize; 12] = [
     0, 1, 24, 29, 30, 4_124, 4_125, 4_141, 4_142, 8_233, 8_269, 8_270,
 ];
 
-// Whether an output holds the container of version 1, and that of version 2, wherever it is cut.
+// Whether outputs hold the containers of versions 1 and 2, for each of these cuts.
 fn all_hold(alloc: Global) -> Option<bool> {
     let key = Key::new([7; 32]);
     let prefix = [1, 2, 3, 4, 5, 6, 7];

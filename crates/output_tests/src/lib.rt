@@ -1,4 +1,4 @@
-//! Outputs in memory that know what they may hold, and tests over them.
+//! Outputs in memory whose contracts say what they may hold, and tests with them.
 //!
 //! Begin with `bounded`.
 #![tactic(auto)]

@@ -1,11 +1,11 @@
-//! A container that is put into an output in parts.
+//! A container put into an output in parts.
 use crate::bounded::Bounded;
 use container_core::{Key, Shape, seal};
 use output_core::put_all;
 use std::alloc::Global;
 
-/// Whether the output holds the whole container once it was put in two parts, of which the first has so many bytes.
-/// None where memory is refused, or the plaintext is too long.
+/// Whether the output holds the whole container after it was put in two parts, the first of `at` bytes. Returns `None`
+/// if memory is refused, or if the plaintext is too long.
 pub fn holds_both(
     alloc: Global,
     key: &Key,

@@ -1,4 +1,4 @@
--- The last names of paths.
+-- The base names of paths.
 use Rattle.std.proofs.Common.{◌≡◌, ◌≢◌, ◌∙◌, ◌<◌, ◌≤◌, ◌+◌, ℕ, Bool, true, false, cond, ◌||◌, List, [], ◌∷◌, ◌++◌, Bor, Option, Some, None, MatchOption, take, drop, length, get_or, refl, sym, ap, ap₂, subst, arith, take-append-drop, take_all, length-take, length-append, get_or-take, ⊎_elim}
 use Rattle.std.specs.BTreeSet.{BTreeSet, contains, contains_by, Updates}
 use Rattle.std.specs.Cmp.Lexicographic.{slice_cmp, bytes_decides, nat_list_eq_equiv}
@@ -16,7 +16,7 @@ use Rattle.std.proofs.lemmas.Map.Text.{is_eq-slice_cmp}
 use Rattle.std.proofs.lemmas.Str.Pattern.{NoCharPasses-char, drop_at_char}
 use Rattle.path_core.specs.Places.{IsBehind, IsNoName, IsLastName, HasNoLastName, AreApart, TwoHaveOne}
 
--- what `rsplit_once` gives at an ASCII character
+-- the result of `rsplit_once` at an ASCII character
 pub rsplit_parts : (c : ℕ) (text : List ℕ) (r : Option (Bor (List ℕ) × Bor (List ℕ)))
     → MatchOption r (RFindsChar c text None) (λ x. (i : ℕ) × (j : ℕ) × RFindsChar c text (Some (i, j)) × (x.0.now ≡ take i text) × (x.1.now ≡ drop j text) × (i ≤ j) × (length x.0.now ≡ i) × (length x.1.now + j ≡ length text))
     → c < 128 → MatchOption r (All (λ byte. byte ≢ c) text) (λ x. All (λ byte. byte ≢ c) x.1.now × (text ≡ x.0.now ++ c ∷ x.1.now))
@@ -28,7 +28,7 @@ rsplit_parts c text (Some x) h low =
     let whole : text ≡ take i text ++ c ∷ drop j text = sym (take-append-drop i text) ∙ ap (λ l. take i text ++ l) (drop_at_char c text i j h.2.1 low) in
     rw (h.3, h.4) (lacks, whole)
 
--- at most one name stands behind the last slash of a path
+-- at most one name follows the last slash of a path
 no_slash : (front one other : List ℕ) → All (λ byte. byte ≢ 47) one → one ≡ front ++ 47 ∷ other → ⊥
 no_slash front one other lacks whole =
     let inside : length front < length one = omega (arith, ap length whole, length-append front (47 ∷ other)) in
@@ -47,15 +47,15 @@ behind_is_one path one other h k =
     (λ e. ⊎_elim (λ f. absurd (no_slash e.0 other one k.0 (sym f ∙ e.1))) (λ f. tails e.0 f.0 one other h.0 k.0 (sym e.1 ∙ f.1)) k.1)
     h.1
 
--- so a path without a last name has none
+-- so a path without a base name has none
 pub no_last_name : (path name : List ℕ) → HasNoLastName path → IsLastName path name → ⊥
 no_last_name path name none is = is.1 (subst IsNoName (behind_is_one path none.0 name none.1 is.0) none.2)
 
--- The names that were found so far, and the set of them.
+-- The names found so far, and the set of them.
 abbrev pub in_order : Bor (List ℕ) → Bor (List ℕ) → Ordering
 in_order one other = slice_cmp nat_cmp one.now other.now
 
--- the first so many paths have last names, no two of them the same, and the set has these
+-- the first `count` paths have base names, no two of them the same, and the set has these
 abbrev pub FoundUpTo : List (List ℕ) → ℕ → BTreeSet (Bor (List ℕ)) → Type 0
 FoundUpTo paths count found = (names : List (List ℕ)) × AllZip IsLastName (take count paths) names × IsDistinct bytes_eq names
     × ((bytes : List ℕ) → contains_by (λ name. slice_cmp nat_cmp bytes name.now) found ≡ list_any (bytes_eq bytes) names)
@@ -70,7 +70,7 @@ either true false = refl
 either false true = refl
 either false false = refl
 
--- one name more
+-- one more name
 pub one_found : (paths : List (List ℕ)) (i : ℕ) (found more : BTreeSet (Bor (List ℕ))) (name : Bor (List ℕ)) → i < length paths → FoundUpTo paths i found
     → IsLastName (get_or paths i []) name.now → contains in_order found name ≡ false → Updates in_order found more name true → FoundUpTo paths (i + 1) more
 one_found paths i found more name inside so_far is absent updates =
@@ -86,7 +86,7 @@ one_found paths i found more name inside so_far is absent updates =
           ∙ sym (list_any-append (bytes_eq bytes) names (name.now ∷ [])),
     )
 
--- a name that was found before
+-- a name found before
 pub found_before : (paths : List (List ℕ)) (i : ℕ) (found : BTreeSet (Bor (List ℕ))) (name : Bor (List ℕ)) → i < length paths → FoundUpTo paths i found
     → IsLastName (get_or paths i []) name.now → contains in_order found name ≡ true → TwoHaveOne paths
 found_before paths i found name inside so_far is present =
@@ -100,7 +100,7 @@ found_before paths i found name inside so_far is present =
     let same : get_or names k any.1 ≡ name.now = any.3 ∙ sym ((bytes_decides name.now any.1).0 any.4) in
     (k, i, earlier, inside, (name.now, subst (λ l. IsLastName l name.now) path (subst (IsLastName (get_or (take i paths) k [])) same one), is))
 
--- all were found
+-- all names were found
 pub all_found : (paths : List (List ℕ)) (found : BTreeSet (Bor (List ℕ))) → FoundUpTo paths (length paths) found → AreApart paths
 all_found paths found so_far = (
   so_far.0,

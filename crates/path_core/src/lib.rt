@@ -1,4 +1,4 @@
-//! The last names of paths, under which outputs stand in one folder.
+//! The base names of paths. Outputs in one folder get these names.
 #![tactic(auto)]
 
 mod places;

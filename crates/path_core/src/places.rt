@@ -1,4 +1,4 @@
-//! Where outputs go that a run puts into one folder: below it, under the last name of the file.
+//! The paths of outputs that a run puts into one folder: the folder and the base name of the file.
 
 ghost use Rattle.std.specs.Prelude.{◌≡◌, IfErr, IfSome, OnOk, None, map, string_bytes, true};
 ghost use Rattle.path_core.specs.Places.{AreApart, HasNoLastName, IsBehind, IsBelow, IsLastName, OneHasNone};
@@ -8,13 +8,13 @@ use std::alloc::Global;
 use std::collections::BTreeSet;
 use thiserror::Error;
 
-/// Why the outputs of some files can't stand in one folder. The texts are those that the program prints.
+/// Why the outputs of some files can't go into one folder. The texts are those that the program prints.
 #[derive(Clone, Copy, PartialEq, Eq, Debug, Error)]
 pub enum PlaceFault {
-    /// A file's name ends in a slash, or in `.` or `..`, or is empty.
+    /// A file's base name would be empty, `.` or `..`.
     #[error("a FILE has no last name")]
     NoName,
-    /// Two files have one last name.
+    /// Two files have the same base name.
     #[error("two FILEs have one last name")]
     SameName,
     /// Memory was refused.
@@ -22,8 +22,7 @@ pub enum PlaceFault {
     OutOfMemory,
 }
 
-/// The last name of a path: what stands behind its last slash. A path has none where nothing stands there, or only `.`
-/// or `..`.
+/// Returns the base name of a path: the part after its last slash. It is `None` if that part is empty, `.` or `..`.
 pub fn last_name(path: &str) -> Option<&str>
     ensures name { IfSome result (λ name. IsLastName path.now name.now) }
     ensures none { result ≡ None → HasNoLastName path.now }
@@ -34,7 +33,7 @@ pub fn last_name(path: &str) -> Option<&str>
     }
 }
 
-// What stands behind the last slash, or the whole path where it has none.
+// The part after the last slash, or the whole path if it has no slash.
 fn behind(path: &str) -> &str
     ensures { IsBehind path.now result.now }
 {
@@ -44,7 +43,7 @@ fn behind(path: &str) -> &str
     }
 }
 
-/// Whether each of these files has a last name, and no two have the same.
+/// Checks that each file has a base name and no two have the same one. Allocates a set of the names.
 pub fn are_apart(alloc: Global, files: &[&str]) -> Result<(), PlaceFault>
     ensures apart { OnOk result (AreApart (map (λ file. file.now) files.now)) }
     ensures no_name { IfErr result (λ fault. fault ≡ PlaceFault.NoName
@@ -66,8 +65,8 @@ pub fn are_apart(alloc: Global, files: &[&str]) -> Result<(), PlaceFault>
     Ok(())
 }
 
-/// Puts the path of an output of this name below a folder, where it answers true. There is none where the name has no
-/// last one or the folder's is empty, nor where memory is refused.
+/// Sets `path` to the path below `folder` of the output for `name`: folder, slash, base name. Returns false if `folder`
+/// is empty, `name` has no base name, or memory is refused.
 pub fn put_below(path: &mut String, folder: &str, name: &str) -> bool
     ensures { result ≡ true → IsBelow folder.now name.now (string_bytes path.new) }
 {

@@ -1,4 +1,4 @@
--- What a shelf answers, and what a work does.
+-- What a shelf gives, and what a work does.
 use Rattle.std.proofs.Common.{◌≡◌, ◌≢◌, ℕ, ◌+◌, ◌<◌, List, [], ◌∷◌, ◌++◌, length, get_or, take, drop, map, refl, ap, arith, Option, Some, None, Result, Ok, Err, suc, zero, sym, ◌∙◌, unwrap_or, replicate, length-set, inl, inr, add-zero}
 use Rattle.std.specs.List.{flat_map}
 use Rattle.std.proofs.lemmas.Bool.{cases_eq}

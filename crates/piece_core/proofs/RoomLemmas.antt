@@ -1,4 +1,4 @@
--- The parts of a whole, and the writing of one of them.
+-- The parts of a whole, and overwriting one of them.
 use Rattle.std.proofs.Common.{◌≡◌, ℕ, zero, suc, ◌+◌, ◌-◌, ◌*◌, ◌<◌, ◌≤◌, List, [], ◌∷◌, ◌++◌, length, length-append, get_or, set, take, drop, min, refl, ap, sym, ◌∙◌, arith, append_assoc, take-append-drop, length-take-le, mul-le-mul_right}
 use Rattle.std.proofs.lemmas.List.{drop-drop, drop-take, drop-append-le, length-take, length-drop, take_at, drop_at, append-nil}
 use Rattle.container_core.specs.Chunks.{parts}
@@ -106,7 +106,7 @@ last_part front size count n new r b l w some e room f g h k =
     count_next : n ≡ count - 1 → count ≡ n + 1
     count_next f = omega arith
 
--- a part of a whole written over
+-- a part of a whole is overwritten
 pub write_part : (front size count : ℕ) (whole : List ℕ) (n : ℕ) (new : List ℕ) → 0 < count → n < count
     → front + (count - 1) * size ≤ length whole → length whole ≤ front + count * size
     → length new ≡ length (take size (drop (front + n * size) whole))

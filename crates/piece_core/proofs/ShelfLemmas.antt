@@ -32,7 +32,7 @@ get_or-places_from kind header i (place ∷ rest) parts (suc n) at =
     next : (k l : ℕ) → k + 1 + l ≡ k + suc l
     next k l = omega arith
 
--- what stands at a place, by its number
+-- what is at a place, by its number
 place_shows : (kind : Kind) (header : List ℕ) (places : List Place) (parts : List (List ℕ)) (n : ℕ) → n < length places
     → get_or (places_from kind header 0 places parts) n None ≡ shown kind header n (get_or places n Empty) (get_or parts n [])
 place_shows kind header places parts n at =
@@ -150,7 +150,7 @@ whole_held kind header places parts all =
     ap (after_front (front_of kind header)) (answer_ok (places_from kind header 0 places parts) all)
     ∙ ap (λ b. Ok (front_of kind header ++ b)) (flat_held kind header 0 places parts)
 
--- where all bytes stand in the whole, the places hold all its parts
+-- where all bytes are in the whole, the places hold all its parts
 held_here : (i : ℕ) (places : List Place) (parts : List (List ℕ)) → i + length places ≡ length parts
     → ((n : ℕ) → n < length places → get_or places n Empty ≡ Here) → held_from i places parts ≡ all_of (drop i parts)
 held_here i [] parts long here = sym (ap all_of (nothing_left i parts (omega arith)))
@@ -214,7 +214,7 @@ joined_whole kind header places slice parts front bytes all e f g = (
       ∙ ap (λ x. Ok x) (ap (λ ps. front_of kind header ++ held_from 0 ps parts) (sym f) ∙ ap (λ x. x ++ held_from 0 slice parts) (sym e) ∙ sym g),
 )
 
--- where all bytes stand in the whole, it is that
+-- where all bytes are in the room, that is the whole
 pub here_whole : (kind : Kind) (header : List ℕ) (places slice : List Place) (parts : List (List ℕ)) (front bytes : List ℕ)
     → AllCheck (shelf_of kind header (places_from kind header 0 places parts)) → front ≡ front_of kind header → slice ≡ places
     → length places ≡ length parts → ((n : ℕ) → n < length slice → get_or slice n Empty ≡ Here) → bytes ≡ front ++ all_of parts

@@ -55,7 +55,7 @@ get_or-values kind key header body n at =
     get_or-numbered (value_at kind key header) 0 parts n None [] at
     ∙ ap (λ m. value_at kind key header m (eqb (n + 1) (length parts)) (get_or parts n [])) (zero-add n)
 
--- the chunks that a header names have a byte
+-- the chunks that a header names aren't empty
 some_bytes : (header : List ℕ) (size : ℕ) → size ≡ size_in header → 0 < size
 some_bytes header size e = omega (arith, e, some_size header)
 
@@ -113,7 +113,7 @@ pieces_of kind key header cut body is =
 unwrapped : (xs ys : List ℕ) → Some xs ≡ Some ys → xs ≡ ys
 unwrapped xs ys e = ap (λ o. unwrap_or o []) e
 
--- how many bytes what comes of a part has
+-- how many bytes the value of a part has
 length-value_at : (kind : Kind) (key header : List ℕ) (n : ℕ) (last : Bool) (part bytes : List ℕ)
     → value_at kind key header n last part ≡ Some bytes → length bytes ≡ piece_bytes kind (length part)
 length-value_at Sealing key header n last part bytes e =
@@ -151,7 +151,7 @@ length-value kind key header cut body n bytes is at e =
     ∙ sizes_agree kind cut.size cut.plain (length body) n (length (get_or (parts_of kind cut.size body) n [])) some is.bytes below long
     ∙ ap (λ size. min (piece_size kind size) (pieces_sum kind cut.size cut.plain - n * piece_size kind size)) is.size
 
--- of both kinds there are no more plaintext bytes than are opened
+-- of both kinds there are no more plaintext bytes than can be opened
 pub most_plain-most : (kind : Kind) → most_plain kind ≤ 4503599626321920
 most_plain-most Sealing = omega arith
 most_plain-most Opening = omega arith

@@ -16,7 +16,7 @@ shelf_number (Forged chunk) = 8
 shelf_number OutOfMemory = 9
 shelf_number Missing = 42
 
--- when a shelf refuses a piece so
+-- when a shelf refuses a piece with this fault
 abbrev pub Refuses : ShelfView → PieceView → PutFault → Type 0
 Refuses s p Stranger = Fits s p → ⊥
 Refuses s p Double = Fits s p × (place_of s p ≢ None)

@@ -7,8 +7,7 @@ use Rattle.container_core.specs.Views.{CutView}
 use Rattle.piece_core.specs.declared.work.Kind.{Kind}
 use Rattle.piece_core.specs.declared.work.Kind.TheVariants.{Sealing, Opening}
 
--- how many bytes the body has, of a plaintext of so many in chunks of a size: it is the plaintext, or what stands
--- behind a header
+-- how many bytes the body has, for n plaintext bytes in chunks of a size: it is the plaintext, or what follows a header
 abbrev pub body_bytes : Kind → ℕ → ℕ → ℕ
 body_bytes Sealing size plain = plain
 body_bytes Opening size plain = body_length size plain
@@ -18,13 +17,13 @@ abbrev pub most_plain : Kind → ℕ
 most_plain Sealing = MAX_PLAIN
 most_plain Opening = MAX_OPENED
 
--- the body is cut into the chunks that its header names, as a plaintext of so many bytes is, or its container
+-- the body is cut into the chunks that its header names, like a plaintext of that many bytes, or its container
 pub record IsCut (kind : Kind) (header : List ℕ) (cut : CutView) (body : List ℕ) : Type 0 where
   pub size : cut.size ≡ size_in header
   pub few : cut.plain ≤ most_plain kind
   pub bytes : length body ≡ body_bytes kind cut.size cut.plain
 
--- how many bytes every part of a body has but the last
+-- how many bytes every part of a body but the last has
 abbrev pub part_size : Kind → ℕ → ℕ
 part_size Sealing size = size
 part_size Opening size = size + TAG
@@ -34,12 +33,12 @@ abbrev pub least_part : Kind → ℕ
 least_part Sealing = 0
 least_part Opening = TAG
 
--- how many bytes every piece has but the last
+-- how many bytes every piece but the last has
 abbrev pub piece_size : Kind → ℕ → ℕ
 piece_size Sealing size = size + TAG
 piece_size Opening size = size
 
--- how many bytes the piece of a part of so many has: its tag more, or less
+-- how many bytes the piece of a part of n bytes has: a tag more, or a tag less
 abbrev pub piece_bytes : Kind → ℕ → ℕ
 piece_bytes Sealing part = part + TAG
 piece_bytes Opening part = part - TAG

@@ -21,7 +21,7 @@ pub record ShelfView : Type 0 where
   pub header : List ℕ
   pub places : List (Option PieceView)
 
--- a work's piece of a number
+-- a work's piece of this number
 abbrev pub piece_of : WorkView → ℕ → PieceView
 piece_of w n = record { kind = w.kind; header = w.header; number = n; value = slice_index_or w.values n None }
 
@@ -35,7 +35,7 @@ pub record Fits (s : ShelfView) (p : PieceView) : Type 0 where
   pub header : p.header ≡ s.header
   pub number : p.number < length s.places
 
--- what stands at the piece's place
+-- what is on the piece's place
 abbrev pub place_of : ShelfView → PieceView → Option PieceView
 place_of s p = slice_index_or s.places p.number None
 

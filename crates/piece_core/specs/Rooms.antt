@@ -7,7 +7,7 @@ use Rattle.piece_core.specs.declared.shelf.Place.TheVariants.{Empty, Forged, Her
 use Rattle.piece_core.specs.Pieces.{PieceView, ShelfView}
 use Rattle.piece_core.specs.Answer.{value_in}
 
--- what stands before the pieces, and a part for each of them
+-- what comes before the pieces, and a part for each of them
 pub record RoomView : Type 0 where
   pub front : List ℕ
   pub parts : List (List ℕ)
@@ -63,7 +63,7 @@ IsWithout (Apart bytes) = ⊥
 abbrev pub HasAll : List Place → Type 0
 HasAll places = (n : ℕ) → n < length places → IsWithout (slice_index_or places n Empty) → ⊥
 
--- the least place without bytes
+-- the first place without bytes
 pub record IsFirstWithout (places : List Place) (n : ℕ) : Type 0 where
   pub below : n < length places
   pub without : IsWithout (slice_index_or places n Empty)

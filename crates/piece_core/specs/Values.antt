@@ -13,7 +13,7 @@ unfoldable pub numbered : {A : Type 0} → (ℕ → Bool → List ℕ → A) →
 numbered f number [] = []
 numbered f number (part ∷ rest) = f number (is_nil rest) part ∷ numbered f (number + 1) rest
 
--- the parts of a body: the chunks of this size of a plaintext, or the sealed chunks of what stands behind a header
+-- the parts of a body: the chunks of this size of a plaintext, or the sealed chunks that follow a header
 abbrev pub parts_of : Kind → ℕ → List ℕ → List (List ℕ)
 parts_of Sealing size plain = chunks size plain
 parts_of Opening size sealed = sealed_chunks size sealed

@@ -33,7 +33,7 @@ pub enum ShelfFault {
     /// A place is empty.
     #[error("a piece is missing")]
     Missing,
-    /// Every place is filled, and this is the least piece that doesn't check.
+    /// Every place is filled, and this is the first piece that doesn't check.
     #[error("chunk {chunk} does not check")]
     Forged { chunk: u32 },
     /// Memory was refused.

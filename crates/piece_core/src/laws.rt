@@ -1,4 +1,4 @@
-//! What follows of the definitions alone, each law the contract of a function that does nothing.
+//! What follows from the definitions alone. Each law is the contract of a function that does nothing.
 ghost use Rattle.std.specs.Prelude.{◌≡◌, ℕ, ◌+◌, ◌==◌, ◌<◌, List, [], length, slice_index_or, None, Ok};
 ghost use Rattle.container_core.specs.Container.{container, size_in};
 ghost use Rattle.container_core.specs.Opening.{early_fault, opening};
@@ -8,7 +8,7 @@ ghost use Rattle.piece_core.specs.Answer.{IsOf, named, whole_of};
 ghost use Rattle.piece_core.specs.Pieces.{WorkView, ShelfView, empty_shelf, piece_of, with_piece};
 ghost use Rattle.piece_core.specs.Values.{parts_of, value_at, values_of, sealing_of, opening_of};
 
-/// The whole of a sealing is the container; the whole of an opening without an early fault is what opening answers.
+/// The whole of a sealing is the container. The whole of an opening without an early fault is what `opening` gives.
 pub fn wholes_of_works()
     ensures sealing { (key prefix plain : List ℕ) (shape : ShapeView)
         → whole_of (sealing_of key shape prefix plain) ≡ Ok (container key shape prefix plain) }
@@ -27,7 +27,7 @@ pub fn pieces_by_number()
         (slice_index_or (parts_of kind (size_in header) body) n []) }
 {}
 
-/// A new shelf of a work has none but the work's pieces, and so has one that takes another of them.
+/// A new shelf of a work has only pieces of that work, and still does after it takes another of them.
 pub fn shelves_of_a_work()
     ensures empty { (work : WorkView) → IsOf work (empty_shelf work) }
     ensures filled { (work : WorkView) (shelf : ShelfView) (n : ℕ) → IsOf work shelf → n < length work.values

@@ -1,8 +1,8 @@
-//! One sealing or opening cut into pieces, and the shelf that joins them, for whoever makes pieces on his own threads.
+//! One sealing or opening cut into pieces, and the shelf that joins them, for callers with their own threads.
 //!
-//! A `Work` is one sealing or one opening, cut into pieces: a piece is one chunk sealed or opened, and can be made by
-//! itself. A `Shelf` has a place for each piece of a work and joins them once every place is filled, so it makes no
-//! difference who made which piece, or when. No thread is started here, and nothing waits.
+//! A `Work` is one sealing or one opening, cut into pieces. A piece is one chunk sealed or opened, and can be made by
+//! itself. A `Shelf` has a place for each piece of a work, and joins them once every place is filled. So it doesn't
+//! matter which thread made which piece, or when. No thread is started here, and nothing waits.
 #![tactic(auto)]
 
 pub mod fault;

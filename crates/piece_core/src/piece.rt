@@ -1,4 +1,4 @@
-//! One piece of a work: what came of one chunk, and which of the work's pieces it is.
+//! One piece of a work: what came of one chunk, and its number in the work.
 ghost use Rattle.std.specs.Prelude.{◌≡◌, option_map};
 ghost use Rattle.container_core.specs.Stream.{prefix_in};
 
@@ -58,7 +58,7 @@ impl Piece {
         self.number
     }
 
-    /// The chunk sealed, with its tag behind it, or the chunk opened; `None` where it doesn't check.
+    /// The sealed chunk with its tag after it, or the opened chunk; `None` where it doesn't check.
     pub fn bytes(&self) -> Option<&[u8]>
         ensures { option_map (λ b. b.now) result ≡ self.now.value }
     {

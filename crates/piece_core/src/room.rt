@@ -11,7 +11,7 @@ use container_core::{Header, TAG};
 use std::alloc::{AllocError, Global};
 use std::marker::Model;
 
-// What stands before the pieces, and a part for each of them.
+// What comes before the pieces, and a part for each of them.
 #[derive(Drop)]
 pub(crate) struct Room {
     front: usize,
@@ -32,12 +32,12 @@ impl Model for Room {
       parts = parts r.size (r.count - 1) (drop r.front r.whole.items);
     } };
 
-    // Every part but the last has `size` bytes, and the last no more.
+    // Every part but the last has `size` bytes, and the last has at most `size`.
     ghost invariant = { λ r. (0 < r.count) × (r.front + (r.count - 1) * r.size ≤ length r.whole.items)
         × (length r.whole.items ≤ r.front + r.count * r.size) };
 }
 
-// Appends so many zeros, to be written over.
+// Appends `count` zeros, which are overwritten later.
 fn append_zeros(bytes: &mut Vec<u8>, count: usize) -> Result<(), AllocError>
     requires { length bytes.old.items + count < 2 ^ 63 }
     ensures { OnOk result (bytes.new.items ≡ bytes.old.items ++ replicate count 0) }
@@ -45,7 +45,7 @@ fn append_zeros(bytes: &mut Vec<u8>, count: usize) -> Result<(), AllocError>
     bytes.resize(bytes.len() + count, 0)
 }
 
-// Bytes of every piece but the last.
+// How many bytes every piece but the last has.
 fn size_of_piece(kind: Kind, header: &Header) -> usize
     ensures { result ≡ piece_size kind (size_in header.now) }
 {
@@ -55,7 +55,7 @@ fn size_of_piece(kind: Kind, header: &Header) -> usize
     }
 }
 
-// What stands before the pieces, with room for so many bytes in all.
+// What comes before the pieces, with room for `bytes` bytes more.
 fn front_bytes(alloc: Global, work: &Work, bytes: usize) -> Result<Vec<u8>, AllocError>
     requires { bytes ≤ 2 ^ 53 }
     ensures front { IfOk result (λ v. v.items ≡ front_of work.now.kind work.now.header) }
@@ -78,7 +78,7 @@ fn begin_at(front: usize, size: usize, number: usize, bytes: usize) -> usize
     front + number * size
 }
 
-// The part of so many bytes at most that begins here.
+// The part that begins at `begin`, at most `size` bytes.
 fn cut_at(whole: &[u8], begin: usize, size: usize) -> &[u8]
     requires { begin ≤ length whole.now }
     ensures { result.now ≡ take size (drop begin whole.now) }
@@ -88,7 +88,7 @@ fn cut_at(whole: &[u8], begin: usize, size: usize) -> &[u8]
     part
 }
 
-// Writes these bytes from a place on.
+// Overwrites the bytes from `begin` on with these.
 fn write_over(whole: &mut [u8], begin: usize, bytes: &[u8])
     requires { begin + length bytes.now ≤ length whole.old }
     ensures { whole.new ≡ take begin whole.old ++ (bytes.now ++ drop (begin + length bytes.now) whole.old) }
@@ -108,7 +108,7 @@ fn write_at(whole: &mut Vec<u8>, begin: usize, bytes: &[u8])
 }
 
 impl Room {
-    // The front of a work's whole, and a part for each piece that is as long as the piece.
+    // Makes the front of a work's whole, and for each piece a part that is as long as the piece.
     pub(crate) fn new(alloc: Global, work: &Work) -> Result<Room, AllocError>
         ensures front { IfOk result (λ room. room.front ≡ front_of work.now.kind work.now.header) }
         ensures count { IfOk result (λ room. length room.parts ≡ length work.now.values) }
@@ -128,7 +128,7 @@ impl Room {
         })
     }
 
-    // What stands before the pieces.
+    // What comes before the pieces.
     pub(crate) fn front(&self) -> &[u8]
         ensures { result.now ≡ self.now.front }
     {
@@ -156,7 +156,7 @@ impl Room {
         cut_at(whole, begin, self.size)
     }
 
-    // Writes the part of this number.
+    // Overwrites the part of this number.
     pub(crate) fn write(&mut self, number: usize, bytes: &[u8])
         requires inside { number < length self.old.parts }
         requires fits { length bytes.now ≡ length (slice_index_or self.old.parts number []) }
@@ -167,7 +167,7 @@ impl Room {
         write_at(&mut self.whole, begin, bytes);
     }
 
-    // The front and all parts, one behind the other.
+    // The front and all parts, one after another.
     pub(crate) fn into_bytes(self) -> Vec<u8>
         ensures { result.items ≡ self.front ++ all_of self.parts }
     {

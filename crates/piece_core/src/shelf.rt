@@ -1,7 +1,7 @@
 //! A place for each piece of a work.
 //!
-//! A piece that has as many bytes as its place is written where it belongs in the whole, and let go. Another one, which
-//! this shelf's work did not make, is kept apart.
+//! A piece that has as many bytes as its place is copied to its position in the whole, and dropped. One of another
+//! length was made by another work. It is kept apart.
 ghost use Rattle.std.specs.Prelude.{◌≡◌, ◌≢◌, ℕ, ◌+◌, ◌<◌, ◌≤◌, ◌++◌, ◌↔◌, [], length, replicate, slice_index_or};
 ghost use Rattle.std.specs.Prelude.{option_map, None, Some, Ok, Err, IfOk, IfErr, OnOk, OnErr, IfSome, IfNone, IsTrue};
 ghost use Rattle.std.specs.Bool.{OnTrue, OnFalse};
@@ -25,7 +25,7 @@ pub(crate) enum Place {
     Empty,
     // The piece doesn't check.
     Forged,
-    // The piece's bytes stand in the whole.
+    // The piece's bytes are in the whole.
     Here,
     // The piece's bytes, which don't have the length of the place.
     Apart(Vec<u8>),
@@ -59,7 +59,7 @@ impl Model for Shelf {
         × (length s.places.items ≡ length s.room.parts) × (vec_len s.places ≤ MAX_PIECES) };
 }
 
-// So many empty places.
+// Makes `count` empty places.
 fn empty_places(alloc: Global, count: u32) -> Result<Vec<Place>, AllocError>
     ensures { IfOk result (λ v. v.items ≡ replicate count Place.Empty) }
 {
@@ -115,7 +115,7 @@ fn is_without(place: &Place) -> bool
     }
 }
 
-// The least place without bytes.
+// The first place without bytes.
 fn first_without(places: &[Place]) -> Option<u32>
     requires { length places.now ≤ MAX_PIECES }
     ensures found { IfSome result (IsFirstWithout places.now) }
@@ -129,7 +129,7 @@ fn first_without(places: &[Place]) -> Option<u32>
     None
 }
 
-// Whether the bytes of all pieces stand in the whole.
+// Whether the bytes of all pieces are in the whole.
 fn are_here(places: &[Place]) -> bool
     ensures yes { OnTrue result ((n : ℕ) → n < length places.now
         → slice_index_or places.now n Place.Empty ≡ Place.Here) }
@@ -156,7 +156,7 @@ fn append_held(bytes: &mut Vec<u8>, place: &Place, part: &[u8]) -> Result<(), Al
     }
 }
 
-// The bytes of all places, behind what stands before them.
+// The bytes of all places, after what comes before the pieces.
 fn joined(alloc: Global, room: &Room, places: &[Place]) -> Result<Vec<u8>, AllocError>
     requires { length places.now ≡ length room.now.parts }
     ensures { IfOk result (λ v. v.items ≡ room.now.front ++ held_from 0 places.now room.now.parts) }
@@ -168,7 +168,7 @@ fn joined(alloc: Global, room: &Room, places: &[Place]) -> Result<Vec<u8>, Alloc
     Ok(bytes)
 }
 
-// Puts the bytes of a piece where they belong, or keeps them apart where they don't have the length of their place.
+// Copies the bytes of a piece to their position, or keeps them apart where they don't have the length of their place.
 fn keep(room: &mut Room, number: usize, value: Option<Vec<u8>>) -> Place
     requires { number < length room.old.parts }
     ensures front { room.new.front ≡ room.old.front }
@@ -188,8 +188,8 @@ fn keep(room: &mut Room, number: usize, value: Option<Vec<u8>>) -> Place
 }
 
 impl Shelf {
-    /// A shelf for the pieces of this work, with all places empty, and room for the whole. `AllocError` where memory
-    /// was refused.
+    /// Makes a shelf for the pieces of this work, with all places empty, and room for the whole. Fails with
+    /// `AllocError` where memory was refused.
     pub fn new(alloc: Global, work: &Work) -> Result<Shelf, AllocError>
         ensures { IfOk result (λ s. s ≡ empty_shelf work.now) }
     {
@@ -246,9 +246,9 @@ impl Shelf {
         }
     }
 
-    /// Puts a piece on its place. `Stranger` is tested first: where the piece is of another kind or header, or its
-    /// number isn't below the count. Else `Double` where its place is taken. At both nothing changes, and the piece is
-    /// handed back. Takes no memory.
+    /// Puts a piece on its place. First tests for `Stranger`: the piece is of another kind or header, or its number
+    /// isn't below the count. Then for `Double`: its place is taken. At both nothing changes, and the piece is handed
+    /// back. Allocates nothing.
     pub fn put(&mut self, piece: Piece) -> Result<(), (PutFault, Piece)>
         // The place was empty and is filled, and no other changed.
         ensures filled { OnOk result (Fits self.old piece × (place_of self.old piece ≡ None)
@@ -270,15 +270,15 @@ impl Shelf {
         Ok(())
     }
 
-    /// The pieces joined: of a sealing's pieces the container, of an opening's the plaintext. `Missing` where a place
-    /// is empty; else `Forged` of the least piece that doesn't check; else `OutOfMemory` where memory was refused. A
-    /// fault hands the shelf back as it was.
+    /// Joins the pieces: those of a sealing are the container, those of an opening the plaintext. Fails with `Missing`
+    /// where a place is empty, else with `Forged` for the first piece that doesn't check, else with `OutOfMemory` where
+    /// memory was refused. A fault hands the shelf back as it was.
     pub fn finish(self, alloc: Global) -> Result<Vec<u8>, (ShelfFault, Shelf)>
         ensures whole { IfOk result (λ v. IsFull self × (shelf_whole self ≡ Ok v.items)) }
         ensures back { IfErr result (λ e. e.1 ≡ self) }
         ensures fault { IfErr result (λ e. EndsBy self e.0) }
 
-        // Of pieces that a work of this shelf made, the whole is that work's, and so is the chunk that doesn't check.
+        // For pieces that a work of this shelf made, the whole is that work's, and so is the chunk that doesn't check.
         ensures made { IfOk result (λ v. (work : WorkView) → IsOf work self → whole_of work ≡ Ok v.items) }
         ensures unmade { IfErr result (λ e. (work : WorkView) (chunk : ℕ) → IsOf work self
             → e.0 ≡ ShelfFault.Forged chunk → whole_of work ≡ Err chunk) }

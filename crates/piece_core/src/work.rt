@@ -16,8 +16,8 @@ use container_core::{
 use std::alloc::{AllocError, Global};
 use std::marker::Model;
 
-/// The most pieces of a work: as many as a container has chunks. A sealing has at most 2^28: as many as the greatest
-/// plaintext has of the least chunks.
+/// The most pieces of a work: as many as a container has chunks. A sealing has at most 2^28, since the longest
+/// plaintext has that many of the smallest chunks.
 pub const MAX_PIECES: u32 = MAX_CHUNKS;
 
 /// What is done to each chunk.
@@ -55,7 +55,7 @@ impl<'a> Model for Work<'a> {
     ghost invariant = { λ w. IsCut w.kind w.header w.cut w.body.now };
 }
 
-// The part of a body that the piece of this number is made of.
+// The part of a body that the piece of this number is made from.
 fn part_at(kind: Kind, cut: Cut, body: &[u8], number: u32) -> &[u8]
     requires number { number < chunk_count cut.size cut.plain }
     requires cut { length body.now ≡ body_bytes kind cut.size cut.plain }
@@ -100,7 +100,7 @@ fn value_of(
     }
 }
 
-// Bytes of all pieces of a body that is cut so.
+// How many bytes all pieces of a body with this cut have together.
 fn sum_of_pieces(kind: Kind, cut: Cut) -> usize
     requires { cut.plain ≤ MAX_OPENED }
     ensures sum { result ≡ pieces_sum kind cut.size cut.plain }
@@ -113,7 +113,7 @@ fn sum_of_pieces(kind: Kind, cut: Cut) -> usize
 }
 
 impl<'a> Work<'a> {
-    /// The work of sealing a plaintext of at most 2^40 bytes in a shape. Takes no memory.
+    /// The work of sealing a plaintext of at most 2^40 bytes in a shape. Allocates nothing.
     pub fn sealing(key: &'a Key, shape: &Shape, prefix: [u8; 7], plain: &'a [u8]) -> Work<'a>
         requires { length plain.now ≤ MAX_PLAIN }
         ensures { result ≡ sealing_of key.now shape.now prefix plain.now }
@@ -129,9 +129,9 @@ impl<'a> Work<'a> {
         }
     }
 
-    /// The work of opening a container of at most 2^52 - 2^20 plaintext bytes in at most 2^32 - 1 chunks, of either
-    /// version, or the first fault that shows before any chunk is opened, as `container_core::begin` names it: from
-    /// `TooLong` and those of the header to `BadLength`. Takes no memory.
+    /// The work of opening a container, of either version, of at most 2^52 - 2^20 plaintext bytes in at most 2^32 - 1
+    /// chunks. Or the first fault that is found before any chunk is opened, as `container_core::begin` names it: from
+    /// `TooLong` and those of the header to `BadLength`. Allocates nothing.
     pub fn opening(key: &'a Key, container: &'a [u8]) -> Result<Work<'a>, OpenFault>
         ensures work { IfOk result (λ w. w ≡ opening_of key.now container.now) }
         ensures faultless { OnOk result (early_fault key.now MAX_OPENED container.now ≡ None) }
@@ -152,7 +152,7 @@ impl<'a> Work<'a> {
         }
     }
 
-    /// How many pieces there are: one for each chunk. Takes no memory.
+    /// How many pieces there are: one for each chunk. Allocates nothing.
     pub fn count(&self) -> u32
         ensures count { result ≡ length self.now.values }
         ensures some { 0 < result }
@@ -162,8 +162,8 @@ impl<'a> Work<'a> {
         self.cut.count()
     }
 
-    /// The piece of this number, counted from 0: its chunk sealed, or opened, or that it doesn't check. The same number
-    /// gives the same piece. `AllocError` where memory was refused.
+    /// Makes the piece of this number, counted from 0: its chunk sealed, or opened, or that it doesn't check. The same
+    /// number gives the same piece. Fails with `AllocError` where memory was refused.
     pub fn piece(&self, alloc: Global, number: u32) -> Result<Piece, AllocError>
         requires { number < length self.now.values }
         ensures { IfOk result (λ p. p ≡ piece_of self.now number) }
@@ -180,14 +180,13 @@ impl<'a> Work<'a> {
         })
     }
 
-    // Bytes of all pieces together.
+    // How many bytes all pieces have together.
     pub(crate) fn bytes_of_pieces(&self) -> usize
         ensures least { (length self.now.values - 1) * piece_size self.now.kind (size_in self.now.header) ≤ result }
         ensures most { result ≤ length self.now.values * piece_size self.now.kind (size_in self.now.header) }
         ensures few { result ≤ 2 ^ 53 }
 
-        // Every piece that checks has the length of a part, where as many bytes are cut behind each `piece_size` of
-        // them.
+        // Every piece that checks has the length of a part, if as many bytes are cut after every `piece_size` of them.
         ensures each { (n : ℕ) (bytes : List ℕ)
             → n < length self.now.values → slice_index_or self.now.values n None ≡ Some bytes
             → length bytes ≡ min (piece_size self.now.kind (size_in self.now.header))

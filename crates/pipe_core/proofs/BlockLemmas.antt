@@ -25,7 +25,7 @@ one_less zero s some = absurd (omega arith)
 one_less (suc k) s some =
     let e : suc k - 1 ≡ k = omega arith in ap (λ (n : ℕ). n * s + s) e ∙ omega arith
 
--- the last chunk begins behind the others, and has no more bytes than they have
+-- the last chunk begins after the others, and has no more bytes than they have
 pub record IsLastChunk (s n before : ℕ) : Type 0 where
   pub begins : before * s ≤ n
   pub some : 0 < before → before * s < n
@@ -54,7 +54,7 @@ last_chunk s n sub some is =
       bytes = body-full s n ∙ ap (λ (k : ℕ). n + 16 * (k / s + 1)) (sym is);
     }
 
--- a full block, and one that is shorter
+-- a full block, and a shorter one
 pub full_count : (each s : ℕ) → 0 < each → 0 < s → chunk_count s (each * s) ≡ each
 full_count each s one some = count-whole s each some one
 
@@ -100,7 +100,7 @@ is_moved old new from to n m same less room is =
       behind = ap (drop (to + n)) all ∙ drop_at (front ++ part) back (to + n) (omega arith);
     }
 
--- what stands behind what was sealed
+-- what follows what was sealed
 pub sealed_behind : (to n : ℕ) (front place place' rest : List ℕ) → length front ≡ to → drop (n + 16) place' ≡ drop (n + 16) place
     → drop (to + n) (front ++ place) ≡ drop (to + n) rest
     → drop (to + n + 16) (front ++ place') ≡ drop (to + n + 16) rest
@@ -123,7 +123,7 @@ stream_by_one key header size number true text some few =
 stream_by_one key header size number false text some few =
     ap (stream_by key header number false) (chunks-short size text some few) ∙ append-nil (sealed_chunk key header number false text)
 
--- a chunk of what is still as it was
+-- a chunk of what is unchanged
 pub same_chunk : (s k j filled : ℕ) (first now : List ℕ) → k * s + s ≡ j * s → j * s ≤ filled → take (j * s) now ≡ take (j * s) first
     → take s (drop (k * s) now) ≡ take s (drop (k * s) (take filled first))
 same_chunk s k j filled first now is within same =

@@ -15,7 +15,7 @@ use Rattle.pipe_core.specs.Order.{behind, chunks_so_far, front_at, AreWritten, F
 use Rattle.pipe_core.specs.Pieces.{block, IsPart, StandsIn}
 use Rattle.pipe_core.proofs.BlockLemmas.{pos_times}
 
--- chunks behind so many full blocks
+-- chunks after n full blocks
 blocks_next : (each : ℕ) (key header : List ℕ) (last : Bool) (xs ys : List ℕ) (n : ℕ) → 0 < size_in header → 0 < each
     → length xs ≡ n * block each header → 0 < n → 0 < length ys
     → stream_by key header 0 last (chunks (size_in header) (xs ++ ys))
@@ -27,7 +27,7 @@ blocks_next each key header last xs ys n size one long some more =
     stream_by-chunks key header s 0 last xs ys (each * n) size (long ∙ whole) (pos_times each n one some) more
     ∙ ap (λ (m : ℕ). stream_by key header 0 false (chunks s xs) ++ stream_by key header m last (chunks s ys)) e
 
--- what is written once a block more is, by the number of those before
+-- what is written with one more block, by the number of those before
 pub so_far_next : (each : ℕ) (front key header past text : List ℕ) (number : ℕ) (last : Bool) → 0 < size_in header → 0 < each
     → length past ≡ number * block each header → (0 < number → 0 < length text)
     → chunks_so_far front key header past ++ (front_at front number ++ stream_by key header (each * number) last (chunks (size_in header) text))
@@ -74,12 +74,12 @@ behind_full each front key header past text after number size one long full more
     ∙ sym (append_assoc front (stream_by key header 0 false (chunks s (past ++ text))) tail)
     ∙ ap (λ (l : List ℕ). l ++ tail) (sym (so_far_next each front key header past text number false size one long (λ _. omega arith)))
 
--- two beginnings of one length
+-- two fronts of one length
 same_past : (past rest before text after : List ℕ) (n : ℕ) → length past ≡ n → length before ≡ n → past ++ rest ≡ before ++ (text ++ after) → before ≡ past
 same_past past rest before text after n a b e =
     sym (take_at before (text ++ after) n b) ∙ ap (take n) (sym e) ∙ take_at past rest n a
 
--- what follows a full block, where the input is told; else it may be any byte
+-- what follows a full block if the input is known; else it may be any byte
 pub after_of : (size number : ℕ) (told : Option (List ℕ)) (past text : List ℕ) → length past ≡ number * size → IfSome told (Follows past)
     → IfSome told (λ input. StandsIn size input number false text)
     → (after : List ℕ) × (0 < length after) × IfSome told (λ input. input ≡ past ++ (text ++ after))
@@ -100,13 +100,13 @@ last_of size number (Some input) past text long of stands =
     (same_past past of.0 stands.before text stands.after (number * size) long stands.behind (sym of.1 ∙ stands.is))
     ∙ ap (λ (l : List ℕ). past ++ (text ++ l)) (stands.end refl) ∙ ap (λ (l : List ℕ). past ++ l) (append-nil text)
 
--- what follows is behind both
+-- what follows comes after both
 follows_more : (told : Option (List ℕ)) (past text after : List ℕ) → 0 < length after → IfSome told (λ input. input ≡ past ++ (text ++ after))
     → IfSome told (Follows (past ++ text))
 follows_more None past text after more is = tt
 follows_more (Some input) past text after more is = (after, is ∙ sym (append_assoc past text after), λ _. more)
 
--- a beginning of what comes next was written, and not all
+-- a front of what comes next was written, but not all
 cut_of : (front key header plain done next tail : List ℕ) (told taken before after : Option (List ℕ)) → IfSome told (λ input. input ≡ plain)
     → behind front key header plain ≡ (done ++ next) ++ tail → Appends taken before done → AppendsFront before after next → LacksSome before after next
     → IsCutOff front key header told taken after
@@ -126,7 +126,7 @@ cut_of front key header plain done next tail told taken before after of whole gr
   subst (LacksSome taken after) (sym (whole ∙ append_assoc done next tail)) (lacks_within taken before after done next tail grown begun lacks),
 )
 
--- a full block more is written
+-- one more full block is written
 pub written_more : (each : ℕ) (front key header : List ℕ) (told taken before after : Option (List ℕ)) (number : ℕ) (bytes : List ℕ)
     → 0 < size_in header → 0 < each → IsPart each key header told number false bytes
     → AreWritten each front key header told taken before number → Appends before after (front_at front number ++ bytes)
@@ -151,7 +151,7 @@ written_more each front key header told taken before after number bytes size one
           (Appends-trans taken before after _ _ was.grown now);
     }
 
--- a beginning of it, and not all
+-- a front of it, but not all
 pub cut_more : (each : ℕ) (front key header : List ℕ) (told taken before after : Option (List ℕ)) (number : ℕ) (bytes : List ℕ)
     → 0 < size_in header → 0 < each → IsPart each key header told number false bytes
     → AreWritten each front key header told taken before number → AppendsFront before after (front_at front number ++ bytes)
@@ -184,7 +184,7 @@ written_last each front key header told taken before after number bytes size one
     all None is = tt
     all (Some input) is = subst (λ (l : List ℕ). Appends taken after (behind front key header l)) (sym is) whole
 
--- a beginning of it, and not all
+-- a front of it, but not all
 pub cut_last : (each : ℕ) (front key header : List ℕ) (told taken before after : Option (List ℕ)) (number : ℕ) (bytes : List ℕ)
     → 0 < size_in header → 0 < each → IsPart each key header told number true bytes
     → AreWritten each front key header told taken before number → AppendsFront before after (front_at front number ++ bytes)
@@ -211,7 +211,7 @@ begun_tail each front key header (x ∷ past) rest (suc n) size one long more =
           ∙ sym (append_assoc front done tail),
     )
 
--- a beginning is what was written
+-- a front is what was written
 pub begun_now : (each : ℕ) (front key header : List ℕ) (told taken now : Option (List ℕ)) (number : ℕ) → 0 < size_in header → 0 < each
     → AreWritten each front key header told taken now number → HasBegun front key header told taken now
 begun_now each front key header None taken now number size one was =
@@ -260,7 +260,7 @@ pub front_first : (front : List ℕ) (number : ℕ) → number ≡ 0 → front_a
 front_first front zero none = refl
 front_first front (suc n) none = absurd (omega (arith, none))
 
--- a beginning of the first of two
+-- a front of the first of two
 pub begun_before : (a b : Option (List ℕ)) (xs ys : List ℕ) → AppendsFront a b xs → AppendsFront a b (xs ++ ys)
 begun_before a b xs ys begun = (begun.0, (begun.1.0 ++ ys, ap (λ (l : List ℕ). l ++ ys) begun.1.1 ∙ append_assoc begun.0 begun.1.0 ys), begun.2)
 
@@ -273,7 +273,7 @@ pub lacks_behind : (a b c : Option (List ℕ)) (xs ys : List ℕ) → Appends a 
 lacks_behind a b c xs ys before begun lacks =
     subst (λ (l : List ℕ). LacksSome a c (xs ++ l)) (append-nil ys) (lacks_within a b c xs ys [] before begun lacks)
 
--- the first, and a beginning of the second
+-- the first, and a front of the second
 pub begun_behind : (a b c : Option (List ℕ)) (xs ys : List ℕ) → Appends a b xs → AppendsFront b c ys → AppendsFront a c (xs ++ ys)
 begun_behind a b c xs ys before begun = (
   xs ++ begun.0,

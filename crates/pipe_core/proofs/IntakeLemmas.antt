@@ -14,7 +14,7 @@ use Rattle.pipe_core.specs.Pieces.{IsChunk}
 not_both : (b : Bool) → b ≡ true → b ≡ false → ⊥
 not_both b is isnt = let e : true ≡ false = sym is ∙ isnt in cc
 
--- what was read so far, and what was read now: whole chunks, and what stands in the buffer
+-- what was read so far, and what was read now: whole chunks, and what is in the buffer
 so_far : (past before read got rest : List ℕ) (bytes : List ℕ) → bytes ≡ past ++ before → got ≡ before ++ read
     → (bytes ++ read) ++ rest ≡ past ++ (got ++ rest)
 so_far past before read got rest bytes was now =
@@ -23,7 +23,7 @@ so_far past before read got rest bytes was now =
     ∙ append_assoc past (before ++ read) rest
     ∙ ap (λ (l : List ℕ). past ++ (l ++ rest)) (sym now)
 
--- nothing but what was read so far counts: at an end what is left is nothing
+-- only what was read so far counts: at an end nothing is left
 pub with_rest : (P : List ℕ → Type 0) (left left' : Option (List ℕ)) (bytes : List ℕ) → Consumes left left' bytes
     → ((rest : List ℕ) → left' ≡ Some rest → P (bytes ++ rest)) → IfSome left P
 with_rest P None left' bytes consumed f = tt
@@ -40,7 +40,7 @@ no_rest (Some r) rest end is = same is end
     same : Some r ≡ Some rest → r ≡ [] → rest ≡ []
     same e empty = let s : r ≡ rest = cc in sym s ∙ empty
 
--- the limit isn't met
+-- the limit isn't reached
 pub over_read : (size limit n : ℕ) (left now after : Option (List ℕ)) (intake intake' : Intake) (read : List ℕ)
     → HasRead size limit left now intake → intake.ended ≡ false → intake.over ≡ false → Consumes now after read
     → n ≡ length (seen intake.ahead ++ read) → n + intake.total ≡ limit → n ≤ size + 1
@@ -178,7 +178,7 @@ end_chunk size limit n left now after intake buffer read had going unmet more ov
           });
     }
 
--- a read that failed took no more than might be read
+-- a failed read took no more than it may
 pub lost_read : (size limit upto : ℕ) (left now after : Option (List ℕ)) (intake : Intake)
     → HasRead size limit left now intake → intake.ended ≡ false → intake.over ≡ false
     → upto + intake.total ≤ limit → ConsumesUpTo now after (upto - length (seen intake.ahead))

@@ -1,5 +1,5 @@
--- What the output may hold before each write: what was written, with the next block behind it, begins all that is
--- written of some input.
+-- What the output may hold before each write: what was written, then the next block, is a front of all that is written
+-- of some input.
 use Rattle.std.proofs.Common.{◌≡◌, ℕ, ◌+◌, ◌*◌, ◌<◌, true, false, List, [], ◌++◌, Option, refl, sym, ap, ◌∙◌, subst, append_assoc, append-nil}
 use Rattle.container_core.specs.Chunks.{chunks}
 use Rattle.container_core.specs.Container.{size_in}
@@ -13,7 +13,7 @@ use Rattle.pipe_core.specs.Pieces.{IsPart}
 use Rattle.pipe_core.specs.Pipe.{whole}
 use Rattle.pipe_core.proofs.ChunkLemmas.{after_of, behind_full, behind_part}
 
--- behind what was written comes the next of it
+-- after what was written comes the next of it
 may_next : (bound : Option Bound) (taken before : Option (List ℕ)) (all done next tail : List ℕ) → Admits bound taken all
     → all ≡ (done ++ next) ++ tail → Appends taken before done → Admits bound before next
 may_next bound taken before all done next tail may is grown =
@@ -56,7 +56,7 @@ may_turn each front key header told bound now number turn bytes text one is same
     subst (λ (b : List ℕ). Admits bound now (front_at front number ++ b)) (sym same)
     (may_full each front key header told bound now number bytes one part (subst (λ (n : ℕ). MayGoOn each front key header told bound now n) (sym is) may))
 
--- the first of two, and then the second, where the bound stays
+-- the first of two, and then the second, if the bound is unchanged
 pub may_first : (bound : Option Bound) (now : Option (List ℕ)) (front bytes : List ℕ) → Admits bound now (front ++ bytes) → Admits bound now front
 may_first bound now front bytes may = admits_front bound now front (front ++ bytes) may (bytes, refl)
 
@@ -65,7 +65,7 @@ pub may_second : (bound bound' : Option Bound) (before after : Option (List ℕ)
 may_second bound bound' before after front bytes same grown may =
     admits_same bound bound' after bytes same (admits_rest bound before after front bytes may grown)
 
--- more was written, and the bound stayed
+-- more was written, and the bound is unchanged
 pub may_more : (each : ℕ) (front key header : List ℕ) (told : Option (List ℕ)) (bound bound' : Option Bound) (before after : Option (List ℕ)) (number next : ℕ)
     → bound' ≡ bound
     → ((taken : Option (List ℕ)) → AreWritten each front key header told taken before number → AreWritten each front key header told taken after next)
@@ -76,7 +76,7 @@ may_more each front key header told bound bound' before after number next same s
   all = λ plain. admits_same bound bound' may.taken (behind front key header plain) same (may.all plain);
 }
 
--- so much was written behind what the output held at first
+-- `number` blocks were written after what the output held at first
 pub may_behind : (each : ℕ) (front key header : List ℕ) (told : Option (List ℕ)) (bound bound' : Option Bound) (taken now : Option (List ℕ)) (number : ℕ)
     → bound' ≡ bound → ((plain : List ℕ) → Admits bound taken (behind front key header plain))
     → AreWritten each front key header told taken now number → MayGoOn each front key header told bound' now number
@@ -94,7 +94,7 @@ may_as bound taken front front' key key' header header' a b c may plain =
     (subst (λ (l : List ℕ). Admits bound taken (behind front' l header plain)) b
     (subst (λ (l : List ℕ). Admits bound taken (behind front' key' l plain)) c (may plain)))
 
--- a block behind the same front
+-- a block after the same front
 pub may_as_front : (bound : Option Bound) (taken : Option (List ℕ)) (front front' bytes : List ℕ) (number : ℕ) → front' ≡ front
     → Admits bound taken (front_at front number ++ bytes) → Admits bound taken (front_at front' number ++ bytes)
 may_as_front bound taken front front' bytes number is may = rw is may
@@ -106,7 +106,7 @@ may_header bound taken key header bytes is may =
     subst (Admits bound taken) (sym is)
     (may_first bound taken header (stream key header 0 (chunks (size_in header) [])) (may []))
 
--- and what stands behind it
+-- and what follows it
 pub may_stream : (bound bound' : Option Bound) (taken now : Option (List ℕ)) (key key' header header' bytes : List ℕ) → bytes ≡ header' → key' ≡ key → header' ≡ header
     → bound' ≡ bound → Appends taken now bytes
     → ((plain : List ℕ) → Admits bound taken (whole key' header' plain)) → (plain : List ℕ) → Admits bound' now (behind [] key header plain)

@@ -1,4 +1,4 @@
--- Pieces on their places.
+-- Pieces in their places.
 use Rattle.std.proofs.Common.{◌≡◌, ◌≢◌, ◌⊎◌, ℕ, zero, suc, ◌+◌, ◌-◌, ◌<◌, ◌≤◌, Bool, true, false, cond, nat_lt, List, [], ◌∷◌, ◌++◌, length, get_or, set, Option, Some, None, refl, sym, ap, ◌∙◌, subst, inl, inr, arith, ltb-true, eqb, Result, Ok, Err, OnOk, is_err, ltb-false, append-nil, append_assoc, eq-eqb}
 use Rattle.std.proofs.Common.{length-append}
 use Rattle.std.proofs.lemmas.List.{length-set}
@@ -84,7 +84,7 @@ seen_back w v xs ys p a a' b b' e f i j h =
     let r = seen_placed w xs p (a ++ []) (b ++ p.number ∷ []) m (omega arith) in
     rw (e, f, i, j, sym (append-nil a)) r
 
--- a job was worked here
+-- a job was done by the caller's thread
 pub seen_mine : (w v : ℕ) (xs ys : List (Option Piece)) (p : Piece) (a a' b b' : List ℕ) → ys ≡ placed w xs p → v ≡ w → a' ≡ a ++ p.number ∷ [] → b' ≡ b → HasSeen w xs a b → HasSeen v ys a' b'
 seen_mine w v xs ys p a a' b b' e f i j h =
     let m = seen_more w xs a b (p.number ∷ []) [] h in
@@ -205,7 +205,7 @@ order_back each key header told chunks old new jobs pieces pieces' p e f g good 
   seen = seen_back old.written new.written old.places.items new.places.items p jobs.taken jobs.taken pieces.taken pieces'.taken e f refl (ap (λ v. v.taken) g) was.seen;
 }
 
--- a job was worked by the caller's thread
+-- a job was done by the caller's thread
 pub order_mine : (each : ℕ) (key header : List ℕ) (told : Option (List ℕ)) (chunks : ℕ) (old new : Early) (jobs jobs' pieces : Hand) (p : Piece)
     → new.places.items ≡ placed old.written old.places.items p → new.written ≡ old.written
     → jobs' ≡ hand jobs.parts jobs.put (jobs.taken ++ p.number ∷ []) → IsPiece each key header told p

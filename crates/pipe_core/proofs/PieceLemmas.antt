@@ -9,7 +9,7 @@ use Rattle.pipe_core.specs.Pieces.{block, room, IsChunk, IsPart}
 use Rattle.pipe_core.specs.Round.{IsLast}
 use Rattle.pipe_core.proofs.BlockLemmas.{full_bytes, full_count, most_bytes, most_count}
 
--- what a full block takes
+-- the sizes of a full block
 pub record FitsFull (each : ℕ) (header : List ℕ) (size len : ℕ) : Type 0 where
   pub bytes : body_length (size_in header) size ≡ len
   pub count : chunk_count (size_in header) size ≡ each
@@ -23,7 +23,7 @@ fits_full each header h size len one is full long =
       count = ap (chunk_count (size_in header)) full ∙ full_count each (size_in header) one (some_size header);
     })
 
--- and the last one
+-- and of the last one
 pub record FitsLast (each : ℕ) (header h : List ℕ) (filled : ℕ) : Type 0 where
   pub bytes : body_length (size_in h) filled ≤ room each header
   pub count : chunk_count (size_in h) filled ≤ each

@@ -1,4 +1,4 @@
--- The round in hand, and what a sealing did once its caller's thread is through.
+-- The round in hand, and what a sealing did when its caller's thread is done.
 use Rattle.std.proofs.Common.{◌≡◌, ◌⊎◌, ℕ, zero, suc, ◌+◌, ◌-◌, ◌*◌, ◌<◌, ◌≤◌, Bool, true, false, cond, List, [], ◌∷◌, ◌++◌, length, take, drop, deque_capacity}
 use Rattle.std.proofs.Common.{Option, Some, None, IfSome, Result, Ok, Err, refl, sym, ap, ◌∙◌, subst, arith, length-append, inl, inr}
 use Rattle.std.proofs.Common.{take-append-drop, zero-mul}
@@ -128,7 +128,7 @@ hand_last each key header told left left' limit put round round' read ended grow
       };
     }
 
--- an end is no byte too many
+-- at an end no byte is too many
 pub not_long : (size limit : ℕ) (left left' : Option (List ℕ)) (intake : Intake) → HasRead size limit left left' intake → intake.ended ≡ true
     → intake.over ≡ false
 not_long size limit left left' intake had ended = elim (cases_Bool intake.over) [
@@ -306,7 +306,7 @@ rounds_end each front key header told left taken now limit group failures failur
       write = writes;
     }
 
--- a beginning of what was read
+-- a front of what was read
 front_of_read : (told left : Option (List ℕ)) (past bytes : List ℕ) → length past ≤ length bytes → IfSome told (Follows past) → Consumes told left bytes
     → Consumes told left (past ++ drop (length past) bytes)
 front_of_read None left past bytes few follows consumed = tt
@@ -441,7 +441,7 @@ rounds_write front key header told left taken now limit group failures failures'
   write = writes;
 }
 
--- the last block, sealed, behind all that was put
+-- the last block, sealed, after all that was put
 pub last_part : (each : ℕ) (key header : List ℕ) (told left : Option (List ℕ)) (limit group put : ℕ) (round round' : Round)
     → IsInHand each key header told left limit put round → IsHanded group round → round.intake.ended ≡ true
     → round'.intake ≡ round.intake → (round'.intake.ended ≡ true → round'.is_sealed ≡ true)
@@ -485,7 +485,7 @@ not_ended size limit left left' intake had over = elim (cases_Bool intake.ended)
   | inr going ↦ going
 ]
 
--- the first round couldn't be read, or had no room
+-- the first round couldn't be read, or memory for it was refused
 pub rounds_first : (front key header : List ℕ) (told left taken : Option (List ℕ)) (limit group : ℕ) (failures failures' refusals refusals' : Option ℕ)
     (fault : SealFault) → (fault ≡ OutOfMemory) ⊎ (fault ≡ Read) → 0 < limit → ConsumesUpTo told left limit
     → failures' ≡ counted (read_failed {A = Unit {0}} (Err fault)) failures → refusals' ≡ refusals
@@ -497,7 +497,7 @@ rounds_first front key header told left taken limit group failures failures' ref
 rounds_first front key header told left taken limit group failures failures' refusals refusals' fault how some bound reads writes =
     absurd (elim how [ inl e ↦ cc | inr e ↦ cc ])
 
--- the same where the counts are told otherwise
+-- the same with equal counts of failures
 pub rounds_counts : (front front' key header : List ℕ) (most window : ℕ) (told left taken now : Option (List ℕ)) (failures failures' reads refusals refusals' writes : Option ℕ)
     (result : Result ℕ SealFault) → front' ≡ front → failures' ≡ failures → refusals' ≡ refusals
     → HasSealedRounds front' key header most window told left failures' reads taken now refusals' writes result

@@ -1,4 +1,4 @@
--- A stream is an input whose chunks are put one by one, behind its header.
+-- A stream is an input whose chunks are put one by one, after its header.
 use Rattle.std.proofs.Common.{◌≡◌, ℕ, ◌+◌, ◌*◌, ◌<◌, ◌≤◌, ◌∙◌, true, List, [], length, Option, Some, None, IfSome, Result, Ok, Err, refl, sym, subst, arith, append-nil}
 use Rattle.std.proofs.KnownBytes.{Appends-nil, Appends-trans, Consumes-nil, Keeps-refl}
 use Rattle.container_core.specs.Chunks.{chunks}
@@ -17,7 +17,7 @@ if_some : {A : Type 0} {P Q : A → Type 0} (o : Option A) → ((x : A) → P x 
 if_some None f p = tt
 if_some (Some x) f p = f x p
 
--- the header was written, and a beginning of what stands behind it
+-- the header was written, and a front of what follows it
 begun_told : (key header : List ℕ) (told taken mid now : Option (List ℕ)) → Appends taken mid header → HasBegun [] key header told mid now
     → IfSome told (λ input. AppendsFront taken now (whole key header input))
 begun_told key header None taken mid now grown begun = tt
@@ -25,7 +25,7 @@ begun_told key header (Some input) taken mid now grown begun =
     subst (λ (l : List ℕ). AppendsFront taken now (whole key header l)) (sym begun.1)
     (begun_behind taken mid now header (stream key header 0 (chunks (size_in header) begun.0)) grown begun.2)
 
--- the header was written, and not all of what stands behind it
+-- the header was written, but not all of what follows it
 short_told : (key header : List ℕ) (told taken mid now : Option (List ℕ)) → Appends taken mid header → IsCutOff [] key header told mid now
     → IfSome told (λ input. LacksSome taken now (whole key header input))
 short_told key header None taken mid now grown cut = tt
@@ -33,7 +33,7 @@ short_told key header (Some input) taken mid now grown cut =
     subst (λ (l : List ℕ). LacksSome taken now (whole key header l)) (sym cut.1)
     (lacks_behind taken mid now header (stream key header 0 (chunks (size_in header) cut.0)) grown cut.2 cut.3)
 
--- the header was written, and nothing behind it
+-- the header was written, and nothing after it
 header_alone : (header : List ℕ) (taken mid now : Option (List ℕ)) → Appends taken mid header → Keeps mid now → AppendsFront taken now header
 header_alone header None mid now grown kept = (header, ([], sym (append-nil header)), tt)
 header_alone header (Some xs) None now grown kept = absurd grown

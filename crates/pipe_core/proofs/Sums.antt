@@ -1,4 +1,4 @@
--- Sums over all hands, and how often a number stands in a list.
+-- Sums over all hands, and how often a number occurs in a list.
 use Rattle.std.proofs.Common.{◌≡◌, ℕ, zero, suc, ◌+◌, ◌≤◌, cond, nat_eq, List, [], ◌∷◌, ◌++◌, set, refl, sym, ap, ◌∙◌, arith}
 use mathlib.Core.Option.{some, some-injective, some-ne-none}
 use lib.ListN.{get_elem?}
@@ -19,7 +19,7 @@ total_at f [] i v e = absurd (some-ne-none v (sym e))
 total_at f (x ∷ xs) zero v e = let is = ap f (some-injective x v e) in omega arith
 total_at f (x ∷ xs) (suc i) v e = let is = total_at f xs i v e in omega arith
 
--- f is nothing of each hand without a worker
+-- f is 0 for each hand without parts
 pub none_idle : (f : Hand → ℕ) (views : List Hand) → ((i : ℕ) (v : Hand) → get_elem? views i ≡ some v → v.parts ≡ 0 → f v ≡ 0) → total (λ v. v.parts) views ≡ 0 → total f views ≡ 0
 none_idle f [] idle none = refl
 none_idle f (x ∷ xs) idle none =
@@ -27,7 +27,7 @@ none_idle f (x ∷ xs) idle none =
     let there = none_idle f xs (λ i v e. idle (suc i) v e) (omega arith) in
     omega arith
 
--- one hand has all the parts: it has all of what is summed
+-- one hand has all the parts: the sum is its own
 pub all_mine : (f : Hand → ℕ) (views : List Hand) (i : ℕ) (v : Hand) → ((j : ℕ) (u : Hand) → get_elem? views j ≡ some u → u.parts ≡ 0 → f u ≡ 0) → get_elem? views i ≡ some v → total (λ u. u.parts) views ≡ v.parts
     → total f views ≡ f v
 all_mine f [] i v idle e all = absurd (some-ne-none v (sym e))

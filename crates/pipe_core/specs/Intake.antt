@@ -3,12 +3,12 @@ use Rattle.std.specs.Prelude.{◌≡◌, ℕ, ◌+◌, ◌*◌, ◌<◌, ◌≤�
 use Rattle.io_core.specs.Streams.{Consumes, IsAtEnd}
 use Rattle.pipe_core.specs.declared.intake.Intake.{Intake}
 
--- the byte that was seen behind the blocks
+-- the byte that was seen after the blocks
 abbrev pub seen : Option ℕ → List ℕ
 seen None = []
 seen (Some byte) = byte ∷ []
 
--- whole blocks, and the byte behind the last of them; nothing before the first
+-- whole blocks, and the byte after the last of them; no byte before the first
 pub record IsGoing (size : ℕ) (intake : Intake) (bytes : List ℕ) : Type 0 where
   pub past : List ℕ
   pub read : bytes ≡ past ++ seen intake.ahead
@@ -16,8 +16,8 @@ pub record IsGoing (size : ℕ) (intake : Intake) (bytes : List ℕ) : Type 0 wh
   pub first : intake.blocks ≡ 0 → intake.ahead ≡ None
   pub behind : 0 < intake.blocks → length (seen intake.ahead) ≡ 1
 
--- of what the reader had at first so much was read: fewer bytes than the limit while it goes on, or all of them; or as
--- many, and it is too long
+-- what was read of what the reader had at first: fewer bytes than the limit so far; or all of them; or as many as the
+-- limit, and it is too long
 pub record HasRead (size limit : ℕ) (left left' : Option (List ℕ)) (intake : Intake) : Type 0 where
   pub bytes : List ℕ
   pub consumed : Consumes left left' bytes

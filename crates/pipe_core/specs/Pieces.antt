@@ -1,5 +1,5 @@
--- What a job and a piece are, by the input, where the reader tells it. Both are a block: so many chunks, one behind the
--- other, of which only the input's last block has fewer.
+-- What a job and a piece are, in terms of the input if it is known. Both are a block: `each` consecutive chunks. Only
+-- the input's last block may have fewer.
 use Rattle.std.specs.Prelude.{◌≡◌, ℕ, ◌+◌, ◌*◌, ◌^◌, ◌<◌, ◌≤◌, Bool, true, false, List, [], ◌∷◌, ◌++◌, length, take}
 use Rattle.std.specs.Prelude.{Option, IfSome, ⊤}
 use Rattle.container_core.specs.Chunks.{chunks, max_chunks}
@@ -9,19 +9,19 @@ use Rattle.pipe_core.specs.declared.piece.Task.{Task}
 use Rattle.pipe_core.specs.declared.piece.Task.TheVariants.{Job, Stop}
 use Rattle.pipe_core.specs.declared.piece.Piece.{Piece}
 
--- plaintext bytes of a block of so many chunks, under a header
+-- plaintext bytes of a block of `each` chunks, under a header
 abbrev pub block : ℕ → List ℕ → ℕ
 block each header = each * size_in header
 
--- the bytes of a sealed block: each chunk has its tag behind it
+-- the bytes of a sealed block: each chunk has its tag after it
 abbrev pub room : ℕ → List ℕ → ℕ
 room each header = each * (size_in header + 16)
 
--- a block has a chunk at least, and is no longer than the longest chunk
+-- a block has at least one chunk, and is no longer than the longest chunk
 abbrev pub IsBlock : ℕ → List ℕ → Type 0
 IsBlock each header = (0 < each) × (block each header ≤ 2 ^ 20)
 
--- the text stands in the input behind so many full ones of its size; something follows, unless it is the last
+-- the bytes are in the input after `number` full blocks of `size` bytes; something follows, unless it is the last
 pub record StandsIn (size : ℕ) (input : List ℕ) (number : ℕ) (last : Bool) (chunk : List ℕ) : Type 0 where
   pub before : List ℕ
   pub after : List ℕ
@@ -30,22 +30,22 @@ pub record StandsIn (size : ℕ) (input : List ℕ) (number : ℕ) (last : Bool)
   pub more : last ≡ false → 0 < length after
   pub end : last ≡ true → after ≡ []
 
--- of an input that is cut behind each so many bytes this is the part of that number: a full one, or the last
+-- the part of this number of an input cut into parts of `size` bytes: a full one, or the last
 pub record IsChunk (size : ℕ) (told : Option (List ℕ)) (number : ℕ) (last : Bool) (chunk : List ℕ) : Type 0 where
   pub few : length chunk ≤ size
   pub full : last ≡ false → length chunk ≡ size
   pub some : 0 < number → 0 < length chunk
   pub of : IfSome told (λ input. StandsIn size input number last chunk)
 
--- the bytes are the sealed chunks of the block of this number: their own numbers go on behind those of the blocks
--- before, and of the last block the last chunk is STREAM's last
+-- the bytes are the sealed chunks of the block of this number. Chunk numbers continue those of the blocks before. In
+-- the last block the last chunk is STREAM's last
 pub record IsPart (each : ℕ) (key header : List ℕ) (told : Option (List ℕ)) (number : ℕ) (last : Bool) (bytes : List ℕ)
     : Type 0 where
   pub text : List ℕ
   pub chunk : IsChunk (block each header) told number last text
   pub is : bytes ≡ stream_by key header (each * number) last (chunks (size_in header) text)
 
--- a job is a number and that full block of the input, in a buffer with room for its tags; its chunks have numbers of 32
+-- a job is a number and that full block of the input, in a buffer with room for its tags; its chunk numbers have 32
 -- bits
 abbrev pub IsTask : ℕ → List ℕ → Option (List ℕ) → Task → Type 0
 IsTask each header told (Job number buffer) = (length buffer.items ≡ room each header)

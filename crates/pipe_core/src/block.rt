@@ -1,7 +1,7 @@
-//! Sealing a block in place: its chunks stand one behind the other at the front of a buffer, and are sealed there each
-//! with its tag behind it.
+//! Sealing a block in place. Its chunks are consecutive at the front of a buffer, and are sealed there, each with its
+//! tag after it.
 //!
-//! The last chunk is moved to its place and sealed first, so that no chunk is written over that is still to be moved.
+//! The last chunk is moved to its place and sealed first, so no chunk is overwritten that is still to be moved.
 ghost use Rattle.std.specs.Prelude.{◌≡◌, ◌+◌, ◌*◌, ◌^◌, ◌<◌, ◌≤◌, false, length, take, drop};
 ghost use Rattle.container_core.specs.Chunks.{body_length, chunk_count, chunks};
 ghost use Rattle.container_core.specs.Container.{size_in};
@@ -32,7 +32,7 @@ pub(crate) fn room_bytes<N: Naming>(header: &Header, each: u32) -> usize
     each as usize * (header.chunk() + TAG)
 }
 
-// Seals the first `n` bytes in place, and puts the tag behind them.
+// Seals the first `n` bytes in place, and puts the tag after them.
 fn seal_front(key: &Key, header: &Header, number: u32, last: bool, text: &mut [u8], n: usize)
     requires text { n + 16 ≤ length text.old }
     requires n { n ≤ size_in header.now }
@@ -46,7 +46,7 @@ fn seal_front(key: &Key, header: &Header, number: u32, last: bool, text: &mut [u
     room.copy_from_slice(&tag);
 }
 
-// Moves the `n` bytes from `from` on to `to`, which is no earlier place.
+// Moves the `n` bytes at `from` to `to`, which is not before it.
 fn move_up(text: &mut [u8], from: usize, to: usize, n: usize)
     requires places { from ≤ to }
     requires text { to + n ≤ length text.old }
@@ -61,7 +61,7 @@ fn move_up(text: &mut [u8], from: usize, to: usize, n: usize)
     text.copy_within(from..from + n, to);
 }
 
-// Moves the `n` bytes from `from` on to `to`, which is no earlier place, and seals them there.
+// Moves the `n` bytes at `from` to `to`, which is not before it, and seals them there.
 fn seal_at(
     key: &Key,
     header: &Header,
@@ -86,7 +86,7 @@ fn seal_at(
     seal_front(key, header, number, last, place, n);
 }
 
-// How many chunks stand before the last one of so many bytes.
+// Returns how many chunks come before the last one of `filled` bytes.
 fn before_last(size: usize, filled: usize) -> usize
     requires size { 0 < size }
     ensures begins { result * size ≤ filled }
@@ -99,9 +99,9 @@ fn before_last(size: usize, filled: usize) -> usize
     filled.saturating_sub(1) / size
 }
 
-/// Seals the first `filled` bytes chunk by chunk, the first of which has the number `first`; `last` says whether the
-/// last of them is STREAM's last. Passes the gate with a chunk's number right before it seals the chunk. Answers how
-/// many bytes the sealed chunks have.
+/// Seals the first `filled` bytes chunk by chunk. The first chunk has the number `first`; `last` says whether the last
+/// one is STREAM's last. Passes the gate with a chunk's number right before it seals the chunk. Returns the bytes of
+/// the sealed chunks.
 pub(crate) fn seal_block<G: Gate>(
     key: &Key,
     header: &Header,

@@ -1,4 +1,4 @@
-//! The pieces that came early, each on its place till its turn.
+//! The pieces that came early, each in its place until its turn.
 ghost use Rattle.std.specs.Prelude.{◌≡◌, ◌+◌, ◌^◌, ◌<◌, ◌≤◌, ◌++◌, [], ◌∷◌, Some, None, IfOk, IfSome, IfNone, length};
 ghost use Rattle.std.specs.VecDeque.{deque_len, deque_capacity};
 ghost use Rattle.pipe_core.specs.Order.{placed};
@@ -8,7 +8,7 @@ use crate::piece::Piece;
 use std::alloc::{AllocError, Global};
 use std::collections::VecDeque;
 
-/// A place for each block that was read and not written, of which the first is of the number `written`.
+/// A place for each block that was put and not yet written. The first is for the number `written`.
 #[derive(Drop)]
 pub(crate) struct Early {
     places: VecDeque<Option<Piece>>,
@@ -29,19 +29,19 @@ impl Early {
         })
     }
 
-    // How many were put and not written.
+    // Returns how many were put and not yet written.
     pub(crate) fn len(&self) -> usize
         ensures { (result ≡ length self.now.places.items) × (result ≡ deque_len self.now.places) }
     {
         self.places.len()
     }
 
-    // Whether there is one that may be written.
+    // Whether there is a place that may be written.
     pub(crate) fn is_ripe(&self) -> bool {
         self.ripe > 0
     }
 
-    // All that have a place may be written, where that is asked.
+    // Lets all that have a place be written, if `all` is true.
     pub(crate) fn ripen(&mut self, all: bool)
         ensures same { (self.new.places ≡ self.old.places) × (self.new.written ≡ self.old.written) }
     {
@@ -50,7 +50,7 @@ impl Early {
         }
     }
 
-    // One more was put.
+    // Opens a place for one more that was put.
     pub(crate) fn open_place(&mut self)
         requires { deque_len self.old.places < deque_capacity self.old.places }
         ensures places { self.new.places.items ≡ self.old.places.items ++ None ∷ [] }
@@ -60,7 +60,7 @@ impl Early {
         self.places.push_back_reserved(None);
     }
 
-    // Keeps the piece. One whose number is not awaited is let go.
+    // Keeps the piece, or drops it if its number has no place.
     pub(crate) fn place(&mut self, piece: Piece)
         ensures places { self.new.places.items ≡ placed self.old.written self.old.places.items piece }
         ensures same { (self.new.written ≡ self.old.written)
@@ -75,7 +75,7 @@ impl Early {
         }
     }
 
-    // The piece whose turn it is, where it is there and may be written.
+    // Takes the piece whose turn it is, if it is there and may be written.
     pub(crate) fn next(&mut self) -> Option<Piece>
         requires { self.old.written + length self.old.places.items ≤ max_chunks }
         ensures some { IfSome result (λ p. (self.old.places.items ≡ Some p ∷ self.new.places.items)

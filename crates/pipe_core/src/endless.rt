@@ -1,5 +1,5 @@
-//! A stream of any length: rounds of one chunk, under a limit of chunks. Each block is one chunk, so that it is
-//! written as soon as it was read.
+//! A stream of any length: rounds of one chunk, under a limit on chunks. Each block is one chunk, so it is written as
+//! soon as it is sealed and its turn comes.
 ghost use Rattle.std.specs.Prelude.{◌≡◌, ℕ, ◌<◌, ◌≤◌, List, take, drop};
 ghost use Rattle.container_core.specs.Container.{hint_of};
 ghost use Rattle.output_core.specs.Bounds.{Admits};
@@ -17,7 +17,7 @@ use std::marker::Brand;
 use std::sync::Wait;
 use std::thread::Threads;
 
-// Of a stream, whose length is bounded by chunks.
+// For a stream, whose length is limited in chunks.
 fn of_stream(answer: Result<u64, SealFault>) -> Result<u64, SealFault>
     ensures { result ≡ answer_of_stream answer }
 {
@@ -76,17 +76,19 @@ fn pipe_named<
     )
 }
 
-/// Seals a stream under a header of this key, by 1 to 16 workers, of which the caller's thread is worker 0 and does
-/// all reading and writing, where at most `depth` chunks are read and not written. Answers the stream's length in
+/// Seals a stream under a header of this key, with 1 to 16 workers. The caller's thread is worker 0 and does all
+/// reading and writing. At most `depth` chunks (1 to 64) are read and not yet written. Returns the stream's length in
 /// bytes.
 ///
-/// A chunk is sealed once a byte behind it, or the end, was seen, and written once those before it are. The caller's
-/// thread seals the last chunk, and others where it may not read on. `TooManyChunks` where a byte stands behind
-/// `max_chunks` full chunks: nothing past that byte is read. `OutOfMemory` where a queue, the workers' bells or the
-/// `depth` buffers find no memory, each of which holds a chunk and is used again: no more than the header is written
-/// then. The header is written before anything is read. Where a thread can't be started the others do its work.
+/// The header is written before anything is read. A chunk is sealed once a byte after it, or the end, was seen, and
+/// written once those before it are. The caller's thread seals the last chunk, and others while it may not read on. If
+/// a thread can't be started, the others do its work.
 ///
-/// What the writer may hold, where that is bounded, has to allow all that is written of any stream.
+/// `TooManyChunks` if a byte follows `max_chunks` full chunks: nothing past that byte is read. `OutOfMemory` if memory
+/// for a queue, the workers' bells or the `depth` buffers was refused; each buffer holds a chunk and is reused. Then at
+/// most the header is written.
+///
+/// If the writer is bounded, its bound must allow all that is written of any stream.
 pub fn pipe<T: Threads + Wait + Sync, R: Source, W: Output, G: Gate + Sync>(
     rt: &T,
     alloc: Global,

@@ -1,4 +1,4 @@
-//! The caller's thread: it reads and writes, and seals a block itself where it may not read on.
+//! The caller's thread: it reads and writes, and seals a block itself while it may not read on.
 ghost use Rattle.std.specs.Prelude.{◌≡◌, ℕ, ◌+◌, ◌-◌, ◌*◌, ◌<◌, ◌≤◌, [], All, Option, List};
 ghost use Rattle.std.specs.Prelude.{OnOk, OnErr, IfOk};
 ghost use Rattle.std.specs.Prelude.{length, true, false, is_err, not};
@@ -36,7 +36,7 @@ use std::alloc::Global;
 use std::sync::Wait;
 use std::thread::Parker;
 
-// Takes a piece back: whether there was one.
+// Takes a piece back, if there is one. Returns whether there was.
 fn take_back<N: Naming>(
     pieces: &PieceLine<N>,
     early: &mut Early,
@@ -60,7 +60,7 @@ fn take_back<N: Naming>(
     }
 }
 
-// Writes a piece, or takes one back: whether there was one.
+// Writes a piece, or takes one back. Returns whether there was one.
 fn turn<N: Naming, W: Output>(
     pieces: &PieceLine<N>,
     early: &mut Early,
@@ -101,7 +101,7 @@ fn turn<N: Naming, W: Output>(
     }
 }
 
-// Seals a job on this thread: whether there was one.
+// Seals a job on this thread, if there is one. Returns whether there was.
 fn work_here<N: Naming, G: Gate>(
     jobs: &JobLine<N>,
     key: &Key,
@@ -131,7 +131,7 @@ fn work_here<N: Naming, G: Gate>(
     }
 }
 
-// Seals the last block, unless this worker is alone: whether there was something to seal.
+// Seals the last block, unless this worker is alone. Returns whether there was something to seal.
 fn seal_first<N: Naming, G: Gate>(
     key: &Key,
     header: &Header,
@@ -155,8 +155,8 @@ fn seal_first<N: Naming, G: Gate>(
     false
 }
 
-// Seals a block on this thread, or rests where there is none: the last one first, which no other worker can, unless
-// this one is alone. Answers how often it has looked for one since.
+// Seals a block on this thread, or rests if there is none. The last block comes first, since no other worker can seal
+// it, unless this worker is alone. Returns how often it has looked in vain since it last found one or slept.
 fn busy<N: Naming, T: Wait, G: Gate>(
     rt: &T,
     jobs: &JobLine<N>,
@@ -196,8 +196,8 @@ fn busy<N: Naming, T: Wait, G: Gate>(
     rest(rt, &bells[0], looks)
 }
 
-// Reads to the end of the input or to a byte too many, and puts and writes what it may meanwhile: whether no read
-// failed.
+// Reads to the end of the input or to a byte too many, and meanwhile puts and writes what it may. Returns whether no
+// read failed.
 fn take_in<N: Naming, T: Wait, R: Source, W: Output, G: Gate>(
     rt: &T,
     jobs: &JobLine<N>,
@@ -262,7 +262,7 @@ fn take_in<N: Naming, T: Wait, R: Source, W: Output, G: Gate>(
         if !round.is_open() {
             return Ok(true);
         }
-        // A round is read once those are written that may be: so no write follows a read that fails.
+        // Unless eager, it reads a round after writing those that may be. So no write follows a failed read.
         let waits = !plan.eager && early.is_ripe();
         let count = early.len() + round.held.len();
         if let Some(buffer) = take_spare(spare, room, waits, count, plan.depth) {
@@ -346,7 +346,7 @@ fn drain<N: Naming, T: Wait, W: Output, G: Gate>(
     unreachable!()
 }
 
-/// Ends what was read, once all before is written: the last block is written, unless there is a byte too many.
+/// Ends the output when all before is written: writes the last block, unless there is a byte too many.
 pub(crate) fn end<N: Naming, W: Output, G: Gate>(
     key: &Key,
     header: &Header,
@@ -382,8 +382,8 @@ pub(crate) fn end<N: Naming, W: Output, G: Gate>(
     }
 }
 
-/// Reads and writes to the end, or to the first fault, behind what was read. All room is made before anything is
-/// written.
+/// Reads on and writes, to the end or to the first fault, after what was already read. All room is allocated before
+/// anything is written.
 pub(crate) fn feed<N: Naming, T: Wait, R: Source, W: Output, G: Gate>(
     rt: &T,
     alloc: Global,

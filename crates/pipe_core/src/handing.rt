@@ -1,4 +1,4 @@
-//! Rounds are handed over: into the queue, whole.
+//! Puts whole rounds into the queue.
 ghost use Rattle.std.specs.Prelude.{◌≡◌, ℕ, ◌+◌, ◌<◌, ◌≤◌, ◌++◌, [], ◌∷◌, Option, List, length, true};
 ghost use Rattle.std.specs.VecDeque.{deque_capacity, deque_len};
 ghost use Rattle.crossbeam_queue.specs.Passes.{view, IsPassOf};
@@ -18,7 +18,7 @@ use std::collections::VecDeque;
 use std::sync::Wait;
 use std::thread::Parker;
 
-/// Wakes those that sleep.
+/// Wakes the threads that sleep.
 pub(crate) fn ring(bells: &[Parker]) {
     for bell in bells {
         bell.unpark();
@@ -61,7 +61,7 @@ fn put_jobs<N: Naming, T: Wait>(
     }
 }
 
-// Puts the round in hand, where it is full or the last. What was put before may then be written.
+// Puts the round in hand, if it is full or the last. Then what was put before may be written.
 fn put_round<N: Naming, T: Wait>(
     rt: &T,
     jobs: &JobLine<N>,
@@ -95,7 +95,7 @@ fn put_round<N: Naming, T: Wait>(
     ring(bells);
 }
 
-/// The same, and at the end, or where it is eager, all may be written.
+/// The same. At the end, or if the plan is eager, all may be written.
 pub(crate) fn hand_over<N: Naming, T: Wait>(
     rt: &T,
     jobs: &JobLine<N>,

@@ -1,5 +1,5 @@
-//! Reading the input block by block, each with one byte behind it, by which it is known whether the block is the
-//! last. No more than a limit is read of it: where so many bytes were, the input is too long.
+//! Reads the input block by block, each with one byte after it, which shows whether the block is the last. At most
+//! `limit` bytes are read; if that many were, the input is too long.
 ghost use Rattle.std.specs.Prelude.{◌≡◌, ◌+◌, ◌-◌, ◌*◌, ◌^◌, ◌<◌, ◌≤◌, ◌++◌, ◌∷◌, List, ℕ, Option, None, true, false};
 ghost use Rattle.std.specs.Prelude.{length, take};
 ghost use Rattle.std.specs.Prelude.{IfOk, OnOk, OnErr, Some, is_err, slice_index};
@@ -11,8 +11,8 @@ ghost use Rattle.container_core.specs.Chunks.{max_chunks};
 
 use io_core::{Failed, Source, fill};
 
-/// What was read of the input: whole blocks, and the byte that was seen behind them; or all of it; or a byte more
-/// than it may have.
+/// What was read of the input: whole blocks, and the byte seen after them; or all of it; or one byte more than it may
+/// have.
 #[derive(Drop)]
 pub(crate) struct Intake {
     pub(crate) blocks: u32,
@@ -22,7 +22,8 @@ pub(crate) struct Intake {
     pub(crate) over: bool,
 }
 
-// Reads behind a byte until the buffer is full or the end is met. Answers how many bytes stand there, with this one.
+// Puts this byte first and reads after it until the buffer is full or the input ends. Returns how many bytes the buffer
+// has, with this one.
 fn fill_after<R: Source>(reader: &mut R, byte: u8, buffer: &mut [u8]) -> Result<usize, Failed>
     requires { 0 < length buffer.old }
     ensures within { IfOk result (λ n. (0 < n) × (n ≤ length buffer.new)) }
@@ -39,7 +40,7 @@ fn fill_after<R: Source>(reader: &mut R, byte: u8, buffer: &mut [u8]) -> Result<
     Ok(n + 1)
 }
 
-// Fills a buffer behind the byte that was seen, or till the end is met. Answers how many bytes stand there, with it.
+// Fills a buffer after the byte that was seen, or until the input ends. Returns how many bytes it has, with that one.
 fn fill_behind<R: Source>(
     reader: &mut R,
     ahead: Option<u8>,
@@ -75,7 +76,8 @@ impl Intake {
         }
     }
 
-    // Takes in what stands in the buffer, where so many bytes might be read. Answers how many bytes the block has.
+    // Takes in the first `n` bytes of the buffer; if these are `room`, the input is too long. Returns the bytes of the
+    // block, or 0 then.
     fn take_in(&mut self, size: usize, room: u64, text: &[u8], n: usize) -> usize
         requires size { (0 < size) × (size ≤ 2 ^ 20) × (n ≤ length text.now) × (n ≤ size + 1) }
         requires room { n ≤ room }
@@ -107,8 +109,8 @@ impl Intake {
         }
     }
 
-    /// Reads the next block to the front of a buffer that is longer, and a byte behind it, unless the input ends with
-    /// the block; and no more than so many bytes of the input. Answers how many bytes the block has.
+    /// Reads the next block into the front of a buffer that is longer, and a byte after it unless the input ends with
+    /// the block. Reads at most `limit` bytes of the input in all. Returns the bytes of the block.
     pub(crate) fn next<R: Source>(
         &mut self,
         reader: &mut R,

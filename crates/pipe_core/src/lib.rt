@@ -1,8 +1,8 @@
-//! An input sealed through two queues: jobs to the workers, and pieces back. `pipe` seals a stream of any length,
-//! `pipe_rounds` an input of bounded length in rounds of some chunks.
+//! An input sealed through two queues: jobs go to the workers, and pieces come back. `pipe` seals a stream of any
+//! length, `pipe_rounds` an input of bounded length in rounds of chunks.
 //!
-//! The caller's thread reads and writes. Each worker lives as long as the input; while there is nothing to do it
-//! sleeps.
+//! The caller's thread reads and writes. Each worker runs until the input ends, and sleeps while there is nothing to
+//! do.
 #![tactic(auto)]
 
 mod block;

@@ -1,7 +1,9 @@
 //! The two queues and their rules.
 //!
-//! Each rule says two things: every item is the definition's (a job is a number and that block of the input, a piece a
-//! number and that block's sealed bytes), and each number was put as often as it was taken or stands in the queue.
+//! Each rule says two things:
+//! - Each item is as defined: a job is a number and that block of the input, a piece a number and that block's sealed
+//!   bytes.
+//! - Each number was put as often as it was taken or is in the queue.
 ghost use Rattle.std.specs.Prelude.{◌≡◌, ◌++◌, ◌<◌, IfSome, IfNone};
 ghost use Rattle.crossbeam_queue.specs.Passes.{view, IsPassOf};
 ghost use Rattle.pipe_core.specs.Pieces.{IsTask, IsPiece, task_numbers, piece_numbers};
@@ -16,7 +18,8 @@ use std::marker::{Brand, PhantomData};
 use std::sync::Wait;
 use std::thread;
 
-/// What a pass has put and taken, and its parts of the right to know the whole. No value of it is made.
+/// What a pass has put and taken, and its parts of the right to know the whole. No value of this type exists at run
+/// time.
 pub(crate) struct Hand {
     pub parts: u64,
     pub put: LinkedList<u32>,
@@ -34,7 +37,7 @@ pub(crate) trait Naming {
     // How many chunks a block has.
     ghost each: { ℕ };
 
-    // The input, where the reader tells it.
+    // The input, if the reader knows it.
     ghost told: { Option (List ℕ) };
 }
 
@@ -115,7 +118,7 @@ impl Outcome<Piece, Hand> for Put {
     ghost then = { λ v x w. w ≡ hand v.parts (v.put ++ piece_numbers x) v.taken };
 }
 
-/// A pop, by a queue of this call.
+/// A pop from a queue of this call.
 pub(crate) struct Take<N> {
     of: PhantomData<N>,
 }
@@ -158,7 +161,7 @@ pub(crate) type JobLine<N> = RuledArrayQueue<Task, Hand, Jobs<N>, Global>;
 
 pub(crate) type PieceLine<N> = RuledArrayQueue<Piece, Hand, Pieces<N>, Global>;
 
-/// Puts a task, once there is room.
+/// Puts a task, waiting until there is room.
 pub(crate) fn put_task<N: Naming, R: Wait>(
     rt: &R,
     jobs: &JobLine<N>,
@@ -182,7 +185,7 @@ pub(crate) fn put_task<N: Naming, R: Wait>(
     unreachable!()
 }
 
-/// Puts a piece, once there is room.
+/// Puts a piece, waiting until there is room.
 pub(crate) fn put_piece<N: Naming, R: Wait>(
     rt: &R,
     pieces: &PieceLine<N>,

@@ -1,5 +1,5 @@
 //! A job and a piece. Both own the buffer of their block, which has room for the tags of its chunks. The input's last
-//! block is none of them: the caller's thread seals it.
+//! block is not one of them: the caller's thread seals it.
 ghost use Rattle.std.specs.Prelude.{◌≡◌, ◌+◌, ◌*◌, ◌≤◌, false, length, take};
 ghost use Rattle.pipe_core.specs.Pieces.{block, room, IsBlock, IsChunk, IsPiece};
 ghost use Rattle.container_core.specs.Chunks.{max_chunks};
@@ -12,20 +12,20 @@ use gate_core::Gate;
 /// What goes to a worker.
 #[derive(Drop)]
 pub(crate) enum Task {
-    /// A full block at the front of its buffer, behind which the input goes on.
+    /// A full block at the front of its buffer. The input goes on after it.
     Job { number: u32, buffer: Vec<u8> },
     /// There are no more jobs.
     Stop,
 }
 
-/// What comes back: a full block's sealed bytes fill its buffer.
+/// What comes back: a full block's sealed bytes, which fill its buffer.
 #[derive(Drop)]
 pub(crate) struct Piece {
     pub(crate) number: u32,
     pub(crate) buffer: Vec<u8>,
 }
 
-/// Seals a full block in its buffer, by the worker of this number.
+/// Seals a full block in its buffer, as worker `me`.
 pub(crate) fn make_piece<N: Naming, G: Gate>(
     key: &Key,
     header: &Header,

@@ -1,4 +1,4 @@
-//! What was read and is not put yet: the full blocks of the round in hand, and the input's last block.
+//! What was read and not yet put: the full blocks of the round in hand, and the input's last block.
 ghost use Rattle.std.specs.Prelude.{◌≡◌, ◌⊎◌, ◌+◌, ◌*◌, ◌^◌, ◌<◌, ◌≤◌, List, ℕ, Option, [], length, true, false};
 ghost use Rattle.std.specs.Prelude.{IfOk, OnOk, OnErr, IfErr, is_err};
 ghost use Rattle.std.specs.VecDeque.{deque_len, deque_capacity};
@@ -20,10 +20,10 @@ use io_core::{Failed, Source};
 use std::alloc::{AllocError, Global};
 use std::collections::VecDeque;
 
-/// How an input is sealed: at most `limit` bytes are read of it, the last of which is one too many. It is cut into
-/// blocks of `each` chunks; at most `depth` blocks are read and not written. Full blocks are put by `group`. What was
-/// put may be written at once where it is eager, behind a header that was written before; else once the next group is
-/// put, and the header is written with it.
+/// How an input is sealed. At most `limit` bytes of it are read; the last of these is one too many. It is cut into
+/// blocks of `each` chunks, and at most `depth` blocks are read and not yet written. Full blocks are put in groups of
+/// `group`. If `eager`, what was put may be written at once, after a header that was written before. Otherwise it may
+/// be written once the next group is put, and the header is written with it.
 #[derive(Clone, Copy)]
 pub(crate) struct Plan {
     pub(crate) limit: u64,
@@ -46,7 +46,7 @@ impl Plan {
 pub(crate) struct Round {
     pub(crate) intake: Intake,
     pub(crate) held: VecDeque<Task>,
-    // The last block is the first `filled` bytes, or once it is sealed its sealed chunks are.
+    // Its first `filled` bytes are the last block or, once that is sealed, its sealed chunks.
     pub(crate) last: Vec<u8>,
     pub(crate) filled: usize,
     pub(crate) is_sealed: bool,
@@ -132,7 +132,7 @@ impl Round {
         Ok(())
     }
 
-    /// Seals the last block on the caller's thread, once: whether there was something to seal.
+    /// Seals the last block on the caller's thread, once. Returns whether there was something to seal.
     pub(crate) fn seal_last<N: Naming, G: Gate>(
         &mut self,
         key: &Key,

@@ -1,7 +1,7 @@
-//! An input sealed in rounds of some chunks. The first round is read before anything else: of a short input this thread
-//! seals it, without a queue.
+//! An input sealed in rounds of chunks. The first round is read before anything else. If the input ends there and one
+//! worker suffices, this thread seals it without a queue.
 //!
-//! Small chunks go through the queues in blocks of several, so that one read, one job and one write carry some 64 KiB.
+//! Small chunks go through the queues in blocks of several, so one read, one job and one write carry up to 64 KiB.
 ghost use Rattle.std.specs.Prelude.{◌≡◌, ℕ, ◌+◌, ◌-◌, ◌*◌, ◌/◌, ◌^◌, ◌<◌, ◌≤◌, List, [], ◌∷◌, Option, OnOk, OnErr};
 ghost use Rattle.std.specs.Prelude.{is_err, true, take, drop};
 ghost use Rattle.container_core.specs.Container.{hint_of, size_in};
@@ -28,7 +28,7 @@ use std::marker::Brand;
 use std::sync::Wait;
 use std::thread::Threads;
 
-// Plaintext bytes of a block of small chunks.
+// Most plaintext bytes of a block of small chunks.
 const BLOCK: usize = 1 << 16;
 
 // Seals and writes a job of the only round.
@@ -93,7 +93,7 @@ fn alone<N: Naming, W: Output, G: Gate>(
     end::<N, W, G>(key, header, each, writer, header.bytes(), round, gate)
 }
 
-// Whether blocks of so many chunks fill a window, with one for each worker at least.
+// Whether blocks of `each` chunks fill a window, with at least one for each worker.
 #[tactic(auto, using(crate::proofs::BlockLemmas::whole_parts))]
 fn fills(window: u32, each: u32, workers: u32) -> bool
     requires each { 0 < each }
@@ -107,8 +107,8 @@ fn fills(window: u32, each: u32, workers: u32) -> bool
     window / each >= workers
 }
 
-// How many chunks of a size go through the queues as one block: so many that it has 64 KiB, or fewer, so that blocks
-// fill a round, and each worker has one.
+// Returns how many chunks of `size` bytes go through the queues as one block: as many as 64 KiB has, or fewer, so that
+// blocks fill a round and each worker has one. At least one.
 fn each_of(size: usize, workers: u32, window: u32) -> u32
     requires size { (0 < size) × (size ≤ 2 ^ 20) }
     requires workers { 0 < workers }
@@ -191,20 +191,22 @@ fn rounds_named<
     .0
 }
 
-/// Seals an input of at most `max_bytes` bytes (2^40 at most) under a header of this key, by 1 to 16 workers, of
-/// which the caller's thread is worker 0 and does all reading and writing, in rounds of `window` chunks (1 to 256).
-/// Answers the input's length in bytes.
+/// Seals an input of at most `max_bytes` bytes (2^40 at most) under a header of this key, in rounds of `window` chunks
+/// (1 to 256), with 1 to 16 workers. The caller's thread is worker 0 and does all reading and writing. Returns the
+/// input's length in bytes.
 ///
-/// Chunks of less than 64 KiB are read, handed to a worker and written in blocks of several, of 64 KiB at the most:
-/// of so many that blocks fill the window, and that there is one for each worker, where the window has so many
-/// chunks. A round is sealed once a byte behind it, or the end, was seen, and nothing is read while two windows of
-/// chunks are read and not written. The header is written with the first round. `TooLong` where a byte more was read,
-/// and nothing past it is; the round in hand is dropped then, and those before it are written. `OutOfMemory` where a
-/// queue, the workers' bells or the buffers of two windows find no memory: nothing is written then. An input that
-/// ends within the first round takes as many buffers as it has blocks, and, where one worker suffices, no queue.
+/// Chunks of less than 64 KiB are read, handed to a worker and written in blocks of several, at most 64 KiB each. The
+/// blocks fill the window, and there is one for each worker if the window has that many chunks. A round is sealed once
+/// a byte after it, or the end, was seen. Nothing is read while two windows of chunks are read and not yet written. The
+/// header is written with the first round. An input that ends within the first round takes as many buffers as it has
+/// blocks, and, if one worker suffices, no queue.
 ///
-/// What the writer may hold, where that is bounded, has to allow all that is written of any input. So a run
-/// that is killed left no more than a beginning of that.
+/// `TooLong` if a byte more was read, and nothing past it is. Then the round in hand is dropped, and those before it
+/// are written. `OutOfMemory` if memory for a queue, the workers' bells or the buffers of two windows was refused: then
+/// nothing is written.
+///
+/// If the writer is bounded, its bound must allow all that is written of any input. So a killed run left at most a
+/// front of that.
 pub fn pipe_rounds<T: Threads + Wait + Sync, R: Source, W: Output, G: Gate + Sync>(
     rt: &T,
     alloc: Global,

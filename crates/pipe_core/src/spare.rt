@@ -1,9 +1,9 @@
-//! Buffers for blocks, made once and used again.
+//! Buffers for blocks, allocated once and reused.
 ghost use Rattle.std.specs.Prelude.{◌≡◌, ◌<◌, length, All, IfOk, IfSome};
 
 use std::alloc::{AllocError, Global};
 
-/// So many buffers, each for a block and its tags.
+/// Returns `count` buffers of `size` bytes, each for a block and its tags.
 pub(crate) fn buffers(alloc: Global, count: usize, size: usize) -> Result<Vec<Vec<u8>>, AllocError>
     ensures { IfOk result (λ spare. All (λ b. length b.items ≡ size) spare.items) }
 {
@@ -14,7 +14,7 @@ pub(crate) fn buffers(alloc: Global, count: usize, size: usize) -> Result<Vec<Ve
     Ok(spare)
 }
 
-/// A buffer for another block, where reading needn't wait, and so many blocks are fewer than may be read.
+/// Takes a buffer for another block, if one is spare, reading needn't wait, and `count` blocks are fewer than `depth`.
 pub(crate) fn take_spare(
     spare: &mut Vec<Vec<u8>>,
     size: usize,
@@ -35,7 +35,7 @@ pub(crate) fn take_spare(
     }
 }
 
-/// Keeps a buffer for another block, where there is a place for it.
+/// Keeps a buffer for another block, if there is a place for it.
 pub(crate) fn keep(spare: &mut Vec<Vec<u8>>, buffer: Vec<u8>, size: usize)
     requires spare { All (λ b. length b.items ≡ size) spare.old.items }
     requires buffer { length buffer.items ≡ size }

@@ -24,7 +24,7 @@ use std::alloc::{AllocError, Global};
 use std::sync::Wait;
 use std::thread::{Parker, Threads, join_mut};
 
-// Lets go of the jobs that nobody has taken, at most so many.
+// Drops the jobs that nobody has taken, at most `most` of them.
 fn drop_jobs<N: Naming>(jobs: &JobLine<N>, into: &mut Pass<Task, Hand>, most: usize)
     requires into { IsPassOf jobs.now into.old × (0 < (view into.old).parts) }
     ensures into { IsPassOf jobs.now into.new × ((view into.new).parts ≡ (view into.old).parts) }
@@ -36,7 +36,7 @@ fn drop_jobs<N: Naming>(jobs: &JobLine<N>, into: &mut Pass<Task, Hand>, most: us
     }
 }
 
-// A stop for each other worker.
+// Puts `stops` stops, one for each other worker.
 fn stop_all<N: Naming, T: Wait>(
     rt: &T,
     jobs: &JobLine<N>,
@@ -51,7 +51,7 @@ fn stop_all<N: Naming, T: Wait>(
     }
 }
 
-// Takes in the hands of a worker that has ended.
+// Joins the hands of a worker that has ended to the caller's.
 fn meet<N: Naming>(
     jobs: &JobLine<N>,
     pieces: &PieceLine<N>,
@@ -72,7 +72,7 @@ fn meet<N: Naming>(
     pieces.absorb::<Cut>(from, back);
 }
 
-// The caller's thread alone, and then a stop for each other worker: each has a bell.
+// Runs the caller's thread, and then puts a stop for each other worker. `bells` has one bell for each worker.
 fn lead<N: Naming, T: Wait, R: Source, W: Output, G: Gate>(
     rt: &T,
     alloc: Global,
@@ -115,7 +115,7 @@ fn lead<N: Naming, T: Wait, R: Source, W: Output, G: Gate>(
     answer
 }
 
-// So many workers: the caller's thread is the first of them.
+// Runs `upto` workers. The caller's thread is the first of them.
 #[cycle(crew)]
 fn crew<N: Naming + Send + Sync, T: Threads + Wait + Sync, R: Source, W: Output, G: Gate + Sync>(
     rt: &T,
@@ -206,7 +206,7 @@ fn crew<N: Naming + Send + Sync, T: Threads + Wait + Sync, R: Source, W: Output,
     answer
 }
 
-// A bell for each worker.
+// Returns a bell for each worker.
 fn bells_of(alloc: Global, workers: u32) -> Result<Vec<Parker>, AllocError>
     ensures { IfOk result (λ bells. length bells.items ≡ workers) }
 {
@@ -217,7 +217,8 @@ fn bells_of(alloc: Global, workers: u32) -> Result<Vec<Parker>, AllocError>
     Ok(bells)
 }
 
-// Seals behind what was read, by so many workers. With the answer, the hands of all workers together.
+// Seals the input, of which `round` was already read, with `workers` workers. Returns the result, and the hands of all
+// workers together.
 pub(crate) fn through<
     N: Naming + Send + Sync,
     T: Threads + Wait + Sync,

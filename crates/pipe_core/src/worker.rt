@@ -1,4 +1,4 @@
-//! A worker: it takes jobs and gives pieces back, till a stop comes.
+//! A worker: it takes jobs and gives pieces back, until a stop comes.
 ghost use Rattle.std.specs.Prelude.{◌≡◌, [], ◌<◌, length};
 ghost use Rattle.crossbeam_queue.specs.Passes.{view, IsPassOf};
 ghost use Rattle.pipe_core.specs.Hands.{hand, newcomer, HasRelayed};
@@ -16,7 +16,7 @@ use std::thread::Parker;
 // How often a thread looks for something to do before it sleeps.
 const LOOKS: u32 = 100;
 
-/// Looks again soon, or sleeps once it has looked so often for nothing. Answers how often it has looked since.
+/// Yields, or sleeps if it has looked `LOOKS` times in vain. Returns how often it has looked since it last slept.
 pub(crate) fn rest<T: Wait>(rt: &T, bell: &Parker, looks: u32) -> u32 {
     if looks < LOOKS {
         thread::yield_now();
@@ -26,8 +26,8 @@ pub(crate) fn rest<T: Wait>(rt: &T, bell: &Parker, looks: u32) -> u32 {
     0
 }
 
-/// What comes of the worker of this number: of each job that it took it gave one piece back. It passes the gate with a
-/// chunk's number right before it seals the chunk, and wakes the caller's thread, worker 0, once the piece is there.
+/// Runs the worker of this number. For each job that it takes it gives one piece back. It passes the gate with a
+/// chunk's number right before it seals the chunk. It wakes the caller's thread, worker 0, once the piece is there.
 pub(crate) fn worker<N: Naming, R: Wait, G: Gate>(
     rt: &R,
     jobs: &JobLine<N>,

@@ -1,4 +1,4 @@
-//! What is written: each piece in its turn, and the header before the first.
+//! Writes each piece in its turn, and the header before the first.
 ghost use Rattle.std.specs.Prelude.{◌≡◌, ℕ, ◌+◌, ◌<◌, ◌≤◌, ◌++◌, All, Option, List, length, is_err, OnOk, OnErr};
 ghost use Rattle.std.specs.VecDeque.{deque_capacity};
 ghost use Rattle.io_core.specs.Streams.{Appends, AppendsFront, LacksSome, counted};
@@ -14,7 +14,7 @@ use crate::spare::keep;
 use io_core::Failed;
 use output_core::{Output, put_all};
 
-/// Writes a block's sealed bytes, and before block 0 what stands before it.
+/// Writes a block's sealed bytes; for block 0 it writes `front` before them.
 pub(crate) fn write_part<W: Output>(
     writer: &mut W,
     front: &[u8],
@@ -40,7 +40,7 @@ pub(crate) fn write_part<W: Output>(
     }
 }
 
-/// Writes the piece whose turn it is: whether it was there.
+/// Writes the piece whose turn it is, if it is there. Returns whether it was.
 pub(crate) fn write_next<N: Naming, W: Output>(
     early: &mut Early,
     writer: &mut W,

@@ -1,6 +1,6 @@
-//! Files in small chunks, which go through the queues in blocks: of all lengths beside a chunk's, a block's and a
-//! round's, against the container that `container_core` makes of the whole; and with a limit or a fault in a block's
-//! middle.
+//! Files in small chunks, which go through the queues in blocks. Their lengths are near those of a chunk, a block and a
+//! round. They are compared with the container that `container_core` makes of the whole. Some have a limit or a fault
+//! within a block.
 use crate::containers::{MANY_CHUNKS, MANY_ROUNDS, ONE_ROUND};
 use crate::gates::Passes;
 use crate::pipes::{container, in_rounds, known, small};
@@ -12,11 +12,10 @@ use std::sync::Wait;
 use std::thread::Threads;
 use worker_core::{Free, Gate};
 
-// How often a gate looks for the other workers.
+// How often a gate checks for the other workers.
 const TURNS: u64 = 1_000_000_000;
 
-// How an input is sealed: by so many workers in rounds of so many chunks, where a call gives or takes so many bytes at
-// most.
+// How an input is sealed: with `workers` workers, in rounds of `window` chunks. A call transfers at most `step` bytes.
 #[derive(Clone, Copy)]
 struct Asked {
     workers: u32,
@@ -24,7 +23,7 @@ struct Asked {
     step: usize,
 }
 
-// What ends a sealing: the input's end, a byte behind so many, or a reader or a writer that fails behind so many.
+// What ends a sealing: the input's end, a byte past a limit, or a reader or writer that fails after n bytes.
 #[derive(Clone, Copy)]
 enum End {
     Input,
@@ -33,7 +32,7 @@ enum End {
     Write(u64),
 }
 
-// The limit, what the reader and the writer do, and the answer, where the input has so many bytes.
+// The limit, the schedules of reader and writer, and the expected result, for an input of `count` bytes.
 fn terms(end: End, count: u64) -> (u64, Schedule, Schedule, Result<u64, SealFault>) {
     let never = Schedule::Never;
     match end {
@@ -44,7 +43,7 @@ fn terms(end: End, count: u64) -> (u64, Schedule, Schedule, Result<u64, SealFaul
     }
 }
 
-// Whether a sealing that ends so gives that answer, and has written just these bytes.
+// Whether a sealing that ends this way returns that result, and has written exactly these bytes.
 fn writes<T: Threads + Wait + Sync, G: Gate + Sync>(
     rt: &T,
     alloc: Global,
@@ -77,7 +76,7 @@ fn writes<T: Threads + Wait + Sync, G: Gate + Sync>(
     Some(answered == answer && writer.bytes() == bytes)
 }
 
-// Whether so many bytes are sealed to their container by 1, 2 and 4 workers.
+// Whether `count` bytes are sealed to their container with 1, 2 and 4 workers.
 fn all_seal<T: Threads + Wait + Sync>(
     rt: &T,
     alloc: Global,
@@ -103,13 +102,13 @@ fn all_seal<T: Threads + Wait + Sync>(
     Some(true)
 }
 
-// Beside a chunk's length, that of a block of 16 chunks, and that of two.
+// Near the lengths of a chunk, a block of 16 chunks, and two such blocks.
 static LENGTHS: [usize; 10] = [
     0, 1, 4_095, 4_096, 4_097, 65_535, 65_536, 65_537, 131_072, 131_073,
 ];
 
-// Windows of few chunks, and their bytes. Blocks of 16 chunks don't fill those of 6, 17 and 24: there they have 6 or
-// fewer, 1, and 12 or fewer.
+// Windows of few chunks, and their bytes. Blocks of 16 chunks don't fill windows of 6, 17 and 24. There blocks have at
+// most 6 chunks, 1, and at most 12.
 static WINDOWS: [(u32, usize); 6] = [
     (1, 4_096),
     (2, 8_192),
@@ -119,7 +118,7 @@ static WINDOWS: [(u32, usize); 6] = [
     (24, 98_304),
 ];
 
-// Whether each length is sealed, and each behind a full round.
+// Whether each length is sealed, alone and after a full round.
 fn all_lengths_seal<T: Threads + Wait + Sync>(
     rt: &T,
     alloc: Global,
@@ -166,8 +165,8 @@ fn all_lengths_in_windows_of_many_blocks(rt: HostRuntime) {
     assert!(rt; all_lengths_seal(&rt, rt.alloc(), 256, 1_048_576, 70_001) == Some(true));
 }
 
-// Exponents of larger chunks, and windows; then the bytes of a chunk, of a block, of a round, and of a block behind a
-// round.
+// Exponents of larger chunks, and windows. Then the lengths of a chunk, a block, a round, and a round with one block
+// after it.
 static LARGER: [(u32, u32, [usize; 4]); 6] = [
     (13, 8, [8_192, 65_536, 65_536, 131_072]),
     (13, 32, [8_192, 65_536, 262_144, 327_680]),
@@ -177,7 +176,7 @@ static LARGER: [(u32, u32, [usize; 4]); 6] = [
     (15, 32, [32_768, 65_536, 1_048_576, 1_114_112]),
 ];
 
-// Whether these lengths are sealed, and a byte fewer and more.
+// Whether these lengths are sealed, and those one byte shorter and longer.
 fn all_beside_seal<T: Threads + Wait + Sync>(
     rt: &T,
     alloc: Global,
@@ -198,7 +197,7 @@ fn all_beside_seal<T: Threads + Wait + Sync>(
     Some(true)
 }
 
-// The same of each window with chunks of this exponent.
+// The same for each window with chunks of this exponent.
 fn larger_seal<T: Threads + Wait + Sync>(rt: &T, alloc: Global, asked: u32) -> Option<bool> {
     for (exponent, window, lengths) in &LARGER {
         if *exponent == asked && !all_beside_seal(rt, alloc, asked, *window, lengths)? {
@@ -223,42 +222,42 @@ fn all_lengths_in_chunks_of_32_kib(rt: HostRuntime) {
     assert!(rt; larger_seal(&rt, rt.alloc(), 15) == Some(true));
 }
 
-// How 400,000 bytes end in rounds of 32 chunks, and how many bytes of the container are written: of each round 131,584,
-// and 25 of the header before the first. Blocks have 16 chunks, or 8 by four workers.
+// How 400,000 bytes end in rounds of 32 chunks, and how many bytes of the container are written: 131,584 for each
+// round, and 25 of the header before the first. Blocks have 16 chunks, or 8 with four workers.
 static MANY_ENDS: [(End, usize); 24] = [
-    // In block 1 of round 0, behind the round and a byte later.
+    // In block 1 of round 0, after the round, and a byte later.
     (End::Limit(100_000), 0),
     (End::Limit(131_072), 0),
     (End::Limit(131_073), 131_609),
-    // The same of round 1, and before the last byte.
+    // The same for round 1, and before the last byte.
     (End::Limit(230_000), 131_609),
     (End::Limit(262_144), 131_609),
     (End::Limit(262_145), 263_193),
     (End::Limit(399_999), 394_777),
-    // In both blocks of round 0, behind the round and a byte later. A round is written once the next one was read.
+    // In both blocks of round 0, after the round, and a byte later. A round is written after the next one was read.
     (End::Read(30_000), 0),
     (End::Read(100_000), 0),
     (End::Read(131_072), 0),
     (End::Read(131_073), 0),
-    // The same of round 1 and of round 2, and at the end.
+    // The same for rounds 1 and 2, and at the end.
     (End::Read(230_000), 0),
     (End::Read(262_144), 0),
     (End::Read(262_145), 131_609),
     (End::Read(330_000), 131_609),
     (End::Read(400_000), 263_193),
-    // In the header and behind it; before, in and behind the tag of chunk 5.
+    // In the header and after it; before, in and after the tag of chunk 5.
     (End::Write(24), 24),
     (End::Write(25), 25),
     (End::Write(24_681), 24_681),
     (End::Write(24_689), 24_689),
     (End::Write(24_697), 24_697),
-    // Behind round 0, in the tag of chunk 53, which is one of block 1 of round 1, and before the last byte.
+    // After round 0; in the tag of chunk 53, which is in block 1 of round 1; and before the last byte.
     (End::Write(131_609), 131_609),
     (End::Write(222_065), 222_065),
     (End::Write(401_592), 401_592),
 ];
 
-// The same of 100,000 bytes, which end in block 1 of round 0.
+// The same for 100,000 bytes, which end in block 1 of round 0.
 static FEW_ENDS: [(End, usize); 8] = [
     (End::Limit(70_000), 0),
     (End::Limit(99_999), 0),
@@ -270,7 +269,7 @@ static FEW_ENDS: [(End, usize); 8] = [
     (End::Write(100_424), 100_424),
 ];
 
-// Whether a plaintext ends as the rows say, where a block is read and written by many calls.
+// Whether a plaintext ends as the rows say. A block takes many calls to read and to write.
 fn all_end<T: Threads + Wait + Sync>(
     rt: &T,
     alloc: Global,
@@ -294,7 +293,7 @@ fn all_end<T: Threads + Wait + Sync>(
     Some(true)
 }
 
-// The same of so many bytes, whose container has this SHA-256.
+// The same for `count` bytes. Their container has this SHA-256.
 fn ends_as<T: Threads + Wait + Sync>(
     rt: &T,
     alloc: Global,
@@ -318,8 +317,7 @@ fn limits_and_faults_inside_a_block(rt: HostRuntime) {
     }
 }
 
-// Whether each of the 64 chunks of a plaintext is passed once, under its own number, and so many workers meet, and
-// nobody else comes.
+// Whether each of a plaintext's 64 chunks is passed once, with its own number. Exactly `workers` workers must meet.
 fn pass_all<T: Threads + Wait + Sync>(
     rt: &T,
     alloc: Global,
@@ -340,7 +338,7 @@ fn pass_all<T: Threads + Wait + Sync>(
     Some(right && all && !gate.gave_up())
 }
 
-// The same of 64 chunks of the pattern.
+// The same for 64 chunks of the pattern.
 fn all_pass<T: Threads + Wait + Sync>(
     rt: &T,
     alloc: Global,

@@ -1,4 +1,4 @@
-//! Readers and writers that fail: the fault is theirs, and what was written begins the container.
+//! Readers and writers that fail: the fault names which, and a prefix of the container was written.
 use crate::containers::{LENGTHS, TWO_CHUNKS};
 use crate::pipes::{Asked, known, piped, small};
 use container_core::{SealFault, Shape};
@@ -9,8 +9,8 @@ use std::sync::Wait;
 use std::thread::Threads;
 use worker_core::Free;
 
-// How many bytes of its container are written where a call of the reader fails, which gives 1,000 bytes of two small
-// chunks a call.
+// How many bytes of the container are written if a call of the reader fails. The reader returns 1,000 bytes of two
+// small chunks a call.
 fn written_till<T: Threads + Wait + Sync>(
     rt: &T,
     alloc: Global,
@@ -36,9 +36,9 @@ fn written_till<T: Threads + Wait + Sync>(
     }
 }
 
-// Whether each of the eleven calls that read two small chunks and the end is seen to fail, and no other is made: 4,097
-// bytes by the first five, and then 4,095, by five more, and the end. In the first five nothing but the header is
-// written, and later a chunk at most.
+// Two small chunks and the end are read with eleven calls: 4,097 bytes with five, 4,095 with five more, and the end.
+// Whether each call's failure is reported, and no other call is made. In the first five only the header is written, and
+// later at most one chunk.
 fn are_calls_seen<T: Threads + Wait + Sync>(rt: &T, alloc: Global, workers: u32) -> Option<bool> {
     let shape = small()?;
     let plain = zeros(alloc, 8_192).ok()?;
@@ -63,8 +63,8 @@ fn each_failed_read_is_the_answer(rt: HostRuntime) {
     assert!(rt; are_calls_seen(&rt, rt.alloc(), 2) == Some(true));
 }
 
-// Whether a reader that fails behind so many bytes of three chunks is seen, and no chunk is written behind which it
-// gave no byte.
+// Whether a reader that fails after `given` bytes of three chunks is reported. A chunk may be written only if the
+// reader returned a byte after it.
 fn fails_behind<T: Threads + Wait + Sync>(
     rt: &T,
     alloc: Global,
@@ -87,7 +87,7 @@ fn fails_behind<T: Threads + Wait + Sync>(
     Some(answered == Err(SealFault::Read) && is_few && container.starts_with(written))
 }
 
-// In chunk 0, at its end, behind it, and in chunk 1.
+// In chunk 0, at its end, after it, and in chunk 1.
 static GIVEN: [usize; 11] = [
     0, 1, 23, 24, 25, 65_535, 65_536, 65_537, 65_575, 65_576, 65_592,
 ];
@@ -111,7 +111,7 @@ fn a_read_that_fails_behind_some_bytes_is_the_answer(rt: HostRuntime) {
     assert!(rt; are_reads_seen(&rt, rt.alloc(), 2) == Some(true));
 }
 
-// What is answered, and what was written, where the writer has room for so many bytes.
+// The result and what was written, if the writer has room for `room` bytes.
 fn ends_at<T: Threads + Wait + Sync>(
     rt: &T,
     alloc: Global,
@@ -134,11 +134,12 @@ fn ends_at<T: Threads + Wait + Sync>(
     Some(answered == answer && writer.bytes() == front)
 }
 
-// In the header, at its end, behind it, at the end of chunk 0's ciphertext, in its tag, behind it, and a byte before
-// the end of all.
+// In the header, at its end and after it; in chunk 0's tag, at its end and after it; and one byte before the end of the
+// container.
 static ROOMS: [usize; 9] = [0, 1, 23, 24, 25, 65_575, 65_576, 65_592, 131_144];
 
-// Whether a writer that fails in three chunks is seen, and has what it took; with room for all it doesn't fail.
+// Whether a writer that fails in three chunks is reported, and holds what it took. With room for everything it doesn't
+// fail.
 fn are_writes_seen<T: Threads + Wait + Sync>(rt: &T, alloc: Global, workers: u32) -> Option<bool> {
     let (count, length, digest) = &LENGTHS[6];
     let plain = pattern(alloc, *count).ok()?;

@@ -1,9 +1,9 @@
-//! Gates that keep who passed with what, and that hold a pass until another has come.
+//! Gates that record who passed with what, and that hold a pass until another has come.
 use std::alloc::{AllocError, Global};
 use std::sync::atomic::{AtomicU64, Ordering};
 use worker_core::Gate;
 
-// Whether a count comes to so many within so many turns.
+// Whether `count` reaches `wanted` within `turns` turns.
 fn comes_to(count: &AtomicU64, wanted: u64, turns: u64) -> bool {
     for _turn in 0..turns {
         if count.load(Ordering::SeqCst) >= wanted {
@@ -13,7 +13,7 @@ fn comes_to(count: &AtomicU64, wanted: u64, turns: u64) -> bool {
     false
 }
 
-/// Holds chunk 0's pass until chunk 1's was entered, and gives up after so many turns.
+/// Holds chunk 0's pass until chunk 1's has begun, and gives up after `turns` turns.
 #[derive(Drop)]
 pub struct Crossing {
     turns: u64,
@@ -32,12 +32,12 @@ impl Crossing {
         }
     }
 
-    /// Whether chunk 0's pass was entered, or is within the turns.
+    /// Whether chunk 0's pass has begun, or begins within the turns.
     pub fn is_entered(&self) -> bool {
         comes_to(&self.first, 1, self.turns)
     }
 
-    /// Whether chunk 0's pass was let go too early.
+    /// Whether chunk 0's pass was released too early.
     pub fn gave_up(&self) -> bool {
         self.gave_up.load(Ordering::SeqCst) > 0
     }
@@ -56,8 +56,8 @@ impl Gate for Crossing {
     }
 }
 
-/// Counts the passes with each of 64 chunks and by each of 16 workers. It holds all until so many have come as are
-/// wanted, and gives up after so many turns.
+/// Counts the passes with each of 64 chunks and by each of 16 workers. It holds all until `wanted` have come, and gives
+/// up after `turns` turns.
 #[derive(Drop)]
 pub struct Passes {
     wanted: u64,
@@ -102,7 +102,7 @@ impl Passes {
         self.strange.load(Ordering::SeqCst) == 0
     }
 
-    /// Whether each of the first so many workers passed, and no other did.
+    /// Whether each of the first `many` workers passed, and no other did.
     pub fn is_by_all_of(&self, many: usize) -> bool {
         for (worker, count) in self.workers.iter().enumerate() {
             if (count.load(Ordering::SeqCst) > 0) != (worker < many) {
@@ -112,12 +112,12 @@ impl Passes {
         self.strange.load(Ordering::SeqCst) == 0
     }
 
-    /// Whether a pass was let go too early.
+    /// Whether a pass was released too early.
     pub fn gave_up(&self) -> bool {
         self.gave_up.load(Ordering::SeqCst) > 0
     }
 
-    // One more at this place, where it is one.
+    // Increments the count at this place; if there is none, the count of strangers.
     fn count(&self, counts: &[AtomicU64], place: u32) {
         let count = counts.get(place as usize).unwrap_or(&self.strange);
         count.fetch_add(1, Ordering::SeqCst);

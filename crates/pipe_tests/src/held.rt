@@ -1,5 +1,5 @@
-//! Reading goes on while chunks are sealed: a reader that is held until chunk 0 is sealed, which is held until chunk 1
-//! is, keeps nobody waiting.
+//! Reading continues while chunks are sealed. A reader is held until chunk 0 is being sealed, and chunk 0 until chunk 1
+//! is. Nobody waits forever.
 use crate::containers::TWO_CHUNKS;
 use crate::gates::Crossing;
 use crate::pipes::{Asked, known, piped, small};
@@ -13,15 +13,15 @@ use std::io::Read;
 use std::sync::Wait;
 use std::thread::Threads;
 
-// How often the reader and the gate look, where they are to meet, and where they can't.
+// How often the reader and the gate check: where they can meet, and (`FEW_TURNS`) where they can't.
 const TURNS: u64 = 1_000_000_000;
 
 const FEW_TURNS: u64 = 1_000;
 
-// The byte that is held, counted from 0: the first behind chunk 0 and the byte that is read with it.
+// The byte that is held, counted from 0: the first after chunk 0 and the byte read with it.
 const HELD: usize = 4_097;
 
-// A reader that gives a byte a call, and byte 4,097 once chunk 0's pass was entered, or after the gate's turns.
+// A reader that returns a byte a call. It returns byte 4,097 once chunk 0's pass has begun, or after the gate's turns.
 #[derive(Drop)]
 struct Held<'a> {
     rest: &'a [u8],
@@ -45,7 +45,7 @@ impl Read for Held<'_> {
     }
 }
 
-// Whether the reader and the gate give up where so many workers seal a plaintext to its container.
+// Whether the reader and the gate give up while `workers` workers seal a plaintext to its container.
 fn give_up_over<T: Threads + Wait + Sync>(
     rt: &T,
     alloc: Global,
@@ -76,7 +76,7 @@ fn give_up_over<T: Threads + Wait + Sync>(
     }
 }
 
-// The same of two small chunks.
+// The same for two small chunks.
 fn give_up<T: Threads + Wait + Sync>(
     rt: &T,
     alloc: Global,
@@ -97,10 +97,10 @@ fn give_up<T: Threads + Wait + Sync>(
     )
 }
 
-// How many workers seal, how often reader and gate look, and whether both give up.
+// The number of workers, how often reader and gate check, and whether both give up.
 static MEETINGS: [(u32, u64, bool); 2] = [
     (2, TURNS, false),
-    // That this can fail: one worker seals nothing beside the reading, and one chunk after the other.
+    // Shows that this can fail: one worker seals nothing while it reads, and one chunk after the other.
     (1, FEW_TURNS, true),
 ];
 

@@ -1,5 +1,5 @@
-//! Tests of `pipe_core`, of its streams by `run_pipe`: streams sealed by 1 to 16 workers, and files in small chunks, over
-//! readers and writers in memory.
+//! Tests of `pipe_core`: streams sealed through `run_pipe` with 1 to 16 workers, and files in small chunks. Readers and
+//! writers are in memory.
 #![tactic(auto)]
 
 #[cfg(test)]

@@ -1,4 +1,4 @@
-//! Who passes the gate with which chunk: each of 64 chunks once, and all workers.
+//! Who passes the gate with which chunk: each of 64 chunks is passed once, and all workers pass.
 use crate::containers::MANY_CHUNKS;
 use crate::gates::Passes;
 use crate::pipes::{Asked, known, seals_to, small};
@@ -11,7 +11,7 @@ const TURNS: u64 = 1_000_000_000;
 
 const FEW_TURNS: u64 = 1_000;
 
-// Whether so many workers seal 64 small chunks to their container, and pass a gate.
+// Whether `workers` workers seal 64 small chunks to their container, and pass a gate.
 fn are_passed<T: Threads + Wait + Sync>(
     rt: &T,
     alloc: Global,
@@ -32,7 +32,7 @@ fn are_passed<T: Threads + Wait + Sync>(
     Some(seals_to(rt, alloc, &shape, plain, 70_001, asked, gate, container))
 }
 
-// Whether so many workers meet, each chunk is passed once, and by nobody else.
+// Whether exactly `workers` workers meet, and each chunk is passed once.
 fn all_pass<T: Threads + Wait + Sync>(
     rt: &T,
     alloc: Global,
@@ -64,14 +64,14 @@ fn all_workers_pass_with_each_chunk_once(rt: HostRuntime) {
     }
 }
 
-// Whether the gate that five are wanted at gives up by four workers.
+// Whether a gate that wants five gives up with four workers.
 fn four_miss_a_fifth<T: Threads + Wait + Sync>(rt: &T, alloc: Global) -> Option<bool> {
     let gate = Passes::new(alloc, 5, FEW_TURNS).ok()?;
     let sealed = are_passed(rt, alloc, 4, 4, &gate) == Some(true);
     Some(sealed && gate.is_each_once() && gate.gave_up())
 }
 
-// That the test above can fail.
+// Shows that the test above can fail.
 #[test]
 fn four_workers_meet_no_fifth(rt: HostRuntime) {
     assert!(rt; four_miss_a_fifth(&rt, rt.alloc()) == Some(true));

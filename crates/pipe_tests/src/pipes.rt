@@ -1,5 +1,5 @@
-//! The engine of a pipe under the key 00 01 .. 1f and the grant of device 1 and file 0, the sealing in rounds that it
-//! shares its workers with, and the containers that they have to give.
+//! Sealing a stream with the key 00 01 .. 1f and the grant of device 1 and file 0, sealing in rounds (which uses the
+//! same workers), and the expected containers.
 ghost use Rattle.std.specs.Prelude.{◌≡◌, drop, take, true};
 ghost use Rattle.container_core.specs.Container.{hint_of};
 
@@ -16,7 +16,8 @@ use std::sync::Wait;
 use std::thread::Threads;
 use worker_core::{Free, Gate, MAX_WINDOW, MAX_WORKERS};
 
-/// How a stream is sealed: at most so many chunks, by so many workers, with so many chunks read and not written.
+/// How a stream is sealed: at most `max_chunks` chunks, with `workers` workers, and `depth` chunks read and not yet
+/// written.
 #[derive(Clone, Copy)]
 pub struct Asked {
     pub max_chunks: u32,
@@ -24,17 +25,17 @@ pub struct Asked {
     pub depth: u32,
 }
 
-/// Chunks of 4 KiB under an empty label.
+/// Returns the shape of chunks of 4 KiB with an empty label.
 pub fn small() -> Option<Shape> {
     Shape::two(12, b"").ok()
 }
 
-/// The container of a plaintext.
+/// Returns the container of a plaintext.
 pub fn container(alloc: Global, shape: &Shape, plain: &[u8]) -> Option<Vec<u8>> {
     seal(alloc, &counting_key(), shape, PREFIX, plain).ok()
 }
 
-/// The same, where its SHA-256 is this one.
+/// The same, if its SHA-256 is `digest`.
 pub fn known(alloc: Global, shape: &Shape, plain: &[u8], digest: &[u8; 32]) -> Option<Vec<u8>> {
     let bytes = container(alloc, shape, plain)?;
     if Sha256::digest(bytes.as_slice()) == *digest {
@@ -52,7 +53,7 @@ fn is_of(header: &Header, key: &Key) -> bool
     header.bytes()[17..24] == key.id()[..7]
 }
 
-/// What the engine answers, or `None` where it is asked for what it doesn't take, or the grant doesn't end as it has to.
+/// Returns the engine's result. Returns `None` if an argument is out of range, or the grant ends in the wrong way.
 pub fn piped<T: Threads + Wait + Sync, R: Source, W: Sink, G: Gate + Sync>(
     rt: &T,
     alloc: Global,
@@ -87,7 +88,7 @@ pub fn piped<T: Threads + Wait + Sync, R: Source, W: Sink, G: Gate + Sync>(
     }
 }
 
-/// What the sealing in rounds answers, or `None` where it is asked for what it doesn't take.
+/// Returns the result of sealing in rounds, or `None` if an argument is out of range.
 pub fn in_rounds<T: Threads + Wait + Sync, R: Source, W: Sink, G: Gate + Sync>(
     rt: &T,
     alloc: Global,
@@ -115,7 +116,7 @@ pub fn in_rounds<T: Threads + Wait + Sync, R: Source, W: Sink, G: Gate + Sync>(
     ))
 }
 
-/// The answer over memory where nothing fails, and what was written, where so many bytes are read and written a call.
+/// Returns the result over memory that doesn't fail, and what was written. A call transfers at most `step` bytes.
 pub fn sealed<T: Threads + Wait + Sync, G: Gate + Sync>(
     rt: &T,
     alloc: Global,
@@ -150,7 +151,7 @@ pub fn seals_to<T: Threads + Wait + Sync, G: Gate + Sync>(
     }
 }
 
-/// The same where all pass freely and any number of bytes is read and written a call.
+/// The same if all pass freely, and a call may transfer any number of bytes.
 pub fn seals_freely<T: Threads + Wait + Sync>(
     rt: &T,
     alloc: Global,

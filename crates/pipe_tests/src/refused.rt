@@ -1,4 +1,4 @@
-//! `run_pipe` by two workers where one growth is refused. Run it with each allocation refused in turn
+//! `run_pipe` with two workers and one refused growth. Run it with each allocation refused in turn
 //! (`tools/refused_tests.py`).
 use crate::pipes::{Asked, piped};
 use container_core::{SealFault, Shape};
@@ -9,7 +9,7 @@ use std::sync::Wait;
 use std::thread::Threads;
 use worker_core::Free;
 
-// A refusal that was asked for is met once, so the same call finds memory at once.
+// An injected refusal comes once, so the second call succeeds.
 fn writer_of(alloc: Global) -> Option<ToMemory> {
     match ToMemory::new(alloc, ZEROS_SEALED, usize::MAX, Schedule::Never) {
         Err(AllocError) => { ToMemory::new(alloc, ZEROS_SEALED, usize::MAX, Schedule::Never).ok() }
@@ -17,8 +17,8 @@ fn writer_of(alloc: Global) -> Option<ToMemory> {
     }
 }
 
-// Whether a pipe gives the container and a sealed number, or a void one without memory and a beginning of the
-// container. `None` is that memory was refused.
+// Whether a pipe writes the container and the number is sealed. If memory is refused, the number must be void and a
+// prefix of the container written, and the result is `None`.
 fn is_sealed_or_refused<T: Threads + Wait + Sync>(
     rt: &T,
     alloc: Global,

@@ -1,5 +1,5 @@
-//! Whole streams, with the most chunks and one byte more, of all lengths beside a chunk's, and a byte a call. What they
-//! have to give is of Python's `cryptography`, in `containers` and of `crew_tests`.
+//! Whole streams: with the most chunks and one byte more, with lengths near a chunk's, and a byte a call. The expected
+//! results are in `containers` and in `crew_tests`, from Python's `cryptography`.
 use crate::containers::{A_BYTE_MORE, A_PART_MORE, EMPTY, LENGTHS, TWO_CHUNKS};
 use crate::pipes::{Asked, known, piped, seals_freely, seals_to, small};
 use container_core::{SealFault, Shape};
@@ -11,7 +11,7 @@ use std::sync::Wait;
 use std::thread::Threads;
 use worker_core::Free;
 
-// How many bytes a reader has left, of 4,096 at most.
+// How many bytes a reader has left, at most 4,096.
 fn left_of(reader: &mut FromMemory<'_>) -> Option<usize> {
     let mut rest = [0; 4_096];
     match fill(reader, &mut rest) {
@@ -20,8 +20,8 @@ fn left_of(reader: &mut FromMemory<'_>) -> Option<usize> {
     }
 }
 
-// How many bytes of a plaintext are left unread where so many chunks are allowed, and more are there. What was written
-// begins its container.
+// How many bytes of a plaintext stay unread if fewer chunks are allowed than it has. A prefix of its container must
+// have been written.
 fn left_behind<T: Threads + Wait + Sync>(
     rt: &T,
     alloc: Global,
@@ -41,7 +41,7 @@ fn left_behind<T: Threads + Wait + Sync>(
     }
 }
 
-// The same of so many zeros in small chunks, of which two are allowed, and whose container has this SHA-256.
+// The same for `count` zeros in small chunks, of which two are allowed. Their container has this SHA-256.
 fn leaves<T: Threads + Wait + Sync>(
     rt: &T,
     alloc: Global,
@@ -62,7 +62,7 @@ fn leaves<T: Threads + Wait + Sync>(
     left_behind(rt, alloc, &shape, plain, container.as_slice(), asked)
 }
 
-// The same of 65,537 zeros, of which one chunk is allowed.
+// The same for 65,537 zeros, of which one chunk is allowed.
 fn leaves_of_one<T: Threads + Wait + Sync>(rt: &T, alloc: Global) -> Option<usize> {
     let container = sealed_zeros(alloc)?;
     let asked = Asked {
@@ -89,7 +89,8 @@ fn a_byte_behind_the_most_chunks(rt: HostRuntime) {
     assert!(rt; leaves_of_one(&rt, rt.alloc()) == Some(0));
 }
 
-// Whether no byte and two full chunks of 4 KiB, and two of 64 KiB, the last of a byte, have their containers.
+// Whether the empty plaintext and two full chunks of 4 KiB, and two of 64 KiB (the last of one byte), have their
+// containers.
 fn all_are_known<T: Threads + Wait + Sync>(rt: &T, alloc: Global) -> Option<bool> {
     let (shape, one) = (small()?, Shape::one());
     let asked = Asked {
@@ -122,7 +123,7 @@ fn known_containers(rt: HostRuntime) {
     assert!(rt; all_are_known(&rt, rt.alloc()) == Some(true));
 }
 
-// Whether a plaintext is sealed to its container by 1, 2, 4 and 16 workers, with 1, 2, 16 and 64 chunks in hand.
+// Whether a plaintext is sealed to its container with 1, 2, 4 and 16 workers, and depths 1, 2, 16 and 64.
 fn all_seal<T: Threads + Wait + Sync>(
     rt: &T,
     alloc: Global,
@@ -144,7 +145,7 @@ fn all_seal<T: Threads + Wait + Sync>(
     true
 }
 
-// Whether so many bytes are sealed to a container of this length and digest.
+// Whether `count` bytes are sealed to a container of this length and digest.
 fn seal_length<T: Threads + Wait + Sync>(
     rt: &T,
     alloc: Global,
@@ -166,8 +167,7 @@ fn all_lengths(rt: HostRuntime) {
     }
 }
 
-// Whether three chunks are sealed to their container from a reader that gives a byte a call, by a writer that takes
-// one.
+// Whether three chunks are sealed to their container with a reader and a writer that transfer one byte a call.
 fn seals_by_bytes<T: Threads + Wait + Sync>(rt: &T, alloc: Global, workers: u32) -> Option<bool> {
     let (count, _, digest) = &LENGTHS[6];
     let plain = pattern(alloc, *count).ok()?;

@@ -1,4 +1,4 @@
--- How a mac's four values follow the message that it stands for.
+-- How a mac's four values follow the message that it denotes.
 use Rattle.std.proofs.Common.{◌≡◌, ℕ, ◌+◌, ◌-◌, ◌*◌, ◌/◌, ◌%◌, ◌^◌, ◌<◌, ◌≤◌, List, [], ◌++◌, length, take, drop}
 use Rattle.std.proofs.Common.{replicate, sym, ap, ◌∙◌, arith}
 use Rattle.std.proofs.lemmas.List.{length-append, length-drop, length-take-le, drop-append-le, append_assoc}
@@ -22,7 +22,7 @@ pub length-cut_rest : (m : List ℕ) → length (cut_rest m) ≡ length m % 16
 unfolding cut_rest
 length-cut_rest m = length-drop (16 * (length m / 16)) m ∙ omega arith
 
--- how many bytes wait
+-- how many bytes follow the whole blocks
 pub Absorbed-length : (mac : Progress) (key m : List ℕ) → Absorbed mac key m → length mac.rest ≡ length m % 16
 unfolding Absorbed whole_sum cut_rest
 Absorbed-length mac key m held = ap length held.3 ∙ length-cut_rest m
@@ -67,7 +67,7 @@ Absorbed-filled old new key m piece held er es esum erest fills =
       erest ∙ sym none,
     )
 
--- whole blocks behind whole blocks
+-- whole blocks after whole blocks
 pub Absorbed-whole : (old new : Progress) (key m blocks : List ℕ) → Absorbed old key m → old.rest ≡ []
     → length blocks % 16 ≡ 0
     → new.r ≡ old.r → new.s ≡ old.s
@@ -85,7 +85,7 @@ Absorbed-whole old new key m blocks held none whole er es sum erest =
       erest ∙ sym (cut_rest-whole (m ++ blocks) (omega (arith, length-append m blocks))),
     )
 
--- the tag, where the last block is cut
+-- the tag, if the last block is short
 pub Absorbed-tag_cut : (mac : Progress) (key m : List ℕ) (sum tag : ℕ) → Absorbed mac key m → 0 < length mac.rest
     → sum % prime ≡ ((mac.sum + block_number mac.rest) * mac.r) % prime
     → tag ≡ (sum % prime + mac.s) % 2 ^ 128 → to_le_bytes w128 tag ≡ poly1305 key m
@@ -101,7 +101,7 @@ Absorbed-tag_cut mac key m sum tag held cut esum etag =
     ap (to_le_bytes w128) (etag ∙ ap (λ n. (n + mac.s) % 2 ^ 128) last
     ∙ ap (λ s. (polynomial (key_r key) (block_numbers m (block_count (length m))) % prime + s) % 2 ^ 128) held.1)
 
--- the tag, where no block is cut
+-- the tag, if no block is short
 pub Absorbed-tag_whole : (mac : Progress) (key m : List ℕ) (sum tag : ℕ) → Absorbed mac key m → length mac.rest ≡ 0
     → sum % prime ≡ mac.sum
     → tag ≡ (sum % prime + mac.s) % 2 ^ 128 → to_le_bytes w128 tag ≡ poly1305 key m
@@ -112,7 +112,7 @@ Absorbed-tag_whole mac key m sum tag held whole esum etag =
     ap (to_le_bytes w128) (etag ∙ ap (λ n. (n + mac.s) % 2 ^ 128) last
     ∙ ap (λ s. (polynomial (key_r key) (block_numbers m (block_count (length m))) % prime + s) % 2 ^ 128) held.1)
 
--- a piece written behind the bytes that wait
+-- a piece written after the bytes kept
 pub rest_written : (rest piece copy post : List ℕ) (n k : ℕ) → n ≤ length rest → copy ≡ piece → k ≡ n + length piece
     → take k (take n rest ++ (copy ++ post)) ≡ take n rest ++ piece
 rest_written rest piece copy post n k fits same end =
@@ -133,7 +133,7 @@ three_parts m bytes f e first second =
     ∙ append_assoc m (take e bytes) (drop e bytes)
     ∙ ap (λ (zs : List ℕ). m ++ zs) (take-append-drop e bytes)
 
--- the zeros behind a message
+-- the zeros after a message
 pub take-pad16 : (mac : Progress) (key m : List ℕ) (lacking : ℕ) → Absorbed mac key m → lacking
     ≡ (16 - length mac.rest) % 16
     → take lacking (replicate 16 0) ≡ pad16 m

@@ -1,15 +1,15 @@
--- What a `Mac` stands for: a key and the bytes absorbed under it. It keeps neither, but these four.
+-- What a `Mac` denotes: a key and the bytes absorbed under it. It keeps neither, only these four values.
 use Rattle.std.specs.Prelude.{◌≡◌, ℕ, ◌*◌, ◌/◌, ◌%◌, List, length, drop}
 use Rattle.poly_core.specs.Poly1305.{prime, key_r, key_s, block_numbers, polynomial}
 
--- the key's two numbers, the polynomial of the whole blocks modulo the prime, and the bytes behind them
+-- the key's two numbers, the polynomial of the whole blocks modulo the prime, and the bytes after them
 pub record Progress : Type 0 where
   pub r : ℕ
   pub s : ℕ
   pub sum : ℕ
   pub rest : List ℕ
 
--- the mac stands for the key, and for the message as the bytes absorbed under it
+-- the mac denotes the key, and the message as the bytes absorbed under it
 unfoldable pub Absorbed : Progress → List ℕ → List ℕ → Type 0
 Absorbed mac key message =
     let whole : ℕ = length message / 16 in

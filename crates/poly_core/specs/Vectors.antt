@@ -1,4 +1,4 @@
--- The example that RFC 8439 prints beside Poly1305 (2.5.2); `src/laws.rt` says that the definition gives it.
+-- The test vector of RFC 8439 for Poly1305 (2.5.2); `src/laws.rt` says that the definition gives it.
 use Rattle.std.specs.Prelude.{ℕ, List, codes}
 use Rattle.std.specs.Int.{bytes_high_first}
 

@@ -10,7 +10,7 @@ use std::marker::Model;
 
 /// Poly1305 under a one-time key, over the bytes absorbed so far.
 ///
-/// It keeps the sum over the whole blocks, and the bytes behind them, which are fewer than 16.
+/// It keeps the sum over the whole blocks, and the bytes after them, fewer than 16.
 #[derive(Drop)]
 pub struct Mac {
     r: Limbs,
@@ -39,7 +39,7 @@ impl Model for Mac {
 }
 
 impl Mac {
-    /// Nothing absorbed under a key of 32 bytes: r, then s.
+    /// Returns a mac under a key of 32 bytes (r, then s), with nothing absorbed.
     pub fn new(key: &[u8; 32]) -> Mac
         ensures { Absorbed result key.now [] }
     {
@@ -52,7 +52,7 @@ impl Mac {
         }
     }
 
-    /// Appends bytes to the message. How a message is cut into pieces makes no difference.
+    /// Appends bytes to the message. How a message is split into pieces makes no difference.
     pub fn absorb(&mut self, bytes: &[u8])
         ensures { (key message : List ℕ) → Absorbed self.old key message
             → Absorbed self.new key (message ++ bytes.now) }
@@ -66,7 +66,7 @@ impl Mac {
         }
     }
 
-    /// Appends zeros up to a multiple of 16 bytes, none at a multiple (RFC 8439, 2.8).
+    /// Appends zeros up to a multiple of 16 bytes, none at a multiple (RFC 8439, 2.8.1).
     pub fn pad(&mut self)
         ensures { (key message : List ℕ) → Absorbed self.old key message
             → Absorbed self.new key (message ++ pad16 message) }
@@ -75,7 +75,7 @@ impl Mac {
         self.take_in(&[0; BLOCK][..lacking]);
     }
 
-    /// The tag of the bytes absorbed, 16 bytes.
+    /// Returns the tag of the bytes absorbed, 16 bytes.
     pub fn finish(self) -> [u8; 16]
         ensures { (key message : List ℕ) → Absorbed self key message
             → result ≡ poly1305 key message }
@@ -95,7 +95,7 @@ impl Mac {
         tag_number(&total, s).to_le_bytes()
     }
 
-    // How many bytes a block that was begun lacks.
+    // How many bytes an unfinished block lacks; 0 if there is none.
     fn lacking(&self) -> usize
         ensures value { result ≡ (16 - length self.now.rest) % 16 }
         ensures short { length self.now.rest < 16 }
@@ -103,7 +103,7 @@ impl Mac {
         (BLOCK - self.filled) % BLOCK
     }
 
-    // Appends a piece that goes no further than the block that it begins or goes on with.
+    // Appends a piece that ends within the block that it begins or continues.
     fn take_in(&mut self, piece: &[u8])
         requires { length self.old.rest + length piece.now ≤ 16 }
         ensures absorbed { (key message : List ℕ) → Absorbed self.old key message
@@ -122,7 +122,7 @@ impl Mac {
         }
     }
 
-    // Appends whole blocks where none is begun.
+    // Appends whole blocks when no block is unfinished.
     fn absorb_whole(&mut self, blocks: &[u8])
         requires none_begun { self.old.rest ≡ [] }
         requires whole { length blocks.now % 16 ≡ 0 }

@@ -1,4 +1,4 @@
--- What a query of one table reads.
+-- What a query of one table returns.
 use Rattle.std.proofs.Common.{◌≡◌, ℕ, List, [], ◌∷◌, map, filter, flat_map, Bool, true, false, cond, ◌++◌, refl, sym, ap, subst, ◌∙◌, IsPermutation, Result, Ok, Err, IfErr, IfOk, OnOk, IsTrue, Option, Some, None, inl, inr, ◌⊎◌}
 use Rattle.std.specs.List.{list_all}
 use Rattle.std.proofs.lemmas.List.Sorted.{IsPermutation-map}
@@ -35,7 +35,7 @@ shows tree terms project order params (r ∷ rows) =
     elim (picks terms params r) as (λ b. map (λ (o : Output). o.1) (map (output (ordered_query tree terms project order)) (cond b ((params ∷ r ∷ []) ∷ []) [] ++ matched terms params rows)) ≡ map (showing project params) (cond b (r ∷ filter (picks terms params) rows) (filter (picks terms params) rows)))
     [ true ↦ ap (λ l. showing project params r ∷ l) (shows tree terms project order params rows) | false ↦ shows tree terms project order params rows ]
 
--- the answer has what the query shows of each row that it picks
+-- the answer has what the query returns for each row that it selects
 pub answers : (tree : ℕ) (terms project : List Term) (order : List (Term × Key)) (db : Trees) (params : Row) (rows : List Row)
     → IsAnswer (ordered_query tree terms project order) db params rows
     → IsPermutation (map (showing project params) (filter (picks terms params) (db tree))) rows
@@ -118,12 +118,12 @@ module _ (old new : State) (sql : List ℕ) (params : Row) where
   query_kept items (Ok a) inside ok err = shown_kept inside (items a) ok
   query_kept items (Err e) inside ok err = query_fails_kept e err
 
--- a query that is no write changes nothing
+-- a query that does not write changes nothing
 pub shown_same : (old new : State) (sql : List ℕ) (params : Row) (rows : List Row) → IsPlain (understood old.now.schema sql) → Shown sql params old new rows → IsUnchanged old new
 unfolding Shown
 shown_same old new sql params rows plain h = let none = (subst IsPlain h.1.is plain).0 in (subst (ShowsRows old new sql h.0 _ rows) none h.2).3
 
--- where it is still open it was, and where no write waited for a commit all is as it was
+-- if the connection is open it was open before; if no write waited for a commit, nothing changed
 abbrev pub Untouched : State → State → Type 0
 Untouched old new = IsTrue new.is_open → IsTrue old.is_open × (old.now ≡ old.committed → (new.now ≡ old.now) × (new.committed ≡ old.committed))
 
@@ -149,7 +149,7 @@ module _ (old new : State) (sql : List ℕ) (params : Row) where
   query_fails_untouched e (inl h) = not_run_untouched e h
   query_fails_untouched e (inr h) = fails_to_show_untouched h.0 _ e h.0.returning h.2
 
-  -- a query that is no write leaves all as it was
+  -- a query that does not write leaves everything unchanged
   pub query_untouched : {A : Type 0} → IsPlain (understood old.now.schema sql) → (items : A → List Row) (r : Result A Error) → IfOk r (λ a. Shown sql params old new (items a))
       → IfErr r (FailsToQuery sql params old new) → Untouched old new
   query_untouched plain items (Ok a) ok err = unchanged_untouched (shown_same old new sql params (items a) plain ok)

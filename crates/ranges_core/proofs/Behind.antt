@@ -1,4 +1,4 @@
--- A range of adjacent ranges ends before the number at which the next one begins.
+-- In a list of adjacent ranges, each ends before the number at which the next range begins.
 use Rattle.std.proofs.Common.{◌≡◌, ℕ, zero, suc, ◌+◌, ◌≤◌, List, [], ◌∷◌, Some, length, take, true, bytes_eq, ◌==◌, sym, ap, ◌∙◌, arith}
 use Rattle.std.proofs.lemmas.Bool.Decides.{nat_tests}
 use Rattle.std.proofs.lemmas.Map.Text.{is_eq-slice_cmp}
@@ -31,7 +31,7 @@ behind from (r ∷ more) (suc j) b adjacent at =
     let same : end_from (r.lo + r.size) more ≡ end_from (from + r.size) more = ap (λ (m : ℕ). end_from (m + r.size) more) begins in
     (omega arith, omega arith)
 
--- what stands in a beginning of a list stands in the list
+-- an element of a prefix of a list is in the list
 pub in_front : (front list : List TakenRange) (i : ℕ) (r : TakenRange) → take (length front) list ≡ front → slice_get front i ≡ Some r
     → slice_get list i ≡ Some r
 in_front [] list i r begins at = absurd (cc)
@@ -41,7 +41,7 @@ in_front (x ∷ front) (y ∷ list) (suc i) r begins at =
     let rest : take (length front) list ≡ front = cc in
     in_front front list i r rest at
 
--- a range that was appended stands behind those that were there
+-- an appended range comes after those that were there
 pub own_range : (lists : Lists) (key : List ℕ) (device count : ℕ)
     → slice_get (with_range lists key device count key device) (length (lists key device)) ≡ Some (taken_range (next_of (lists key device)) count)
 own_range lists key device count =

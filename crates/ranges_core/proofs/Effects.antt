@@ -39,7 +39,7 @@ cast_null : cast Integer Null ≡ Null
 unfolding unary
 cast_null = either _ Null
 
--- a part that gave a value did not stop on the way
+-- a part that gave a value did not stop early
 pub went : {B E R : Type 0} {b : B} {Stops : E → Type 0} → ((stop : E) × Stops stop × (Ok b ≡ Err stop)) ⊎ R → R
 went (inl stopped) = absurd (let e = stopped.2 in cc)
 went (inr on) = on
@@ -111,7 +111,7 @@ module _ (c d : List Term) where
         taken = ap (λ (x : Database). x.trees 2) now ∙ ap (λ (t : Trees). t 2) trees ∙ step.tables.1.0 taken_is_other;
       }
 
-  -- where one row is of the key id and device
+  -- if one row is of the key ID and device
   pub updates : (old new : State) (key k : List ℕ) (device e next : ℕ) (id : ℤ) (r : Row) (count : ℕ) → old.now.schema ≡ ledger_schema c d
       → filter (picks of_owner (Blob key ∷ Int (pos device) ∷ Int (pos next) ∷ [])) (old.now.trees 0) ≡ r ∷ []
       → column r 0 ≡ Int id → column r 1 ≡ Blob k → column r 2 ≡ Int (pos e)

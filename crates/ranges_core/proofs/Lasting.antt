@@ -1,7 +1,7 @@
--- What was reserved outlives a crash, and the next keeper has it.
+-- What was reserved survives a crash, and the next keeper has it.
 --
--- The next connection shows one of the databases that the crash may leave. It can't be one without tables, since its trees list the
--- two; so its lists are those that its rows hold, and rows hold one list for each key id and device.
+-- The next connection shows one of the databases that the crash may leave. It can't be one without tables, since its
+-- trees list both. So its lists are those that its rows hold, and rows hold one list for each key ID and device.
 use Rattle.std.proofs.Common.{◌≡◌, inl, inr, ℕ, List, [], ◌∷◌, ◌++◌, length, take, true, false, cond, bytes_eq, ◌==◌, ◌&&◌, refl, sym, ap, subst, ◌∙◌}
 use Rattle.std.proofs.Math.Logic.{∥∥₁_elim}
 use Rattle.std.specs.List.{AllZip}
@@ -20,7 +20,7 @@ use Rattle.ranges_core.specs.Tables.{no_schema, ledger_schema}
 use Rattle.ranges_core.specs.Writes.{IsReady}
 use Rattle.ranges_core.proofs.Runs.{adjacent_same}
 
--- ---- beginnings
+-- ---- prefixes
 
 take_more : (before xs ys : List TakenRange) → take (length before) xs ≡ before → take (length before) (xs ++ ys) ≡ before
 take_more [] xs ys h = refl
@@ -49,7 +49,7 @@ one_list marks taken a b p q key device =
     let x = p.each key device in let y = q.each key device in
     adjacent_same (a key device) (b key device) x.adjacent y.adjacent (IsPermutation-trans _ _ _ (IsPermutation-sym _ _ x.permutes) y.permutes)
 
--- ---- the trees of a ledger file are no empty database
+-- ---- the trees of a ledger file are not those of an empty database
 
 no_table : {A B : Type 0} (R : A → B → Type 0) (xs : List A) (b : B) (bs : List B) → AllZip R xs [] → AllZip R xs (b ∷ bs) → ⊥
 no_table R [] b bs p q = absurd q
@@ -100,7 +100,7 @@ reserved_keeps s before key device count ready stays last trees made =
     let it = made k.lists hold in
     record { db = it.0; lists = with_range k.lists key device count; hold = it.1; begins = begins_reserved before k.lists key device count k.begins; is = it.2 }
 
--- tables that are made where there is none, which the lists of before rule out
+-- tables made in an empty database, which the earlier lists rule out
 pub blank_keeps : (s : State) (before : Lists) (trees : Trees) → s.now.schema ≡ no_schema → s.now ≡ s.committed → IsDatabase s.committed → s.may_leave s.committed.trees → Last s before → Keeps before trees
 blank_keeps s before trees none settled sound stays last =
     absurd (not_blank before s.committed (ap (λ (d : Database). d.schema) (sym settled) ∙ none) sound (last s.committed.trees stays))

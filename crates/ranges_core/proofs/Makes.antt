@@ -1,4 +1,4 @@
--- What the two CREATE TABLE do.
+-- What the two CREATE TABLE statements do.
 use Rattle.std.proofs.Common.{◌≡◌, ℕ, List, [], false, None, Ok, Err, Result, OnOk, refl, sym, ap, subst, ◌∙◌}
 use Rattle.sqlite.specs.Table.{Table}
 use Rattle.sqlite.specs.Schema.{Schema}

@@ -1,4 +1,4 @@
--- What moving the mark does, where the key id and device have one row.
+-- What moving the mark does if the key ID and device have one row.
 use Rattle.std.proofs.Common.{◌≡◌, ℕ, pos, List, [], ◌∷◌, filter, Result, Ok, Err, OnOk, refl, sym, ap, subst, ◌∙◌, inl}
 use Rattle.std.specs.List.{AllByRecursion}
 use Rattle.sqlite.specs.declared.types.Value.TheVariants.{Int, Blob}

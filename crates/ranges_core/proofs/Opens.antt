@@ -1,4 +1,4 @@
--- A database that opens as a ledger is not a bad one.
+-- A database that opens as a ledger is not bad in the sense of `IsBad`.
 use Rattle.std.proofs.Common.{◌≡◌, List, [], true, inl, inr, refl, sym, ap, ◌∙◌}
 use Rattle.std.proofs.lemmas.Bool.{true≢false}
 use Rattle.sqlite.specs.Term.{Term}

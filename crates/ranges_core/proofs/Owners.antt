@@ -1,4 +1,4 @@
--- Whose row it is.
+-- Which key ID and device a row is of.
 use Rattle.std.proofs.Common.{◌≡◌, ℕ, pos, negsuc, List, [], ◌∷◌, filter, Bool, true, false, ◌&&◌, bytes_eq, ◌==◌, refl, sym, subst, ◌∙◌, arith}
 use Rattle.std.specs.List.{AllByRecursion}
 use Rattle.std.specs.Ordering.{int_eq}
@@ -32,7 +32,7 @@ and_true true true = refl
 and_true true false = refl
 and_true false b = refl
 
--- WHERE picks the rows of the key id and device
+-- WHERE selects the rows of the key ID and device
 picks_at : (k key : List ℕ) (d device : ℕ) (rest row : Row) → column row 1 ≡ Blob k → column row 2 ≡ Int (pos d)
     → picks of_owner (Blob key ∷ Int (pos device) ∷ rest) row ≡ is_for key device row
 unfolding unary
@@ -78,7 +78,7 @@ same_number d device (Real x) p q = absurd (true≢false (sym p))
 same_number d device (Text t) p q = absurd (true≢false (sym p))
 same_number d device (Blob b) p q = absurd (true≢false (sym p))
 
--- a row of one key id and device is of no other
+-- a row of one key ID and device is not of any other
 pub apart_rows : (k key : List ℕ) (d device : ℕ) → (bytes_eq k key && (d == device)) ≡ false → (r : Row) → is_for key device r ≡ true → is_for k d r ≡ false
 apart_rows k key d device apart r q = false_from_ne_true _ (λ p.
     let a = and_parts _ _ p in let b = and_parts _ _ q in

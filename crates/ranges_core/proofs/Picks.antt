@@ -1,4 +1,4 @@
--- What the queries show, in the words of the rows of the two tables.
+-- What the queries return, in terms of the rows of the two tables.
 use Rattle.std.proofs.Common.{true, IsTrue, ◌≡◌, ◌≤◌, ℕ, pos, List, [], ◌∷◌, map, filter, codes, Option, Some, None, Result, Ok, IfOk, IfErr, refl, sym, ap, subst, ◌∙◌, inl, IsPermutation, arith}
 use Rattle.std.proofs.lemmas.List.Sorted.{length_permutation}
 use Rattle.std.specs.List.{AllByRecursion}
@@ -88,7 +88,7 @@ module _ (old new : State) (rows : List Row) (has : IsLedger old.now.schema) whe
 pub plain_ids : (s : Schema) → IsLedger s → IsPlain (understood s ids_text)
 plain_ids s has = subst (λ x. IsPlain (understood x ids_text)) (sym has.2) (ids_plain has.0 has.1)
 
--- ---- the mark of a key id and device
+-- ---- the mark of a key ID and device
 
 no_row : (rows : List Row) → IsPermutation [] rows → rows ≡ []
 no_row [] h = refl

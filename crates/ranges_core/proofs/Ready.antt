@@ -1,4 +1,4 @@
--- The keeper's state after a reservation, and after one that was refused.
+-- The keeper's state after a successful reservation and after a refused one.
 use Rattle.std.proofs.Common.{◌≡◌, ℕ, ◌+◌, ◌≤◌, List, filter, Option, Some, None, unwrap_or, Result, Ok, Err, OnOk, OnErr, IsTrue, sym, subst, ◌∙◌}
 use Rattle.sqlite.specs.Order.{Row}
 use Rattle.sqlite.specs.Effect.{Database}
@@ -12,7 +12,7 @@ mark_next : (rows : List Row) (mark : Option ℕ) (n : ℕ) → IsMarkOf rows ma
 mark_next rows None n none next = sym (subst (λ l. IsNext l n) none next)
 mark_next rows (Some m) n one next = sym one.2 ∙ subst (λ l. IsNext l n) one.1 next
 
--- where a list ends is the mark
+-- the mark is the end of the list
 pub begins : (s : State) (lists : Lists) (key : List ℕ) (device : ℕ) (mark : Option ℕ) → Holds s.now lists → IsMarkOf (filter (is_for key device) (s.now.trees 0)) mark
     → unwrap_or mark 0 ≡ next_of (lists key device)
 begins s lists key device mark hold is = mark_next _ mark _ is (hold.rows.each key device).next

@@ -1,7 +1,7 @@
--- A reservation appends its range to its list, and changes no other.
+-- A reservation appends its range to its list, and changes no other list.
 --
--- Both writes put a row among rows of which none has its rowid, so the new rows are the old ones and one more, in some order. Where
--- the mark is moved, its old row goes first: no other row has its rowid, so the rows of other key ids and devices stay.
+-- Both writes insert a row with a new rowid, so the new rows are the old ones and one more, in some order. If the mark
+-- is moved, its old row is removed first. No other row has its rowid, so the rows of other key IDs and devices stay.
 use Rattle.std.proofs.Common.{◌≡◌, ◌≢◌, inl, inr, ℕ, ◌+◌, ◌≤◌, ℤ, List, [], ◌∷◌, ◌++◌, map, filter, Bool, true, false, cond, not, ◌&&◌, bytes_eq, ◌==◌, refl, sym, ap, subst, ◌∙◌, IsPermutation, Ordering, Less, Equal, Greater, arith}
 use Rattle.std.specs.List.{AllByRecursion}
 use Rattle.std.specs.Ordering.{is_eq, match_ordering}
@@ -26,9 +26,9 @@ use Rattle.ranges_core.specs.Writes.{Puts, Marked, Appends, HaveRowids}
 use Rattle.ranges_core.specs.Reservations.{TakenRange, taken_range, Adjacent, end_from, next_of, Lists, with_range, mark_row, taken_row, IsOwner, IsMarkRow, IsTakenRow, range_in, IsNext, IsList, Holds}
 use Rattle.ranges_core.proofs.Owners.{own_owner, same_owner, apart_rows}
 
--- ---- a row is put among the rows
+-- ---- inserting a row
 
--- a row with a free rowid is put among the others
+-- a row with a free rowid is inserted among the others
 put_permutes : (new : Row) (rows : List Row) → is_taken rows new ≡ false → IsPermutation (new ∷ rows) (put_row new rows)
 put_permutes new [] free = IsPermutation-refl (new ∷ [])
 put_permutes new (r ∷ rows) free = go (value_cmp (rowid r) (rowid new)) (or_parts _ _ free).0 (put_permutes new rows (or_parts _ _ free).1)
@@ -75,7 +75,7 @@ all_apart rows new id is lawful free = all_from (Apart new) rows (λ r there sam
     let one : it.id ≡ id = sym (ap id_in its) ∙ sym same ∙ ap id_in is in
     true≢false (sym (some_from (λ z. is_eq (value_cmp (rowid z) (rowid new))) rows r there (subst (λ v. is_eq (value_cmp (rowid r) v) ≡ true) (sym is) (tied_at r it.id id its one))) ∙ free))
 
--- rows of one rowid are one row
+-- rows with the same rowid are the same row
 one_row : (rows : List Row) (x y : Row) → IsAscending Apart rows → Has rows x → Has rows y → id_in (rowid x) ≡ id_in (rowid y) → x ≡ y
 one_row [] x y up h k same = absurd h
 one_row (r ∷ rows) x y up (inl p) (inl q) same = p ∙ sym q
@@ -99,7 +99,7 @@ filter_kept p q (x ∷ xs) h = go (q x) refl (p x) refl (filter_kept p q xs (λ 
     go false kept true is later = absurd (true≢false (sym (h x (inl refl) is) ∙ kept))
     go false kept false is later = later
 
--- none is left of the key id and device, and all of each other
+-- no row of the key ID and device is left, and every row of the others is
 record Stay (rows left : List Row) (key : List ℕ) (device : ℕ) : Type 0 where
   none : filter (is_for key device) left ≡ []
   others : (p : Row → Bool) → ((r : Row) → p r ≡ true → is_for key device r ≡ false) → filter p left ≡ filter p rows

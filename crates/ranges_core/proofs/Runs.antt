@@ -1,4 +1,5 @@
--- Runs of adjacent ranges are lists: of each key id and device the rows of `taken` are one run, since no two rows of `mark` are of it.
+-- Runs of adjacent ranges are lists: the rows of `taken` for a key ID and device are one run, since at most one row of
+-- `mark` is of them.
 use Rattle.std.proofs.Common.{◌≡◌, inl, inr, ◌<◌, ◌≤◌, ◌+◌, ℕ, ℤ, pos, negsuc, List, [], ◌∷◌, ◌++◌, map, filter, length, Bool, true, false, cond, Some, None, is_some, refl, sym, ap, subst, ◌∙◌, IsPermutation, arith}
 use Rattle.std.specs.List.{AllByRecursion, list_all}
 use Rattle.std.specs.Ordering.{on}
@@ -87,7 +88,7 @@ is_mark_row_of r it = rw (it.is_id, it.is_key, it.is_device, it.is_next, key_is 
 pub is_taken_row_of : (r : Row) → IsTakenRow r → is_taken_row r ≡ true
 is_taken_row_of r it = rw (it.is_key, it.is_device, it.is_lo, it.is_size, key_is it.key it.owner.bytes, within_is 16777215 it.device it.owner.bits)
 
--- ---- a chain under an order that passes on is ascending
+-- ---- a chain under a transitive order is ascending
 
 module _ (R : Row → Row → Type 0) (passes : (a b c : Row) → R a b → R b c → R a c) where
   below_all : (a : Row) (b : Row) (rows : List Row) → R a b → Chain R (b ∷ rows) → AllByRecursion (R a) (b ∷ rows)
@@ -111,7 +112,7 @@ rowids_total = on_total (λ (r : Row). column r 0) value_cmp_total
 pub rowids_ascend : (rows : List Row) → Chain IsBelow rows → IsAscending IsBelow rows
 rowids_ascend rows chain = ascends IsBelow rowids_total.trans rows chain
 
--- ---- rows of one key id and device
+-- ---- rows of one key ID and device
 
 blob_is : (key : List ℕ) (v : Value) → is_blob key v ≡ true → v ≡ Blob key
 blob_is key Null h = absurd (true≢false (sym h))
@@ -128,7 +129,7 @@ number_value n (Real x) h = absurd (true≢false (sym h))
 number_value n (Text t) h = absurd (true≢false (sym h))
 number_value n (Blob b) h = absurd (true≢false (sym h))
 
--- two rows of one key id and device are not one before the other
+-- of two rows with one key ID and device, neither is before the other
 not_before : (key : List ℕ) (device : ℕ) (a b : Row) → is_for key device a ≡ true → is_for key device b ≡ true → IsBefore a b → ⊥
 not_before key device a b p q before =
     let x = and_parts _ _ p in let y = and_parts _ _ q in
@@ -155,7 +156,7 @@ append_none : {X : Type 0} (xs : List X) → xs ++ [] ≡ xs
 append_none [] = refl
 append_none (x ∷ xs) = ap (λ l. x ∷ l) (append_none xs)
 
--- a row whose columns are those of another, which is of the key id and device, is of them too
+-- if two rows have the same key ID and device, and one of them is of a key ID and device, so is the other
 same_for : (key k : List ℕ) (device d : ℕ) (m t : Row) → column m 1 ≡ Blob k → column m 2 ≡ Int (pos d) → is_for k d t ≡ true → is_for key device t ≡ true → is_for key device m ≡ true
 same_for key k device d m t is_k is_d mine his =
     let x = and_parts _ _ mine in let y = and_parts _ _ his in
@@ -253,7 +254,7 @@ adjacent_rises from [] h = tt
 adjacent_rises from (x ∷ xs) h =
     (all_from _ xs (λ y there. let k = all_has (λ z. from + x.size ≤ z.lo) xs y (from_on (from + x.size) xs h.2) there in omega (arith, h.0, h.1)), adjacent_rises (from + x.size) xs h.2)
 
--- rising lists of the same elements are one list
+-- ascending lists of the same elements are equal
 rising_same : (xs ys : List TakenRange) → IsAscending Lower xs → IsAscending Lower ys → ((z : TakenRange) → Has xs z → Has ys z) → ((z : TakenRange) → Has ys z → Has xs z) → xs ≡ ys
 rising_same [] [] p q f g = refl
 rising_same [] (y ∷ ys) p q f g = absurd (g y (inl refl))
@@ -276,7 +277,7 @@ rising_same (x ∷ xs) (y ∷ ys) p q f g =
     back z (inl is) low same = let e : z.lo ≡ y.lo = ap (λ (s : TakenRange). s.lo) (is ∙ same) in absurd (omega arith)
     back z (inr there) low same = there
 
--- where the ranges of a key id and device rise, they are its list
+-- if the ranges of a key ID and device ascend, they are its list
 pub ranges_are : (ms ts : List Row) (lists : Lists) (key : List ℕ) (device : ℕ) → HoldLists ms ts lists → RisesFrom None (map range_in (filter (is_for key device) ts))
     → map range_in (filter (is_for key device) ts) ≡ lists key device
 ranges_are ms ts lists key device hold up =
@@ -314,13 +315,13 @@ all_marks ms ts lists hold = test_from is_mark_row ms (λ r there. is_mark_row_o
 pub all_taken : (ms ts : List Row) (lists : Lists) → HoldLists ms ts lists → list_all is_taken_row ts ≡ true
 all_taken ms ts lists hold = test_from is_taken_row ts (λ r there. is_taken_row_of r (all_has IsTakenRow ts r hold.of_taken there))
 
--- ---- one row more
+-- ---- one more row
 
 end_from_on : (from : ℕ) (xs : List TakenRange) → Adjacent from xs → from ≤ end_from from xs
 end_from_on from [] h = omega arith
 end_from_on from (x ∷ xs) h = let k = end_from_on (from + x.size) xs h.2 in let e : end_from (x.lo + x.size) xs ≡ end_from (from + x.size) xs = ap (λ n. end_from (n + x.size) xs) h.0 in omega arith
 
--- the next row of the key id and device begins at the end so far
+-- the next row of the key ID and device begins at the end so far
 pub record NextRow (row : Row) (end most : ℕ) : Type 0 where
   pub test : is_taken_row row ≡ true
   pub lo : (range_in row).lo ≡ end

@@ -1,4 +1,4 @@
--- Rows that were read hold the lists that the tables hold.
+-- If rows that were read hold lists, the tables hold the same lists.
 use Rattle.std.proofs.Common.{◌≡◌, ℕ, List, [], ◌∷◌, map, filter, Bool, true, false, cond, refl, sym, ap, subst, ◌∙◌, IsPermutation}
 use Rattle.std.specs.List.{AllByRecursion, IsDistinct, list_all}
 use Rattle.std.specs.Ordering.{is_eq}
@@ -47,7 +47,7 @@ permuted_lists marks taken m t lists p q hold = record {
   each = λ key device. permuted_list marks taken m t key device lists p q (hold.each key device);
 }
 
--- ---- as a query shows them
+-- ---- as a query returns them
 
 filter_shown : (p : Row → Bool) (f : Row → Row) → ((r : Row) → p (f r) ≡ p r) → (rows : List Row) → filter p (map f rows) ≡ map f (filter p rows)
 filter_shown p f same [] = refl
@@ -120,7 +120,7 @@ module _ (marks taken m t : List Row) (p : IsPermutation (map shown_mark marks) 
   pub lists_there : HoldLists marks taken lists → HoldLists m t lists
   lists_there hold = permuted_lists m t _ _ lists (IsPermutation-sym _ _ p) (IsPermutation-sym _ _ q) (lists_shown marks taken lists hold)
 
--- ---- the rows of one key id and device
+-- ---- the rows of one key ID and device
 
 range_row_of : (r : Row) → IsTakenRow r → is_range_row (shown_range r) ≡ true
 range_row_of r it = rw (it.is_lo, it.is_size) refl

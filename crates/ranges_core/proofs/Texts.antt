@@ -1,4 +1,4 @@
--- What the texts mean under the schema of a ledger file, whatever its CHECKs.
+-- What the SQL texts mean under the schema of a ledger file, whatever its CHECKs.
 use Rattle.std.proofs.Common.{◌≡◌, ℕ, List, [], ◌∷◌, codes, Ok, refl, negsuc, pos, None, false}
 use Rattle.sqlite.specs.declared.types.Value.TheVariants.{Null, Int}
 use Rattle.sqlite.specs.Collation.TheVariants.{Binary}
@@ -66,7 +66,7 @@ query_of tree filter project = record {
   offset = lit (Int (pos 0));
 }
 
--- the rows of a key id and device
+-- the rows of a key ID and device
 abbrev pub of_owner : List Term
 of_owner = op2 (Compare Eq Binary) (col 1 1) (col 0 0) ∷ op2 (Compare Eq Binary) (col 1 2) (op1 ToNumeric (col 0 1)) ∷ []
 

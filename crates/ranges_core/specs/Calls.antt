@@ -1,6 +1,6 @@
--- What a call leaves of the connection that it was given: `old` is the connection before it, `new` after it.
+-- What a call does to its connection: `old` is the connection before it, `new` after it.
 --
--- A disk may fall at any call. What a connection shows is known where the disk is clean and the connection open.
+-- A disk may fail at any call. What a connection shows is known if the disk is clean and the connection open.
 use Rattle.std.specs.Prelude.{◌≡◌, IsTrue, true, List}
 use Rattle.sqlite_trees.specs.declared.store.Store.{Ghosts}
 use Rattle.sqlite.specs.Order.{Row}
@@ -15,7 +15,7 @@ marks_in g h = (state g h).now.trees 0
 abbrev pub taken_in : {S : Type 0} → Ghosts S → Held S → List Row
 taken_in g h = (state g h).now.trees 2
 
--- a fact of a connection that is open over a clean disk
+-- a fact about a connection that is open over a clean disk
 abbrev pub WhileOpen : {S : Type 0} → Ghosts S → Held S → Type 0 → Type 0
 WhileOpen g h fact = HasCleanDisk (state g h) → IsTrue (state g h).is_open → fact
 
@@ -27,7 +27,7 @@ WasOpen g old new = WhileOpen g new (IsTrue (state g old).is_open)
 abbrev pub Unchanged : {S : Type 0} → Ghosts S → Held S → Held S → Type 0
 Unchanged g old new = ((state g new).now ≡ (state g old).now) × ((state g new).committed ≡ (state g old).committed)
 
--- unchanged, where no write waited for a commit
+-- unchanged, if no write waited for a commit
 abbrev pub OnlyRead : {S : Type 0} → Ghosts S → Held S → Held S → Type 0
 OnlyRead g old new = WhileOpen g new ((state g old).now ≡ (state g old).committed → Unchanged g old new)
 
@@ -36,21 +36,21 @@ abbrev pub StillShows : {S : Type 0} → Ghosts S → Held S → Held S → Type
 StillShows g old new =
     Shows (state g old) (state g new) (state g old).now (state g old).committed (state g old).in_transaction
 
--- a crash leaves nothing that it could not leave before
+-- a crash leaves nothing that it could not have left before
 abbrev pub CommitsNothing : {S : Type 0} → Ghosts S → Held S → Held S → Type 0
 CommitsNothing g old new = Survives (state g old) (state g new) (λ _. ⊥)
 
 -- ---- a call inside a transaction
 
--- a fact of a call that was made inside a transaction over a clean disk
+-- a fact about a call made inside a transaction over a clean disk
 abbrev pub Inside : {S : Type 0} → Ghosts S → Held S → Held S → Type 0 → Type 0
 Inside g old new fact = HasCleanDisk (state g new) → IsTrue (state g old).in_transaction → fact
 
--- nothing it shows has changed
+-- nothing that it shows has changed
 abbrev pub ReadInside : {S : Type 0} → Ghosts S → Held S → Held S → Type 0
 ReadInside g old new = Shows (state g old) (state g new) (state g old).now (state g old).committed true
 
--- what it wrote is shown, and waits for the commit
+-- what it wrote is visible, and waits for the commit
 abbrev pub Wrote : {S : Type 0} → Ghosts S → Held S → Held S → Type 0
 Wrote g old new = Shows (state g old) (state g new) (state g new).now (state g old).committed true
 

@@ -1,4 +1,4 @@
--- The faults' numbers and texts, and when a database is no ledger file.
+-- The faults' numbers and texts, and when a database is not a ledger file.
 use Rattle.std.specs.Prelude.{◌≡◌, ◌≢◌, ◌⊎◌, false, ℕ, List, ◌++◌, codes}
 use Rattle.std.specs.Fmt.{decimal}
 use Rattle.sqlite.specs.Effect.{Database}
@@ -7,8 +7,8 @@ use Rattle.ranges_core.specs.declared.fault.ReserveFault.TheVariants.{ZeroCount,
 use Rattle.ranges_core.specs.Tables.{are_readable, no_schema, IsLedger}
 use Rattle.ranges_core.specs.Reservations.{Lists, HoldLists}
 
--- something is there, and one of the two tables cannot be read by its column names; or the rows of the tables hold no
--- lists
+-- the schema is not empty, and one of the two tables cannot be read by its column names; or the rows of the tables hold
+-- no lists
 abbrev pub IsBad : Database → Type 0
 IsBad db =
     ((db.schema ≢ no_schema) × (are_readable db.schema ≡ false))

@@ -1,4 +1,4 @@
--- What the queries ask of the rows of the two tables, and what they show.
+-- What the queries select from the two tables, and what they return.
 use Rattle.std.specs.Prelude.{Bool, Option, Some, None, is_some, length, not, nat_lt, List}
 use Rattle.std.specs.Prelude.{[], ◌∷◌, ℕ, pos, true, false, ◌&&◌, ◌==◌, bytes_eq, codes}
 use Rattle.sqlite.specs.declared.types.Value.{Value}
@@ -23,7 +23,7 @@ takings_text = codes "SELECT rowid, key_id, device, lo, size FROM taken ORDER BY
 abbrev pub ids_text : List ℕ
 ids_text = codes "SELECT rowid FROM mark ORDER BY rowid"
 
--- ---- whose row it is
+-- ---- which key ID and device a row is of
 
 abbrev pub is_blob : List ℕ → Value → Bool
 is_blob key (Blob b) = bytes_eq b key
@@ -33,11 +33,11 @@ abbrev pub is_number : ℕ → Value → Bool
 is_number n (Int (pos m)) = m == n
 is_number n _ = false
 
--- the row, of either table, is of this key id and device
+-- the row, of either table, is of this key ID and device
 abbrev pub is_for : List ℕ → ℕ → Row → Bool
 is_for key device row = is_blob key (column row 1) && is_number device (column row 2)
 
--- ---- what a query shows of a row
+-- ---- what a query returns for a row
 
 abbrev pub shown_next : Row → Row
 shown_next row = column row 3 ∷ []
@@ -64,7 +64,7 @@ abbrev pub is_key : Value → Bool
 is_key (Blob b) = length b == 32
 is_key _ = false
 
--- a whole number from 0 to this one
+-- an integer from 0 to `most`
 abbrev pub is_within : ℕ → Value → Bool
 is_within most (Int (pos n)) = not (nat_lt most n)
 is_within most _ = false
@@ -79,7 +79,7 @@ is_owner row = is_key (column row 1) && is_within most_device (column row 2)
 abbrev pub is_mark_row : Row → Bool
 is_mark_row row = is_rowid (column row 0) && (is_owner row && is_within number_limit (column row 3))
 
--- two whole numbers from 0
+-- two integers that are not negative
 abbrev pub is_range_row : Row → Bool
 is_range_row row = is_some (as_number (column row 0)) && is_some (as_number (column row 1))
 

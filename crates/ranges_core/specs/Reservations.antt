@@ -1,5 +1,5 @@
--- What is reserved: for each key id and device a list of ranges, each of which begins where the one before ends, the
--- first at 0.
+-- What is reserved: for each key ID and device a list of ranges. The first begins at 0, and each other where the
+-- previous one ends.
 use Rattle.std.specs.Prelude.{⊤, ◌≡◌, ◌⊎◌, ◌≤◌, ℕ, ◌+◌, ℤ, pos, ◌&&◌, ◌==◌, bytes_eq, if◌then◌else◌}
 use Rattle.std.specs.Prelude.{List, [], ◌∷◌, ◌++◌, map, filter, length, IsPermutation}
 use Rattle.std.specs.List.{AllByRecursion}
@@ -12,7 +12,7 @@ use Rattle.journal_core.specs.Range.{most_device, number_limit}
 use Rattle.ranges_core.specs.Tables.{IsLedger, no_schema}
 use Rattle.ranges_core.specs.Reads.{is_for}
 
--- a range as `taken` has it: the numbers lo to lo + size - 1 of the key id and device of its row
+-- a range as `taken` records it: the numbers lo to lo + size - 1 of its row's key ID and device
 pub record TakenRange : Type 0 where
   pub lo : ℕ
   pub size : ℕ
@@ -20,7 +20,7 @@ pub record TakenRange : Type 0 where
 abbrev pub taken_range : ℕ → ℕ → TakenRange
 taken_range lo size = record { lo = lo; size = size }
 
--- each range has a number, the first begins here, and each next where the one before ends
+-- each range has a number, the first begins at `from`, and each other where the previous one ends
 abbrev pub Adjacent : ℕ → List TakenRange → Type 0
 Adjacent from [] = ⊤
 Adjacent from (r ∷ more) = (r.lo ≡ from) × (1 ≤ r.size) × Adjacent (from + r.size) more
@@ -33,11 +33,12 @@ end_from from (r ∷ more) = end_from (r.lo + r.size) more
 abbrev pub next_of : List TakenRange → ℕ
 next_of ranges = end_from 0 ranges
 
--- a list of ranges for each key id and device
+-- a list of ranges for each key ID and device
 abbrev pub Lists : Type 0
 Lists = List ℕ → ℕ → List TakenRange
 
--- so many numbers are reserved for one key id and device: its list has one range more, and each other list is as it was
+-- `count` numbers are reserved for one key ID and device: its list has one more range, and every other list is
+-- unchanged
 abbrev pub with_range : Lists → List ℕ → ℕ → ℕ → Lists
 with_range lists key device count k d =
     if bytes_eq k key && (d == device) then lists k d ++ taken_range (next_of (lists k d)) count ∷ [] else lists k d
@@ -54,7 +55,7 @@ mark_row id key device next = Int id ∷ Blob key ∷ Int (pos device) ∷ Int (
 abbrev pub taken_row : ℤ → List ℕ → ℕ → ℕ → ℕ → Row
 taken_row id key device lo size = Int id ∷ Blob key ∷ Int (pos device) ∷ Int (pos lo) ∷ Int (pos size) ∷ []
 
--- a key id is a blob of 32 bytes, and the number of a device has 24 bits
+-- a key ID is a blob of 32 bytes, and a device number has 24 bits
 pub record IsOwner (key : List ℕ) (device : ℕ) : Type 0 where
   pub bytes : length key ≡ 32
   pub bits : device ≤ most_device
@@ -94,19 +95,19 @@ range_in row = taken_range (number_in (column row 3)) (number_in (column row 4))
 abbrev pub next_in : Row → ℕ
 next_in row = number_in (column row 3)
 
--- the one row has this `next`, or there is none and it is 0
+-- the only row has this `next`, or there is no row and it is 0
 abbrev pub IsNext : List Row → ℕ → Type 0
 IsNext [] n = n ≡ 0
 IsNext (r ∷ []) n = next_in r ≡ n
 IsNext (r ∷ s ∷ more) n = ⊥
 
--- the rows of one key id and device hold this list
+-- the rows of one key ID and device hold this list
 pub record IsList (marks taken : List Row) (key : List ℕ) (device : ℕ) (ranges : List TakenRange) : Type 0 where
   pub permutes : IsPermutation (map range_in (filter (is_for key device) taken)) ranges
   pub adjacent : Adjacent 0 ranges
   pub next : IsNext (filter (is_for key device) marks) (next_of ranges)
 
--- each row is of its form, and those of each key id and device hold its list
+-- each row has its form, and the rows of each key ID and device hold its list
 pub record HoldLists (marks taken : List Row) (lists : Lists) : Type 0 where
   pub of_marks : AllByRecursion IsMarkRow marks
   pub of_taken : AllByRecursion IsTakenRow taken
@@ -121,7 +122,7 @@ pub record Holds (db : Database) (lists : Lists) : Type 0 where
 abbrev pub no_lists : Lists
 no_lists key device = []
 
--- the tables hold what they held, and empty lists where there was no table
+-- the tables hold what they held, or empty lists if there was no table
 abbrev pub Opened : Database → Database → Type 0
 Opened old new = ((old.schema ≡ no_schema) × Holds new no_lists) ⊎ ((lists : Lists) × Holds old lists × (new ≡ old))
 
@@ -129,6 +130,6 @@ Opened old new = ((old.schema ≡ no_schema) × Holds new no_lists) ⊎ ((lists 
 abbrev pub ranges_of_pairs : List (ℕ × ℕ) → List TakenRange
 ranges_of_pairs pairs = map (λ p. taken_range p.0 p.1) pairs
 
--- the range that a row of two columns shows
+-- the range in a row of two columns
 abbrev pub answered_range : Row → TakenRange
 answered_range row = taken_range (number_in (column row 0)) (number_in (column row 1))

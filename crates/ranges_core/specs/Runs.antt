@@ -10,13 +10,13 @@ use Rattle.sqlite_value.specs.Order.{value_cmp}
 use Rattle.ranges_core.specs.Reads.{is_for}
 use Rattle.ranges_core.specs.Reservations.{TakenRange, Adjacent, next_of, range_in, next_in}
 
--- each element stands so to the next
+-- each element has this relation to the next
 abbrev pub Chain : (Row → Row → Type 0) → List Row → Type 0
 Chain R [] = ⊤
 Chain R (a ∷ []) = ⊤
 Chain R (a ∷ b ∷ more) = R a b × Chain R (b ∷ more)
 
--- the order of key ids, and then of devices
+-- compares key IDs, then devices
 abbrev pub owner_cmp : Row → Row → Ordering
 owner_cmp = then_cmp (on (λ r. column r 1) value_cmp) (on (λ r. column r 2) value_cmp)
 
@@ -41,7 +41,7 @@ abbrev pub Runs : List Row → List Row → Type 0
 Runs [] taken = taken ≡ []
 Runs (m ∷ marks) taken = (run : List Row) × (rest : List Row) × (taken ≡ run ++ rest) × OwnRun m run × Runs marks rest
 
--- each range begins above the one before
+-- each range begins above the previous one
 abbrev pub RisesFrom : Option ℕ → List TakenRange → Type 0
 RisesFrom last [] = ⊤
 RisesFrom None (r ∷ more) = RisesFrom (Some r.lo) more

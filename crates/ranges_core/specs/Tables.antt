@@ -18,7 +18,7 @@ use Rattle.sqlite_sql.specs.declared.ops.BinaryOp.TheVariants.{Compare, And, Ari
 use Rattle.sqlite_sql.specs.declared.ops.ArithOp.TheVariants.{Add}
 use Rattle.sqlite_sql.specs.declared.ops.CompareOp.TheVariants.{Ge, Le}
 
--- ---- the statements that make them
+-- ---- the statements that make the tables
 
 abbrev pub mark_text : List ℕ
 mark_text = codes "CREATE TABLE mark (key_id BLOB NOT NULL, device INTEGER NOT NULL, next INTEGER NOT NULL, PRIMARY KEY (key_id, device), CHECK (next >= 0 AND next <= 4294967296))"
@@ -56,7 +56,7 @@ taken_checks =
     (at_most (op2 (Arith Add) (col 1 3) (col 1 4)) number_limit)
     ∷ []
 
--- a table of columns that may not be NULL, with a primary key over the places
+-- a table of NOT NULL columns, with a primary key over these columns
 abbrev pub keyed_table : List ℕ → ℕ → List Column → List ℕ → List Term → Table
 keyed_table name tree columns places checks = record {
   name = name;
@@ -107,7 +107,7 @@ taken_index = index_for (codes "sqlite_autoindex_taken_1") 3 2 (1 ∷ 2 ∷ 3 �
 abbrev pub mark_schema : Schema
 mark_schema = record { tables = mark_table mark_checks 0 ∷ []; indexes = mark_index ∷ []; views = [] }
 
--- both tables and nothing else, with these CHECKs: the rows of `mark` are tree 0, those of `taken` tree 2
+-- both tables and nothing else, with these CHECKs: the rows of `mark` are tree 0, and those of `taken` tree 2
 abbrev pub ledger_schema : List Term → List Term → Schema
 ledger_schema c d = record {
   tables = mark_table c 0 ∷ taken_table d 2 ∷ [];
@@ -121,7 +121,7 @@ IsLedger schema = (c : List Term) × (d : List Term) × (schema ≡ ledger_schem
 
 -- ---- tables that can be read by these column names
 
--- the table of this name, which SQL compares without case
+-- the table of this name; SQL ignores case in names
 abbrev pub table_at : Schema → List ℕ → Option Table
 table_at schema name = option_and_then (slice_get schema.tables) (table_named schema name)
 

@@ -5,20 +5,20 @@ ghost use Rattle.ranges_core.specs.Faults.{fault_number, reserve_text};
 use std::error::Error;
 use std::fmt;
 
-/// Why a call was refused. What was committed stays as it was.
+/// Why a call was refused. What was committed before is unchanged.
 #[derive(Clone, Copy, PartialEq, Eq, Debug)]
 pub enum ReserveFault {
-    /// No number was asked for.
+    /// The requested count is 0.
     ZeroCount,
-    /// More than 65,535 numbers were asked for.
+    /// The requested count is over 65,535.
     TooMany,
-    /// Fewer numbers are left of the 2^32 of the key and device than were asked for; so many are left.
+    /// Fewer than the requested count are left of the 2^32 numbers of the key and device: only `left`.
     FieldSpent { left: u64 },
-    /// The database refused a statement, memory was refused, or `open` met tables other than the keeper makes or a
-    /// transaction.
+    /// The database refused a statement, or memory could not be allocated. Or `open` found an open transaction, or
+    /// tables other than those the keeper makes.
     Store,
-    /// The database is no ledger file: one of the two tables cannot be read, or the rows are no lists of adjacent
-    /// ranges.
+    /// The database is not a ledger file: one of the two tables cannot be read, or the rows do not form lists of
+    /// adjacent ranges.
     BadStore,
 }
 

@@ -1,4 +1,4 @@
-//! What `Keeper::open` does: it makes both tables where there is none, and checks them else.
+//! What `Keeper::open` does: it makes both tables in an empty database, and checks them in any other.
 ghost use Rattle.std.specs.Prelude.{◌≡◌, ◌≢◌, ◌⊎◌, IsTrue, IfErr, OnOk, OnErr, Err, false};
 ghost use Rattle.sqlite.specs.State.{HasCleanDisk, Survives};
 ghost use Rattle.sqlite.specs.Held.{state};
@@ -15,10 +15,11 @@ use crate::schema::{are_readable, is_blank, is_ledger};
 use crate::tables::make_tables;
 use sqlite::{Alter, Connection};
 
-/// Makes both tables in an empty database, and else tests that they are a ledger file's and that their rows are lists.
+/// Makes both tables in an empty database. Otherwise checks that they are a ledger file's tables, and that their rows
+/// form lists.
 ///
-/// `BadStore` comes where something is there and one of the two can't be read, or where the rows are no lists; `Store`
-/// for every other cause. A refusal changes nothing.
+/// Returns `BadStore` if the schema is not empty and one of the two tables can't be read, or if the rows form no lists.
+/// Returns `Store` for every other cause. A refusal changes nothing.
 pub fn open_tables<S: Alter>(conn: &mut Connection<S>) -> Result<(), ReserveFault>
     ensures settled { OnOk result (conn.new.in_transaction ≡ false) }
     ensures ready { WhileOpen S.Store conn.new (OnOk result (IsReady (state S.Store conn.new))) }

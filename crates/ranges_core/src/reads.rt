@@ -1,4 +1,4 @@
-//! What the tables hold, read.
+//! Reads what the tables hold.
 ghost use Rattle.std.specs.List.{AllByRecursion, list_all};
 ghost use Rattle.std.specs.Prelude.{◌≡◌, Err, ◌⊎◌, ◌≤◌, IsTrue, OnOk, IfOk, IfErr, true, false};
 ghost use Rattle.std.specs.Prelude.{[], ◌∷◌, pos, Ok, Some, None, map, filter, IsPermutation};
@@ -20,7 +20,7 @@ use crate::rows::{do_ids_rise, hold_lists, number_at};
 use crate::schema::is_ledger;
 use sqlite::{Alter, Connection, Error, Row, Transaction, params};
 
-// The rows that hold the mark of a key id and device.
+// Selects the row that has the mark of a key ID and device.
 fn pick<S: Alter>(tx: &mut Transaction<'_, S>, key: &[u8], device: u32) -> Result<Vec<Row>, Error>
     ensures same_reference { tx.new.conn.ghost_name ≡ tx.old.conn.ghost_name }
     ensures open { HasCleanDisk (state S.Store tx.new.conn.now)
@@ -38,7 +38,7 @@ fn pick<S: Alter>(tx: &mut Transaction<'_, S>, key: &[u8], device: u32) -> Resul
     )
 }
 
-// It reads in a transaction that it takes back, so that it commits nothing, whatever the schema is.
+// Reads in a transaction and rolls it back, so that it commits nothing, whatever the schema is.
 fn next_rows<S: Alter>(conn: &mut Connection<S>, key: &[u8], device: u32) -> Result<Vec<Row>, Error>
     requires settled { conn.old.in_transaction ≡ false }
     ensures settled { conn.new.in_transaction ≡ false }
@@ -56,7 +56,7 @@ fn next_rows<S: Alter>(conn: &mut Connection<S>, key: &[u8], device: u32) -> Res
     Ok(rows)
 }
 
-// The mark that the rows hold, if there is one. Two rows are no lawful table.
+// The mark in these rows, if there is one. A lawful table has at most one row.
 fn mark_in(rows: &[Row]) -> Result<Option<u64>, ReserveFault>
     ensures none { rows.now ≡ [] → result ≡ Ok None }
     ensures one { (n : _) → n ≤ NUMBERS → rows.now ≡ (Int (pos n) ∷ []) ∷ [] → result ≡ Ok (Some n) }
@@ -73,8 +73,8 @@ fn mark_in(rows: &[Row]) -> Result<Option<u64>, ReserveFault>
     }
 }
 
-/// The mark of a key id and device: the number at which its next range begins. There is none where nothing was
-/// reserved. A refusal is `Store`; `BadStore` comes only over a disk that failed. Nothing changes.
+/// Returns the mark of a key ID and device: the number at which its next range begins, or `None` if nothing was
+/// reserved. A refusal is `Store`. `BadStore` comes only after a disk fault. Nothing changes.
 pub fn mark_of<S: Alter>(
     conn: &mut Connection<S>,
     key: &[u8],
@@ -150,7 +150,7 @@ struct BothTables {
     taken: Vec<Row>,
 }
 
-// It reads in a transaction that it takes back, as `next_rows`.
+// Reads in a transaction and rolls it back, as `next_rows` does.
 fn read_all<S: Alter>(conn: &mut Connection<S>) -> Result<BothTables, Error>
     requires settled { conn.old.in_transaction ≡ false }
     ensures settled { conn.new.in_transaction ≡ false }
@@ -170,7 +170,7 @@ fn read_all<S: Alter>(conn: &mut Connection<S>) -> Result<BothTables, Error>
     Ok(BothTables { marks, taken })
 }
 
-// The rowids of `mark` in their order, of a ledger file.
+// The rowids of `mark` in order, in a ledger file.
 fn read_ids<S: Alter>(conn: &mut Connection<S>) -> Result<Vec<Row>, Error>
     requires { IsLedger (state S.Store conn.old).now.schema }
     ensures settled { conn.old.in_transaction ≡ false → conn.new.in_transaction ≡ false }
@@ -185,8 +185,8 @@ fn read_ids<S: Alter>(conn: &mut Connection<S>) -> Result<Vec<Row>, Error>
     conn.query_all("SELECT rowid FROM mark ORDER BY rowid", &[])
 }
 
-// Whether no two rows of `mark` have one rowid. It reads outside a transaction: what it answers comes from a database
-// that is open and stays so.
+// Checks that no two rows of `mark` share a rowid. It reads outside a transaction, so its result is about a database
+// that is open and stays open.
 fn check_rowids<S: Alter>(conn: &mut Connection<S>) -> Result<(), ReserveFault>
     ensures settled { conn.old.in_transaction ≡ false → conn.new.in_transaction ≡ false }
     ensures was_open { WasOpen S.Store conn.old conn.new }
@@ -198,21 +198,21 @@ fn check_rowids<S: Alter>(conn: &mut Connection<S>) -> Result<(), ReserveFault>
     ensures same { OnlyRead S.Store conn.old conn.new }
     ensures crash { CommitsNothing S.Store conn.old conn.new }
 {
-    // Where the end of the reads before this one shut the database, nothing is known of its tables.
+    // If the end of the earlier reads closed the database, nothing is known of its tables.
     if !is_ledger(conn.schema()) {
         return Err(ReserveFault::Store);
     }
     let Ok(ids) = read_ids(conn) else {
         return Err(ReserveFault::Store);
     };
-    // SQLite gives no two rows of a table one rowid.
+    // In SQLite no two rows of a table share a rowid.
     if !do_ids_rise(ids.as_slice()) {
         return Err(ReserveFault::Store);
     }
     Ok(())
 }
 
-/// Whether the rows of the tables hold lists. Where they do not it is `BadStore`.
+/// Checks that the rows of the tables hold lists. Returns `BadStore` if they do not.
 pub(crate) fn check_rows<S: Alter>(conn: &mut Connection<S>) -> Result<(), ReserveFault>
     requires settled { conn.old.in_transaction ≡ false }
     requires live { IsLive (state S.Store conn.old) }
@@ -239,7 +239,7 @@ pub(crate) fn check_rows<S: Alter>(conn: &mut Connection<S>) -> Result<(), Reser
     check_rowids(conn)
 }
 
-// The rows that hold the ranges of a key id and device.
+// Selects the rows that have the ranges of a key ID and device.
 fn pick_ranges<S: Alter>(
     tx: &mut Transaction<'_, S>,
     key: &[u8],
@@ -261,7 +261,7 @@ fn pick_ranges<S: Alter>(
     )
 }
 
-// It reads in a transaction that it takes back, as `next_rows`.
+// Reads in a transaction and rolls it back, as `next_rows` does.
 fn range_rows<S: Alter>(
     conn: &mut Connection<S>,
     key: &[u8],
@@ -283,7 +283,7 @@ fn range_rows<S: Alter>(
     Ok(rows)
 }
 
-// The ranges that the rows hold, which are adjacent from 0.
+// The ranges in these rows, which are adjacent from 0.
 fn ranges_in(rows: &Vec<Row>) -> Result<Vec<(u32, u64)>, ReserveFault>
     ensures ranges { IfOk result (λ ranges. ranges_of_pairs ranges.items ≡ map answered_range rows.now.items) }
     ensures adjacent { IfOk result (λ ranges. Adjacent 0 (ranges_of_pairs ranges.items)) }
@@ -297,7 +297,7 @@ fn ranges_in(rows: &Vec<Row>) -> Result<Vec<(u32, u64)>, ReserveFault>
         let (Some(lo), Some(size)) = (number_at(row, 0), number_at(row, 1)) else {
             return Err(ReserveFault::BadStore);
         };
-        // The keeper's rows are lists. A database that answers in another order than it was asked for has failed.
+        // The keeper's rows are lists. A database that returns them out of the requested order is faulty.
         if lo != end || size == 0 || size > NUMBERS - end {
             return Err(ReserveFault::Store);
         }
@@ -310,8 +310,8 @@ fn ranges_in(rows: &Vec<Row>) -> Result<Vec<(u32, u64)>, ReserveFault>
     Ok(ranges)
 }
 
-/// The ranges of a key id and device, as (`lo`, `size`), in order of `lo`. A refusal is `Store`; `BadStore` comes only
-/// over a disk that failed. Nothing changes.
+/// Returns the ranges of a key ID and device as (`lo`, `size`), in order of `lo`. A refusal is `Store`. `BadStore`
+/// comes only after a disk fault. Nothing changes.
 pub fn ranges_of<S: Alter>(
     conn: &mut Connection<S>,
     key: &[u8],

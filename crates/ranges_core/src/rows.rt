@@ -1,4 +1,4 @@
-//! Whether the rows of both tables are lists of adjacent ranges: one pass over the rows in the order of their keys.
+//! Checks in one pass, in the order of their keys, that the rows of both tables are lists of adjacent ranges.
 ghost use Rattle.std.specs.Prelude.{◌≡◌, ◌⊎◌, IfErr, ◌<◌, ◌≤◌, ◌+◌, ◌++◌, ◌^◌, IsTrue, IsSome};
 ghost use Rattle.std.specs.Prelude.{IfSome, OnOk, Err, None, Some, [], filter, map, true};
 ghost use Rattle.std.specs.List.{list_all};
@@ -18,7 +18,7 @@ use sqlite_value::order::compare;
 use sqlite_value::value::ValueRef;
 use std::cmp::Ordering;
 
-/// The whole number at a place, if one from 0 is there.
+/// Returns the integer in column `at`, if there is one and it is not negative.
 pub(crate) fn number_at(row: &Row, at: usize) -> Option<u64>
     ensures value { result ≡ as_number (column row.now at) }
     ensures small { IfSome result (λ n. n < 2 ^ 63) }
@@ -29,7 +29,7 @@ pub(crate) fn number_at(row: &Row, at: usize) -> Option<u64>
     }
 }
 
-// Whether a whole number from 0 to `most` is there.
+// Whether column `at` has an integer from 0 to `most`.
 fn is_within(row: &Row, at: usize, most: u64) -> bool
     ensures { result ≡ is_within most (column row.now at) }
 {
@@ -39,7 +39,7 @@ fn is_within(row: &Row, at: usize, most: u64) -> bool
     }
 }
 
-// Whether a blob of 32 bytes is there.
+// Whether column `at` has a blob of 32 bytes.
 fn is_key(row: &Row, at: usize) -> bool
     ensures { result ≡ is_key (column row.now at) }
 {
@@ -49,14 +49,14 @@ fn is_key(row: &Row, at: usize) -> bool
     }
 }
 
-// Whether a whole number is there.
+// Whether column `at` has an integer.
 fn is_rowid(row: &Row, at: usize) -> bool
     ensures { result ≡ is_rowid (column row.now at) }
 {
     matches!(row.get_ref(at), Ok(ValueRef::Int(_)))
 }
 
-// Whether it has the form of a row of `mark`: rowid, key id, device, next.
+// Whether the row has the form of a row of `mark`: rowid, key ID, device, next.
 fn is_mark_row(row: &Row) -> bool
     ensures { result ≡ is_mark_row row.now }
 {
@@ -65,7 +65,7 @@ fn is_mark_row(row: &Row) -> bool
         && is_within(row, 3, NUMBERS)
 }
 
-// Whether it has the form of a row of `taken`: rowid, key id, device, lo, size.
+// Whether the row has the form of a row of `taken`: rowid, key ID, device, lo, size.
 fn is_taken_row(row: &Row) -> bool
     ensures { result ≡ is_taken_row row.now }
 {
@@ -102,7 +102,7 @@ fn are_taken_rows(rows: &[Row]) -> bool
     true
 }
 
-// The value at a place, NULL where there is none.
+// The value in column `at`, or NULL if there is no such column.
 fn value_at(row: &Row, at: usize) -> ValueRef<'_>
     ensures { owned result ≡ column row.now at }
 {
@@ -112,14 +112,14 @@ fn value_at(row: &Row, at: usize) -> ValueRef<'_>
     }
 }
 
-// The order of the key ids of two rows, and then of their devices.
+// Compares the key IDs of two rows, then their devices.
 fn compare_owners(a: &Row, b: &Row) -> Ordering
     ensures { result ≡ owner_cmp a.now b.now }
 {
     compare(value_at(a, 1), value_at(b, 1)).then(compare(value_at(a, 2), value_at(b, 2)))
 }
 
-// Whether no two rows are of one key id and device, and they ascend by these.
+// Whether the rows ascend by key ID and device, so that no two have the same.
 fn are_ordered(rows: &[Row]) -> bool
     ensures { IsTrue result → Chain IsBefore rows.now }
 {
@@ -151,7 +151,7 @@ pub(crate) fn do_ids_rise(rows: &[Row]) -> bool
     true
 }
 
-// The key id, if a blob is in its place.
+// The key ID, if its column has a blob.
 fn key_of(row: &Row) -> Option<&[u8]>
     ensures { IfSome result (λ key. column row.now 1 ≡ Blob key.now) }
 {
@@ -161,7 +161,7 @@ fn key_of(row: &Row) -> Option<&[u8]>
     }
 }
 
-// Whether this is the key id.
+// Whether the row has this key ID.
 fn has_key(row: &Row, key: &[u8]) -> bool
     ensures { result ≡ is_blob key.now (column row.now 1) }
 {
@@ -171,7 +171,7 @@ fn has_key(row: &Row, key: &[u8]) -> bool
     }
 }
 
-// Whether this is the device.
+// Whether the row has this device.
 fn has_device(row: &Row, device: u64) -> bool
     ensures { result ≡ is_number device (column row.now 2) }
 {
@@ -181,14 +181,14 @@ fn has_device(row: &Row, device: u64) -> bool
     }
 }
 
-// Whether the row is of the key id and device.
+// Whether the row is of this key ID and device.
 fn is_for(row: &Row, key: &[u8], device: u64) -> bool
     ensures { result ≡ is_for key.now device row.now }
 {
     has_key(row, key) && has_device(row, device)
 }
 
-// Where the range of the row ends, if it begins at `end` and has a number, and no number over 2^32 - 1.
+// The end of the row's range, if the range begins at `end`, is not empty, and has no number over 2^32 - 1.
 fn end_after(row: &Row, end: u64) -> Option<u64>
     requires { end ≤ NUMBERS }
     ensures some { IfSome result (λ n. ((range_in row.now).lo ≡ end) × (1 ≤ (range_in row.now).size)
@@ -204,7 +204,7 @@ fn end_after(row: &Row, end: u64) -> Option<u64>
     Some(end + size)
 }
 
-// What follows the ranges of the row of `mark`, where they are adjacent from 0 up to its `next`.
+// The rows after the ranges of this row of `mark`, if those are adjacent from 0 up to its `next`.
 fn rest_after<'a>(mark: &Row, taken: &'a [Row]) -> Option<&'a [Row]>
     ensures { IfSome result (λ rest. (run : _) × (taken.now ≡ run ++ rest.now) × OwnRun mark.now run) }
 {
@@ -223,8 +223,8 @@ fn rest_after<'a>(mark: &Row, taken: &'a [Row]) -> Option<&'a [Row]>
     if end == next { Some(rest) } else { None }
 }
 
-// What is left of both at the first row of `mark` whose ranges are not adjacent from 0 up to its `next`. Nothing is
-// left of a ledger.
+// What is left of both tables at the first row of `mark` whose ranges are not adjacent from 0 up to its `next`. For a
+// ledger nothing is left.
 fn first_misfit<'a>(marks: &'a [Row], taken: &'a [Row]) -> (&'a [Row], &'a [Row])
     ensures { result.0.now ≡ [] → result.1.now ≡ [] → Runs marks.now taken.now }
 {
@@ -240,7 +240,7 @@ fn first_misfit<'a>(marks: &'a [Row], taken: &'a [Row]) -> (&'a [Row], &'a [Row]
     (marks, taken)
 }
 
-// Whether the ranges of the key id and device ascend.
+// Whether the ranges of the key ID and device ascend.
 fn do_ranges_rise(taken: &[Row], key: &[u8], device: u64) -> bool
     ensures { list_all is_taken_row taken.now ≡ true → IsTrue result
         → RisesFrom None (map range_in (filter (is_for key.now device) taken.now)) }
@@ -262,7 +262,7 @@ fn do_ranges_rise(taken: &[Row], key: &[u8], device: u64) -> bool
     true
 }
 
-// Where the ranges of the key id and device end, if they are adjacent from 0.
+// The end of the ranges of the key ID and device, if they are adjacent from 0.
 fn end_for(taken: &[Row], key: &[u8], device: u64) -> Option<u64>
     ensures { list_all is_taken_row taken.now ≡ true
         → Adjacent 0 (map range_in (filter (is_for key.now device) taken.now))
@@ -280,7 +280,7 @@ fn end_for(taken: &[Row], key: &[u8], device: u64) -> Option<u64>
     Some(end)
 }
 
-// The `next` of the key id and device, if one row or none is of them.
+// The `next` of the first row of the key ID and device, or 0 if there is no such row.
 fn next_for(marks: &[Row], key: &[u8], device: u64) -> Option<u64>
     ensures { list_all is_mark_row marks.now ≡ true → (n : _) → IsNext (filter (is_for key.now device) marks.now) n
         → result ≡ Some n }
@@ -295,7 +295,7 @@ fn next_for(marks: &[Row], key: &[u8], device: u64) -> Option<u64>
     Some(0)
 }
 
-// Whether the rows of the key id and device of this row hold no list.
+// Whether the rows of this row's key ID and device certainly hold no list.
 fn is_bad_owner(marks: &[Row], taken: &[Row], row: &Row) -> bool
     ensures { list_all is_mark_row marks.now ≡ true → list_all is_taken_row taken.now ≡ true → IsTrue result
         → (lists : Lists) → HoldLists marks.now taken.now lists → ⊥ }
@@ -312,7 +312,7 @@ fn is_bad_owner(marks: &[Row], taken: &[Row], row: &Row) -> bool
     }
 }
 
-// Whether the rows of the key id and device of the first of these rows hold no list.
+// Whether the rows of the first row's key ID and device certainly hold no list.
 fn is_first_owner_bad(marks: &[Row], taken: &[Row], rest: &[Row]) -> bool
     ensures { list_all is_mark_row marks.now ≡ true → list_all is_taken_row taken.now ≡ true → IsTrue result
         → (lists : Lists) → HoldLists marks.now taken.now lists → ⊥ }
@@ -323,7 +323,8 @@ fn is_first_owner_bad(marks: &[Row], taken: &[Row], rest: &[Row]) -> bool
     }
 }
 
-/// Whether the rows, in the order of their keys, hold lists. Where they do not it is `BadStore`.
+/// Checks that the rows, in the order of their keys, hold lists. Returns `BadStore` if they certainly do not, and
+/// `Store` if the database returned them out of order.
 pub(crate) fn hold_lists(marks: &[Row], taken: &[Row]) -> Result<(), ReserveFault>
     ensures ok { OnOk result ((lists : Lists) × HoldLists marks.now taken.now lists) }
     ensures bad { result ≡ Err ReserveFault.BadStore → (lists : Lists) → HoldLists marks.now taken.now lists → ⊥ }
@@ -332,7 +333,7 @@ pub(crate) fn hold_lists(marks: &[Row], taken: &[Row]) -> Result<(), ReserveFaul
     if !are_mark_rows(marks) || !are_taken_rows(taken) {
         return Err(ReserveFault::BadStore);
     }
-    // A database that answers in another order than it was asked for has failed.
+    // A database that returns rows out of the requested order is faulty.
     if !are_ordered(marks) {
         return Err(ReserveFault::Store);
     }

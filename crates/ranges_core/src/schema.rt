@@ -1,4 +1,4 @@
-//! Whether the tables that a database has are those of a ledger file.
+//! Whether the tables of a database are those of a ledger file.
 ghost use Rattle.std.specs.Prelude.{◌≡◌, IsTrue, [], ◌∷◌, None, false};
 ghost use Rattle.std.specs.Option.{option_copied};
 ghost use Rattle.sqlite_value.specs.Keys.{plain};
@@ -11,7 +11,7 @@ use sqlite_schema::schema::{Column, Index, Kind, Schema, Table};
 use sqlite_value::keys::{Collation, Order};
 use sqlite_value::value::Value;
 
-// Whether it has this name and kind, is NOT NULL, without a default, and compares by bytes.
+// Whether the column has this name and kind, is NOT NULL, has no default, and compares by bytes.
 fn is_column(column: &Column, name: &[u8], kind: Kind) -> bool
     ensures { IsTrue result → column.now ≡ required name.now kind }
 {
@@ -23,14 +23,14 @@ fn is_column(column: &Column, name: &[u8], kind: Kind) -> bool
         && column.collation == Collation::Binary
 }
 
-// Whether these are the places of columns.
+// Whether the items are these column indexes.
 fn are_places(items: &Items<usize>, places: &[usize]) -> bool
     ensures { IsTrue result → items.now ≡ places.now }
 {
     items.as_slice() == places
 }
 
-// Whether there is one key, over these places.
+// Whether there is exactly one key, over these columns.
 fn is_one_key(uniques: &Items<Items<usize>>, places: &[usize]) -> bool
     ensures { IsTrue result → uniques.now ≡ places.now ∷ [] }
 {
@@ -40,7 +40,7 @@ fn is_one_key(uniques: &Items<Items<usize>>, places: &[usize]) -> bool
     }
 }
 
-// Whether there is one order of keys, the plain one.
+// Whether there is exactly one key order, the plain one.
 fn is_one_order(orders: &Items<Order>) -> bool
     ensures { IsTrue result → orders.now ≡ plain ∷ [] }
 {
@@ -50,7 +50,7 @@ fn is_one_order(orders: &Items<Order>) -> bool
     }
 }
 
-// Whether it has nothing beside its columns, keys and CHECKs.
+// Whether the table has only columns, keys and CHECKs.
 fn is_bare(table: &Table) -> bool
     ensures references { IsTrue result → (table.now.key ≡ None) × (table.now.references ≡ []) }
     ensures computed { IsTrue result → (table.now.computed ≡ []) × (table.now.is_counted ≡ false) }
@@ -67,7 +67,7 @@ fn is_bare(table: &Table) -> bool
         && table.stamps.formats.len() == 0
 }
 
-// Whether it has this name, tree and primary key and nothing beside its columns and CHECKs.
+// Whether the table has this name, tree and primary key, and otherwise only columns and CHECKs.
 fn is_keyed(table: &Table, name: &[u8], tree: u32, places: &[usize]) -> bool
     ensures { IsTrue result → table.now ≡ keyed_table name.now tree table.now.columns places.now table.now.checks }
 {
@@ -79,7 +79,7 @@ fn is_keyed(table: &Table, name: &[u8], tree: u32, places: &[usize]) -> bool
         && is_bare(table)
 }
 
-// Whether it is `mark` as the keeper makes it, with whatever CHECKs.
+// Whether the table is `mark` as the keeper makes it, apart from its CHECKs.
 fn is_mark_table(table: &Table) -> bool
     ensures { IsTrue result → table.now ≡ mark_table table.now.checks 0 }
 {
@@ -92,7 +92,7 @@ fn is_mark_table(table: &Table) -> bool
         && is_keyed(table, b"mark", 0, &[1, 2])
 }
 
-// Whether it is `taken` as the keeper makes it, with whatever CHECKs.
+// Whether the table is `taken` as the keeper makes it, apart from its CHECKs.
 fn is_taken_table(table: &Table) -> bool
     ensures { IsTrue result → table.now ≡ taken_table table.now.checks 2 }
 {
@@ -106,7 +106,7 @@ fn is_taken_table(table: &Table) -> bool
         && is_keyed(table, b"taken", 2, &[1, 2, 3])
 }
 
-// Whether it has this name, tree, table and columns, in ascending order, and lets no two rows be equal.
+// Whether the index has this name, tree, table and columns, is ascending, and is unique.
 fn is_index(index: &Index, name: &[u8], tree: u32, table: u32, places: &[usize]) -> bool
     ensures { IsTrue result → index.now ≡ index_for name.now tree table places.now }
 {
@@ -118,7 +118,7 @@ fn is_index(index: &Index, name: &[u8], tree: u32, table: u32, places: &[usize])
         && index.is_unique
 }
 
-/// Whether there is no table, index or view.
+/// Whether the schema has no table, index or view.
 pub(crate) fn is_blank(schema: &Schema) -> bool
     ensures blank { IsTrue result → schema.now ≡ no_schema }
     ensures other { schema.now ≡ no_schema → IsTrue result }
@@ -149,7 +149,7 @@ fn are_indexes(indexes: &[Index]) -> bool
     }
 }
 
-/// Whether both tables are there as the keeper makes them, with whatever CHECKs, and nothing else is.
+/// Whether the schema has both tables as the keeper makes them, apart from their CHECKs, and nothing else.
 pub(crate) fn is_ledger(schema: &Schema) -> bool
     ensures { IsTrue result → IsLedger schema.now }
 {
@@ -159,14 +159,14 @@ pub(crate) fn is_ledger(schema: &Schema) -> bool
     are_tables(schema.tables.as_slice())
 }
 
-// The table of this name, in whatever case.
+// The table of this name, ignoring case.
 fn table_at<'a>(schema: &'a Schema, name: &[u8]) -> Option<&'a Table>
     ensures { option_copied result ≡ table_at schema.now name.now }
 {
     schema.tables.get(schema.table_named(name)?)
 }
 
-// Whether it can be read by the column names of `mark`.
+// Whether the table has the columns of `mark`.
 fn has_mark_columns(table: &Table) -> bool
     ensures { result ≡ has_columns mark_names table.now }
 {
@@ -175,7 +175,7 @@ fn has_mark_columns(table: &Table) -> bool
         && table.column_named(b"next").is_some()
 }
 
-// Whether it can be read by the column names of `taken`.
+// Whether the table has the columns of `taken`.
 fn has_taken_columns(table: &Table) -> bool
     ensures { result ≡ has_columns taken_names table.now }
 {

@@ -1,4 +1,4 @@
-//! The two tables made, in one transaction.
+//! Makes the two tables, in one transaction.
 ghost use Rattle.std.specs.Prelude.{◌≡◌, IsTrue, OnOk, OnErr, true, false, []};
 ghost use Rattle.sqlite.specs.State.{HasCleanDisk, Survives, KeepsCommit, Shows};
 ghost use Rattle.sqlite.specs.Held.{state};
@@ -9,7 +9,7 @@ ghost use Rattle.ranges_core.specs.Writes.{IsBlank, IsEmptyLedger};
 
 use sqlite::{Alter, Connection, Error, Transaction};
 
-// The first table, without a row.
+// Makes the first table, without rows.
 fn make_mark<S: Alter>(tx: &mut Transaction<'_, S>) -> Result<usize, Error>
     ensures same_reference { tx.new.conn.ghost_name ≡ tx.old.conn.ghost_name }
     ensures made { HasCleanDisk (state S.Store tx.new.conn.now)
@@ -27,7 +27,7 @@ fn make_mark<S: Alter>(tx: &mut Transaction<'_, S>) -> Result<usize, Error>
     )
 }
 
-// The second table, without a row.
+// Makes the second table, without rows.
 fn make_taken<S: Alter>(tx: &mut Transaction<'_, S>) -> Result<usize, Error>
     ensures same_reference { tx.new.conn.ghost_name ≡ tx.old.conn.ghost_name }
     ensures made { HasCleanDisk (state S.Store tx.new.conn.now)
@@ -46,7 +46,7 @@ fn make_taken<S: Alter>(tx: &mut Transaction<'_, S>) -> Result<usize, Error>
     )
 }
 
-/// Both tables or neither, over a crash too.
+/// Makes both tables or neither, even across a crash.
 pub(crate) fn make_tables<S: Alter>(conn: &mut Connection<S>) -> Result<(), Error>
     requires settled { conn.old.in_transaction ≡ false }
     requires blank { WhileOpen S.Store conn.old (IsBlank (state S.Store conn.old)) }

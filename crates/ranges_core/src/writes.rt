@@ -1,5 +1,5 @@
-//! The two writes of a reservation, in one transaction: the mark of the key and device is moved to the end of the
-//! range, and the range is taken. The commit is the last call to the database.
+//! The two writes of a reservation, in one transaction: move the mark of the key and device to the end of the range,
+//! and record the range in `taken`. The commit is the last call to the database.
 ghost use Rattle.std.specs.Prelude.{◌≡◌, IsTrue, OnOk, OnErr, true, false, [], ◌∷◌};
 ghost use Rattle.std.specs.Prelude.{◌+◌, ◌≤◌, ◌^◌, pos, filter, unwrap_or};
 ghost use Rattle.std.specs.List.{AllByRecursion};
@@ -18,7 +18,7 @@ ghost use Rattle.ranges_core.specs.Writes.{Appends, Entered, IsMarkOf, IsReady, 
 use crate::NUMBERS;
 use sqlite::{Alter, Connection, Error, Transaction, params};
 
-// The number as SQL has it.
+// The number as an SQL integer.
 fn signed(n: u64) -> i64
     requires { n ≤ NUMBERS }
     ensures { result ≡ pos n }
@@ -26,7 +26,7 @@ fn signed(n: u64) -> i64
     n as i64
 }
 
-// Where a range ends.
+// The end of a range.
 fn end_of(lo: u64, size: u32) -> u64
     requires { lo ≤ NUMBERS }
     ensures { result ≡ lo + size }
@@ -34,7 +34,7 @@ fn end_of(lo: u64, size: u32) -> u64
     lo + u64::from(size)
 }
 
-// Puts in the first row of the key id and device.
+// Inserts the first row of the key ID and device.
 fn enter_mark<S: Alter>(
     tx: &mut Transaction<'_, S>,
     key: &[u8],
@@ -59,7 +59,7 @@ fn enter_mark<S: Alter>(
     )
 }
 
-// Moves the mark in the one row of the key id and device.
+// Moves the mark in the only row of the key ID and device.
 fn move_mark<S: Alter>(
     tx: &mut Transaction<'_, S>,
     key: &[u8],
@@ -86,7 +86,7 @@ fn move_mark<S: Alter>(
     )
 }
 
-// Writes the mark of the key id and device, for which `mark` is what was read.
+// Writes the mark of the key ID and device. `mark` is the value that was read.
 fn write_mark<S: Alter>(
     tx: &mut Transaction<'_, S>,
     key: &[u8],
@@ -113,7 +113,7 @@ fn write_mark<S: Alter>(
     }
 }
 
-// Takes the range of `size` numbers from `lo`.
+// Records the range of `size` numbers from `lo`.
 fn take_range<S: Alter>(
     tx: &mut Transaction<'_, S>,
     key: &[u8],
@@ -139,7 +139,7 @@ fn take_range<S: Alter>(
     )
 }
 
-// Appends a range of `size` numbers where the mark stands: both rows or neither, over a crash too.
+// Appends a range of `size` numbers at the mark: both rows or neither, even across a crash.
 fn append<S: Alter>(
     conn: &mut Connection<S>,
     key: &[u8],
@@ -174,8 +174,8 @@ fn append<S: Alter>(
     Ok(())
 }
 
-/// Appends a range of `size` numbers to the list of the key id and device, where `mark` is what `mark_of` answered.
-/// Each other list is as it was. Both rows are written or neither, over a crash too.
+/// Appends a range of `size` numbers to the list of the key ID and device. `mark` is what `mark_of` returned. Every
+/// other list is unchanged. Both rows are written or neither, even across a crash.
 pub fn append_range<S: Alter>(
     conn: &mut Connection<S>,
     key: &[u8],

@@ -1,4 +1,4 @@
--- What one run leaves in the files, the next run finds there.
+-- What one run leaves in the files is what the next run finds there.
 use Rattle.std.proofs.Common.{◌≡◌, inl, inr, ℕ, List, [], ◌∷◌, ◌+◌, ◌≤◌, Some, sym, ap, subst, ◌∙◌, arith}
 use Rattle.std.proofs.Math.Logic.{∥∥₁_elim, ∥∥₁_map}
 use Rattle.std.specs.Prelude.{slice_get}
@@ -27,7 +27,7 @@ use Rattle.ranges_core.proofs.Lasting.{next_run}
 use Rattle.reserve_core.specs.Folded.{AreFolded, LeftBy}
 use Rattle.reserve_core.specs.NextRun.{AreIn, IsFound, PassesOn, PassInTurn}
 
--- ---- what a keeper shows that was made of what was found
+-- ---- what a keeper shows that was made of what a connection found
 
 pub found_begins : {S : Type 0} (g : trees.Ghosts S) (files : Image) (keeper : Held S) (before lists : Lists) → AreIn before files
     → IsFound g files keeper → Holds (state g keeper).now lists → Begins before lists
@@ -97,7 +97,7 @@ module _ {D : Type 0} {g : Ghosts D} where
       let may = by.released.quiet.outcomes _ (stays_at by.store stays folded.is_open) in
       subst (Keeps before) same (last (store.view by.store).committed may)
 
-  -- a crash leaves of an open connection that found the files' database just that database
+  -- after a crash, an open connection that found the files' database leaves exactly that database
   opened_lasts : (files : Image) (found : Held (FileStore D g)) (before : Lists) → SeenMayStay g → FindsIn files (file_state found)
       → Opens (file_state found) → (it : (db : Trees) × HoldsDatabase files db × Keeps before db) → Last (file_state found) before
   opened_lasts files found before stays finds opens it trees may =

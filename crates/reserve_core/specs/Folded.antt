@@ -1,4 +1,4 @@
--- What is left of a connection whose log was copied into its file.
+-- What is left of a connection after its log was copied into its file.
 use Rattle.std.specs.Prelude.{◌≡◌, IsTrue}
 use Rattle.sqlite_disk.specs.declared.Disk.{Ghosts}
 use Rattle.sqlite_disk.specs.declared.Files.{Files}
@@ -11,14 +11,14 @@ use Rattle.sqlite_wal.specs.Recovery.{Image}
 use Rattle.sqlite.specs.Closing.{HoldsAlone}
 use Rattle.sqlite.specs.Held.{Held, AreDatabases}
 
--- the connection's store, once what wasn't committed was rolled back
+-- the connection's store, after what wasn't committed was rolled back
 pub record IsReleased {S : Type 0} (g : trees.Ghosts S) (connection : Held S) (store : S) : Type 0 where
   pub numbered : IsClean (g.view store) → IsTrue (g.view store).is_numbered
   pub sound : IsClean (g.view store) → AreDatabases (g.recovers store)
   pub undone : IsRolledBack (g.view connection.store) (g.view store)
   pub quiet : IsQuiet g.view g.faults g.recovers g.is_shielded connection.store store
 
--- the connection's store, rolled back, left this, by the relation that is given
+-- the connection's store, rolled back, left this, by the relation `is_left`
 pub record LeftBy {S L : Type 0} (g : trees.Ghosts S) (is_left : S → L → Type 0) (connection : Held S) (left : L)
     : Type 0 where
   pub store : S
@@ -32,8 +32,8 @@ module _ {D : Type 0} {g : Ghosts D} where
     pub these : files last ≡ (left.log, left.db)
     pub quiet : IsQuiet view faults recovers is_shielded store last
 
-  -- Where the disk returned what was written, whatever a crash leaves of the two files has the last commit, with the
-  -- log and without one.
+  -- If the disk returned what was written, whatever a crash leaves of the two files has the last commit, with the log
+  -- and without it.
   pub record AreFolded (store : FileStore D g) (left : Files D) : Type 0 where
     pub clean : IsClean (view store)
     pub is_open : IsTrue (view store).is_open

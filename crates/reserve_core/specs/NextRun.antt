@@ -1,4 +1,4 @@
--- What one run leaves in the two files of a ledger, and the next run finds there.
+-- What one run leaves in the two files of a ledger, and what the next run finds there.
 use Rattle.std.specs.Prelude.{List, [], ◌∷◌}
 use Rattle.sqlite_trees.specs.declared.store.Store.{Ghosts}
 use Rattle.sqlite_trees.specs.Tree.{Trees}
@@ -14,11 +14,11 @@ use Rattle.ranges_core.specs.Reservations.{Lists, Opened}
 abbrev pub AreIn : Lists → Image → Type 0
 AreIn before files = ∥ ((db : Trees) × HoldsDatabase files db × Keeps before db) ∥₁
 
--- what the files held, they hold after some runs
+-- what the files held is still held after some runs
 abbrev pub PassesOn : Image → Image → Type 0
 PassesOn files later = (before : Lists) → AreIn before files → AreIn before later
 
--- each passes it on to the next: what the runs between the first files and the last left
+-- each passes it on to the next: the list is what the runs between the first files and the last left
 abbrev pub PassInTurn : Image → List Image → Image → Type 0
 PassInTurn files [] last = PassesOn files last
 PassInTurn files (next ∷ more) last = PassesOn files next × PassInTurn next more last

@@ -1,4 +1,4 @@
-//! The ledger file in a run's hands: its keeper, and after the reservation the files alone.
+//! The ledger file during a run: its keeper, and after the reservation only the files.
 ghost use Rattle.std.specs.Prelude.{◌≡◌, ◌≢◌, IfErr, IfOk, MatchResult, OnOk, Err};
 ghost use Rattle.sqlite_wal.specs.Reads.{AreClean};
 ghost use Rattle.sqlite.specs.Held.{Held};
@@ -10,18 +10,19 @@ use sqlite::{Alter, FileStore, Files, MemStore};
 use sqlite_disk::Disk;
 use sqlite_trees::store::Store;
 
-/// A store whose log can be copied into its file.
+/// A store that can copy its log into its file.
 pub trait Fold: Alter + Drop {
-    /// What is left of a store: its files, which are held and neither read nor written any more.
+    /// What is left of a store: its files, which are held, and no longer read or written.
     type Left: Drop;
 
-    // A crash leaves of this nothing that it couldn't leave of the store.
+    // A crash leaves nothing of this that it couldn't leave of the store.
     ghost is_left: { Self → Self.Left → Type 0 };
 
-    // The store's last commit stands in the file itself, with the log as a crash leaves it and with none.
+    // The store's last commit is in the file itself: with the log as a crash leaves it, and without a log.
     ghost is_folded: { Self → Self.Left → Type 0 };
 
-    /// Rolls back what wasn't committed, copies the log into the file, and syncs it. Where that fails the log stays.
+    /// Rolls back what wasn't committed, copies the log into the file, and syncs the file. If that fails, the log
+    /// stays.
     fn fold(self) -> Result<Self::Left, Self::Left>
         ensures left { MatchResult result (is_left self) (is_left self) }
         ensures folded { IfOk result (is_folded self) };
@@ -47,7 +48,7 @@ impl<D: Disk + Drop> Fold for FileStore<D> {
     }
 }
 
-// Of memory nothing outlives the process.
+// Nothing in memory outlives the process.
 impl Fold for MemStore {
     type Left = MemStore;
 
@@ -63,21 +64,21 @@ impl Fold for MemStore {
     }
 }
 
-/// The ledger file in a run's hands.
+/// The ledger file during a run.
 #[derive(Drop)]
 pub enum LedgerFile<S: Fold> {
-    /// Its keeper, which reserves.
+    /// The keeper, which reserves ranges.
     Kept(Keeper<S>),
-    /// The files, once the log was copied into the ledger file, or that failed. They are held, and nothing reads or
-    /// writes them any more.
+    /// The files, after the log was copied into the ledger file, or after that failed. They are held, and nothing reads
+    /// or writes them any more.
     Folded(S::Left),
-    /// Neither: it stands here only while `fold` moves the files.
+    /// Neither: this value exists only while `fold` moves the files.
     Gone,
 }
 
 impl<S: Fold> LedgerFile<S> {
-    /// Copies the log into the ledger file and syncs that, so that it has what was committed without its log. A keeper
-    /// is folded once: `Store` comes where the copying failed, and where there is no keeper.
+    /// Copies the log into the ledger file and syncs the file, so that it holds what was committed without its log. A
+    /// keeper is folded once. Returns `Store` if the copying failed, or if there is no keeper.
     pub fn fold(&mut self) -> Result<(), ReserveFault>
         ensures kept { (k : Held S) → self.old ≡ LedgerFile.Kept k → (left : S.Left)
             × (self.new ≡ LedgerFile.Folded left) × LeftBy S.Store S.is_left k left

@@ -16,9 +16,9 @@ use std::marker::Model;
 
 /// The ranges that were ever reserved, in a database that nobody else writes.
 ///
-/// It stands over a connection. What was committed to a file stands in the log beside the file (FILE-wal), and the two
-/// are one ledger, until the log is copied into the file: by `LedgerFile::fold`, or as the connection is closed, once
-/// it was given back by `release`.
+/// It holds a connection. What was committed to a file is in the log next to it (FILE-wal), and the two together are
+/// one ledger. That ends when the log is copied into the file: by `LedgerFile::fold`, or when the connection that
+/// `release` returned is closed.
 #[derive(Drop)]
 pub struct Keeper<S: Alter> {
     conn: Connection<S>,
@@ -41,15 +41,20 @@ impl<S: Alter> Model for Keeper<S> {
 }
 
 impl<S: Alter> Keeper<S> {
-    /// Makes both tables in an empty database, and checks them else: their schema, and that their rows are lists of
-    /// adjacent ranges, in one pass over all rows of both, which it holds in memory for that time. Nobody else may
+    /// Makes both tables in an empty database. Otherwise checks their schema, and that their rows are lists of adjacent
+    /// ranges. The check is one pass over all rows of both tables, which it holds in memory meanwhile. Nobody else may
     /// write the database from now on.
     ///
-    /// `BadStore` comes where something is in the database and one of the two tables cannot be read by its column
-    /// names, or where the rows hold no lists; `Store` where the database refuses a statement, memory is refused, the
-    /// tables are other than the keeper makes them or not alone, or the connection is in a transaction. A refusal
-    /// changes nothing and hands the connection back. Where a fault of the disk shut it, the files are as after a
-    /// crash: as they could be before, or, where the database was empty, both tables with empty lists.
+    /// Returns `BadStore` if the schema is not empty and one of the two tables cannot be read by its column names, or
+    /// if the rows hold no lists. Returns `Store` in these cases:
+    /// - The database refuses a statement.
+    /// - Memory could not be allocated.
+    /// - The tables differ from those that the keeper makes, or are not the only ones.
+    /// - The connection is in a transaction.
+    ///
+    /// A refusal changes nothing and hands the connection back. If a disk fault closed the connection, the files are as
+    /// after a crash: as they could be before. If the database was empty, they may also hold both tables with empty
+    /// lists.
     pub fn open(connection: Connection<S>) -> Result<Keeper<S>, (ReserveFault, Connection<S>)>
         ensures opened { IfOk result (λ k. HasCleanDisk (state S.Store k)
             → Opened (state S.Store connection).now (state S.Store k).now) }
@@ -82,13 +87,17 @@ impl<S: Alter> Keeper<S> {
         }
     }
 
-    /// Reserves the next `count` file numbers of the key and device: 1 to 65,535 of them, each below 2^32.
+    /// Reserves the next `count` file numbers of the key and device: 1 to 65,535 numbers, each below 2^32.
     ///
-    /// Once it answers `Ok` they are reserved for good, over crashes too. A crash during the call leaves the lists from
-    /// before, or those with the new range. Every refusal changes nothing, and names the first that holds of: no
-    /// number, over 65,535 numbers, fewer left than asked for; or it is `Store`, where the database failed before the
-    /// last of these could be told, refuses a statement, or memory is refused. Where a fault of the disk shut the
-    /// connection, the files are as after a crash.
+    /// Once it returns `Ok` they are reserved for good, even across crashes. A crash during the call leaves the old
+    /// lists, or those with the new range. A refusal changes nothing. Errors, tested in this order:
+    /// - `ZeroCount`: `count` is 0.
+    /// - `TooMany`: `count` is over 65,535.
+    /// - `FieldSpent`: fewer than `count` numbers are left.
+    ///
+    /// `Store` means that the database failed before the last test could be made, or refused a statement, or that
+    /// memory could not be allocated. `BadStore` comes only if somebody else wrote the database, or its disk returned
+    /// other bytes. If a disk fault closed the connection, the files are as after a crash.
     pub fn reserve(
         &mut self,
         key_id: &[u8; 32],
@@ -133,7 +142,7 @@ impl<S: Alter> Keeper<S> {
             let left = NUMBERS - next;
             return Err(ReserveFault::FieldSpent { left });
         }
-        // Never: a range of 1 to 65,535 numbers that ends by 2^32 is lawful.
+        // Unreachable: a range of 1 to 65,535 numbers that ends by 2^32 is lawful.
         let Ok(range) = Range::new(device, next as u32, count) else {
             return Err(ReserveFault::Store);
         };
@@ -143,8 +152,8 @@ impl<S: Alter> Keeper<S> {
         }
     }
 
-    /// The ranges of the key and device, as (`lo`, `size`), in order of `lo`. A refusal is `Store`; `BadStore` comes
-    /// only where somebody else wrote the database or its disk returned other bytes. Nothing changes.
+    /// Returns the ranges of the key and device as (`lo`, `size`), in order of `lo`. A refusal is `Store`. `BadStore`
+    /// comes only if somebody else wrote the database, or its disk returned other bytes. Nothing changes.
     pub fn taken(
         &mut self,
         key_id: &[u8; 32],
@@ -165,7 +174,7 @@ impl<S: Alter> Keeper<S> {
         ranges_of(&mut self.conn, key_id.as_slice(), device.number())
     }
 
-    /// Gives the connection back, as it is.
+    /// Returns the connection, unchanged.
     pub fn release(self) -> Connection<S>
         ensures { result ≡ self }
     {

@@ -1,4 +1,4 @@
-//! Laws of the lists of ranges, and of the next run over what a crash leaves.
+//! Laws of the lists of ranges, and of the next run on what a crash leaves.
 ghost use Rattle.std.specs.Prelude.{◌≡◌, ◌+◌, ◌≤◌, ℕ, List, [], Some, slice_get};
 ghost use Rattle.sqlite.specs.Effect.{Database, IsDatabase};
 ghost use Rattle.sqlite.specs.Files.{file_state, over_files};
@@ -18,21 +18,21 @@ ghost use Rattle.ranges_core.specs.Reservations.{AreApart, Holds, Lists, Opened,
 use sqlite::{Alter, Files};
 use sqlite_disk::Disk;
 
-/// Any two ranges of one key id and device are apart: each ends before a later one begins, so no number is in two.
+/// Any two ranges of one key ID and device are disjoint: each ends before a later one begins.
 pub fn ranges_are_apart()
     ensures { (db : Database) (lists : Lists) → Holds db lists → (key : List ℕ) (device : ℕ)
         → AreApart (lists key device) }
 {}
 
-/// Where a crash leaves just what a connection shows, it leaves the lists of that database.
+/// If a crash leaves exactly what a connection shows, it leaves the lists of that database.
 pub fn what_is_shown_lasts<S: Alter>()
     ensures { (was : Held S) (lists : Lists) → LeavesOnlyThis S.Store was
         → Holds (state S.Store was).now lists → Last (state S.Store was) lists }
 {}
 
-/// What was reserved, the next run has. Where all that a crash may leave of a connection has lists that begin with
-/// those before, and the next connection shows one of the databases that it may leave, a keeper which `Keeper::open`
-/// makes of it has lists that begin with those before. The two connections may be over stores of different types.
+/// The next run has what was reserved. Suppose all that a crash may leave of a connection has lists that begin with the
+/// earlier ones, and the next connection shows one of these databases. Then a keeper that `Keeper::open` makes of it
+/// has lists that begin with the earlier ones. The two connections may use stores of different types.
 pub fn next_run_has_the_ranges<S: Alter, T: Alter>()
     ensures { (was : Held S) (found now : Held T) (before lists : Lists) → Last (state S.Store was) before
         → ∥ (state S.Store was).may_leave (state T.Store found).now.trees ∥₁ → IsDatabase (state T.Store found).now
@@ -40,9 +40,9 @@ pub fn next_run_has_the_ranges<S: Alter, T: Alter>()
         → Begins before lists }
 {}
 
-/// What a crash leaves holds the lists. Where all that it may leave of a connection over files has lists that begin
-/// with these, whatever it leaves of the two files holds a database with such lists. `IsConnected` is what every
-/// connection keeps true.
+/// What a crash leaves holds the lists. Suppose all that a crash may leave of a connection over files has lists that
+/// begin with these. Then whatever it leaves of the two files holds a database with such lists. Every connection
+/// maintains `IsConnected`.
 pub fn a_crash_leaves_the_ranges<D: Disk + Drop>()
     ensures { (was : _) (before : Lists) → HasCleanDisk (file_state {g = D.Disk} was)
         → IsConnected (store.view was.store) (store.recovers was.store) was.schema was.saved was.in_transaction
@@ -50,8 +50,8 @@ pub fn a_crash_leaves_the_ranges<D: Disk + Drop>()
         → AreIn before files }
 {}
 
-/// Once a connection over files was folded, the ledger file alone has its lists: whatever a crash leaves of the two
-/// files from then on holds them, with the log as it was left and with none at all.
+/// After a connection over files was folded, the ledger file alone has its lists. Whatever a crash later leaves of the
+/// two files holds them, with the log as it was left and with no log.
 pub fn a_folded_file_has_the_ranges<D: Disk + Drop>()
     ensures { (was : _) (left : Files D) (before : Lists)
         → LeftBy (over_files {g = D.Disk}) (λ store left. AreClean D.Disk left.log left.db → AreFolded store left)
@@ -61,16 +61,16 @@ pub fn a_folded_file_has_the_ranges<D: Disk + Drop>()
         → AreIn before files × AreIn before (record files { log = [] }) }
 {}
 
-/// What is in the files, the next run has: a keeper that was made of what a connection found there has lists that begin
-/// with those. The connection may be over another type of disk.
+/// The next run has what is in the files: a keeper made of what a connection found there has lists that begin with
+/// those. The connection may be over another type of disk.
 pub fn the_next_keeper_has_the_ranges<T: Alter>()
     ensures { (files : Image) (keeper : Held T) (before lists : Lists) → AreIn before files
         → IsFound T.Store files keeper → Holds (state T.Store keeper).now lists → Begins before lists }
 {}
 
-/// A run passes on what the files hold, from the moment at which its connection stands and as long as one stands: where
-/// it is cut off before its keeper is made, where that is refused and the connection is let go, and at any call of the
-/// keeper.
+/// A run passes on what the files hold, from when its connection is made and for as long as there is one. This holds if
+/// it is killed before its keeper is made or at any call of the keeper, or if the keeper is refused and the connection
+/// dropped.
 pub fn a_connection_passes_on_what_it_found<D: Disk + Drop>()
     ensures { (files later : Image) (found last : _) → FindsIn files (file_state {g = D.Disk} found)
         → Opens (file_state found) → StillLast over_files found last → HasCleanDisk (file_state last)
@@ -78,14 +78,14 @@ pub fn a_connection_passes_on_what_it_found<D: Disk + Drop>()
         → (store.state last.store).may_leave later → PassesOn files later }
 {}
 
-/// So does one whose connection was closed (`Connection::close_files`), and then also without the log.
+/// The same holds for a run whose connection was closed (`Connection::close_files`), and then also without the log.
 pub fn a_closed_connection_passes_on_what_it_found<D: Disk + Drop>()
     ensures { (files later : Image) (found last : _) (left : Files D) → FindsIn files (file_state {g = D.Disk} found)
         → Opens (file_state found) → StillLast over_files found last → IsCopied last left
         → outcomes D.Disk left.log left.db later → PassesOn files later × PassesOn files (record later { log = [] }) }
 {}
 
-/// A run passes on what it found, at whatever moment after its opening it is cut off.
+/// A run passes on what it found, whenever it is killed after its opening.
 pub fn a_run_passes_on_what_it_found<D: Disk + Drop>()
     ensures { (files later : Image) (keeper last : _) → IsFound (over_files {g = D.Disk}) files keeper
         → StillLast over_files keeper last → HasCleanDisk (file_state {g = D.Disk} last)
@@ -93,7 +93,7 @@ pub fn a_run_passes_on_what_it_found<D: Disk + Drop>()
         → (store.state last.store).may_leave later → PassesOn files later }
 {}
 
-/// So does one that folded its files, and then also without the log.
+/// The same holds for a run that folded its files, and then also without the log.
 pub fn a_folded_run_passes_on_what_it_found<D: Disk + Drop>()
     ensures { (files later : Image) (keeper last : _) (left : Files D) → IsFound (over_files {g = D.Disk}) files keeper
         → StillLast over_files keeper last
@@ -102,8 +102,8 @@ pub fn a_folded_run_passes_on_what_it_found<D: Disk + Drop>()
         → PassesOn files later × PassesOn files (record later { log = [] }) }
 {}
 
-/// Where files hold a range of a key id and device, and whatever runs pass on what they found, one after another, the
-/// number at which a later run's keeper begins to reserve lies behind that range.
+/// Suppose files hold a range of a key ID and device, and runs, one after another, pass on what they found. Then the
+/// number at which a later run's keeper begins to reserve comes after that range.
 pub fn a_later_run_reserves_behind<T: Alter>()
     ensures { (files last : Image) (between : List Image) (keeper : Held T) (before lists : Lists)
         → AreIn before files → PassInTurn files between last → IsFound T.Store last keeper

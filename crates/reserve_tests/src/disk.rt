@@ -1,4 +1,4 @@
-//! The two files of a ledger, in memory, and a disk that stops.
+//! The two files of a ledger in memory, and a disk that stops.
 use crate::store::{ID, has_taken, reserve};
 use reserve_core::{Fold, Keeper};
 use sqlite::{Alter, Connection, FileStore, Files, Leftover, Options};
@@ -14,7 +14,7 @@ pub enum Which {
     Database,
 }
 
-/// What the next run finds of each file: all that was written, as where the program ends, or what was synced.
+/// What the next run finds of each file: everything written, as after the program's end, or only what was synced.
 #[derive(Clone, Copy)]
 pub enum Left {
     Written,
@@ -31,12 +31,12 @@ pub static ALL_LEFT: [Left; 4] = [
     Left::DatabaseSynced,
 ];
 
-/// A file that doesn't stop.
+/// Returns a file that doesn't stop.
 pub fn lasting(memory: Memory) -> Stopping {
     Fuse::new(memory, u64::MAX)
 }
 
-/// New files, of which one fails each call after so many.
+/// Returns new files. The one named fails each call after the first `calls`.
 pub fn fused(alloc: Global, which: Which, calls: u64) -> Files<Stopping> {
     let (log_calls, db_calls) = match which {
         Which::Log => (calls, u64::MAX),
@@ -48,12 +48,12 @@ pub fn fused(alloc: Global, which: Which, calls: u64) -> Files<Stopping> {
     }
 }
 
-/// What is done over a connection. It is written over any store, since a function that names the store over files costs
-/// far more to prove.
+/// What is done with a connection. It works with any store, since a function that names the file store costs far more
+/// to prove.
 pub trait Run: Copy {
     type Answer: Copy;
 
-    /// What it answers, and what it leaves.
+    /// Returns its result, and what it leaves.
     fn over<S: Fold>(self, conn: Connection<S>) -> (Self::Answer, Rest<S>);
 }
 
@@ -61,11 +61,11 @@ pub trait Run: Copy {
 pub enum Rest<S: Fold> {
     Open(S),
     Folded(S::Left),
-    /// It was let go of.
+    /// It was dropped.
     Nothing,
 }
 
-/// What a run over these files answers, if they open, and the files that are left, with the log as it is.
+/// Returns the result of a run with these files, if they open, and the files left, with the log as it is.
 pub fn run_over<D: Disk + Drop, R: Run>(
     alloc: Global,
     files: Files<D>,
@@ -80,7 +80,7 @@ pub fn run_over<D: Disk + Drop, R: Run>(
     }
 }
 
-/// The answer alone.
+/// Returns the result alone.
 pub fn answer_over<D: Disk + Drop, R: Run>(
     alloc: Global,
     files: Files<D>,
@@ -90,7 +90,7 @@ pub fn answer_over<D: Disk + Drop, R: Run>(
     answer
 }
 
-/// A connection over these files, or the files.
+/// Opens a connection with these files. Returns the files if that fails.
 fn connect<D: Disk + Drop>(
     alloc: Global,
     files: Files<D>,
@@ -104,7 +104,7 @@ fn connect<D: Disk + Drop>(
     }
 }
 
-/// A store of little memory, which is filled each time that one is opened.
+/// Options for a store with little memory. It is filled whenever a store is opened.
 fn few_pages() -> Options {
     let mut options = Options::new(1);
     options.cache_pages = 50;
@@ -120,7 +120,7 @@ fn files_of<D: Disk + Drop>(rest: Rest<FileStore<D>>) -> Option<Files<D>> {
     }
 }
 
-/// What the next run finds of these files.
+/// Returns what the next run finds of these files.
 pub fn found(alloc: Global, mut files: Files<Stopping>, left: Left) -> Option<Files<Stopping>> {
     if matches!(left, Left::Synced | Left::LogSynced) {
         files.log.crash();
@@ -139,7 +139,7 @@ fn copies(alloc: Global, log: &Stopping, db: &Stopping) -> Option<Files<Stopping
     }
 }
 
-/// A file of the same bytes that doesn't stop.
+/// Returns a file with the same bytes that doesn't stop.
 pub fn copy(alloc: Global, file: &Stopping) -> Option<Stopping> {
     let mut memory = Memory::new(alloc);
     match memory.write_at(0, file.inner().bytes()) {
@@ -148,7 +148,7 @@ pub fn copy(alloc: Global, file: &Stopping) -> Option<Stopping> {
     }
 }
 
-/// Whether both tables are there; `None` where one is.
+/// Whether both tables exist. Returns `None` if only one does.
 pub fn has_both_or_none<S: Alter>(conn: &mut Connection<S>) -> Option<bool> {
     let has_mark = is_prepared(conn, "SELECT next FROM mark");
     let has_taken = is_prepared(conn, "SELECT lo FROM taken");
@@ -163,7 +163,7 @@ fn is_prepared<S: Alter>(conn: &mut Connection<S>, sql: &str) -> bool {
     conn.prepare(sql).is_ok()
 }
 
-/// Whether device 1 has these ranges, and the next number is this one. If it has them that number is reserved.
+/// Whether device 1 has these ranges, and the next number is `next`. If it has the ranges, that number is reserved.
 pub fn begins_with<S: Alter>(keeper: &mut Keeper<S>, ranges: &[(u32, u64)], next: u32) -> bool {
     has_taken(keeper, &ID, 1, ranges) && reserve(keeper, &ID, 1, 1) == Ok((next, 1))
 }

@@ -1,9 +1,9 @@
-//! Databases that are no ledger file, and some that are.
+//! Databases that aren't ledger files, and some that are.
 use crate::store::{Mark, PLAIN_MARK, PLAIN_TAKEN, TABLES, Taken, opening_after, opening_of};
 use reserve_core::ReserveFault;
 use reserve_core::ReserveFault::{BadStore, Store};
 
-/// Whether a database was opened as a ledger, or refused by this fault.
+/// Whether a database was opened as a ledger, or refused with this fault.
 fn is_opened(opening: Option<Result<(), ReserveFault>>, fault: Option<ReserveFault>) -> bool {
     match opening {
         Some(opening) => opening.err() == fault,
@@ -11,7 +11,7 @@ fn is_opened(opening: Option<Result<(), ReserveFault>>, fault: Option<ReserveFau
     }
 }
 
-/// Rows of `mark` and of `taken`, in the order in which they are put in, and the fault, where they are no ledger.
+/// Rows of `mark` and `taken` in the order of insertion, and the fault if they aren't a ledger.
 static ROWS: [(&str, &[Mark], &[Taken], Option<ReserveFault>); 12] = [
     (
         "a gap between ranges",
@@ -82,7 +82,7 @@ fn rows_are_a_ledger_where_ranges_are_adjacent_up_to_their_mark(rt: HostRuntime)
     }
 }
 
-/// Statements that make a database, and the fault, where it is no ledger.
+/// Statements that make a database, and the fault if it isn't a ledger.
 static STATEMENTS: [(&str, &[&str], Option<ReserveFault>); 13] = [
     (
         "a mark of a key id of 31 bytes",

@@ -1,5 +1,5 @@
-//! The log copied into the ledger file: that file alone then has the ranges. Where the disk stops on the way the two
-//! files have them.
+//! The log is copied into the ledger file, and that file alone then has the ranges. If the disk stops during this, the
+//! two files together have them.
 use crate::disk::{
     ALL_LEFT, Left, Rest, Run, Stopping, Which, answer_over, begins_with, copy, found, fused,
     lasting, run_over,
@@ -10,13 +10,13 @@ use sqlite::{Alter, Connection, Files};
 use sqlite_disk::Memory;
 use std::alloc::Global;
 
-/// A ledger in which device 1 has the numbers 0 to 2, which is then folded so many times, at most twice.
+/// A ledger in which device 1 has the numbers 0 to 2. It is then folded `times` times, at most twice.
 #[derive(Clone, Copy)]
 struct Folds {
     times: u32,
 }
 
-/// What the folds answered, and whether the ledger was folded in the end.
+/// The results of the folds, and whether the ledger was folded in the end.
 #[derive(Clone, Copy)]
 struct Folded {
     first: Option<Result<(), ReserveFault>>,
@@ -63,7 +63,7 @@ fn rest_of<S: Fold>(ledger: LedgerFile<S>) -> Rest<S> {
     }
 }
 
-/// Whether a keeper finds these ranges of device 1, and gives this number next.
+/// Whether a keeper finds these ranges of device 1, and reserves `next` as the next number.
 #[derive(Clone, Copy)]
 struct GoesOn<'a> {
     ranges: &'a [(u32, u64)],
@@ -87,7 +87,7 @@ fn gives_next<S: Alter + Drop>(
     Some(begins_with(&mut keeper, ranges, next))
 }
 
-/// The same of a keeper of these files.
+/// The same for a keeper of these files.
 fn goes_on(
     alloc: Global,
     files: Files<Stopping>,
@@ -97,7 +97,7 @@ fn goes_on(
     answer_over(alloc, files, GoesOn { ranges, next })?
 }
 
-/// The same of the database file beside an empty log.
+/// The same for the database file with an empty log.
 fn goes_on_alone(
     alloc: Global,
     files: &Files<Stopping>,
@@ -112,11 +112,11 @@ fn goes_on_alone(
 /// How a fold ended.
 #[derive(Clone, Copy)]
 enum End {
-    /// The disk stopped before.
+    /// The disk stopped before the fold.
     NotBegun,
     Stopped,
     Done,
-    /// Otherwise than the disk calls for.
+    /// The fold ended in a way that the disk doesn't explain.
     Other,
 }
 
@@ -131,7 +131,7 @@ fn end_of(folded: Option<Option<Folded>>) -> End {
     }
 }
 
-/// What a ledger whose disk fails each call after so many tells of so many folds, and its files.
+/// Folds a ledger `times` times; its disk fails each call after the first `calls`. Returns the results and the files.
 fn after_folds(
     alloc: Global,
     which: Which,
@@ -141,8 +141,8 @@ fn after_folds(
     run_over(alloc, fused(alloc, which, calls), Folds { times })
 }
 
-/// How one fold of a ledger ends whose disk fails each call after so many. `None` where it ends otherwise than
-/// the disk calls for, or the files don't go on at 3.
+/// How one fold ends for a ledger whose disk fails each call after the first `calls`. Returns `None` if the disk
+/// doesn't explain the end, or if the files don't go on at 3.
 fn fold_with(alloc: Global, which: Which, left: Left, calls: u64) -> Option<End> {
     let (folded, files) = after_folds(alloc, which, calls, 1);
     let end = end_of(folded);
@@ -153,7 +153,7 @@ fn fold_with(alloc: Global, which: Which, left: Left, calls: u64) -> Option<End>
     }
 }
 
-/// Whether these files go on at 3 where a fold was begun, and where it is done the database file alone too.
+/// Whether these files go on at 3 if a fold was begun. After a complete fold, the database file alone must too.
 fn go_on(alloc: Global, files: Option<Files<Stopping>>, left: Left, end: End) -> Option<bool> {
     match end {
         End::NotBegun => Some(true),
@@ -172,7 +172,7 @@ fn go_on_alone_too(alloc: Global, files: Files<Stopping>, left: Left) -> Option<
     Some(goes_on_left(alloc, files, left)? && is_alone?)
 }
 
-/// Folds with a disk that stops after 0 calls, 1 call and so on until a fold is done. It tells how many were stopped.
+/// Folds with a disk that stops after 0 calls, 1 call and so on, until a fold is done. Returns how many were stopped.
 fn stop_each_fold(alloc: Global, which: Which, left: Left) -> Option<u32> {
     let mut stopped = 0u32;
     for calls in 0..1_000u64 {
@@ -186,7 +186,7 @@ fn stop_each_fold(alloc: Global, which: Which, left: Left) -> Option<u32> {
     None
 }
 
-/// Whether some folds are stopped, whatever is left, and each keeps the ranges; and so does the one that is done, also
+/// Whether some folds are stopped, whatever is left, and each keeps the ranges. The completed one must also keep them
 /// without its log.
 fn folds_keep_ranges(alloc: Global, which: Which) -> bool {
     for left in &ALL_LEFT {
@@ -198,7 +198,7 @@ fn folds_keep_ranges(alloc: Global, which: Which) -> bool {
     true
 }
 
-/// Whether a ledger that isn't folded goes on with its log, and begins at 0 without.
+/// Whether a ledger that isn't folded goes on with its log, and begins at 0 without it.
 fn rests_on_its_log(alloc: Global) -> Option<bool> {
     match after_folds(alloc, Which::Log, u64::MAX, 0) {
         (Some(Some(folded)), Some(files)) => {
@@ -213,13 +213,13 @@ fn rest_on_log(alloc: Global, files: Files<Stopping>) -> Option<bool> {
     Some(goes_on_left(alloc, files, Left::Written)? && is_lost?)
 }
 
-/// What the fold is for.
+/// Shows what the fold is for.
 #[test]
 fn a_file_that_was_not_folded_lacks_them(rt: HostRuntime) {
     assert!(rt; rests_on_its_log(rt.alloc()) == Some(true));
 }
 
-/// Whether the second fold of a ledger is refused, behind one that is done.
+/// Whether the second fold of a ledger is refused after a successful first.
 fn is_second_refused(alloc: Global) -> Option<bool> {
     let (folded, _) = after_folds(alloc, Which::Log, u64::MAX, 2);
     let folded = folded??;

@@ -1,4 +1,4 @@
-//! Tests of the ledger file over databases in memory.
+//! Tests of the ledger file with databases in memory.
 #![tactic(auto)]
 
 #[cfg(test)]

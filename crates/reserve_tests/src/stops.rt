@@ -1,5 +1,5 @@
-//! Runs whose disk stops: from some call on one of the two files answers errors alone, so that each call is the first
-//! to fail once.
+//! Runs with a disk that stops: from some call on, one of the two files returns only errors. Each call is once the
+//! first to fail.
 use crate::disk::{
     ALL_LEFT, Left, Rest, Run, Stopping, Which, answer_over, begins_with, found, fused,
     has_both_or_none, run_over,
@@ -9,7 +9,7 @@ use reserve_core::{Fold, Keeper};
 use sqlite::{Alter, Connection, Files};
 use std::alloc::Global;
 
-/// How many numbers a run reserves, and where each of these ranges begins.
+/// How many numbers a run reserves, and (`BEGINS`) where each of these ranges begins.
 static COUNTS: [u32; 3] = [1, 3, 65_535];
 
 static BEGINS: [u32; 3] = [0, 1, 4];
@@ -17,11 +17,11 @@ static BEGINS: [u32; 3] = [0, 1, 4];
 /// The ranges that a run reserves.
 static RANGES: [(u32, u64); 3] = [(0, 1), (1, 3), (4, 65_535)];
 
-/// What a run told before its disk stopped.
+/// What a run reported before its disk stopped.
 #[derive(Clone, Copy)]
 struct Told {
     has_keeper: bool,
-    /// How many of the ranges it was given.
+    /// How many of the ranges it received.
     answered: usize,
 }
 
@@ -30,14 +30,14 @@ const NOTHING: Told = Told {
     answered: 0,
 };
 
-/// How many runs were stopped before they had a keeper, and how many in a reservation.
+/// How many runs were stopped before they had a keeper, and how many during a reservation.
 #[derive(Clone, Copy)]
 struct Count {
     opening: u32,
     reserving: u32,
 }
 
-/// How many ranges were given before the first refusal. `None` where a range was another.
+/// Returns how many ranges were reserved before the first refusal, or `None` if a range was wrong.
 fn reserve_each<S: Alter>(keeper: &mut Keeper<S>) -> Option<usize> {
     for at in 0..3usize {
         match reserve(keeper, &ID, 1, COUNTS[at]) {
@@ -49,7 +49,7 @@ fn reserve_each<S: Alter>(keeper: &mut Keeper<S>) -> Option<usize> {
     Some(3)
 }
 
-/// Reserves the ranges. `None` where one was another.
+/// Reserves the ranges. The result is `None` if one was wrong.
 #[derive(Clone, Copy)]
 struct Reserves;
 
@@ -74,7 +74,8 @@ impl Run for Reserves {
     }
 }
 
-/// Whether the files have what a run told, and at most one range more, with no table or both; and give the next number.
+/// Whether the files have what a run reported and at most one range more, and give the next number. They must have both
+/// tables or neither.
 #[derive(Clone, Copy)]
 struct Shows {
     told: Told,
@@ -94,7 +95,7 @@ fn shows_what_was_told<S: Alter + Drop>(mut conn: Connection<S>, told: Told) -> 
     Some(has_what_was_told(&mut keeper, has_tables, told))
 }
 
-/// Whether a keeper has the ranges that were answered, and at most the one more that was under way.
+/// Whether a keeper has the ranges that were reported, and at most the one being reserved.
 fn has_what_was_told<S: Alter>(keeper: &mut Keeper<S>, has_tables: bool, told: Told) -> bool {
     if told.has_keeper && !has_tables {
         return false;
@@ -112,7 +113,7 @@ fn has_what_was_told<S: Alter>(keeper: &mut Keeper<S>, has_tables: bool, told: T
     begins_with(keeper, &RANGES[..kept], next_after(kept))
 }
 
-/// The number behind so many of the ranges.
+/// The number after the first `ranges` ranges.
 fn next_after(ranges: usize) -> u32 {
     match ranges {
         0 => 0,
@@ -122,7 +123,8 @@ fn next_after(ranges: usize) -> u32 {
     }
 }
 
-/// What a run told whose disk stops after so many calls. `None` where what it leaves lacks a range, or has another.
+/// What a run reports if its disk stops after `calls` calls. Returns `None` if what it leaves lacks a range, or has a
+/// wrong one.
 fn told_before(alloc: Global, which: Which, left: Left, calls: u64) -> Option<Told> {
     let (told, files) = run_over(alloc, fused(alloc, which, calls), Reserves);
     match (told.unwrap_or(Some(NOTHING)), files) {
@@ -137,7 +139,7 @@ fn told_before(alloc: Global, which: Which, left: Left, calls: u64) -> Option<To
     }
 }
 
-/// Whether these files show to the next run what was told.
+/// Whether these files show the next run what was reported.
 fn is_shown(alloc: Global, files: Files<Stopping>, left: Left, told: Told) -> bool {
     match found(alloc, files, left) {
         Some(files) => answer_over(alloc, files, Shows { told }) == Some(Some(true)),
@@ -145,8 +147,8 @@ fn is_shown(alloc: Global, files: Files<Stopping>, left: Left, told: Told) -> bo
     }
 }
 
-/// Stops after 0 calls, 1 call and so on until a run is given all three ranges, and looks at what each leaves. It tells
-/// how many runs were stopped; `None` where a range is missing or another.
+/// Stops after 0 calls, 1 call and so on, until a run receives all three ranges, and checks what each leaves. Returns
+/// how many runs were stopped, or `None` if a range is missing or wrong.
 fn stop_each(alloc: Global, which: Which, left: Left) -> Option<Count> {
     let mut count = Count {
         opening: 0,
@@ -166,8 +168,8 @@ fn stop_each(alloc: Global, which: Which, left: Left) -> Option<Count> {
     None
 }
 
-/// Whether, whatever is left, some runs are stopped while they open the files, and some while they reserve just where
-/// `reserves` says so; and each leaves what was told.
+/// Whether, whatever is left, some runs are stopped while opening the files, and some while reserving exactly if
+/// `reserves`. Each must leave what it reported.
 fn leave_what_was_told(alloc: Global, which: Which, reserves: bool) -> bool {
     for left in &ALL_LEFT {
         match stop_each(alloc, which, *left) {
@@ -183,7 +185,7 @@ fn a_stop_of_the_log_leaves_what_was_told(rt: HostRuntime) {
     assert!(rt; leave_what_was_told(rt.alloc(), Which::Log, true));
 }
 
-/// A reservation doesn't touch the database file, so all stops come while it is opened.
+/// A reservation doesn't touch the database file, so all stops come while it is being opened.
 #[test]
 fn a_stop_of_the_database_leaves_what_was_told(rt: HostRuntime) {
     assert!(rt; leave_what_was_told(rt.alloc(), Which::Database, false));

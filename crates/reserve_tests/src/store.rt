@@ -4,13 +4,13 @@ use reserve_core::{Keeper, ReserveFault};
 use sqlite::{Alter, Connection, MemStore, params};
 use std::alloc::Global;
 
-/// The identity of the key 00 01 .. 1f: its SHA-256.
+/// The ID of the key 00 01 .. 1f: its SHA-256.
 pub static ID: [u8; 32] = [
     0x63, 0x0d, 0xcd, 0x29, 0x66, 0xc4, 0x33, 0x66, 0x91, 0x12, 0x54, 0x48, 0xbb, 0xb2, 0x5b, 0x4f,
     0xf4, 0x12, 0xa4, 0x9c, 0x73, 0x2d, 0xb2, 0xc8, 0xab, 0xc1, 0xb8, 0x58, 0x1b, 0xd7, 0x10, 0xdd,
 ];
 
-/// The two statements that make the tables, as the documents give them.
+/// The two statements that make the tables, as documented.
 pub const TABLES: &str = "CREATE TABLE mark (key_id BLOB NOT NULL, device INTEGER NOT NULL,
       next INTEGER NOT NULL, PRIMARY KEY (key_id, device),
       CHECK (next >= 0 AND next <= 4294967296));
@@ -23,14 +23,14 @@ static BOTH_TABLES: [&str; 1] = [TABLES];
 
 static TABLES_IN_A_TRANSACTION: [&str; 2] = [TABLES, "BEGIN"];
 
-/// Each of the two without its checks.
+/// The first statement without its checks, and (`PLAIN_TAKEN`) the second.
 pub const PLAIN_MARK: &str = "CREATE TABLE mark (key_id BLOB NOT NULL, device INTEGER NOT NULL,
       next INTEGER NOT NULL, PRIMARY KEY (key_id, device))";
 
 pub const PLAIN_TAKEN: &str = "CREATE TABLE taken (key_id BLOB NOT NULL, device INTEGER NOT NULL,
       lo INTEGER NOT NULL, size INTEGER NOT NULL, PRIMARY KEY (key_id, device, lo))";
 
-/// A database in memory after these statements.
+/// Returns a database in memory after these statements.
 pub fn database(alloc: Global, sql: &[&str]) -> Option<Connection<MemStore>> {
     let mut conn = Connection::open_in_memory(alloc).ok()?;
     if runs_all(&mut conn, sql) {
@@ -49,26 +49,26 @@ fn runs_all<S: Alter>(conn: &mut Connection<S>, sql: &[&str]) -> bool {
     true
 }
 
-/// A row of `mark`: device and next. Of `taken`: device, lo and size. Both are of the key id `ID`.
+/// A row of `mark`: device and next. A row of `taken`: device, lo and size. Both have the key ID `ID`.
 pub type Mark = (i64, i64);
 
 pub type Taken = (i64, i64, i64);
 
-/// Puts a row of `ID` into `mark`, and answers whether it is there.
+/// Inserts a row of `ID` into `mark`. Returns whether that worked.
 fn has_put_mark<S: Alter>(conn: &mut Connection<S>, device: i64, next: i64) -> bool {
     let row = params![ID.as_slice(), device, next];
     conn.execute("INSERT INTO mark VALUES (?1, ?2, ?3)", row)
         .is_ok()
 }
 
-/// The same of `taken`.
+/// The same for `taken`.
 fn has_put_taken<S: Alter>(conn: &mut Connection<S>, device: i64, lo: i64, size: i64) -> bool {
     let row = params![ID.as_slice(), device, lo, size];
     conn.execute("INSERT INTO taken VALUES (?1, ?2, ?3, ?4)", row)
         .is_ok()
 }
 
-/// Puts these rows in, in this order, and answers whether they are there.
+/// Inserts these rows in this order. Returns whether that worked.
 fn has_put_rows<S: Alter>(conn: &mut Connection<S>, marks: &[Mark], taken: &[Taken]) -> bool {
     for (device, next) in marks {
         if !has_put_mark(conn, *device, *next) {
@@ -83,7 +83,7 @@ fn has_put_rows<S: Alter>(conn: &mut Connection<S>, marks: &[Mark], taken: &[Tak
     true
 }
 
-/// A database in memory after these statements, with these rows.
+/// Returns a database in memory after these statements, with these rows.
 pub fn database_of(
     alloc: Global,
     sql: &[&str],
@@ -98,12 +98,12 @@ pub fn database_of(
     }
 }
 
-/// A database in memory with both tables and these rows.
+/// Returns a database in memory with both tables and these rows.
 pub fn ledger(alloc: Global, marks: &[Mark], taken: &[Taken]) -> Option<Connection<MemStore>> {
     database_of(alloc, &BOTH_TABLES, marks, taken)
 }
 
-/// A ledger in memory in which device 1 has so many ranges, each of one number.
+/// Returns a ledger in memory in which device 1 has `ranges` ranges of one number each.
 pub fn ledger_of_many(alloc: Global, ranges: u32) -> Option<Connection<MemStore>> {
     let mut conn = database(alloc, &TABLES_IN_A_TRANSACTION)?;
     if has_put_many(&mut conn, ranges) {
@@ -122,7 +122,7 @@ fn has_put_many<S: Alter>(conn: &mut Connection<S>, ranges: u32) -> bool {
     has_put_mark(conn, 1, i64::from(ranges)) && conn.execute_batch("COMMIT").is_ok()
 }
 
-/// A ledger in memory in which the devices from 0 have a range of one number each.
+/// Returns a ledger in memory in which each of the first `devices` devices, from 0, has a range of one number.
 pub fn ledger_of_devices(alloc: Global, devices: u32) -> Option<Connection<MemStore>> {
     let mut conn = database(alloc, &TABLES_IN_A_TRANSACTION)?;
     if has_put_devices(&mut conn, devices) {
@@ -142,7 +142,7 @@ fn has_put_devices<S: Alter>(conn: &mut Connection<S>, devices: u32) -> bool {
     conn.execute_batch("COMMIT").is_ok()
 }
 
-/// The keeper of a database, or why there is none.
+/// Returns the keeper of a database, or why there is none.
 pub fn keeper<S: Alter + Drop>(conn: Connection<S>) -> Result<Keeper<S>, ReserveFault> {
     match Keeper::open(conn) {
         Ok(keeper) => Ok(keeper),
@@ -150,7 +150,7 @@ pub fn keeper<S: Alter + Drop>(conn: Connection<S>) -> Result<Keeper<S>, Reserve
     }
 }
 
-/// Whether a ledger of these rows opens, and else why not. `None` where there is no such database.
+/// Opens a ledger with these rows. Returns the fault, if any, and `None` if there is no such database.
 pub fn opening_of(
     alloc: Global,
     marks: &[Mark],
@@ -159,7 +159,7 @@ pub fn opening_of(
     Some(opening(ledger(alloc, marks, taken)?))
 }
 
-/// The same of a database after these statements.
+/// The same for a database after these statements.
 pub fn opening_after(alloc: Global, sql: &[&str]) -> Option<Result<(), ReserveFault>> {
     Some(opening(database(alloc, sql)?))
 }
@@ -169,7 +169,7 @@ fn opening(conn: Connection<MemStore>) -> Result<(), ReserveFault> {
     Ok(())
 }
 
-/// The next range of a key id and device, or why there is none.
+/// Reserves the next range of a key ID and device. Returns its first number and size, or the fault.
 pub fn reserve<S: Alter>(
     keeper: &mut Keeper<S>,
     key_id: &[u8; 32],
@@ -183,7 +183,7 @@ pub fn reserve<S: Alter>(
     Ok((range.lo(), range.size()))
 }
 
-/// Whether these are the ranges of a key id and device.
+/// Whether these are the ranges of a key ID and device.
 pub fn has_taken<S: Alter>(
     keeper: &mut Keeper<S>,
     key_id: &[u8; 32],

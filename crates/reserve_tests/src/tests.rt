@@ -1,4 +1,4 @@
-//! Reservations, one after the other.
+//! Reservations in a row.
 use crate::store::{
     ID, Mark, PLAIN_MARK, TABLES, Taken, database, database_of, has_taken, keeper, ledger,
     ledger_of_devices, ledger_of_many, reserve,
@@ -12,25 +12,25 @@ use std::alloc::{AllocError, Global};
 
 static OTHER_ID: [u8; 32] = [7; 32];
 
-/// Whose numbers: those of the key id `ID` or `OTHER_ID`, and a device.
+/// Whose numbers: a device's, under the key ID `ID` or `OTHER_ID`.
 #[derive(Clone, Copy)]
 enum Whose {
     Own(u32),
     Other(u32),
 }
 
-/// A call of a keeper, and its answer.
+/// A call of a keeper, and its expected result.
 #[derive(Clone, Copy)]
 enum Step {
-    /// As many numbers as this range has are reserved, and they are this range.
+    /// Reserving as many numbers as this range has returns this range.
     Gives(Whose, (u32, u32)),
-    /// So many numbers are refused to device 1 of `ID`.
+    /// Reserving this many numbers for device 1 of `ID` fails.
     Refuses(u32, ReserveFault),
     /// These are the ranges.
     Has(Whose, &'static [(u32, u64)]),
 }
 
-/// Whether a keeper answers as told.
+/// Whether a keeper returns what the step expects.
 fn takes_step<S: Alter>(keeper: &mut Keeper<S>, step: &Step) -> bool {
     match step {
         Gives(Own(device), range) => reserve(keeper, &ID, *device, range.1) == Ok(*range),
@@ -41,7 +41,7 @@ fn takes_step<S: Alter>(keeper: &mut Keeper<S>, step: &Step) -> bool {
     }
 }
 
-/// How many of these steps a keeper takes, one after the other.
+/// How many of these steps a keeper passes, in order.
 fn taken_by<S: Alter>(keeper: &mut Keeper<S>, steps: &[Step]) -> usize {
     for (at, step) in steps.iter().enumerate() {
         if !takes_step(keeper, step) {
@@ -51,7 +51,7 @@ fn taken_by<S: Alter>(keeper: &mut Keeper<S>, steps: &[Step]) -> usize {
     steps.len()
 }
 
-/// How many of them the keeper of a database takes: none where it has no keeper.
+/// How many of them a database's keeper passes; 0 if it has no keeper.
 fn steps_taken<S: Alter + Drop>(conn: Option<Connection<S>>, steps: &[Step]) -> usize {
     match opened(conn) {
         Some(mut keeper) => taken_by(&mut keeper, steps),
@@ -63,7 +63,7 @@ fn opened<S: Alter + Drop>(conn: Option<Connection<S>>) -> Option<Keeper<S>> {
     keeper(conn?).ok()
 }
 
-/// The connection of a keeper that took these steps.
+/// The connection of a keeper that passed these steps.
 fn after<S: Alter + Drop>(conn: Option<Connection<S>>, steps: &[Step]) -> Option<Connection<S>> {
     let mut keeper = opened(conn)?;
     if taken_by(&mut keeper, steps) == steps.len() {
@@ -73,7 +73,7 @@ fn after<S: Alter + Drop>(conn: Option<Connection<S>>, steps: &[Step]) -> Option
     }
 }
 
-/// The statements and the rows of a database, and the steps that its keeper takes.
+/// The statements and rows of a database, and the steps that its keeper passes.
 static KEPT: [(&str, &[&str], &[Mark], &[Taken], &[Step]); 4] = [
     (
         "ranges of each device and key id are adjacent from 0, and a refusal changes nothing",
@@ -201,7 +201,7 @@ fn one_of_4000_devices_and_a_new_one(rt: HostRuntime) {
     assert!(rt; at == AMONG_DEVICES.len(), "step {at}");
 }
 
-/// How many rows the connection that a refusal hands back has in `taken`, and the refusal.
+/// The fault of a refused opening, and how many rows of `taken` the connection handed back has.
 fn handed_back<S: Alter + Drop>(conn: Option<Connection<S>>) -> Option<(ReserveFault, i64)> {
     match Keeper::open(conn?) {
         Ok(_) => None,

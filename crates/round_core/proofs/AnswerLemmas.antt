@@ -1,4 +1,4 @@
--- What a round's pieces answer together.
+-- What the pieces of a round give together.
 use Rattle.std.proofs.Common.{◌≡◌, ◌≢◌, ℕ, zero, suc, ◌+◌, ◌<◌, List, [], ◌∷◌, length, take, get_or, Option, Some}
 use Rattle.std.proofs.Common.{None, option_map, refl, ap, ◌∙◌, arith}
 use Rattle.std.proofs.Common.{◌≤◌, true, false, map, sym}
@@ -44,7 +44,7 @@ shown_at : (pieces : List Piece) (n : ℕ) (piece : Piece) → n < length pieces
     → get_or (map shown pieces) n None ≡ shown piece
 shown_at pieces n piece at is = get_or-map shown pieces n piece None at ∙ ap (λ p. shown p) (sym is)
 
--- the first place that doesn't check, of those that are taken
+-- the first place that doesn't check, among those that are taken
 pub first_shown : (pieces : List Piece) (count n : ℕ) (piece : Piece) → n < count → count ≤ length pieces
     → piece ≡ get_or pieces n piece
     → piece.checks ≡ false → first_refused (take n (map shown pieces)) ≡ None

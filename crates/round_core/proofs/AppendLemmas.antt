@@ -25,7 +25,7 @@ appended-more values n v before old new below is so_far more =
     ∙ append_assoc before (joined (take n values)) (joined (v ∷ []))
     ∙ ap (λ (l : List ℕ). before ++ l) (sym grown)
 
--- what holds at any rate holds at an error
+-- what holds in any case holds at an error
 pub at-error : {T E : Type 0} (r : Result T E) (P : Type 0) → P → OnErr r P
 at-error (Ok v) P p = tt
 at-error (Err e) P p = p

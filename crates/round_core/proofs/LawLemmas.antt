@@ -36,7 +36,7 @@ pub none_refused-sealing : (key header : List ℕ) (first : ℕ) (last : Bool) (
 unfolding values_of
 none_refused-sealing key header first last plain = none_refused-numbered key header first last (chunks (size_in header) plain)
 
--- an opening: one chunk, and what the rest answers
+-- an opening: one chunk, and the result for the rest
 named_next : (i : ℕ) (refused : Option ℕ) (bytes rest : List ℕ)
     → named i (unless_refused (option_map suc refused) (bytes ++ rest))
     ≡ joined_chunk (Forged i) (Some bytes) (named (i + 1) (unless_refused refused rest))

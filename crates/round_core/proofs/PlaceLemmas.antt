@@ -1,4 +1,4 @@
--- Pieces put on their places.
+-- Pieces put in their places.
 use Rattle.std.proofs.Common.{◌≡◌, ◌⊎◌, ℕ, zero, suc, ◌+◌, ◌<◌, ◌≤◌, cond, nat_eq, List, [], ◌∷◌, ◌++◌, length, map}
 use Rattle.std.proofs.Common.{take, drop, get_or, set, All, Option, None, refl, sym, ap, ◌∙◌, inl, inr, arith}
 use Rattle.std.proofs.Common.{length-append, length-set, get_or-set_same, get_or-set_other, ext_get_or, add-one}
@@ -33,7 +33,7 @@ last_below n xs before last made is views all =
     last_holds (λ p. p.number < n) (map made_view before) (made_view last)
     (rw (← views_last xs before last is, views) all)
 
--- once the last piece was put on its place, the others are to be put
+-- once the last piece was put in its place, the others are to be put
 placed_last : (before : List MadeView) (last : MadeView) (values : List (Option (List ℕ)))
     → placed (before ++ last ∷ []) values ≡ placed before (set values last.number last.value)
 placed_last [] last values = refl
@@ -72,7 +72,7 @@ bench_holds P (bench ∷ benches) zero d at all = front_holds P bench.made (all_
 bench_holds P (bench ∷ benches) (suc i) d at all =
     bench_holds P benches i d (omega arith) (back_holds P bench.made (all_made benches) all)
 
--- the pieces from a bench on are its own and those of the benches behind it
+-- the pieces from a bench on are its own and those of the benches after it
 pub made_from : (benches : List BenchView) (i : ℕ) (d : BenchView) → i < length benches
     → all_made (drop i benches) ≡ (get_or benches i d).made ++ all_made (drop (i + 1) benches)
 made_from benches i d at = rw (drop-cons benches i d at, add-one) refl
@@ -90,7 +90,7 @@ length_placed : (made : List MadeView) (values : List (Option (List ℕ))) → l
 length_placed [] values = refl
 length_placed (m ∷ rest) values = length-set (placed rest values) m.number m.value ∙ length_placed rest values
 
--- a value is the round's once its piece was put there, and stays so
+-- a value is the round's once its piece was put in its place, and stays so
 pub placed_right : (round : RoundView) (made : List MadeView) (values : List (Option (List ℕ))) (x : ℕ)
     → All (IsPiece round) made → length round.values ≤ length values
     → (0 < times x (map number_of made)) ⊎ (get_or values x None ≡ get_or round.values x None)

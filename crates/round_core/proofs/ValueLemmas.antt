@@ -49,7 +49,7 @@ length-parts_of Sealing size plain body some bytes = length-chunks size body ∙
 length-parts_of Opening size plain body some bytes = length-sealed_chunks size body plain some bytes
 length-parts_of Checking size plain body some bytes = length-sealed_chunks size body plain some bytes
 
--- the parts of a body that is cut by its header
+-- the parts of a body that is cut as its header says
 parts-cut : (task : Task) (header : List ℕ) (first : ℕ) (cut : CutView) (body : List ℕ) → IsCutBy task header first cut body
     → length (parts_of task (size_in header) body) ≡ chunk_count cut.size cut.plain
 parts-cut task header first cut body is =

@@ -1,4 +1,4 @@
--- What a round's pieces answer together.
+-- What the pieces of a round give together.
 use Rattle.std.specs.Prelude.{◌≡◌, ℕ, suc, ◌+◌, List, [], ◌∷◌, ◌++◌, Option, Some, None, option_map, Result, Ok, Err}
 use Rattle.container_core.specs.declared.fault.OpenFault.{OpenFault}
 use Rattle.container_core.specs.declared.fault.OpenFault.TheVariants.{Forged}
@@ -25,11 +25,11 @@ abbrev pub unless_refused : Option ℕ → List ℕ → Result (List ℕ) ℕ
 unless_refused None bytes = Ok bytes
 unless_refused (Some n) bytes = Err n
 
--- what one thread answers to a round: the values joined, or the least number that has none
+-- what one thread returns for a round: the values joined, or the least number that has none
 abbrev pub answer : List (Option (List ℕ)) → Result (List ℕ) ℕ
 answer values = unless_refused (first_refused values) (joined values)
 
--- the same as opening names a chunk that doesn't check, where the first has this number
+-- the same, with a chunk that doesn't check named as opening does; the first chunk has this number
 abbrev pub named : ℕ → Result (List ℕ) ℕ → Result (List ℕ) OpenFault
 named first (Ok plain) = Ok plain
 named first (Err n) = Err (Forged (first + n))

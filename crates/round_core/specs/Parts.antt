@@ -7,8 +7,8 @@ use Rattle.container_core.specs.Views.{CutView}
 use Rattle.round_core.specs.declared.round.Task.{Task}
 use Rattle.round_core.specs.declared.round.Task.TheVariants.{Sealing, Opening, Checking}
 
--- how many bytes the body of a round has, of so many plaintext bytes, in chunks of a size: it is the plaintext, or its
--- sealed chunks
+-- how many bytes the body of a round has, of `plain` plaintext bytes in chunks of `size`: the plaintext, or its sealed
+-- chunks
 abbrev pub body_bytes : Task → ℕ → ℕ → ℕ
 body_bytes Sealing size plain = plain
 body_bytes Opening size plain = body_length size plain
@@ -20,7 +20,7 @@ room_of Sealing size = size + TAG
 room_of Opening size = size
 room_of Checking size = 0
 
--- how many bytes a part has at most, and at least
+-- the most bytes of a part, and the least
 abbrev pub part_size : Task → ℕ → ℕ
 part_size Sealing size = size
 part_size Opening size = size + TAG
@@ -31,8 +31,8 @@ least_part Sealing = 0
 least_part Opening = TAG
 least_part Checking = TAG
 
--- a body is cut into the chunks that its header names, as so many plaintext bytes are, and each of its chunks has a
--- number of 32 bits
+-- a body is cut into the chunks of its header, as `cut.plain` plaintext bytes are, and the number of each chunk has 32
+-- bits
 pub record IsCutBy (task : Task) (header : List ℕ) (first : ℕ) (cut : CutView) (body : List ℕ) : Type 0 where
   pub size : cut.size ≡ size_in header
   pub bytes : length body ≡ body_bytes task cut.size cut.plain

@@ -1,4 +1,4 @@
--- Inside: what benches and places hold.
+-- Internal: what benches and places hold.
 use Rattle.std.specs.Prelude.{◌≡◌, ℕ, ◌+◌, ◌≤◌, List, [], ◌∷◌, ◌++◌, Option, Some, None, All, if◌then◌else◌}
 use Rattle.std.specs.Prelude.{slice_set, vec_len, vec_capacity}
 use Rattle.round_core.specs.declared.piece.Piece.{Piece}
@@ -7,14 +7,14 @@ use Rattle.round_core.specs.declared.bench.Bench.TheInside.{Inside as Bench}
 use Rattle.round_core.specs.declared.places.Places.TheInside.{Inside as Places}
 use Rattle.round_core.specs.Views.{MadeView, BenchView}
 
--- the bytes of a piece, where it checks
+-- the bytes of a piece, if it checks
 abbrev pub shown : Piece → Option (List ℕ)
 shown piece = if piece.checks then Some piece.bytes.items else None
 
 abbrev pub made_view : Made → MadeView
 made_view made = record { number = made.number; value = shown made.piece }
 
--- the buffer of a piece has room for so many bytes
+-- the buffer of a piece has room for `size` bytes
 abbrev pub HasRoom : ℕ → Piece → Type 0
 HasRoom size piece = size ≤ vec_capacity piece.bytes
 
@@ -31,12 +31,12 @@ pub record IsPlaces (places : Places) : Type 0 where
   pub room : All (HasRoom places.size) places.pieces.items
   pub count : places.count ≤ vec_len places.pieces
 
--- these pieces put on their places, the last of them first
+-- these pieces put in their places, the last of them first
 abbrev pub placed : List MadeView → List (Option (List ℕ)) → List (Option (List ℕ))
 placed [] values = values
 placed (made ∷ rest) values = slice_set (placed rest values) made.number made.value
 
--- a bench gave its last piece onto its place
+-- a bench put its last piece in its place
 pub record IsPutLast (old new : BenchView) (before after : List (Option (List ℕ))) : Type 0 where
   pub last : MadeView
   pub made : old.made ≡ new.made ++ last ∷ []

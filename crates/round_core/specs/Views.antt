@@ -2,28 +2,28 @@
 use Rattle.std.specs.Prelude.{ℕ, List, Option}
 use Rattle.round_core.specs.declared.round.Task.{Task}
 
--- a round is what is done to its chunks, their size, the number of the first of them, and what comes of each, in order:
--- None where a chunk doesn't check
+-- a round: what is done to its chunks, their size, the number of the first, and what comes of each, in order; None for
+-- a chunk that doesn't check
 pub record RoundView : Type 0 where
   pub task : Task
   pub size : ℕ
   pub first : ℕ
   pub values : List (Option (List ℕ))
 
--- a piece that was made: its number within its round, counted from 0, and what came of the chunk
+-- a piece that was made: its number within its round, from 0, and what came of the chunk
 pub record MadeView : Type 0 where
   pub number : ℕ
   pub value : Option (List ℕ)
 
--- the room of one worker: for how many bytes each of its buffers has room, how many buffers are spare, and the pieces
--- that were made in the others, in the order in which they were made
+-- the room of one worker: how many bytes each of its buffers can hold, how many buffers are spare, and the pieces made
+-- in the others, in the order of making
 pub record BenchView : Type 0 where
   pub size : ℕ
   pub spare : ℕ
   pub made : List MadeView
 
--- the places of a round's pieces: for how many bytes each has room, how many places there are, and what stands on those
--- that are taken, in order
+-- the places of a round's pieces: how many bytes each can hold, how many places there are, and the values in those that
+-- are taken, in order
 pub record PlacesView : Type 0 where
   pub size : ℕ
   pub room : ℕ

@@ -1,4 +1,4 @@
-//! The bytes of a round's pieces taken from their places, one behind the other: copied, or with their buffers.
+//! Appends the bytes of a round's pieces from their places, in order: copied, or moved with their buffers.
 ghost use Rattle.std.specs.Prelude.{◌≡◌, ◌+◌, ◌<◌, ◌≤◌, ◌++◌, ◌∷◌, [], length, map, take, All, OnOk, OnErr};
 ghost use Rattle.std.specs.Prelude.{vec_len, vec_capacity};
 ghost use Rattle.round_core.specs.Answer.{joined, AppendsSome};
@@ -10,8 +10,8 @@ use crate::places::Places;
 use std::alloc::{AllocError, Global};
 use std::mem;
 
-// Moves the bytes of a piece behind others, where it checks, and puts a fresh buffer, of so many bytes, in the place of
-// theirs.
+// Appends the bytes of a piece, if it checks, by moving its buffer. In the buffer's place it puts a new one with room
+// for `size` bytes.
 fn move_piece(
     alloc: Global,
     piece: &mut Piece,
@@ -31,7 +31,7 @@ fn move_piece(
     out.push(bytes)
 }
 
-// The same of so many pieces, in order.
+// The same for the first `count` pieces, in order.
 fn move_pieces(
     alloc: Global,
     pieces: &mut Vec<Piece>,
@@ -53,8 +53,8 @@ fn move_pieces(
 }
 
 impl Places {
-    /// Appends the bytes of the pieces on their places, in order: none for a piece that doesn't check. The list grows
-    /// where it has no room for them. `AllocError`, with some of them appended, where that was refused.
+    /// Appends the bytes of the pieces in their places, in order: none for a piece that doesn't check. `out` grows if
+    /// it has no room for them. `AllocError`, with a front of them appended, if that was refused.
     pub fn append_to(&self, out: &mut Vec<u8>) -> Result<(), AllocError>
         ensures items { OnOk result (out.new.items ≡ out.old.items ++ joined self.now.values) }
         ensures kept { OnErr result (AppendsSome out.old.items out.new.items self.now.values) }
@@ -69,9 +69,9 @@ impl Places {
         Ok(())
     }
 
-    /// Moves the bytes of the pieces from their places behind others, in order, and none of a piece that doesn't check.
-    /// No byte is copied: a place gets a fresh buffer, with room for as many bytes as before, and none is taken then.
-    /// `AllocError`, with some of them moved, where memory was refused.
+    /// Moves the bytes of the pieces from their places to the end of `out`, in order, and none of a piece that doesn't
+    /// check. No byte is copied: each place gets a new buffer with room for as many bytes as before. Afterwards no
+    /// place is taken. `AllocError`, with some of the bytes moved, if memory was refused.
     pub fn move_to(&mut self, alloc: Global, out: &mut Parts) -> Result<(), AllocError>
         ensures bytes { OnOk result (out.new ≡ out.old ++ joined self.old.values) }
         ensures kept { OnErr result (AppendsSome out.old out.new self.old.values) }
@@ -84,8 +84,8 @@ impl Places {
         Ok(())
     }
 
-    /// The same of a last round: no fresh buffers are made, and there are no places then. `AllocError`, with some of
-    /// the bytes moved, where memory for the list of buffers was refused.
+    /// The same for a last round: no new buffers are made, and no places are left. `AllocError`, with some of the bytes
+    /// moved, if memory for the list of buffers was refused.
     pub fn pour_to(&mut self, alloc: Global, out: &mut Parts) -> Result<(), AllocError>
         ensures bytes { OnOk result (out.new ≡ out.old ++ joined self.old.values) }
         ensures kept { OnErr result (AppendsSome out.old out.new self.old.values) }

@@ -1,7 +1,7 @@
 //! A bench: the room in which one worker makes pieces of rounds.
 //!
-//! Its buffers are made before the worker starts. A piece takes a spare one, and once the pieces were put on their
-//! places, as many buffers are spare as before: those that stood on the places. So no round takes memory.
+//! Its buffers are allocated before the worker starts. A piece takes a spare one. When the pieces are put in their
+//! places, the buffers from those places become spare, so as many are spare as before. So no round allocates memory.
 ghost use Rattle.std.specs.Prelude.{◌≡◌, ◌+◌, ◌<◌, ◌≤◌, ◌++◌, ◌∷◌, [], length, map, slice_set, All, IfOk};
 ghost use Rattle.std.specs.Prelude.{vec_len, vec_capacity};
 ghost use Rattle.std.specs.Bool.{OnTrue, OnFalse};
@@ -15,7 +15,7 @@ use crate::round::Round;
 use std::alloc::{AllocError, Global};
 use std::marker::Model;
 
-/// The room of one worker: buffers, each for so many bytes, and the pieces that it made. Contracts see how many buffers
+/// The room of one worker: buffers of `size` bytes each, and the pieces that it made. Contracts see how many buffers
 /// are spare, and the pieces.
 #[derive(Drop)]
 pub struct Bench {
@@ -41,7 +41,7 @@ impl Model for Bench {
     ghost invariant = { IsBench };
 }
 
-// So many empty buffers, each with room for so many bytes.
+// Returns `count` empty buffers, each with room for `size` bytes.
 fn buffers(alloc: Global, count: u32, size: usize) -> Result<Vec<Vec<u8>>, AllocError>
     ensures count { IfOk result (λ v. vec_len v ≡ count) }
     ensures room { IfOk result (λ v. count ≤ vec_capacity v) }
@@ -56,7 +56,8 @@ fn buffers(alloc: Global, count: u32, size: usize) -> Result<Vec<Vec<u8>>, Alloc
 }
 
 impl Bench {
-    /// A bench with so many spare buffers, each with room for `size` bytes. `AllocError` where memory was refused.
+    /// Returns a bench with `pieces` spare buffers, each with room for `size` bytes. `AllocError` if memory was
+    /// refused.
     pub fn new(alloc: Global, pieces: u32, size: usize) -> Result<Bench, AllocError>
         ensures size { IfOk result (λ b. b.size ≡ size) }
         ensures spare { IfOk result (λ b. b.spare ≡ pieces) }
@@ -67,7 +68,7 @@ impl Bench {
         Ok(Bench { size, spare, made })
     }
 
-    /// Makes the round's piece of this number, counted from 0 within the round, in a spare buffer. Takes no memory.
+    /// Makes the round's piece of this number, from 0 within the round, in a spare buffer. Allocates nothing.
     pub fn make(&mut self, round: &Round, number: u32)
         requires spare { 0 < self.old.spare }
         requires number { number < length round.now.values }
@@ -84,8 +85,8 @@ impl Bench {
         push_within(&mut self.made, Made { number, piece });
     }
 
-    // Puts the piece that was made last on its place, where there is one, and answers whether there was. The buffer
-    // that stood there is spare then.
+    // Puts the piece made last in its place, and returns true, or returns false if there is none. The buffer that was
+    // in the place is spare afterwards.
     fn put_last(&mut self, places: &mut Vec<Piece>) -> bool
         requires numbers { All (λ p. p.number < vec_len places.old) self.old.made }
         requires room { All (HasRoom self.old.size) places.old.items }
@@ -103,7 +104,7 @@ impl Bench {
         true
     }
 
-    // Puts all pieces on their places.
+    // Puts all pieces in their places.
     pub(crate) fn put_all(&mut self, places: &mut Vec<Piece>)
         requires numbers { All (λ p. p.number < vec_len places.old) self.old.made }
         requires room { All (HasRoom self.old.size) places.old.items }

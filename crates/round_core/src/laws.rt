@@ -1,4 +1,4 @@
-//! What follows of the definitions alone, each law the contract of a function that does nothing.
+//! What follows from the definitions alone. Each law is the contract of a function that does nothing.
 ghost use Rattle.std.specs.Prelude.{◌≡◌, ℕ, ◌+◌, ◌==◌, ◌&&◌, ◌<◌, Bool, List, [], length, slice_index_or};
 ghost use Rattle.std.specs.Prelude.{Option, None, Some};
 ghost use Rattle.container_core.specs.Chunks.{chunks, sealed_chunks};
@@ -10,8 +10,8 @@ ghost use Rattle.round_core.specs.declared.round.Task.TheVariants.{Sealing, Open
 ghost use Rattle.round_core.specs.Values.{parts_of, value_at, values_of};
 ghost use Rattle.round_core.specs.Answer.{joined, first_refused, answer, named};
 
-/// A round has a piece for each chunk, in order: the chunk sealed, opened or checked under its number, as the last of
-/// all where it is.
+/// A round has a piece for each chunk, in order: the chunk sealed, opened or checked under its number, and as the last
+/// of all if it is.
 pub fn pieces_by_number()
     ensures count { (task : Task) (key header : List ℕ) (first : ℕ) (last : Bool) (body : List ℕ)
         → length (values_of task key header first last body) ≡ length (parts_of task (size_in header) body) }
@@ -22,7 +22,7 @@ pub fn pieces_by_number()
         (slice_index_or (parts_of task (size_in header) body) n []) }
 {}
 
-/// Each piece of a sealing has bytes, and joined they are STREAM of the chunks.
+/// Each piece of a sealing has bytes. Joined, they are STREAM of the chunks.
 pub fn rounds_are_sealed()
     ensures all { (key header : List ℕ) (first : ℕ) (last : Bool) (plain : List ℕ)
         → first_refused (values_of Sealing key header first last plain) ≡ None }
@@ -31,7 +31,8 @@ pub fn rounds_are_sealed()
         ≡ stream_by key header first last (chunks (size_in header) plain) }
 {}
 
-/// The pieces of an opening are the plaintext of the sealed chunks, joined, or name the first chunk that doesn't check.
+/// The pieces of an opening, joined, are the plaintext of the sealed chunks, or name the first chunk that doesn't
+/// check.
 pub fn rounds_are_opened()
     ensures { (key header : List ℕ) (first : ℕ) (last : Bool) (body : List ℕ)
         → named first (answer (values_of Opening key header first last body))
@@ -45,7 +46,7 @@ pub fn rounds_are_checked()
         ≡ first_refused (values_of Opening key header first last body) }
 {}
 
-/// Where no piece is refused, each has bytes. The least piece that is refused has none, and each before it has.
+/// If no piece is refused, each has bytes. The least piece that is refused has none, and each before it has some.
 pub fn refused_pieces()
     ensures none { (values : List (Option (List ℕ))) (n : ℕ) → first_refused values ≡ None → n < length values
         → (bytes : List ℕ) × (slice_index_or values n None ≡ Some bytes) }

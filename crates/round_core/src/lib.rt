@@ -1,8 +1,9 @@
-//! Rounds: some chunks one behind the other, sealed, opened or checked piece by piece, and the pieces put on their
-//! places. No thread is started here, and nothing waits.
+//! Rounds: consecutive chunks, sealed, opened or checked piece by piece, and the pieces put in their places. No thread
+//! is started here, and nothing waits.
 //!
 //! A `Round` makes each of its pieces by its number. A `Bench` is the room in which one worker makes pieces, in any
-//! order, and `Places` takes the pieces of all benches, each onto its place. So it makes no difference to what stands
+//! order. `Places` takes the pieces of all benches, each into its place. So the result doesn't depend on who made which
+//! piece, or when.
 //! there who made which piece, or when.
 #![tactic(auto)]
 

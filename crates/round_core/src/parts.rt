@@ -1,10 +1,10 @@
-//! Bytes in several buffers, one behind the other, as the pieces of rounds leave them.
+//! Bytes in several buffers, in order, as the pieces of rounds leave them.
 ghost use Rattle.std.specs.Prelude.{◌≡◌, ◌++◌, [], flat_map, OnOk, OnErr};
 
 use std::alloc::{AllocError, Global};
 use std::marker::Model;
 
-/// Bytes that stand in several buffers, one behind the other. Contracts see them as one list.
+/// Bytes in several buffers, in order. Contracts see them as one list.
 #[derive(Drop)]
 pub struct Parts {
     buffers: Vec<Vec<u8>>,
@@ -19,7 +19,7 @@ impl Model for Parts {
 }
 
 impl Parts {
-    /// No bytes. Takes no memory.
+    /// Returns a list of no bytes. Allocates nothing.
     pub fn new(alloc: Global) -> Parts
         ensures { result ≡ [] }
     {
@@ -28,7 +28,7 @@ impl Parts {
         }
     }
 
-    /// Adds a buffer behind the others; its bytes aren't copied. `AllocError`, with nothing added, where memory for its
+    /// Adds a buffer after the others; its bytes aren't copied. `AllocError`, with nothing added, if memory for its
     /// place was refused.
     pub fn push(&mut self, buffer: Vec<u8>) -> Result<(), AllocError>
         ensures added { OnOk result (self.new ≡ self.old ++ buffer.items) }
@@ -40,7 +40,7 @@ impl Parts {
         }
     }
 
-    /// The buffers, in order.
+    /// Returns the buffers, in order.
     pub fn buffers(&self) -> &[Vec<u8>]
         ensures { flat_map (λ b. b.items) result.now ≡ self.now }
     {

@@ -1,4 +1,4 @@
-//! A piece of a round: what came of one chunk, in a buffer that was made before.
+//! A piece of a round: what came of one chunk, in a buffer that was allocated before.
 ghost use Rattle.std.specs.Prelude.{◌≡◌, ◌+◌, ◌<◌, ◌≤◌, ◌++◌, ◌∷◌, [], slice_index_or, slice_set, vec_len};
 ghost use Rattle.std.specs.Prelude.{vec_capacity};
 
@@ -18,7 +18,7 @@ pub(crate) struct Made {
     pub(crate) piece: Piece,
 }
 
-// Pushes a value where there is room for it.
+// Pushes a value within the capacity.
 pub(crate) fn push_within<T: Drop>(list: &mut Vec<T>, value: T)
     requires { vec_len list.old < vec_capacity list.old }
     ensures items { list.new.items ≡ list.old.items ++ value ∷ [] }
@@ -31,7 +31,7 @@ pub(crate) fn push_within<T: Drop>(list: &mut Vec<T>, value: T)
     }
 }
 
-// Puts a piece on its place, and answers the buffer that stood there, empty. No byte is copied.
+// Puts a piece in its place, and returns the buffer that was there, emptied. No byte is copied.
 pub(crate) fn exchange(places: &mut Vec<Piece>, made: Made) -> Vec<u8>
     requires { made.number < vec_len places.old }
     ensures put { places.new.items ≡ slice_set places.old.items made.number made.piece }

@@ -1,7 +1,7 @@
 //! The places of a round's pieces, in the order of their numbers.
 //!
-//! The places are made once, and serve one round after another: the pieces of all benches are taken by exchanging
-//! buffers, so no byte is copied and no memory taken.
+//! The places are made once, and serve one round after another. The pieces of all benches are taken by exchanging
+//! buffers, so no byte is copied and no memory allocated.
 ghost use Rattle.std.specs.Prelude.{◌≡◌, ◌≤◌, ◌<◌, [], length, map, All, IfOk, None, option_map, slice_index_or};
 ghost use Rattle.std.specs.Prelude.{vec_len};
 ghost use Rattle.round_core.specs.Pieces.{IsPiece, Covers, all_made, emptied};
@@ -14,8 +14,8 @@ use crate::round::Round;
 use std::alloc::{AllocError, Global};
 use std::marker::Model;
 
-/// A place for each piece of a round. Contracts see what stands on those that are taken, in order: the bytes of a
-/// piece, or none where it doesn't check.
+/// A place for each piece of a round. Contracts see the values in the places that are taken, in order: the bytes of a
+/// piece, or `None` if it doesn't check.
 #[derive(Drop)]
 pub struct Places {
     pub(crate) size: usize,
@@ -40,7 +40,7 @@ impl Model for Places {
     ghost invariant = { IsPlaces };
 }
 
-// So many empty places, each with room for so many bytes.
+// Returns `count` empty places, each with room for `size` bytes.
 fn empty_places(alloc: Global, count: u32, size: usize) -> Result<Vec<Piece>, AllocError>
     ensures count { IfOk result (λ v. vec_len v ≡ count) }
     ensures room { IfOk result (λ v. All (HasRoom size) v.items) }
@@ -57,8 +57,8 @@ fn empty_places(alloc: Global, count: u32, size: usize) -> Result<Vec<Piece>, Al
 }
 
 impl Places {
-    /// Places for the pieces of a round of at most so many, each with room for `size` bytes. `AllocError` where memory
-    /// was refused.
+    /// Returns places for the rounds of at most `pieces` pieces, each with room for `size` bytes. `AllocError` if
+    /// memory was refused.
     pub fn new(alloc: Global, pieces: u32, size: usize) -> Result<Places, AllocError>
         ensures size { IfOk result (λ p. p.size ≡ size) }
         ensures room { IfOk result (λ p. p.room ≡ pieces) }
@@ -72,8 +72,8 @@ impl Places {
         })
     }
 
-    /// Takes the pieces of all benches, each onto its place, where every piece of the round stands on one of them. The
-    /// buffers that stood on the places are spare ones of the benches then. Takes no memory.
+    /// Takes the pieces of all benches, each into its place; every piece of the round must be on one of them. The
+    /// buffers that were in the places become spare ones of the benches. Allocates nothing.
     pub fn take(&mut self, round: &Round, benches: &mut [Bench])
         requires room { length round.now.values ≤ self.old.room }
         requires sizes { All (λ b. b.size ≡ self.old.size) benches.old }
@@ -90,14 +90,14 @@ impl Places {
         }
     }
 
-    /// How many places are taken: one for each piece of the round that was taken last.
+    /// Returns how many places are taken: one for each piece of the round that was taken last.
     pub fn count(&self) -> u32
         ensures { result ≡ length self.now.values }
     {
         self.count
     }
 
-    /// The bytes of the piece of this number; `None` where it doesn't check.
+    /// Returns the bytes of the piece of this number; `None` if it doesn't check.
     pub fn piece(&self, number: u32) -> Option<&[u8]>
         requires { number < length self.now.values }
         ensures { option_map (λ b. b.now) result ≡ slice_index_or self.now.values number None }
@@ -110,7 +110,7 @@ impl Places {
         }
     }
 
-    /// The least number whose piece doesn't check.
+    /// Returns the least number whose piece doesn't check.
     pub fn first_refused(&self) -> Option<u32>
         ensures { result ≡ first_refused self.now.values }
     {

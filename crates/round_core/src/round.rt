@@ -1,7 +1,7 @@
-//! A round: some chunks one behind the other, numbered from `first` on, each of which is sealed, opened or checked by
-//! its number, in any order.
+//! A round: consecutive chunks, numbered from `first`. Each is sealed, opened or checked by its number, in any order.
 //!
-//! The nonce of a chunk encodes its number and whether it is the last of all. The last chunk of a round is that where
+//! The nonce of a chunk encodes its number and whether it is the last of all. The last chunk of a round is the last of
+//! all if the round's flag says so; no other chunk of a round is. Nothing here allocates memory.
 //! the round's flag says so, and no other chunk of a round is. Nothing here takes memory.
 ghost use Rattle.std.specs.Prelude.{◌≡◌, ◌+◌, ◌^◌, ◌==◌, ◌&&◌, ◌<◌, ◌≤◌, [], length, slice_index_or, None, Some};
 ghost use Rattle.std.specs.Prelude.{vec_capacity};
@@ -21,12 +21,12 @@ pub enum Task {
     Sealing,
     /// It is opened.
     Opening,
-    /// It is opened, and its plaintext isn't kept: only whether it checks.
+    /// It is opened and its plaintext dropped: only whether it checks is kept.
     Checking,
 }
 
 impl Task {
-    /// Bytes of room that a piece needs, of a chunk of at most so many bytes (2^20 at most).
+    /// Returns the bytes of room that a piece needs, for chunks of at most `size` bytes (2^20 at most).
     pub fn room(self, size: usize) -> usize
         requires { size ≤ most_chunk }
         ensures { result ≡ room_of self size }
@@ -39,7 +39,7 @@ impl Task {
     }
 }
 
-/// Some chunks to be sealed, opened or checked under a key and a header. Contracts see what comes of each of them.
+/// Chunks to be sealed, opened or checked under a key and a header. Contracts see what comes of each of them.
 #[derive(Drop)]
 pub struct Round<'a> {
     task: Task,
@@ -69,7 +69,7 @@ impl<'a> Model for Round<'a> {
     ghost invariant = { λ r. IsCutBy r.task r.header.now r.first r.cut r.body.now };
 }
 
-// The part of a body that the piece of this number is made of.
+// The part of a body from which the piece of this number is made.
 fn part_at(task: Task, cut: Cut, body: &[u8], number: u32) -> &[u8]
     requires number { number < chunk_count cut.size cut.plain }
     requires body { length body.now ≡ body_bytes task cut.size cut.plain }
@@ -83,7 +83,7 @@ fn part_at(task: Task, cut: Cut, body: &[u8], number: u32) -> &[u8]
     }
 }
 
-// Whether the chunk of this number, of so many, is the last of all.
+// Whether the chunk of this number, of `count` chunks, is the last of all.
 fn is_last(number: u32, count: u32, last: bool) -> bool
     requires { number < count }
     ensures { result ≡ ((number + 1 == count) && last) }
@@ -91,7 +91,7 @@ fn is_last(number: u32, count: u32, last: bool) -> bool
     number + 1 == count && last
 }
 
-// Makes what comes of one part, and answers whether anything does.
+// Makes what comes of one part in `out`, and returns whether it checks.
 fn make_value(
     task: Task,
     key: &Key,
@@ -121,9 +121,9 @@ fn make_value(
 }
 
 impl<'a> Round<'a> {
-    /// The round of a body: of a plaintext whose chunks are sealed, or of sealed chunks that are opened or checked.
-    /// `first` is the number of its first chunk, `last` says whether its last chunk is the last of all, and `cut` is
-    /// the cut of so many plaintext bytes as it has into the header's chunks.
+    /// Returns the round of a body: a plaintext, whose chunks are sealed, or sealed chunks, which are opened or
+    /// checked. `first` is the number of its first chunk, and `last` whether its last chunk is the last of all. `cut`
+    /// cuts as many plaintext bytes as the body has into chunks of the header's size.
     pub fn new(
         task: Task,
         key: &'a Key,
@@ -149,14 +149,14 @@ impl<'a> Round<'a> {
         }
     }
 
-    /// What is done to each chunk.
+    /// Returns what is done to each chunk.
     pub fn task(&self) -> Task
         ensures { result ≡ self.now.task }
     {
         self.task
     }
 
-    /// Plaintext bytes of each chunk but the last of all.
+    /// Returns the plaintext bytes of each chunk but the last of all.
     pub fn size(&self) -> usize
         ensures value { result ≡ self.now.size }
         ensures most { result ≤ most_chunk }
@@ -164,14 +164,14 @@ impl<'a> Round<'a> {
         self.header.chunk()
     }
 
-    /// The number of its first chunk.
+    /// Returns the number of its first chunk.
     pub fn first(&self) -> u32
         ensures { result ≡ self.now.first }
     {
         self.first
     }
 
-    /// The number of the chunk of which the piece of this number, counted from 0 within the round, is made.
+    /// Returns the chunk number for the piece of this number, from 0 within the round.
     pub fn chunk(&self, number: u32) -> u32
         requires { number < length self.now.values }
         ensures { result ≡ self.now.first + number }
@@ -179,7 +179,7 @@ impl<'a> Round<'a> {
         self.first + number
     }
 
-    /// How many pieces there are: one for each chunk, and at least one.
+    /// Returns how many pieces there are: one for each chunk, and at least one.
     pub fn count(&self) -> u32
         ensures count { result ≡ length self.now.values }
         ensures some { 0 < result }
@@ -188,9 +188,9 @@ impl<'a> Round<'a> {
         self.cut.count()
     }
 
-    /// Makes the piece of this number, counted from 0 within the round, in room that the caller made for it: its chunk
-    /// sealed, with its tag behind it, or opened, or nothing where it is only checked. Answers whether the chunk
-    /// checks, which each does that is sealed; nothing is written where it doesn't. Takes no memory.
+    /// Makes the piece of this number, from 0 within the round, in a buffer with room for it. The piece is its chunk
+    /// sealed, with the tag after it; or opened; or nothing if it is only checked. Returns whether the chunk checks,
+    /// which is always true in sealing; if not, nothing is written. Allocates nothing.
     pub fn make(&self, number: u32, out: &mut Vec<u8>) -> bool
         requires number { number < length self.now.values }
         requires empty { out.old.items ≡ [] }

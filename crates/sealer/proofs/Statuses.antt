@@ -1,4 +1,4 @@
--- The status of a run is that of its lines, where all of them were written.
+-- The status of a run is that of its lines, if all of them were written.
 use Rattle.std.proofs.Common.{◌≡◌, inl, inr, ⊎_elim, ℕ, Bool, true, false, if◌then◌else◌, List, [], Option, codes, map, refl, sym, subst}
 use Rattle.std.proofs.KnownBytes.{Appends-trans}
 use Rattle.std.proofs.lemmas.Bool.{cases_eq}
@@ -10,7 +10,7 @@ use Rattle.system_files.specs.Kept.{IsSplit, kept_text}
 use Rattle.command_line.specs.Given.{IsFlag}
 use Rattle.sealer.specs.Status.{IsStatusOf, IsStatusOver}
 
--- lines that were told
+-- lines that were reported
 pub of_lines : (status : ℕ) (lines : List FileLine) (old new : Option (List ℕ)) (failures failures' : Option ℕ)
     → AreTold status lines old new failures failures' → IsStatusOf status (map (λ line. line.name) lines) old new
 of_lines status lines old new _ _ told = ⊎_elim (λ two. inl two)
@@ -45,7 +45,7 @@ with_kept matches skip status names kept others old mid new flag split none firs
       Appends-trans old mid new (kept_text kept) (lines_text some.0) first some.3,
     )) of
 
--- the same of what is the same
+-- the same for equal arguments
 pub moved : (status : ℕ) (names names' : List (List ℕ)) (old old' new new' : Option (List ℕ)) → names ≡ names' → old ≡ old'
     → new ≡ new' → IsStatusOf status names old new → IsStatusOf status names' old' new'
 moved status names names' old old' new new' n o e of =

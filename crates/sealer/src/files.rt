@@ -12,7 +12,7 @@ use std::io::{ErrorKind, Read, Write};
 use std::rt::{Clock, Files};
 use system_files::{Progress, Told, open_unbuffered};
 
-/// The key in the file of this path.
+/// Reads the key from the file at this path.
 pub(crate) fn key_of<R: Files + AllocGlobal>(rt: &R, path: &str) -> Result<Key, KeyFault> {
     match open_unbuffered(rt, path) {
         Ok(file) => read_key(&mut FromRead(file)),
@@ -27,7 +27,7 @@ pub(crate) struct List {
     separator: char,
 }
 
-/// Reads the list of names, where one is asked for. `-` is the input.
+/// Reads the list of names, if one is given. `-` means standard input.
 pub(crate) fn read_list<R: Files + AllocGlobal, I: Read + Drop>(
     rt: &R,
     matches: &ArgMatches<'_>,
@@ -49,7 +49,7 @@ pub(crate) fn read_list<R: Files + AllocGlobal, I: Read + Drop>(
     Ok(Some(List { text, separator }))
 }
 
-// All that an input has.
+// Reads an input to its end.
 fn read_whole<I: Read + Drop>(alloc: Global, input: I) -> Result<Vec<u8>, UsageFault> {
     let mut input = input;
     let mut text = Vec::new(alloc);
@@ -60,7 +60,7 @@ fn read_whole<I: Read + Drop>(alloc: Global, input: I) -> Result<Vec<u8>, UsageF
     }
 }
 
-/// The names of the command line, and then those of the list.
+/// Returns the names of the command line, then those of the list.
 pub(crate) fn names_of<'n>(
     alloc: Global,
     matches: &'n ArgMatches<'_>,
@@ -75,7 +75,7 @@ pub(crate) fn names_of<'n>(
     }
 }
 
-/// Where a run over files prints: the line of its progress is taken away before each other line.
+/// Where a run over files prints. The progress line is cleared before each other line.
 pub(crate) fn outs_of<'p, 'r, R: Files + Clock + Eprint, O: Write + Drop, E: Write + Drop>(
     streams: Streams<O, E>,
     progress: Option<&'p Progress<'r, R>>,
@@ -98,7 +98,7 @@ pub(crate) fn outs_of<'p, 'r, R: Files + Clock + Eprint, O: Write + Drop, E: Wri
     }
 }
 
-/// The streams of what a run over files told on.
+/// Returns the streams on which a run over files printed.
 pub(crate) fn streams_of<R: Files + Clock + Eprint, O: Write + Drop, E: Write + Drop>(
     out: Outs<ToWrite<Told<'_, '_, R, O>>, ToWrite<Told<'_, '_, R, E>>, ToWrite<R::File>>,
     terminals: Terminals,
@@ -113,15 +113,15 @@ pub(crate) fn streams_of<R: Files + Clock + Eprint, O: Write + Drop, E: Write + 
     }
 }
 
-/// Takes away what was told of how far the run is.
+/// Clears the progress line, if there is one.
 pub(crate) fn clear<R: Clock + Eprint>(progress: Option<&Progress<'_, R>>) {
     if let Some(progress) = progress {
         let _ = progress.clear();
     }
 }
 
-/// What shows on standard error how far a run over these files is, where that is asked for. `terminal` says whether
-/// standard error is one.
+/// Returns the progress line of a run over these files, if one is asked for. `terminal` says whether standard error is
+/// one.
 pub(crate) fn progress_of<'r, R: Files + Clock + Eprint>(
     rt: &'r R,
     matches: &ArgMatches<'_>,

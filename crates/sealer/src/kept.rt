@@ -1,4 +1,4 @@
-//! Which FILEs a run works: all, or with `--skip-existing` those of which what it makes doesn't exist yet.
+//! Which FILEs a run processes: all, or with `--skip-existing` those whose output doesn't exist yet.
 ghost use Rattle.std.specs.Prelude.{◌≡◌, ℕ, IfErr, IfOk, List, [], false, map};
 ghost use Rattle.io_core.specs.Streams.{Appends};
 ghost use Rattle.system_files.specs.Kept.{IsSplit, kept_text};
@@ -9,9 +9,9 @@ use ledger_core::Sink;
 use std::rt::Files;
 use system_files::{Makes, are_apart, print_kept, split_names};
 
-/// The FILEs that a run works: of these names all, or with `skip` those of which what it makes doesn't exist yet. A line
-/// is printed for each of the others. A fault is printed, and its status answered: where outputs go into one folder, no two of the FILEs may
-/// have one last name.
+/// Returns the FILEs that a run processes: all of these names, or with `skip` those whose output doesn't exist yet. It
+/// prints a line for each of the others. If outputs go into one folder, no two of the FILEs may have the same base
+/// name. A fault is printed, and the error is its status.
 pub(crate) fn worked_of<'n, R: Files + AllocGlobal + Eprint, W: Sink>(
     rt: &R,
     makes: Makes,

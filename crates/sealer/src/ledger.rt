@@ -9,7 +9,7 @@ use std::rt::Files;
 use system_ledger::{Holding, read_holdings};
 use thiserror::Error;
 
-/// Why what a ledger file holds wasn't told whole.
+/// Why the contents of a ledger file weren't printed whole.
 #[derive(Clone, Copy, PartialEq, Eq, Debug, Error)]
 enum TellFault {
     /// Memory was refused.
@@ -20,7 +20,7 @@ enum TellFault {
     WriteFailed,
 }
 
-/// Tells what a ledger file holds: a line for each key and device. It changes no byte.
+/// Prints a line for each key and device of a ledger file. It changes no byte.
 pub(crate) fn tell_ledger<R: Files + AllocGlobal + Eprint, O: Write + Drop, E: Write + Drop>(
     rt: &R,
     matches: &ArgMatches<'_>,

@@ -103,7 +103,7 @@ fn words_of<R: Env + AllocGlobal + Eprint + Threads>(rt: &R) -> Option<Vec<Strin
     words
 }
 
-/// The words with their numbers in digits, unless memory is refused.
+/// The words with their numbers in digits. `None` if memory is refused.
 fn in_digits<R: AllocGlobal + Threads>(rt: &R, words: Vec<String>) -> Option<Vec<String>> {
     let mut words = words;
     let processors = processors_for(rt, words.as_slice());
@@ -113,7 +113,7 @@ fn in_digits<R: AllocGlobal + Threads>(rt: &R, words: Vec<String>) -> Option<Vec
     }
 }
 
-/// How many processors this run may use: it is looked up only where a word asks for it.
+/// How many processors this run may use. It is looked up only if a word asks for it.
 fn processors_for<R: Threads>(rt: &R, words: &[String]) -> usize {
     if !asks_for_processors(words) {
         return 1;
@@ -128,8 +128,8 @@ fn parse<'a>(alloc: Global, words: &'a [String]) -> Result<ArgMatches<'a>, Error
     command(alloc)?.try_get_matches_from(words)
 }
 
-/// Prints what the command line's parser says. The status is 0 for a request for help, 2 for a fault of usage, or where
-/// the text could not be printed.
+/// Prints the message of the command line's parser. The status is 0 for a request for help. It is 2 for a fault of
+/// usage, or if the text couldn't be printed.
 fn told<R: Print + Eprint>(rt: &R, error: &Error) -> u8 {
     if error.print(rt).is_err() {
         return FAULT;
@@ -137,7 +137,7 @@ fn told<R: Print + Eprint>(rt: &R, error: &Error) -> u8 {
     if error.exit_code() == 0 { 0 } else { FAULT }
 }
 
-/// Prints what of the run is at fault, and why, on standard error. The answer is the status.
+/// Prints on standard error what is at fault, and why. Returns the status.
 pub(crate) fn complain<R: Eprint, F: Display + Drop>(rt: &R, subject: &str, fault: F) -> u8
     ensures status { result ≡ FAULT }
 {
@@ -145,8 +145,8 @@ pub(crate) fn complain<R: Eprint, F: Display + Drop>(rt: &R, subject: &str, faul
     FAULT
 }
 
-/// Runs the command that was asked for. `host` is the runtime too: a ledger file is opened by it alone. The answer is the
-/// status, with the streams.
+/// Runs the command that was asked for. `host` is the runtime too, and only it opens ledger files. Returns the status,
+/// with the streams.
 fn run<
     R: Files + AllocGlobal + Clock + Eprint + Threads + Wait + Sync,
     I: Read + Drop,
@@ -188,7 +188,7 @@ fn run<
     }
 }
 
-/// Seals, opens or verifies the files of the command line, and then those of its list.
+/// Seals, opens or verifies the files of the command line, then those of its list.
 fn over_files<
     R: Files + AllocGlobal + Clock + Eprint + Threads + Wait + Sync,
     I: Read + Drop,
@@ -218,7 +218,7 @@ fn over_files<
     }
 }
 
-/// Audits an input. A fault is printed on standard error, with status 2. The answer is the status, with the streams.
+/// Audits an input. A fault is printed on standard error, with status 2. Returns the status, with the streams.
 fn audit_input<R: AllocGlobal + Eprint, I: Read + Drop, O: Write + Drop, E: Write + Drop>(
     rt: &R,
     input: I,

@@ -22,11 +22,11 @@ use system_files::{Makes, SystemFiles};
 pub(crate) enum Reading {
     /// It is written.
     Open,
-    /// Nothing: they are checked.
+    /// Nothing: the containers are only checked.
     Verify,
 }
 
-/// Opens or verifies the files of these names. The answer is the status, with the streams.
+/// Opens or verifies the files of these names. Returns the status, with the streams.
 pub(crate) fn open<
     R: Files + AllocGlobal + Clock + Eprint + Threads + Sync,
     O: Write + Drop,
@@ -139,7 +139,7 @@ fn verify_files<
     verify_all(rt, rt.alloc(), key, folder, &options_of(request), out)
 }
 
-// What is asked of the files.
+// The options of this request.
 fn options_of<'q>(request: &'q OpenRequest<'_, '_>) -> OpenOptions<'q>
     ensures files { result.files.now ≡ request.now.files.now }
     ensures workers { result.workers ≡ request.now.workers }

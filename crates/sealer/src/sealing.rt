@@ -34,8 +34,8 @@ use std::thread::Threads;
 use system_files::{Makes, OwnPaths, StandardInput, SystemFiles, new_journal};
 use system_ledger::{LedgerFault, LedgerPath, close_ledger, may_open, open_ledger};
 
-/// What a run that seals begins with, in this order: the key file is read, the journal is created, and it is looked
-/// whether the ledger file may be opened. A fault is printed, and its status answered.
+/// Begins a run that seals: reads the key file, creates the journal, then checks whether the ledger file may be opened.
+/// A fault is printed, and the error is its status.
 fn begin<R: Files + AllocGlobal + Eprint>(
     rt: &R,
     key: &str,
@@ -58,7 +58,7 @@ fn begin<R: Files + AllocGlobal + Eprint>(
     }
 }
 
-/// Seals the files of these names. The answer is the status, with the streams.
+/// Seals the files of these names. Returns the status, with the streams.
 pub(crate) fn seal<
     R: Files + AllocGlobal + Clock + Eprint + Threads + Wait + Sync,
     O: Write + Drop,
@@ -117,7 +117,7 @@ fn seal_to<
         (O.contents result.1.output.0) }
 {
     let mut folder = folder;
-    // What is sealed of a ledger is a copy of it.
+    // Sealing a ledger would make a copy of it.
     folder.keep_out(OwnPaths {
         ledger: request.ledger,
         key: request.key,
@@ -146,8 +146,8 @@ fn seal_to<
     (status, streams_of(out, terminals))
 }
 
-/// Seals the input, and writes the container to the output, unless that is a terminal and this wasn't asked for. The
-/// answer is the status, with the streams.
+/// Seals the input and writes the container to the output. A terminal is refused as output, unless it was asked for.
+/// Returns the status, with the streams.
 pub(crate) fn pipe<
     R: Files + AllocGlobal + Eprint + Threads + Wait + Sync,
     I: Read + Drop,
@@ -238,7 +238,7 @@ fn pipe_to<
     (status, streams)
 }
 
-// The ledger file of this path, which is made where there is none and that was asked for.
+// The ledger file at this path, to be made if there is none and `may_make` is true.
 fn ledger_of(path: &str, may_make: bool) -> LedgerPath<'_>
     ensures path { result.path.now ≡ path.now }
     ensures may_make { result.may_make ≡ may_make }
@@ -246,8 +246,8 @@ fn ledger_of(path: &str, may_make: bool) -> LedgerPath<'_>
     LedgerPath { path, may_make }
 }
 
-/// Opens the ledger file that is asked for, and seals the files under a range that is reserved there. The answer is the status, with the
-/// ledger file. `S` stands for what the ledger file and its log hold.
+/// Opens the ledger file that is asked for, and seals the files under a range reserved there. Returns the status, with
+/// the ledger file. `S` denotes what the ledger file and its log hold.
 fn seal_from<
     R: AllocGlobal + Threads + Wait + Sync,
     S: Start,
@@ -271,9 +271,9 @@ fn seal_from<
     requires max_bytes { request.now.max_bytes ≤ MAX_BYTES }
     requires idle { IfSome (F.session folder.old) (λ session. session.begun ≡ []) }
     ensures status { IfOk result (λ r. r.0 ≤ 2) }
-    // The ledger file was opened as it was found, and at most one range appended to it. Then no output was touched;
-    // or the files were sealed over a range that was reserved there and that the file has without its log, with one
-    // legal history, which the journal tells.
+    // The ledger file was opened as it was found, and at most one range was appended to it. Then no output was touched,
+    // or the files were sealed over a range reserved there, with one legal history. The file has that range without its
+    // log, and the journal records the history.
     ensures run { IfOk result (λ r. (keeper : _)
         × (HasCleanDisk (file_state keeper) → (it : IsFound over_files (image_at S.Start) keeper)
         × (request.now.may_make ≡ false → (file_state it.connection).now.schema.tables ≢ []))
@@ -293,10 +293,10 @@ fn seal_from<
         out.old.journal out.new.journal
         × (r.0 ≡ (if written then told else 2))))) }
     ensures complaint { IfOk result (λ r. r.0 ≢ 2 → out.new.faults ≡ out.old.faults) }
-    // Standard error takes one complaint, or a beginning of one, or nothing.
+    // Standard error takes one complaint, or a prefix of one, or nothing.
     ensures complains { IfOk result (λ r. (out.new.faults ≡ out.old.faults)
         ⊎ Complains (E.taken out.old.faults) (E.taken out.new.faults)) }
-    // The ledger file can't be used: no input or output was touched, no line and no journal written.
+    // The ledger file can't be used: no input or output was touched, no line and no journal was written.
     ensures unopened { OnErr result ((folder.new ≡ folder.old) × (out.new ≡ out.old)) }
 {
     let options = SealOptions {
@@ -313,8 +313,8 @@ fn seal_from<
     Ok((status, file))
 }
 
-/// Opens the ledger file that is asked for, and seals a stream under a range of one number that is reserved there. The answer is the
-/// status, with the ledger file. `S` stands for what the ledger file and its log hold.
+/// Opens the ledger file that is asked for, and seals a stream under a range of one number reserved there. Returns the
+/// status, with the ledger file. `S` denotes what the ledger file and its log hold.
 fn pipe_from<
     T: AllocGlobal + Threads + Wait + Sync,
     S: Start,
@@ -337,10 +337,10 @@ fn pipe_from<
     requires depth { (0 < request.now.depth) × (request.now.depth ≤ MAX_DEPTH) }
     requires most { 0 < request.now.max_chunks }
     ensures status { IfOk result (λ r. r.0 ≤ 2) }
-    // The ledger file was opened as it was found, and at most one range appended to it. Then nothing was read or
-    // written; or the stream was sealed over a range of one number that was reserved there and that the file has
-    // without its log, with one legal history, which the journal tells. On standard error there is a complaint, or the
-    // stream's line and after it at most a complaint, each of them perhaps cut short.
+    // The ledger file was opened as it was found, and at most one range was appended to it. Then nothing was read or
+    // written, or the stream was sealed over a range of one number reserved there, with one legal history. The file has
+    // that range without its log, and the journal records the history. Standard error takes a complaint, or the
+    // stream's line and then at most one complaint. Each may be cut short.
     ensures run { IfOk result (λ r. (keeper : _)
         × (HasCleanDisk (file_state keeper) → (it : IsFound over_files (image_at S.Start) keeper)
         × (request.now.may_make ≡ false → (file_state it.connection).now.schema.tables ≢ []))
@@ -361,7 +361,7 @@ fn pipe_from<
         × (r.0 ≡ (if written then told else 2))
         × (written ≡ true → (E.taken out.new.faults ≡ lines) × (E.failures out.new.faults ≡ failures))
         × (written ≡ false → Complains lines (E.taken out.new.faults))))) }
-    // The ledger file can't be used: nothing was read or written, no line and no journal.
+    // The ledger file can't be used: nothing was read or written, including lines and the journal.
     ensures unopened { OnErr result ((reader.new ≡ reader.old) × (writer.new ≡ writer.old) × (out.new ≡ out.old)) }
 {
     let options = PipeOptions {

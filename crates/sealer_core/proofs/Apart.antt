@@ -1,4 +1,4 @@
--- The range of a later run lies behind that of an earlier one.
+-- The range of a later run is after that of an earlier one.
 use Rattle.std.proofs.Common.{◌≡◌, ◌⊎◌, inl, inr, ℕ, List, [], ◌∷◌, ◌+◌, ◌≤◌, length, take, refl, sym, ap, subst, arith}
 use Rattle.journal_core.specs.Range.{Numbers}
 use Rattle.sqlite_disk.specs.declared.Disk.{Ghosts}
@@ -18,7 +18,7 @@ use Rattle.reserve_core.proofs.NextRun.{IsFolded, fold_clean, fold_keeps, fold_l
 use Rattle.sealer_core.specs.Sealing.{IsReserved}
 use Rattle.sealer_core.specs.Theorem.{IsLeftOf}
 
--- a beginning of adjacent ranges ends no later than all of them
+-- a prefix of adjacent ranges ends no later than all of them
 front_ends : (from : ℕ) (front list : List TakenRange) → Adjacent from list → take (length front) list ≡ front → end_from from front ≤ end_from from list
 front_ends from [] [] adjacent begins = omega arith
 front_ends from [] (r ∷ more) adjacent begins = let (lo, end) = behind from (r ∷ more) 0 r adjacent refl in omega arith
@@ -32,7 +32,7 @@ front_ends from (x ∷ front) (y ∷ more) adjacent begins =
     let same : end_from (y.lo + y.size) front ≡ end_from (x.lo + x.size) front = ap (λ (r : TakenRange). end_from (r.lo + r.size) front) first in
     let ends = front_ends (from + y.size) front more then rest in omega arith
 
--- what is said of a fold: its range lies behind all that was found, and the next range over what is left lies behind it
+-- what a fold ensures: its range is after all that was found, and the next range over what is left is after it
 abbrev pub LeavesRange : List ℕ → ℕ → Image → Image → Numbers → Type 0
 LeavesRange key device start files range = (range.device ≡ device)
     × ((lists : Lists) → AreIn lists start → next_of (lists key device) ≤ range.lo)

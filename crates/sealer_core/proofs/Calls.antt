@@ -30,7 +30,7 @@ module _ (key : List ℕ) (device : ℕ) (start files : Image) (terms : Terms) (
     wrote = wrote;
   }
 
-  -- what is said of a call of `seal_all`
+  -- what is shown of a call of `seal_all`
   abbrev pub RunsFiles : List Event → List Event → Type 0
   RunsFiles before after = (run : Run) × IsRun key device run × (run.start ≡ start) × (run.files ≡ files)
       × (events : List Event) × (after ≡ before ++ events) × (run.outputs ≡ written_in events)
@@ -88,7 +88,7 @@ module _ (key : List ℕ) (device : ℕ) (start files : Image) (terms : Terms) (
         refl,
       )
 
--- and one that was killed is one
+-- a call that was killed is one too
 pub runs_so_far : (key : List ℕ) (device : ℕ) (start files : Image) (terms : Terms) (outputs : List (List ℕ))
     → LeavesRange (sha256 key) device start files terms.range → IsLawfulRange terms.range → WroteSoFar key terms outputs
     → IsRun key device (killed_run start files terms outputs)

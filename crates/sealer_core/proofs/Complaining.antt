@@ -1,4 +1,4 @@
--- The texts of the faults are complaints, and what is printed of one begins it.
+-- The texts of the faults are complaints, and what is printed of one is a prefix of it.
 use Rattle.std.proofs.Common.{◌≡◌, List, [], ◌++◌, Option, ℕ, refl, sym, inl, inr, append-nil}
 use Rattle.std.proofs.KnownBytes.{Appends-nil}
 use Rattle.io_core.specs.Streams.{Appends, AppendsFront}

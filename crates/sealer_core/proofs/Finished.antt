@@ -1,6 +1,6 @@
--- What was finished, among the events of a call. An output that a run of `seal_all` finished has the container of an input that was
--- read of its file before; one that `open_all` finished was opened of a file that was read right before. Both go by files: what stands
--- among the events of all stands among those of one.
+-- What was finished, among the events of a call. An output that a run of `seal_all` finished has the container of an
+-- input that was read of its file before. One that `open_all` finished was opened of a file that was read right before.
+-- Both go file by file: what is among the events of all files is among those of one.
 use Rattle.std.proofs.Common.{◌≡◌, ◌≢◌, ◌⊎◌, inl, inr, ℕ, sym, ap, ◌∙◌, subst, List, [], ◌∷◌, ◌++◌, All, Option, Ok, append_assoc}
 use Rattle.std.specs.Prelude.{flat_map}
 use Rattle.std.proofs.lemmas.List.Elements.{All-head, All-tail}
@@ -24,7 +24,7 @@ use Rattle.sealer_core.proofs.Outputs.{afters, befores}
 
 -- ---- one among many
 
--- what stands among a first event and others is the first, or stands among the others
+-- what is among a first event and others is the first, or is among the others
 behind : (first event : Event) (rest before after : List Event) → first ∷ rest ≡ before ++ event ∷ after
     → ((first ≡ event) × (rest ≡ after)) ⊎ ((front : List Event) × (rest ≡ front ++ event ∷ after))
 behind first event rest [] after same = inl (cc, cc)
@@ -83,7 +83,7 @@ module _ (file input : List ℕ) where
   abbrev begins : List Event → List Event
   begins after = Reading file input ∷ Created (sealed_name file) ∷ after
 
-  -- a file was read, and right behind that its output was created
+  -- a file was read, and right after that its output was created
   abbrev WasBegun : List Event → Type 0
   WasBegun events = (before : List Event) × (after : List Event) × (events ≡ before ++ begins after)
 
@@ -118,7 +118,8 @@ module _ (key : List ℕ) (shape : ShapeView) (most device : ℕ) (output bytes 
   abbrev Ends : List Event → Type 0
   Ends events = IsAmong (Finished output bytes) events
 
-  -- Before the files of a group are sealed no output is finished, and behind that the output of a file that was begun before.
+  -- Before the files of a group are sealed no output is finished, and after that the output of a file that was begun
+  -- before.
   abbrev FromBefore : List Event → List Event → Type 0
   FromBefore before after = (Ends before → ⊥)
       × (Ends after → IsOfInput key shape device output bytes (λ file input. WasBegun file input before))
@@ -157,7 +158,7 @@ module _ (key : List ℕ) (shape : ShapeView) (most device : ℕ) (output bytes 
   of_part : (part : Part) → IsOne part → FromBefore part.before part.after
   of_part part is = of_one part.line.name part.line.outcome part.void part.before part.after is
 
-  -- so of the files of a group
+  -- the same for the files of a group
   of_parts : (parts : List Part) → All IsOne parts → FromBefore (befores parts) (afters parts)
   of_parts [] all = (λ at. among_none (Finished output bytes) at, λ at. absurd (among_none (Finished output bytes) at))
   of_parts (part ∷ parts) all =
@@ -244,7 +245,7 @@ module _ (key : List ℕ) (most : ℕ) (label : Option (List ℕ)) where
     abbrev asked : List Event → List Event
     asked after = Created (output_of file) ∷ Finished (output_of file) plain ∷ after
 
-    -- what was opened in a list that begins with the events of a file is what this was opened to, or stands behind these
+    -- what was opened in a list that begins with a file's events is what that file was opened to, or comes after them
     of_work : (name : List ℕ) (outcome : FileOutcome) (events rest : List Event) → Opening key most label name outcome events
         → ((more : List Event) (output : List ℕ) → rest ≡ Created output ∷ more → ⊥) → WasOpened (events ++ rest) file bytes plain
         → (opening key most bytes ≡ Ok plain) ⊎ WasOpened rest file bytes plain

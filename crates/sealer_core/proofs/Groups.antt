@@ -98,7 +98,7 @@ held_fewer lines voids o os operations seat fault is a = record {
       let h = a.granted n in omega arith;
 }
 
--- how often a number was settled and granted behind a settlement
+-- how often a number was settled and granted after a settlement
 record Settling (k n : ℕ) (old new : List Entry) (sealed voided : ℕ) : Type 0 where
   pub seal : times_sealed n new ≡ times_sealed n old + sealed
   pub void : times_voided n new ≡ times_voided n old + voided
@@ -155,7 +155,7 @@ module _ (lines : List FileLine) (voids : List ℕ) (o : Outcome) (os : List Out
         let h = a.granted n in omega arith;
   }
 
-  -- the number of an outcome ends as its file's line tells
+  -- the number of an outcome ends as its file's line says
   pub held_ended : (outcome : FileOutcome) → IsEnding k old new outcome → AreHeld (lines ++ line_of name outcome ∷ []) (voids ++ void_at k outcome) os new
   held_ended (Sealed m bytes) (is, how) = subst (λ (x : ℕ). AreHeld (lines ++ line_of name (Sealed x bytes) ∷ []) (voids ++ []) os new) (sym is) (held_sealed bytes how)
   held_ended (Opened bytes) how = held_void (Opened bytes) (λ n. refl) how
@@ -165,7 +165,7 @@ module _ (lines : List FileLine) (voids : List ℕ) (o : Outcome) (os : List Out
 
 -- ---- numbers that are owed at each seat
 
--- the outcomes that name a seat, where one more stands before them
+-- the outcomes that name a seat, with one more before them
 of_seat-cons : (n i : ℕ) (o : Outcome) (os : List Outcome) → count_by (holds n) (of_seat i (o ∷ os)) ≡ cond (nat_eq (seat_of o) i) (cond (holds n o) 1 0) 0 + count_by (holds n) (of_seat i os)
 of_seat-cons n i o os = go (nat_eq (seat_of o) i)
   where
@@ -201,7 +201,7 @@ owed_fewer old new o os number long s its a = record { each = λ i n w at. dite 
         let miss : cond {A = ℕ} (nat_eq (seat_of o) i) (cond (holds n o) 1 0) 0 ≡ 0 = ap (λ b. cond {A = ℕ} b (cond (holds n o) 1 0) 0) (ne_eqb (seat_of o) i (λ is. apart (sym is))) in
         omega arith
 
--- an outcome has spent none
+-- an outcome that has spent no number
 pub owed_unissued : (seats : List SeatView) (o : Outcome) (os : List Outcome) (seat : ℕ) (fault : IssueFault) → o ≡ job.Unissued seat fault → AreOwed seats (o ∷ os) → AreOwed seats os
 owed_unissued seats o os seat fault is a = record {
   each = λ i n v at.
@@ -272,7 +272,7 @@ module _ (ledger : LedgerView) (old : List SeatView) (outcomes rest : List Outco
     owed = owed_fewer old new o rest spent.number long (subst (λ p. SettledAt p spent.number old new) (sym at) settled) its (subst (AreOwed old) is owing.owed);
   }
 
-  -- it ends as its file's line tells
+  -- it ends as its file's line says
   pub ended_first : (lines : List FileLine) (voids void : List ℕ) (before after : List Entry) (name : List ℕ) (end : FileOutcome) → void ≡ void_at spent.number end → IsEnding spent.number before after end
       → AreHeld lines voids outcomes before → AreHeld (lines ++ line_of name end ∷ []) (voids ++ void) rest after
   ended_first lines voids void before after name end named ending a =
@@ -300,7 +300,7 @@ owing_none ledger seats none all = record { all = all; held = All-nil (IsOfSeats
 
 -- ---- what the first seat does
 
--- all seats are there still
+-- all seats are still there
 first_all : (ledger : LedgerView) (seats : List SeatView) (d w : SeatView) → 0 < length seats → IsSameSeat (get_or seats 0 d) w → AreAllSeats ledger seats → AreAllSeats ledger (set seats 0 w)
 first_all ledger seats d w some same all = record {
   count = length-set seats 0 w ∙ all.count;
@@ -497,7 +497,7 @@ shared h n (o ∷ os) below =
     step t true = let c = sum_by-cons (λ (x : Outcome). cond (h x) 1 0) o (of_seat t os) in omega arith
     step t false = omega arith
 
--- behind a batch its numbers are held
+-- after a batch its numbers are held
 pub after_batch : (old new : List SeatView) (os : List Outcome) (lines : List FileLine) (voids : List ℕ) → length new ≡ length old
     → ((j : ℕ) (o : Outcome) → slice_get os j ≡ Some o → seat_of o < length old) → AreIssued old new os
     → Accounts lines voids (operations_of old) → AreHeld lines voids os (operations_of new)
@@ -536,7 +536,7 @@ owed_batch old new os long issued a = record {
       omega arith;
 }
 
--- the same, of an equal list
+-- the same for an equal list
 pub held_as : (lines : List FileLine) (voids : List ℕ) (os os' : List Outcome) (operations : List Entry) → os ≡ os' → AreHeld lines voids os operations → AreHeld lines voids os' operations
 held_as lines voids os os' operations is a = subst (λ (l : List Outcome). AreHeld lines voids l operations) is a
 
@@ -558,11 +558,11 @@ pub among_seats : (lanes seats : ℕ) (new : List SeatView) (os : List Outcome) 
     → (j : ℕ) (o : Outcome) → slice_get os j ≡ Some o → seat_of o < seats
 among_seats lanes seats new os few among j o at = let below = (among j o at).0 in omega arith
 
--- where there was no batch nothing is held
+-- if there was no batch nothing is held
 pub nothing_held : (lines : List FileLine) (voids : List ℕ) (operations : List Entry) → Accounts lines voids operations → AreHeld lines voids [] operations
 nothing_held lines voids operations a = record { told = a.told; voided = a.voided; granted = λ n. let h = a.granted n in omega arith }
 
--- where nothing is held any more no number is owing
+-- if nothing is held any more no number is owed
 pub let_go : (lines : List FileLine) (voids : List ℕ) (operations : List Entry) → AreHeld lines voids [] operations → Accounts lines voids operations
 let_go lines voids operations a = record { told = a.told; voided = a.voided; granted = λ n. let h = a.granted n in omega arith }
 
@@ -586,7 +586,7 @@ outcomes_held key shape jobs lanes seats ledger new os few outcomes among all = 
 
 -- ---- outcomes for files that were read
 
--- as many as there are files that were read, at most
+-- at most as many as there are files that were read
 pub few_outcomes : {W : Type 0} (key : List ℕ) (shape : ShapeView) (slice jobs : List (Vec ℕ Global)) (files : List (Prepared W)) (os : List Outcome)
     → (os ≡ []) ⊎ AreOutcomes key shape (map (λ (job : Vec ℕ Global). job.items) slice) os → slice ≡ jobs
     → map (λ (job : Vec ℕ Global). length job.items) jobs ≡ flat_map read_of files → length os ≤ length (flat_map read_of files)
@@ -638,7 +638,7 @@ none_left files (o ∷ os) none few = let no = ap (λ l. length (flat_map read_o
 
 -- ---- files of a group that have their lines
 
--- So far it stands with these files, of which the latter have no line yet.
+-- The state so far with these files, of which the latter have no line yet.
 pub record AreEnding {W : Type 0} (happened : List FileLine → List ℕ → Type 0) (files left : List (Prepared W))
     (outcomes outcomes' : List Outcome) (operations operations' : List Entry) (status status' : ℕ)
     (old new : Option (List ℕ)) (failures failures' : Option ℕ) : Type 0 where
@@ -685,7 +685,7 @@ ended_more happened happened' names line void outcomes outcomes' outcomes'' oper
   done = done;
 }
 
--- the group was worked
+-- the group was processed
 pub group_of : (happened happened' : List FileLine → List ℕ → Type 0) (names names' : List (List ℕ)) (outcomes : List Outcome) (operations operations' operations'' : List Entry)
     (status status' : ℕ) (old new : Option (List ℕ)) (failures failures' : Option ℕ)
     → AreEnded happened names outcomes [] operations' operations'' status status' old new failures failures'
@@ -830,7 +830,7 @@ one_group happened name names' outcome void operations operations' status status
 
 -- ---- groups
 
--- one group more was sealed
+-- one more group was sealed
 pub groups_more : (happened happened' : List (List FileLine) → List ℕ → Type 0) (also : List FileLine → List ℕ → Type 0) (lanes : ℕ) (names more names' : List (List ℕ)) (operations operations' : List Entry) (status status' : ℕ)
     (old mid new : Option (List ℕ)) (failures failures' failures'' : Option ℕ)
     → (s : AreSealed happened lanes names operations status old mid failures failures') → All (λ (g : List FileLine). length g ≡ lanes) s.worked.groups
@@ -849,7 +849,7 @@ rest_all P xs ys x is all = λ k d below. subst (All P) is all (suc k) d (omega 
 pub held_at : (n m device : ℕ) (os : List Outcome) → n ≡ m → All (IsOfSeats n device) os → All (IsOfSeats m device) os
 held_at n m device os is held = subst (λ (k : ℕ). All (IsOfSeats k device) os) is held
 
--- the names of so many files, and of the group behind them
+-- the names of `done` files, and of the group after them
 pub group_names : (files group : List (Bor (List ℕ))) (done more : ℕ) → group ≡ take more (drop done files) → length group ≡ more
     → map (λ (f : Bor (List ℕ)). f.now) (take done files) ++ map (λ (f : Bor (List ℕ)). f.now) group ≡ map (λ (f : Bor (List ℕ)). f.now) (take (done + length group) files)
 group_names files group done more is long =

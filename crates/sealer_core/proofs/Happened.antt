@@ -29,14 +29,14 @@ use Rattle.sealer_core.specs.Sealing.{AreOfGroups, FitsFault, IsClosed, Happened
 pub kept_appends : (a b : Option (List ℕ)) → Keeps a b → Appends a b []
 kept_appends a b kept = Appends-kept a a b [] (Appends-nil a) kept
 
--- What the writer of an output took, of whose input this was to be read. Where no number is void it took nothing; under
--- a void number it took a beginning of the input's container.
+-- What the writer of an output took, with this input to be read. If no number is void it took nothing; under a void
+-- number it took a prefix of the input's container.
 abbrev pub PutsUnder : List ℕ → ShapeView → ℕ → List ℕ → Option (List ℕ) → Option (List ℕ) → List ℕ → Type 0
 PutsUnder key shape device input taken taken' [] = Keeps taken taken'
 PutsUnder key shape device input taken taken' (number ∷ []) = AppendsFront taken taken' (container key shape (prefix_of device number) input)
 PutsUnder key shape device input taken taken' (number ∷ another ∷ numbers) = ⊥
 
--- the fault tells the cause, whatever the writer took behind these bytes
+-- the fault gives the cause, whatever the writer took after these bytes
 abbrev pub IsCauseAt : ℕ → FileFault → List ℕ → List ℕ → Option (List ℕ) → Option (List ℕ) → Type 0
 IsCauseAt most fault void input taken taken' = (old held : List ℕ) → taken ≡ Some old → taken' ≡ Some (old ++ held) → FitsFault most fault void input held
 
@@ -87,7 +87,7 @@ cause_unread most left result sealing_fault.Write is more no_write few input lef
 
 -- ---- groups
 
--- what goes with a file's line
+-- what belongs to a file's line
 abbrev pub IsPart : (List ℕ → FileOutcome → List ℕ → List Event → List Event → Type 0) → Part → Type 0
 IsPart does part = does part.line.name part.line.outcome part.void part.before part.after
 
@@ -150,7 +150,7 @@ module _ (key : List ℕ) (shape : ShapeView) (most device : ℕ) where
   refused_as name CannotCreate before after is none = (refl, (is.0, is.1, none))
   refused_as name fault before after is none = absurd is
 
-  -- its output was created, of such an input, and took nothing so far
+  -- its output was created, with such an input, and took nothing so far
   module _ (name input : List ℕ) (old new : Option (List ℕ)) (before after : List Event) (empty : old ≡ Some (tape (sealed_name name) [])) (begun : before ≡ prepared name input) where
     discarded : (fault : FileFault) (void : List ℕ) → PutsUnder key shape device input old new void → IsCauseAt most fault void input old new → Discards new after
         → IsDiscarded key shape most device name fault void before after

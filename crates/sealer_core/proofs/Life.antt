@@ -1,5 +1,5 @@
--- The theorem on nonces. What a run wrote are outputs as the laws of `life_core` ask for; the ranges of a device's runs rise,
--- since each next one lies behind; and bytes that begin two containers have one prefix, which stands in them.
+-- The theorem on nonces. What a run wrote are outputs as the laws of `life_core` require. The ranges of a device's runs
+-- rise, since each one is after the one before. Bytes that begin two containers have one prefix, which is in them.
 use Rattle.std.proofs.Common.{◌≡◌, ℕ, zero, suc, ◌+◌, ◌<◌, ◌≤◌, Bool, cond, nat_eq, List, [], ◌∷◌, ◌++◌, count_by, length, take, drop, map, Some, refl, sym, ap, ◌∙◌, subst, arith, eq-eqb, ne_eqb, length-drop}
 use mathlib.Core.Logic.{dite}
 use native.Mathlib.Decide.{ℕ_discrete}
@@ -34,7 +34,7 @@ record Writing (key : List ℕ) (device : ℕ) (terms : Terms) (history : List E
   pub held_are : held ≡ map (λ (o : Output). o.held) outputs
   pub written : HasWritten key device (record { terms = terms; outputs = outputs })
 
--- what the laws say of what a run wrote
+-- what the laws require of what a run wrote
 abbrev pub AreHeld : List ℕ → Terms → List Entry → List (List ℕ) → Type 0
 AreHeld key terms history held = (outputs : List Output) × (held ≡ map (λ (o : Output). o.held) outputs)
     × HasWritten key terms.range.device (record { terms = terms; outputs = outputs })
@@ -57,7 +57,7 @@ module _ {A B : Type 0} (P : A → Type 0) (make : (x : A) → P x → B) where
   all_made Q each [] all = tt
   all_made Q each (x ∷ xs) all = (each x all.0, all_made Q each xs all.1)
 
-  -- what stands in the one stands in the other
+  -- what is in the one list is in the other
   abbrev MadeAt : List B → ℕ → A → Type 0
   MadeAt ys i x = (p : P x) × (slice_get ys i ≡ Some (make x p))
 
@@ -74,7 +74,7 @@ module _ {A B : Type 0} (P : A → Type 0) (make : (x : A) → P x → B) where
   made_of (x ∷ xs) all zero y at = let same : make x all.0 ≡ y = cc in (x, all.0, refl, same)
   made_of (x ∷ xs) all (suc i) y at = made_of xs all.1 i y at
 
--- where each next begins behind the one before it, each later one does
+-- if each begins after the one before it, each later one does
 module _ {A : Type 0} (P : A → Type 0) (next : A → A → Type 0) (lo end : A → ℕ) (rises : (x : A) → lo x ≤ end x)
     (behind : (x y : A) → P x → P y → next x y → end x ≤ lo y) where
   others_behind : (x : A) (xs : List A) → P x → AllByRecursion P xs → AreInTurn next (x ∷ xs) → (j : ℕ) (y : A) → slice_get xs j ≡ Some y → end x ≤ lo y
@@ -97,14 +97,14 @@ module _ {A : Type 0} (P : A → Type 0) (next : A → A → Type 0) (lo end : A
       let same : z ≡ x = cc in subst (λ (x : A). end x ≤ lo y) same (others_behind z xs all.0 all.1 turn j y also)
   all_behind (z ∷ xs) all turn (suc i) (suc j) x y less at also = all_behind xs all.1 (rest_in_turn z xs turn) i j x y (omega arith) at also
 
--- what stands in a list of bytes is held by the output that stands there
+-- what is in a list of bytes is held by the output at that place
 held_at : (outputs : List Output) (i : ℕ) (bytes : List ℕ) → slice_get (map (λ (o : Output). o.held) outputs) i ≡ Some bytes
     → (output : Output) × (slice_get outputs i ≡ Some output) × (output.held ≡ bytes)
 held_at [] i bytes at = absurd (cc)
 held_at (o ∷ outputs) zero bytes at = (o, refl, cc)
 held_at (o ∷ outputs) (suc i) bytes at = held_at outputs i bytes at
 
--- ---- the prefix stands in the bytes
+-- ---- the prefix is in the bytes
 
 early : (bytes rest : List ℕ) → 17 ≤ length bytes → prefix_in (bytes ++ rest) ≡ prefix_in bytes
 unfolding prefix_in
@@ -136,7 +136,7 @@ module _ (key : List ℕ)
   abbrev written_by : (device : ℕ) (run : Run) → Ours device run → Written
   written_by device run is = record { terms = run.terms; outputs = (of_run device run is).outputs }
 
-  -- what one run left, the next one found, and its range lies behind
+  -- what one run left, the next one found, and its range is after
   rise : (device : ℕ) (one other : Run) → Ours device one → Ours device other → Follows one other
       → one.terms.range.lo + one.terms.range.size ≤ other.terms.range.lo
   rise device one other is was (between, on) =
@@ -163,7 +163,7 @@ module _ (key : List ℕ)
     lives : ℕ → List Written
     lives device = written device (runs device) (are.each device)
 
-    -- the output of which an output's bytes tell
+    -- the output that has an output's bytes
     output_at : (place : Place) (bytes : List ℕ) (held : HeldAt runs place bytes)
         → (output : Output) × StandsAt lives place output × (output.held ≡ bytes) × IsOutput key place.device output
         × (held.run.terms.range.device ≡ place.device) × IsInside held.run.terms.range output

@@ -1,5 +1,5 @@
--- What happened for a group: of each file before the sealing and behind it. A file that was read goes with the first of
--- the inputs and with the first of the outcomes, and leaves the others to the files behind it.
+-- What happened for a group: for each file before and after the sealing. A file that was read takes the first of the
+-- inputs and the first of the outcomes, and leaves the others to the files after it.
 use Rattle.std.proofs.Common.{◌≡◌, ◌≤◌, ◌⊎◌, ◌∙◌, ℕ, suc, refl, sym, ap, subst, arith, List, [], ◌∷◌, ◌++◌, length, map, append-nil, append_assoc, All, Bor, Vec, Global, Option, Some, None, ⊎_elim}
 use Rattle.std.specs.Prelude.{⊤, drop, flat_map}
 use Rattle.std.proofs.lemmas.List.{map-append}
@@ -85,16 +85,16 @@ module _ {W : Type 0} (taken : W → Option (List ℕ)) (most : ℕ) where
         (job.items, refl, count, subst (λ n. n ≤ most) count within, m.2, m.3 ∙ ap (prepared name.now) (sym whole)),
       )) one two made
 
-  -- one file more
+  -- one more file
   pub begun_more : (files files' : List (Prepared W)) (file : Prepared W) (jobs jobs' : List (List ℕ)) (told told' told'' : Option (List Event)) → files' ≡ files ++ file ∷ []
       → Does (AreBegun taken most files jobs) told told' → Does (IsBegunWith taken most jobs jobs' file) told' told'' → Does (AreBegun taken most files' jobs') told told''
   begun_more files files' file jobs jobs' told told' told'' is so more = chain (AreBegun taken most files' jobs')
       (λ x y b m. subst (λ f. AreBegun taken most f jobs' (x ++ y)) (sym is)
       (subst (λ j. AreBegun taken most (files ++ file ∷ []) j (x ++ y)) (sym m.1) (begun_push files file jobs m.0 x y b m.2))) told told' told'' so more
 
--- ---- behind the sealing
+-- ---- after the sealing
 
--- So far files ended in turn, and where the files that are left do so too all of them do.
+-- So far files ended in turn. If the files that are left do so too, all of them do.
 pub record EndsSoFar {W : Type 0} (taken : W → Option (List ℕ)) (files left : List (Prepared W))
     (outcomes outcomes' : List Outcome) (lines : List FileLine) (voids : List ℕ) (events : List Event)
     : Type 0 where
@@ -103,7 +103,7 @@ pub record EndsSoFar {W : Type 0} (taken : W → Option (List ℕ)) (files left 
       → IsEndOfAll taken files outcomes (lines ++ more) (voids ++ others) (events ++ rest)
 
 module _ (bytes : ℕ) (old new : Option (List ℕ)) (outcomes rest : List Outcome) (outcome : Outcome) (end : FileOutcome) (is : outcomes ≡ outcome ∷ rest) where
-  -- a file ends by the first of the outcomes
+  -- a file ends by the first outcome
   by_first : IsEndBy bytes old new (outcome ∷ rest) end → IsEndBy bytes old new outcomes end
   by_first by = subst (λ l. IsEndBy bytes old new l end) (sym is) by
 
@@ -112,7 +112,7 @@ module _ (bytes : ℕ) (old new : Option (List ℕ)) (outcomes rest : List Outco
       → IsEndBy bytes old new outcomes end
   by_sealed seat container spent named put = by_first (subst (λ o. IsEndBy bytes old new (o ∷ rest) end) (sym named) put)
 
-  -- for its container there was no memory
+  -- there was no memory for its container
   pub by_spoiled : (seat : ℕ) (spent : SpentView) → outcome ≡ job.Spoiled seat spent → end ≡ Failed (Unsealed sealing_fault.OutOfMemory) → Keeps old new → IsEndBy bytes old new outcomes end
   by_spoiled seat spent named ends kept = by_first (subst (λ o. IsEndBy bytes old new (o ∷ rest) end) (sym named) (ends, kept))
 
@@ -290,7 +290,7 @@ module _ (key : List ℕ) (shape : ShapeView) (most device : ℕ) where
         (matched files others (left_by (Read name writer bytes) outcomes) more later rest rest' begun
         (fit_left name.now input bytes (taken writer) new first first' count within empty is outcomes others fits) ended) lined void chained chained'
 
-    -- what happened for a group goes with its lines
+    -- what happened for a group agrees with its lines
     pub group_happened : (files : List (Prepared W)) (slice jobs : List (List ℕ)) (seats : ℕ) (outcomes : List Outcome) (lines : List FileLine) (voids : List ℕ) (told told' told'' : Option (List Event)) → slice ≡ jobs
         → (outcomes ≡ []) ⊎ AreOutcomes key shape slice outcomes → All (IsOfSeats seats device) outcomes → Does (AreBegun taken most files jobs) told told'
         → Does (IsEndOfAll taken files outcomes lines voids) told' told'' → Happened key shape most device told told'' (lines ∷ []) voids

@@ -1,4 +1,4 @@
--- The lines and the ledger's operations: they agree file by file, and the ledger being legal no number stands in two lines.
+-- The lines and the ledger's operations agree file by file. The ledger is legal, so no number is in two lines.
 use Rattle.std.proofs.Common.{Result, Ok, Err, IsOk, IfOk, OnOk, OnErr, true, false, add-zero, ◌≡◌, ◌≢◌, ◌⊎◌, ℕ, zero, suc, ◌+◌, ◌<◌, ◌≤◌, Bool, cond, nat_eq, List, [], ◌∷◌, ◌++◌, length, count_by, refl, sym, ap, ◌∙◌, subst, inl, inr, ⊎_elim, arith, eq-eqb, ne_eqb, get_or, set, take, append-nil, Option}
 use mathlib.Core.Logic.{dite}
 use native.Mathlib.Decide.{ℕ_discrete}
@@ -50,7 +50,7 @@ module _ (lines : List FileLine) (voids : List ℕ) (before : List Entry) (seat 
     granted = λ n. let t = told_push n lines (line_of name (Failed fault)) in let h = a.granted n in omega arith;
   }
 
-  -- the range has met its end
+  -- the range is exhausted
   pub adds_exhausted : (fault : FileFault) → Accounts (lines ++ line_of name (Failed fault) ∷ []) (voids ++ []) (before ++ entry seat Exhausted ∷ [])
   adds_exhausted fault = record {
     told = λ n.
@@ -113,7 +113,7 @@ module _ (lines : List FileLine) (voids : List ℕ) (before : List Entry) (seat 
         let h = a.granted n in omega arith;
   }
 
--- the same of a seat
+-- the same for a seat
 
 pub mine_of : (old new : SeatView) (event : Event) → Extends old event new → new.mine ≡ old.mine ++ entry old.number event ∷ []
 mine_of old new event (between, is) = ap (λ (v : SeatView). v.mine) is
@@ -155,7 +155,7 @@ after_spoiling lines voids old mid new name k fault one two a =
     subst (Accounts (lines ++ line_of name (Failed fault) ∷ []) (voids ++ k ∷ [])) (sym (both_of old mid new k (Settled k ended.Void) one two))
     (adds_void lines voids old.mine old.number name a k fault)
 
--- the same, of what a sealing gave back
+-- the same for what a sealing gave back
 pub after_run : (lines : List FileLine) (voids : List ℕ) (old mid new : SeatView) (name : List ℕ) (grant : GrantView) (spent : SpentView) (number bytes : ℕ)
     → Extends old (Granted grant.number) mid → spent ≡ spent_as grant ended.Sealed → number ≡ grant.number
     → Extends mid (Settled spent.number spent.way) new

@@ -1,4 +1,4 @@
--- A container opens to the plaintext that was sealed: of two lines, and of two runs.
+-- A container opens to the plaintext that was sealed: for two lines, and for two runs.
 use Rattle.std.proofs.Common.{◌≡◌, ℕ, ◌≤◌, ◌++◌, List, [], ◌∷◌, length, Option, Some, Ok, refl, sym, ap, ◌∙◌, subst, arith, length-append}
 use Rattle.std.proofs.lemmas.List.{append_cancel_left}
 use Rattle.std.specs.Prelude.{flat_map}

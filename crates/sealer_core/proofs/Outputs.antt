@@ -1,5 +1,5 @@
--- The outputs of a run: those of its files that were finished, and those that were given up and held something, in order; and the
--- output of a stream.
+-- The outputs of a run: those of its files that were finished, and those that were given up and held something, in
+-- order; and the output of a stream.
 use Rattle.std.proofs.Common.{◌≡◌, ◌≤◌, ℕ, ◌+◌, ◌∙◌, refl, sym, ap, subst, cond, nat_eq, List, [], ◌∷◌, ◌++◌, map, append-nil, append_assoc, All, Option, Some, arith}
 use Rattle.std.specs.Prelude.{flat_map}
 use Rattle.std.specs.List.{AllByRecursion}
@@ -69,7 +69,7 @@ record Writing (key : List ℕ) (device : ℕ) (lines : List FileLine) (voids : 
 nothing_of : (key : List ℕ) (device : ℕ) (lines : List FileLine) (voids : List ℕ) (held : List (List ℕ)) → held ≡ [] → Writing key device lines voids held
 nothing_of key device lines voids held none = record { outputs = []; each = tt; written = none; counted = λ n. omega arith }
 
--- a beginning of one container was, under a number
+-- a prefix of one container was, under a number
 beginning_of : (key : List ℕ) (shape : ShapeView) (device number : ℕ) (input held : List ℕ) (lines : List FileLine) (voids : List ℕ) → IsShape shape
     → IsFront held (container key shape (prefix_of device number) input) → ((n : ℕ) → cond {A = ℕ} (nat_eq n number) 1 0 ≤ times_had n lines voids)
     → Writing key device lines voids (held_in held)
@@ -124,7 +124,7 @@ module _ (key : List ℕ) (shape : ShapeView) (most device : ℕ) (lawful : IsSh
   of_one name (Good bytes) void before after is = absurd is
   of_one name (Shown bytes facts) void before after is = absurd is
 
--- one behind the other
+-- one after the other
 both : (key : List ℕ) (device : ℕ) (lines more : List FileLine) (voids others : List ℕ) (held later : List (List ℕ)) → Writing key device lines voids held
     → Writing key device more others later → Writing key device (lines ++ more) (voids ++ others) (held ++ later)
 both key device lines more voids others held later a b = record {
@@ -199,7 +199,7 @@ has_written key device terms history lines voids held of_device range legal acco
     )
 
 module _ (key : List ℕ) (shape : ShapeView) (device : ℕ) (lawful : IsShape shape) where
-  -- so of a run
+  -- the same for a run
   pub of_run : (most : ℕ) (names : List (List ℕ)) (terms : Terms) (history : List Entry) (status : ℕ) (old new : Option (List ℕ)) (failures later : Option ℕ)
       (before after : List Event) → terms.range.device ≡ device → IsLawfulRange terms.range
       → HasSealed (Happened key shape most device (Some before) (Some after)) names terms history status old new failures later
@@ -236,7 +236,7 @@ module _ (key : List ℕ) (shape : ShapeView) (device : ℕ) (lawful : IsShape s
         (held, grew, beginning_of key shape device number input held (line_of stream_name (Failed (Unsealed fault)) ∷ []) (number ∷ []) lawful front (λ n. has_void n number (line_of stream_name (Failed (Unsealed fault)) ∷ [])))
     of_works outcome voids works = absurd works
 
-    -- so of a run that seals a stream
+    -- the same for a run that seals a stream
     pub of_stream : (terms : Terms) (history : List Entry) (status : ℕ) (lines lines' : Option (List ℕ)) (faults faults' : Option ℕ) → terms.range.device ≡ device → IsLawfulRange terms.range
         → HasSealedStream key shape most (Some input) left' failures failures' (Some old) (Some new) refusals refusals' terms history status lines lines' faults faults'
         → (held : List ℕ) × (outputs : List Output) × (new ≡ old ++ held) × (held_in held ≡ held_of outputs)

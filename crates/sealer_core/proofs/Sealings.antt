@@ -1,4 +1,4 @@
--- One group of files more: what stood of the sealed files so far, and what stands with it.
+-- One more group of files: what held of the sealed files so far holds with it.
 use Rattle.std.proofs.Common.{◌≡◌, ℕ, ◌≤◌, refl, sym, ap, subst, ◌∙◌, List, [], ◌∷◌, ◌++◌, map, append-nil, Option, flat_map, All, take, length, ◌+◌, ◌-◌, arith}
 use Rattle.std.proofs.Math.Seq.{take-append_seam}
 use Rattle.std.proofs.lemmas.List.{map-append, length-append}
@@ -16,7 +16,7 @@ all_but_last xs x =
     let before : length (xs ++ x ∷ []) - 1 ≡ length xs = omega arith in
     ap (λ n. take n (xs ++ x ∷ [])) before ∙ take-append_seam xs (x ∷ [])
 
--- a group of files more was sealed; where it is full, as those before it are, all are
+-- one more group of files was sealed; if it is full, as those before it are, all are
 pub sealed_more : (happened happened' : List (List FileLine) → List ℕ → Type 0) (lanes : ℕ) (names more names' : List (List ℕ)) (group : List FileLine) (void : List ℕ) (operations operations' : List Entry) (status status' : ℕ)
     (old mid new : Option (List ℕ)) (failures failures' failures'' : Option ℕ)
     → (s : AreSealed happened lanes names operations status old mid failures failures') → All (λ (g : List FileLine). length g ≡ lanes) s.worked.groups → length group ≤ lanes

@@ -1,5 +1,5 @@
--- Containers that began: a number that is held is granted, was settled by no seat, and so no container began under it. Once
--- it is settled the folder's session stands as before.
+-- Containers that began. A number that is held was granted and settled by no seat, so no container began under it.
+-- After it is settled, the folder's session holds what it held before.
 use Rattle.std.proofs.Common.{◌≡◌, ◌⊎◌, ℕ, zero, suc, ◌+◌, ◌<◌, ◌≤◌, Bool, cond, nat_eq, eq-eqb, ne_eqb, List, [], ◌∷◌, ◌++◌, length, map, count_by, refl, sym, ap, ◌∙◌, subst, ⊎_elim, arith, get_or, set, All, Vec, Global, Result, Option, None, Some, append-nil}
 use Rattle.std.specs.Prelude.{slice_get, IfSome, option_map}
 use mathlib.Core.Logic.{dite}
@@ -68,7 +68,7 @@ module _ (p q : Entry → Bool) where
       let one = sum_by-append (λ (x : Entry). cond (p x) 1 0) w.mine (operations_of seats) in
       let other = sum_by-append (λ (x : Entry). cond (q x) 1 0) w.mine (operations_of seats) in omega arith
 
--- A number that a seat owes was granted, and where none was granted twice nobody settled it.
+-- A number that a seat owes was granted. If none was granted twice, nobody settled it.
 module _ (ledger : LedgerView) (seats : List SeatView) (outcomes : List Outcome) (place device number : ℕ) (owing : AreOwing ledger seats outcomes)
     (owes : OwesAt ledger seats place device number) where
   owed_less : times_settled number (operations_of seats) < times_granted number (operations_of seats)
@@ -275,7 +275,7 @@ once_ended number operations operations' outcome ending a = record { once = λ n
     go (Shown bytes facts) (seat, count) n = let g = count (grants n) in omega arith
     go (Failed fault) (seat, count) n = let g = count (grants n) in omega arith
 
--- what a seat settled before an issue it settled behind it
+-- an issue settles nothing
 pub issue_settles : (seats : List SeatView) (d w : SeatView) (number n : ℕ) → 0 < length seats → Extends (get_or seats 0 d) (Granted number) w
     → times_settled n (operations_of (set seats 0 w)) ≡ times_settled n (operations_of seats)
 issue_settles seats d w number n some more = let (seat, count) = counted_at seats 0 d w (Granted number) some more in let s = count (settles n) in omega arith
@@ -330,7 +330,7 @@ first_container key shape outcomes rest seat bytes spent is all =
 pub none_under : (key : List ℕ) (shape : ShapeView) (outcomes : List Outcome) → outcomes ≡ [] → All (IsContainerUnder key shape) outcomes
 none_under key shape outcomes none = subst (All (IsContainerUnder key shape)) (sym none) (All-nil (IsContainerUnder key shape))
 
--- what a batch answers are such
+-- what a batch returns are such
 pub containers_of : (key : List ℕ) (shape : ShapeView) (jobs : List (List ℕ)) (outcomes : List Outcome) → AreOutcomes key shape jobs outcomes → All (IsContainerUnder key shape) outcomes
 containers_of key shape jobs outcomes are = λ i d below.
     let at = slice_get-get_or outcomes i d below in

@@ -69,7 +69,7 @@ had_written key terms held lawful sofar =
 
 -- ---- what was known of a run when it was killed
 
--- what is known of two things, without which they are
+-- two things are known to hold, though not given; so is what follows from them
 pub both : {A B C : Type 0} → ∥ A ∥₁ → ∥ B ∥₁ → (A → B → C) → ∥ C ∥₁
 both a b make = ∥∥₁_elim a squash₁ (λ x. ∥∥₁_map b (λ y. make x y))
 
@@ -123,7 +123,7 @@ stream_so_far key ledger seat number shape bytes plain terms range held is_shape
       begins = ((plain, subst (λ (r : Numbers). IsFront bytes (container key shape (prefix_of r.device number) plain)) range front), tt);
     }
 
--- what a bounded output holds behind what it took before it was bound
+-- what a bounded output holds after what it took before it was bound
 some_is : (a b : List ℕ) → Some a ≡ Some b → a ≡ b
 some_is a b same = cc
 

@@ -32,7 +32,7 @@ works_failed key shape most left failures taken refusals device why fault is = s
 
 module _ (key : List ℕ) (shape : ShapeView) (most : ℕ) (left left' : Option (List ℕ)) (failures failures' : Option ℕ) (taken taken' : Option (List ℕ))
     (refusals refusals' : Option ℕ) where
-  -- the engine ended so under this number
+  -- the engine ended this way under this number
   abbrev pub Ends : ℕ → ℕ → Result ℕ SealFault → Type 0
   Ends device number result = HasPipedContainer key shape (prefix_of device number) most left left' failures failures' taken taken' refusals refusals' result
 
@@ -58,7 +58,7 @@ module _ (key : List ℕ) (shape : ShapeView) (most : ℕ) (left left' : Option 
         settled = is_settled ledger.terms history (line ∷ []) piped.voids whole.legal accounts;
       }
 
-  -- the engine's answer
+  -- the engine's result
   module _ (device device' number number' : ℕ) (result : Result ℕ SealFault) (did : Ends device' number' result) (same : device' ≡ device) where
     pub stream_sealed : (bytes : ℕ) → result ≡ Ok bytes → number ≡ number' → Works device (Sealed number bytes) []
     stream_sealed bytes is named = (

@@ -1,7 +1,7 @@
--- What a run that seals says on standard error where it ended with status 2.
+-- What a run that seals prints on standard error if it ended with status 2.
 use Rattle.std.specs.Prelude.{List, ℕ, ◌++◌, codes}
 use Rattle.reserve_core.specs.Faults.{reserve_text}
--- that standard error took one, or a beginning of one
+-- standard error took a complaint, or a prefix of one
 pub use Rattle.command_core.specs.Printing.{Complains}
 use Rattle.sealer_core.specs.declared.trouble.RunFault.{RunFault}
 use Rattle.sealer_core.specs.declared.trouble.RunFault.TheVariants.{Unreserved, NoLedger, NoJournal, JournalCut}

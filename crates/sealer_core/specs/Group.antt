@@ -1,5 +1,4 @@
--- Inside: how a file begins, and how its output ends, by one lane and by several; and what becomes of the files of a
--- group.
+-- Internal: how a file begins and its output ends, with one lane and with several; and what becomes of a group's files.
 use Rattle.std.specs.Prelude.{⊤, ◌≡◌, ◌≢◌, ℕ, ◌+◌, ◌<◌, ◌≤◌, Bool, false, nat_eq, if◌then◌else◌, List, [], ◌∷◌, ◌++◌}
 use Rattle.std.specs.Prelude.{drop, length, map, All, count_by, slice_get, Option, Some, IfSome, Result, Ok, Err}
 use Rattle.journal_core.specs.declared.entry.Entry.{Entry}
@@ -54,13 +53,13 @@ name_of (Refused name fault) = name.now
 name_of (Unread name writer fault) = name.now
 name_of (Read name writer bytes) = name.now
 
--- Where no output was created, it has such a fault; where it was read, nothing can be written to its output yet.
+-- If no output was created, it has such a fault. If it was read, nothing can be written to its output yet.
 abbrev pub IsPrepared : {W : Type 0} → (W → Option Bound) → (W → Option (List ℕ)) → Prepared W → Type 0
 IsPrepared bound taken (Refused name fault) = IsUnmade fault
 IsPrepared bound taken (Unread name writer fault) = fault ≢ sealing_fault.TooManyChunks
 IsPrepared bound taken (Read name writer bytes) = IsNew (bound writer) (taken writer)
 
--- how many bytes it has, where it was read
+-- how many bytes it has, if it was read
 abbrev pub read_of : {W : Type 0} → Prepared W → List ℕ
 read_of (Refused name fault) = []
 read_of (Unread name writer fault) = []
@@ -73,7 +72,7 @@ abbrev pub IsRefused : List ℕ → FolderFault → List trace.Event → Type 0
 IsRefused name fault events = (input : List ℕ)
     × (events ≡ trace.Reading name input ∷ trace.Refused (sealed_name name) fault ∷ [])
 
--- its input was opened, and has this left to be read, and its output was created, and took nothing so far
+-- its input was opened, with this left to read, and its output was created, and took nothing so far
 abbrev pub IsMade : List ℕ → Option (List ℕ) → Option (List ℕ) → List trace.Event → Type 0
 IsMade name left taken events = (input : List ℕ) × (left ≡ Some input)
     × (taken ≡ Some (tape (sealed_name name) [])) × (events ≡ prepared name input)
@@ -87,8 +86,8 @@ IsRefusal name CannotCreate events = IsRefused name folder_fault.Failed events
 IsRefusal name _ events = ⊥
 
 module _ {W : Type 0} (taken : W → Option (List ℕ)) (most : ℕ) where
-  -- What happens for a file before the sealing, and its input, where this was read: of at most so many bytes. Its
-  -- output took nothing so far.
+  -- What happens for a file before the sealing, and its input if it was read: at most `most` bytes. Its output took
+  -- nothing so far.
   abbrev pub IsBegun : Prepared W → List (List ℕ) → List trace.Event → Type 0
   IsBegun (Refused name fault) inputs events = (inputs ≡ []) × IsRefusal name.now fault events
   IsBegun (Unread name writer fault) inputs events =
@@ -98,11 +97,11 @@ module _ {W : Type 0} (taken : W → Option (List ℕ)) (most : ℕ) where
       × (bytes ≡ length input) × (length input ≤ most) × (taken writer ≡ Some (tape (sealed_name name.now) []))
       × (events ≡ prepared name.now input)
 
-  -- the same of one file more, whose input is then the last of the jobs
+  -- the same for one more file: its input is then the last of the jobs
   abbrev pub IsBegunWith : List (List ℕ) → List (List ℕ) → Prepared W → List trace.Event → Type 0
   IsBegunWith jobs jobs' file events = (inputs : List (List ℕ)) × (jobs' ≡ jobs ++ inputs) × IsBegun file inputs events
 
-  -- and of all files, one behind the other
+  -- and for all files, one after the other
   abbrev pub AreBegun : List (Prepared W) → List (List ℕ) → List trace.Event → Type 0
   AreBegun [] inputs events = (inputs ≡ []) × (events ≡ [])
   AreBegun (file ∷ files) inputs events = (own : List (List ℕ)) × (others : List (List ℕ))
@@ -123,12 +122,12 @@ HasEnded device (job.Sealed seat bytes spent) = (spent.device ≡ device) × (sp
 HasEnded device (job.Spoiled seat spent) = (spent.device ≡ device) × (spent.way ≡ ended.Void)
 HasEnded device (job.Unissued seat fault) = ⊤
 
--- it names one of so many seats, and its number is of this device, and ended as it says
+-- it names one of `seats` seats, and its number is of this device, and ended as it says
 abbrev pub IsOfSeats : ℕ → ℕ → Outcome → Type 0
 IsOfSeats seats device o = (seat_of o < seats) × HasEnded device o
 
--- Lines, void numbers and operations of a ledger agree, where the numbers of these outcomes are granted and not settled
--- yet.
+-- Lines, void numbers and operations of a ledger agree, while the numbers of these outcomes are granted and not yet
+-- settled.
 pub record AreHeld (lines : List FileLine) (voids : List ℕ) (outcomes : List Outcome) (operations : List Entry)
     : Type 0 where
   pub told : (number : ℕ) → times_sealed number operations ≡ times_told number lines
@@ -136,7 +135,7 @@ pub record AreHeld (lines : List FileLine) (voids : List ℕ) (outcomes : List O
   pub granted : (number : ℕ) → (times_told number lines + times_voided number operations)
       + count_by (holds number) outcomes ≡ times_granted number operations
 
--- Of the numbers that a seat was granted these outcomes name those that it hasn't settled yet.
+-- Of the numbers that a seat was granted, these outcomes name those that it hasn't settled yet.
 pub record AreOwed (seats : List SeatView) (outcomes : List Outcome) : Type 0 where
   pub each : (i number : ℕ) (seat : SeatView) → slice_get seats i ≡ Some seat
       → times_settled number seat.mine + count_by (holds number) (of_seat i outcomes) ≡ times_granted number seat.mine
@@ -159,19 +158,19 @@ pub record SettledAt (place number : ℕ) (old new : List SeatView) : Type 0 whe
       → (way : Way) × (after.mine ≡ before.mine ++ entry before.number (Settled number way) ∷ [])
   pub others : (i : ℕ) → i ≢ place → slice_get new i ≡ slice_get old i
 
--- the operations are those and this event of some seat, in whatever order
+-- the operations are those and this event of some seat, in any order
 abbrev pub IsCounted : List Entry → List Entry → Event → Type 0
 IsCounted old new event = (seat : ℕ)
     × ((p : Entry → Bool) → count_by p new ≡ count_by p old + (if p (entry seat event) then 1 else 0))
 
--- a number that was granted is settled as its line tells
+-- a number that was granted is settled as its line says
 abbrev pub IsEnding : ℕ → List Entry → List Entry → FileOutcome → Type 0
 IsEnding number old new (Sealed n bytes) = (n ≡ number) × IsCounted old new (Settled number ended.Sealed)
 IsEnding number old new _ = IsCounted old new (Settled number ended.Void)
 
 -- ---- containers that began
 
--- Of a key and a range, and each container that began under them has a number that is settled.
+-- It is of this key and range, and each container that began under them has a number that is settled.
 pub record HasSettled (key_id : List ℕ) (range : Numbers) (operations : List Entry) (session : Session) : Type 0 where
   pub of_key : session.key_id ≡ key_id
   pub of_range : session.range ≡ range
@@ -202,22 +201,22 @@ IsContainerUnder key shape (job.Unissued seat fault) = ⊤
 
 -- ---- how a file ends
 
--- How an output ends, by how its sealing ended under this number: where all was sealed it is finished, or couldn't be.
+-- How an output ends, by how its sealing ended under this number: if all was sealed it is finished, or couldn't be.
 abbrev pub EndsBy : Result ℕ SealFault → ℕ → FileOutcome → Type 0
 EndsBy (Ok bytes) number (Sealed n m) = (n ≡ number) × (m ≡ bytes)
 EndsBy (Ok bytes) number end = end ≡ Failed (Unsealed sealing_fault.Write)
 EndsBy (Err fault) number end = end ≡ Failed (Unsealed fault)
 
--- An output gets this container: whole, and then the line tells this number and so many bytes; or cut short, or whole
--- where it couldn't be finished, and then the file failed.
+-- An output gets this container whole, and the line says this number and its byte count. Or it gets a prefix, or all of
+-- it and couldn't be finished: then the file failed.
 abbrev pub IsPut : List ℕ → ℕ → ℕ → Option (List ℕ) → Option (List ℕ) → FileOutcome → Type 0
 IsPut container number bytes old new (Sealed n m) = (n ≡ number) × (m ≡ bytes) × Appends old new container
 IsPut container number bytes old new end = (end ≡ Failed (Unsealed sealing_fault.Write))
     × AppendsFront old new container
 
--- A file of so many bytes ends by the first of the outcomes: its output gets the container that was sealed, under the
--- number that this was sealed under; or the file failed as the outcome says, and its output gets nothing. Where there
--- is no outcome memory for them was refused.
+-- A file of `bytes` bytes ends by the first outcome. Its output gets the container that was sealed, under the number of
+-- that outcome; or the file failed as the outcome says, and its output gets nothing. If there is no outcome, memory for
+-- outcomes was refused.
 abbrev pub IsEndBy : ℕ → Option (List ℕ) → Option (List ℕ) → List Outcome → FileOutcome → Type 0
 IsEndBy bytes old new [] end = (end ≡ Failed (Unsealed sealing_fault.OutOfMemory)) × Keeps old new
 IsEndBy bytes old new (job.Sealed seat container spent ∷ outcomes) end =
@@ -226,7 +225,7 @@ IsEndBy bytes old new (job.Spoiled seat spent ∷ outcomes) end =
     (end ≡ Failed (Unsealed sealing_fault.OutOfMemory)) × Keeps old new
 IsEndBy bytes old new (job.Unissued seat fault ∷ outcomes) end = (end ≡ Failed (unissued_as fault)) × Keeps old new
 
--- the void number of the file, where it has one: that of its outcome, unless the file was sealed
+-- the void number of the file, if it has one: that of its outcome, unless the file was sealed
 abbrev pub void_by : List Outcome → FileOutcome → List ℕ
 void_by [] end = []
 void_by (job.Sealed seat container spent ∷ outcomes) end = void_at spent.number end
@@ -238,7 +237,7 @@ void_in (Refused name fault) outcomes end = []
 void_in (Unread name writer fault) outcomes end = []
 void_in (Read name writer bytes) outcomes end = void_by outcomes end
 
--- A file ends by its own fault, or where it was read by the first of the outcomes; and so its output is closed.
+-- A file ends by its own fault or, if it was read, by the first outcome. Its output is closed accordingly.
 abbrev pub IsEndIn : {W : Type 0} → (W → Option (List ℕ)) → List Outcome → Prepared W → FileOutcome → List trace.Event
     → Type 0
 IsEndIn taken outcomes (Refused name fault) end events = (end ≡ Failed fault) × (events ≡ [])
@@ -247,7 +246,7 @@ IsEndIn taken outcomes (Unread name writer fault) end events =
 IsEndIn taken outcomes (Read name writer bytes) end events =
     (new : Option (List ℕ)) × IsEndBy bytes (taken writer) new outcomes end × IsClosed new end events
 
--- the outcomes that are left for the files behind it: a file that was read has the first one, and no other file has any
+-- the outcomes left for the files after it: a file that was read uses up the first, any other file none
 abbrev pub left_by : {W : Type 0} → Prepared W → List Outcome → List Outcome
 left_by (Refused name fault) outcomes = outcomes
 left_by (Unread name writer fault) outcomes = outcomes
@@ -269,8 +268,7 @@ IsEndOfAll taken (file ∷ files) outcomes lines voids events = (end : FileOutco
 abbrev pub refused_lines : List (List ℕ) → List FileLine
 refused_lines names = map (λ name. line_of name (Failed OutOfMemory)) names
 
--- Files of a group have their lines: those, in order; and so stand status and operations behind them, where they stood
--- so before.
+-- Files of a group have these lines, in order. Status and operations are correct after them if they were before.
 pub record AreEnded (happened : List FileLine → List ℕ → Type 0) (names : List (List ℕ))
     (outcomes outcomes' : List Outcome) (operations operations' : List Entry) (status status' : ℕ)
     (old new : Option (List ℕ)) (failures failures' : Option ℕ) : Type 0 where

@@ -1,4 +1,4 @@
--- What `pipe_all` does with a stream, and how its line stands to the operations of the ledger.
+-- What `pipe_all` does with a stream, and how its line agrees with the operations of the ledger.
 use Rattle.std.specs.Prelude.{◌≡◌, ℕ, List, [], ◌∷◌, codes, Option, Ok, Err}
 use Rattle.container_core.specs.Shape.{ShapeView}
 use Rattle.container_core.specs.declared.fault.SealFault.TheVariants as sealing_fault
@@ -15,9 +15,8 @@ use Rattle.sealer_core.specs.Sealing.{Accounts, AreNumbered, IsSettled, line_of}
 
 -- ---- what was read and written
 
--- The reader had `left` to be read, and has `left'` now; the writer had taken `taken`, and has `taken'` now. Of
--- failed reads there were `failures`, and are `failures'`; of failed writes `refusals` and `refusals'`. There may be
--- `most` chunks.
+-- The reader had `left` to read, and has `left'` now; the writer had taken `taken`, and has `taken'` now. Failed reads
+-- were `failures`, and are `failures'`; failed writes `refusals` and `refusals'`. There may be `most` chunks.
 module _ (key : List ℕ) (shape : ShapeView) (most : ℕ) (left left' : Option (List ℕ)) (failures failures' : Option ℕ)
     (taken taken' : Option (List ℕ)) (refusals refusals' : Option ℕ) where
   -- nothing was read or written
@@ -25,9 +24,9 @@ module _ (key : List ℕ) (shape : ShapeView) (most : ℕ) (left left' : Option 
     pub read : (left' ≡ left) × (failures' ≡ failures)
     pub written : (taken' ≡ taken) × (refusals' ≡ refusals)
 
-  -- With `sealed` the engine sealed the whole stream under the number in the line, and its length is in the line. With
-  -- a fault of the sealing the engine ended with this fault under a number that is void; where none is, memory was
-  -- refused before anything was touched. Without a number nothing is touched either. No stream has more than one.
+  -- `sealed`: the engine sealed the whole stream under the number in the line, which has its length too. A fault of the
+  -- sealing: the engine ended with it under a void number; without one, memory was refused first, and nothing was
+  -- touched. No number: nothing was touched. No stream has more than one void number.
   abbrev pub WorksStream : ℕ → FileOutcome → List ℕ → Type 0
   WorksStream device (Sealed number bytes) voids = (voids ≡ [])
       × HasPipedContainer key shape (prefix_of device number) most left left' failures failures' taken taken'
@@ -45,7 +44,7 @@ module _ (key : List ℕ) (shape : ShapeView) (most : ℕ) (left left' : Option 
 abbrev pub stream_name : List ℕ
 stream_name = codes "-"
 
--- A stream was worked, and these void numbers and these operations of a ledger go with its line.
+-- A stream was processed, and these void numbers and these operations of a ledger agree with its line.
 pub record IsPiped (key : List ℕ) (shape : ShapeView) (most : ℕ) (left left' : Option (List ℕ))
     (failures failures' : Option ℕ)
     (taken taken' : Option (List ℕ)) (refusals refusals' : Option ℕ) (device : ℕ) (operations : List Entry)
@@ -55,8 +54,8 @@ pub record IsPiped (key : List ℕ) (shape : ShapeView) (most : ℕ) (left left'
       voids
   pub accounts : Accounts (line_of stream_name outcome ∷ []) voids operations
 
--- So it was, over one legal history, with a number of the range, and none is open; and its line was told, by a writer
--- that had taken `old` and has `new` now, with so many failures.
+-- The same over one legal history, with a number of the range, and none is open. Its line was printed to a writer that
+-- had taken `old` and has taken `new` now, and whose failures were `faults` and are `faults'`.
 pub record HasSealedStream (key : List ℕ) (shape : ShapeView) (most : ℕ) (left left' : Option (List ℕ))
     (failures failures' : Option ℕ) (taken taken' : Option (List ℕ)) (refusals refusals' : Option ℕ) (terms : Terms)
     (history : List Entry) (status : ℕ) (old new : Option (List ℕ)) (faults faults' : Option ℕ) : Type 0 where

@@ -1,4 +1,4 @@
--- What `seal_all` does with a list of files, and how its lines stand to the operations of the ledger.
+-- What `seal_all` does with a list of files, and how its lines agree with the operations of the ledger.
 use Rattle.std.specs.Prelude.{⊤, ◌≡◌, ◌≢◌, ℕ, ◌+◌, ◌-◌, ◌^◌, ◌<◌, ◌≤◌, ◌⊎◌, IsTrue, Bool, true, false, nat_eq, List, []}
 use Rattle.std.specs.Prelude.{◌∷◌, ◌++◌, count_by, slice_get, length, take, map, All, codes, Option, Some, None}
 use Rattle.std.specs.Prelude.{flat_map}
@@ -43,7 +43,7 @@ use Rattle.command_core.specs.Work.{AreTold}
 
 -- ---- options
 
--- the options of a run that are limited: the bytes of a file, and how many workers and chunks at a time there are
+-- the limited options of a run: the bytes of a file, and how many workers and chunks at a time there are
 pub record AreLawful (options : SealOptions) : Type 0 where
   pub max_bytes : options.max_bytes ≤ 2 ^ 40
   pub workers : (0 < options.workers) × (options.workers ≤ 16)
@@ -91,16 +91,16 @@ abbrev pub IsUncreated : List ℕ → FolderFault → List Event → List Event 
 IsUncreated name fault before after = (input : List ℕ)
     × (before ≡ trace.Reading name input ∷ trace.Refused (sealed_name name) fault ∷ []) × (after ≡ [])
 
--- What an output held that was given up. Where no number is void it held nothing; under a void number it held a
--- beginning of its input's container. No output has more than one.
+-- What an output held that was given up: nothing if no number is void, else a prefix of its input's container under the
+-- void number. No output has more than one.
 abbrev pub HeldUnder : List ℕ → ShapeView → ℕ → List ℕ → List ℕ → List ℕ → Type 0
 HeldUnder key shape device input [] held = held ≡ []
 HeldUnder key shape device input (number ∷ []) held = IsFront held (container key shape (prefix_of device number) input)
 HeldUnder key shape device input (number ∷ another ∷ numbers) held = ⊥
 
--- What the fault of a file whose output was given up tells of the void number, of the input and of what the output
--- held. Only under a number can a write fail, and memory is refused before anything is written. A file is bounded by
--- bytes, so it never has too many chunks. Of a reader that failed nothing is said.
+-- What the fault of a file whose output was given up says of the void number, the input and what the output held. A
+-- write can fail only under a number, and memory is refused before anything is written. A file is bounded by bytes, so
+-- it never has too many chunks. Nothing is said of a reader that failed.
 abbrev pub FitsFault : ℕ → FileFault → List ℕ → List ℕ → List ℕ → Type 0
 FitsFault most NoNumber void input held = void ≡ []
 FitsFault most (Unsealed sealing_fault.TooLong) void input held = most < length input
@@ -110,16 +110,16 @@ FitsFault most (Unsealed sealing_fault.Read) void input held = ⊤
 FitsFault most (Unsealed sealing_fault.Write) void input held = void ≢ []
 FitsFault most _ void input held = ⊥
 
--- its output was given up, for the cause that its fault tells
+-- its output was given up, for the cause in its fault
 abbrev pub IsDiscarded : List ℕ → ShapeView → ℕ → ℕ → List ℕ → FileFault → List ℕ → List Event → List Event → Type 0
 IsDiscarded key shape most device name fault void before after = (input : List ℕ) × (held : List ℕ)
     × HeldUnder key shape device input void held × FitsFault most fault void input held
     × (before ≡ prepared name input) × (after ≡ trace.Discarded (sealed_name name) held ∷ [])
 
--- What goes with the line of a file of this name that is to be sealed under a key, in a shape, of at most so many
--- bytes, by a device: the number that was granted for it and is void, in a list of one at most; what happens before the
--- files of its group are sealed; and what behind that. A line that says `sealed` goes with an output that was created
--- once and finished once, with the container of the input that was read as this name, under the number in the line.
+-- What belongs to the line of a file to be sealed under a key, in a shape, of at most `most` bytes, by a device: the
+-- void number granted for it (a list of at most one), and the events before and after the files of its group are
+-- sealed. With `sealed`, the output was created and finished once, and holds the container of the input read under this
+-- name, under the number in the line.
 abbrev pub Sealing : List ℕ → ShapeView → ℕ → ℕ → List ℕ → FileOutcome → List ℕ → List Event → List Event → Type 0
 Sealing key shape most device name (Sealed number bytes) void before after = (input : List ℕ) × (void ≡ [])
     × (bytes ≡ length input) × (length input ≤ most) × (before ≡ prepared name input)
@@ -134,12 +134,12 @@ Sealing key shape most device name (Failed fault) void before after =
     IsDiscarded key shape most device name fault void before after
 Sealing key shape most device name _ void before after = ⊥
 
--- Its output was finished with what its writer tells, where the file was sealed; else it was given up with that.
+-- If the file was sealed, its output was finished with what its writer reports; else it was given up with that.
 abbrev pub IsClosed : Option (List ℕ) → FileOutcome → List Event → Type 0
 IsClosed taken (Sealed number bytes) events = trace.Finishes taken events
 IsClosed taken _ events = trace.Discards taken events
 
--- the void number of a file whose sealing was granted this one: it has none where the file was sealed
+-- the void number of a file whose sealing was granted this number: none if the file was sealed
 abbrev pub void_at : ℕ → FileOutcome → List ℕ
 void_at number (Sealed n bytes) = []
 void_at number _ = number ∷ []
@@ -182,14 +182,13 @@ times_sealed number history = count_by (seals number) history
 abbrev pub times_voided : ℕ → List Entry → ℕ
 times_voided number history = count_by (spoils number) history
 
--- how often a number stands among these
+-- how often a number is among these
 abbrev pub times_in : ℕ → List ℕ → ℕ
 times_in number numbers = count_by (λ other. nat_eq number other) numbers
 
--- The lines, the void numbers of their files and the operations of a ledger agree: each number was settled as sealed
--- as often as a line says so, as void as often as it is the void number of a file, and granted as often as both
--- together. So no number is open, and where none is granted twice, each that was granted was settled once: as sealed
--- where a line says so, and as void where it is the void number of a file.
+-- The lines, the void numbers of their files and the operations of a ledger agree. Each number was settled as sealed as
+-- often as a line says so, as void as often as it is a file's void number, and granted as often as both together. So no
+-- number is open. If none is granted twice, each was settled once: as sealed if a line says so, else as void.
 pub record Accounts (lines : List FileLine) (voids : List ℕ) (operations : List Entry) : Type 0 where
   pub told : (number : ℕ) → times_sealed number operations ≡ times_told number lines
   pub voided : (number : ℕ) → times_voided number operations ≡ times_in number voids
@@ -200,7 +199,7 @@ pub record Accounts (lines : List FileLine) (voids : List ℕ) (operations : Lis
 abbrev pub IsSettled : List Entry → Type 0
 IsSettled history = let tally = tally_of history in tally.granted ≡ tally.sealed + tally.void
 
--- the numbers in the lines that say `sealed` lie in the range, and no two of them are the same
+-- the numbers in the lines that say `sealed` are in the range, and no two of them are the same
 pub record AreNumbered (range : Numbers) (lines : List FileLine) : Type 0 where
   pub inside : (i number bytes : ℕ) (name : List ℕ) → slice_get lines i ≡ Some (line_of name (Sealed number bytes))
       → (range.lo ≤ number) × (number < range.lo + range.size)
@@ -210,7 +209,7 @@ pub record AreNumbered (range : Numbers) (lines : List FileLine) : Type 0 where
 
 -- ---- a run
 
--- At most one range of so many numbers is appended to the lists.
+-- At most one range of `count` numbers is appended to the lists.
 abbrev pub AppendsOnce : List ℕ → ℕ → ℕ → State → State → Type 0
 AppendsOnce key_id device count old new =
     HasCleanDisk new → IsTrue new.is_open → (lists : Lists) → Holds old.now lists
@@ -222,7 +221,7 @@ CrashesAround key_id device count old new =
     Survives old new (λ trees. (lists : Lists) → Holds old.now lists
     → (db : Database) × Holds db (with_range lists key_id device count) × (trees ≡ db.trees))
 
--- A ledger file's keeper appended at most one range, whatever outlived a crash still does, and it stands as it then
+-- A ledger file's keeper appended at most one range, and whatever outlived a crash still does. The file is as it then
 -- was; or it was folded, and this is left of it.
 abbrev pub ReservesOnce : {S L F : Type 0} → Ghosts S → (Held S → F) → (L → F) → (S → L → Type 0) → List ℕ → ℕ → ℕ
     → F → F → Type 0
@@ -231,7 +230,7 @@ ReservesOnce g kept folded is_left key_id device count old new =
     × CrashesAround key_id device count (state g was) (state g mid) × StillLast g was mid
     × ((new ≡ kept mid) ⊎ ((left : _) × (new ≡ folded left) × LeftBy g is_left mid left))
 
--- so over files
+-- the same over files
 abbrev pub ReservesFilesOnce : {D F : Type 0} {g : disk.Ghosts D} → (Held (FileStore D g) → F) → (Files D → F)
     → List ℕ → ℕ
     → ℕ → F → F → Type 0
@@ -243,15 +242,15 @@ abbrev pub FoldsFiles : {D F : Type 0} {g : disk.Ghosts D} → (Held (FileStore 
 FoldsFiles {g} kept folded =
     FoldsARange over_files kept folded (λ store left. AreClean g left.log left.db → AreFolded store left)
 
--- a file's line, its void number where it has one, and what happened for it: before the files of its group were sealed,
--- and behind that
+-- a file's line, its void number if it has one, and what happened for it before and after the files of its group were
+-- sealed
 pub record Part : Type 0 where
   pub line : FileLine
   pub void : List ℕ
   pub before : List Event
   pub after : List Event
 
--- what happened for a group: before the sealing, one file behind the other, and then what happened behind it
+-- what happened for a group: before the sealing, file after file, and then what happened after it
 abbrev pub group_events : List Part → List Event
 group_events parts = flat_map (λ part. part.before) parts ++ flat_map (λ part. part.after) parts
 
@@ -259,8 +258,8 @@ group_events parts = flat_map (λ part. part.before) parts ++ flat_map (λ part.
 abbrev pub group_voids : List Part → List ℕ
 group_voids parts = flat_map (λ part. part.void) parts
 
--- These events are those of the groups of lines, one group behind the other, and these numbers are void: each line goes
--- with its own.
+-- These events are those of the groups of lines, one group after the other, and these numbers are void. Each line has
+-- its own.
 pub record AreOfGroups (does : List ℕ → FileOutcome → List ℕ → List Event → List Event → Type 0)
     (groups : List (List FileLine)) (voids : List ℕ) (events : List Event) : Type 0 where
   pub parts : List (List Part)
@@ -270,13 +269,13 @@ pub record AreOfGroups (does : List ℕ → FileOutcome → List ℕ → List Ev
   pub numbers : voids ≡ flat_map group_voids parts
   pub joined : events ≡ flat_map group_events parts
 
--- What happened in the folder, where it is known, goes with the lines of these groups and with these void numbers.
+-- What happened in the folder, if it is known, agrees with the lines of these groups and with these void numbers.
 abbrev pub Happened : List ℕ → ShapeView → ℕ → ℕ → Option (List Event) → Option (List Event) → List (List FileLine)
     → List ℕ → Type 0
 Happened key shape most device events events' groups voids =
     Does (AreOfGroups (Sealing key shape most device) groups voids) events events'
 
--- an output's bytes, where it holds any
+-- an output's bytes, if it holds any
 abbrev pub held_in : List ℕ → List (List ℕ)
 held_in [] = []
 held_in (byte ∷ bytes) = (byte ∷ bytes) ∷ []
@@ -291,8 +290,8 @@ written_in (trace.Refused name fault ∷ events) = written_in events
 written_in (trace.Finished name bytes ∷ events) = held_in bytes ++ written_in events
 written_in (trace.Discarded name bytes ∷ events) = held_in bytes ++ written_in events
 
--- Every file was worked, in order and in groups of so many, the last of at most so many; their lines were told, and
--- what happened goes with the groups and with the void numbers.
+-- Every file was processed, in order and in groups of `lanes`, the last of at most `lanes`. Their lines were printed,
+-- and what happened agrees with the groups and with the void numbers.
 pub record AreGrouped (happened : List (List FileLine) → List ℕ → Type 0) (lanes : ℕ) (names : List (List ℕ))
     (status : ℕ) (old new : Option (List ℕ)) (failures failures' : Option ℕ) : Type 0 where
   pub groups : List (List FileLine)
@@ -306,14 +305,14 @@ pub record AreGrouped (happened : List (List FileLine) → List ℕ → Type 0) 
   pub told : AreTold status lines old new failures failures'
   pub done : happened groups voids
 
--- So they were, and these operations of a ledger go with the lines and the void numbers.
+-- The same, and these operations of a ledger agree with the lines and the void numbers.
 pub record AreSealed (happened : List (List FileLine) → List ℕ → Type 0) (lanes : ℕ) (names : List (List ℕ))
     (operations : List Entry) (status : ℕ) (old new : Option (List ℕ)) (failures failures' : Option ℕ) : Type 0 where
   pub worked : AreGrouped happened lanes names status old new failures failures'
   pub accounts : Accounts worked.lines worked.voids operations
 
--- So they were, with a group for as many files as the ledger has seats, over one legal history; no number stands in two
--- lines, and none is open.
+-- The same, in groups of as many files as the ledger has seats, over one legal history. No number is in two lines, and
+-- none is open.
 pub record HasSealed (happened : List (List FileLine) → List ℕ → Type 0) (names : List (List ℕ)) (terms : Terms)
     (history : List Entry) (status : ℕ) (old new : Option (List ℕ)) (failures failures' : Option ℕ) : Type 0 where
   pub worked : AreGrouped happened terms.seats names status old new failures failures'
@@ -322,7 +321,7 @@ pub record HasSealed (happened : List (List FileLine) → List ℕ → Type 0) (
   pub accounts : Accounts worked.lines worked.voids history
   pub settled : IsSettled history
 
--- what a journal got, where one was asked for: this text, or a beginning of it and not all
+-- what a journal got, if one was asked for: this text, or a proper prefix of it
 abbrev pub IsWritten : {J : Type 0} → (J → Option (List ℕ)) → List ℕ → Bool → Option J → Option J → Type 0
 IsWritten taken text whole None None = whole ≡ true
 IsWritten taken text true (Some old) (Some new) = Appends (taken old) (taken new) text

@@ -1,21 +1,19 @@
 -- No nonce is used twice, and what was opened was sealed: what the runs under one key did, the chunks that their
 -- outputs held, and what a call opened of them.
 --
--- A run is a call of `seal_all` or of `pipe_all` that reserved numbers of the key and a device. It ended, or it was
--- killed at any moment. A run that ended is told by the clauses of its call (`WroteFiles`, `WroteStream`). One that was
--- killed returned nothing: it is told by what was shown before each container began, and before each write
--- (`WroteSoFar`). A run that reserved no such numbers, or that was killed before the fold, wrote nothing under the key
--- and device: it is one of those between two runs.
+-- A run is a call of `seal_all` or `pipe_all` that reserved numbers of the key and a device. It ended, or was killed at
+-- any moment. A run that ended is described by the clauses of its call (`WroteFiles`, `WroteStream`). One that was
+-- killed returned nothing: it is described by what was shown before each container began, and before each write
+-- (`WroteSoFar`). A run that reserved no such numbers, or was killed before the fold, wrote nothing under the key and
+-- device: it is one of those between two runs.
 --
--- A run names no disk: what is asked of it is said of the bytes of two files. So each may be over a disk of its own
--- type, as the runs of the program are. All of it is what a call promises, over its own disk
--- (`theorem::a_call_is_a_run` has that in the clauses' own words, `a_killed_call_is_a_run` in those of what holds at
--- every moment), but for four premises:
--- - Folder, reader and writer tell what they did. (What a folder told, its session, and what reader and writer had, is
---   `Some`.)
+-- A run names no disk: its conditions are on the bytes of two files. So each may be over a disk of its own type, as the
+-- runs of the program are. A call ensures all of them over its own disk, except four premises.
+-- (`theorem::a_call_is_a_run` shows this from the clauses, `a_killed_call_is_a_run` from what holds at every moment.)
+-- - Folder, reader and writer report what they did. (A folder's `told` and session, and what the two had, are `Some`.)
 -- - Nobody else writes a ledger file. (`Follows`: a run finds what those before it left.)
 -- - Its disk returns what was written to it. (`AreClean`, there.)
--- - No two ledger files share key and device. (All runs of a device stand in one list.)
+-- - No two ledger files share key and device. (All runs of a device are in one list.)
 use Rattle.std.specs.Prelude.{⊤, ◌≡◌, ◌⊎◌, ℕ, ◌+◌, ◌*◌, ◌^◌, ◌<◌, ◌≤◌, List, [], ◌∷◌, ◌++◌, length, slice_get, Option}
 use Rattle.std.specs.Prelude.{Some}
 use Rattle.std.specs.List.{AllByRecursion}
@@ -44,8 +42,8 @@ use Rattle.sealer_core.specs.Sealing.{Happened, HasSealed, held_in, sealed_name,
 
 -- ---- what a run wrote
 
--- A run of `seal_all` (its clause `run`), over a folder that told these events: the outputs are those that it finished
--- or gave up, and that held any byte.
+-- A run of `seal_all` (its clause `run`), over a folder that reported these events. The outputs are those that it
+-- finished or gave up, and that held any byte.
 pub record WroteFiles (key : List ℕ) (terms : Terms) (history : List Entry) (outputs : List (List ℕ)) : Type 0 where
   -- every `Shape` is one
   pub shape : ShapeView
@@ -59,8 +57,8 @@ pub record WroteFiles (key : List ℕ) (terms : Terms) (history : List Entry) (o
       names terms history status old new failures later
   pub held : outputs ≡ written_in events
 
--- A run of `pipe_all` (its clause `run`), over a reader that had this input and a writer that took these bytes: they
--- are its one output, where there are any. Its line says `outcome` of it.
+-- A run of `pipe_all` (its clause `run`), over a reader that had this input and a writer that took these bytes. They
+-- are its one output, if there are any. Its line says `outcome` of it.
 pub record WroteStream (key : List ℕ) (terms : Terms) (history : List Entry) (outputs : List (List ℕ)) : Type 0 where
   pub shape : ShapeView
   pub is_shape : IsShape shape
@@ -81,14 +79,14 @@ pub record WroteStream (key : List ℕ) (terms : Terms) (history : List Entry) (
 abbrev pub Begins : List ℕ → ℕ → List ℕ → Begun → Type 0
 Begins key device bytes b = (plain : List ℕ) × IsFront bytes (container key b.shape (prefix_of device b.number) plain)
 
--- and so do those of each output, one for each container that began
+-- the same for each output, one for each container that began
 abbrev pub EachBegins : List ℕ → ℕ → List (List ℕ) → List Begun → Type 0
 EachBegins key device [] [] = ⊤
 EachBegins key device (bytes ∷ outputs) (b ∷ begun) = Begins key device bytes b × EachBegins key device outputs begun
 EachBegins key device [] (b ∷ begun) = ⊥
 EachBegins key device (bytes ∷ outputs) [] = ⊥
 
--- and so it is known of each at any moment, though not of which plaintext
+-- the same is known of each at any moment, though not of which plaintext
 abbrev pub EachHolds : List ℕ → ℕ → List (List ℕ) → List Begun → Type 0
 EachHolds key device [] [] = ⊤
 EachHolds key device (bytes ∷ outputs) (b ∷ begun) =
@@ -96,7 +94,7 @@ EachHolds key device (bytes ∷ outputs) (b ∷ begun) =
 EachHolds key device [] (b ∷ begun) = ⊥
 EachHolds key device (bytes ∷ outputs) [] = ⊥
 
--- A run of either that was killed at whatever moment: the containers that had begun by then, and the bytes that the
+-- A run of either kind that was killed at any moment: the containers that had begun by then, and the bytes that the
 -- output of each held.
 pub record WroteSoFar (key : List ℕ) (terms : Terms) (outputs : List (List ℕ)) : Type 0 where
   pub session : Session
@@ -104,16 +102,16 @@ pub record WroteSoFar (key : List ℕ) (terms : Terms) (outputs : List (List ℕ
   pub sound : IsSound session
   pub begins : EachBegins key terms.range.device outputs session.begun
 
--- A run over such a range, whose ledger did this, wrote these outputs under the key. (Of a run that was killed
--- nothing is said of what its ledger did.)
+-- A run over such a range, whose ledger did this, wrote these outputs under the key. (Nothing is said of what the
+-- ledger of a killed run did.)
 abbrev pub Wrote : List ℕ → Terms → List Entry → List (List ℕ) → Type 0
 Wrote key terms history outputs =
     WroteFiles key terms history outputs ⊎ WroteStream key terms history outputs ⊎ WroteSoFar key terms outputs
 
 -- ---- a run
 
--- What is told of a run, over a disk of whatever type: the ledger's two files as it found them, and as a crash left
--- them behind it; its range and seats, what its ledger did, and the bytes that each of its outputs held.
+-- What is known of a run, over a disk of any type: the ledger's two files as it found them, and as a crash left them
+-- after it; its range and seats, what its ledger did, and the bytes that each of its outputs held.
 pub record Run : Type 0 where
   pub start : Image
   pub files : Image
@@ -121,18 +119,18 @@ pub record Run : Type 0 where
   pub history : List Entry
   pub outputs : List (List ℕ)
 
--- a run that was killed, of which no history is told
+-- a run that was killed, with no known history
 abbrev pub killed_run : Image → Image → Terms → List (List ℕ) → Run
 killed_run start files terms outputs =
     record { start = start; files = files; terms = terms; history = []; outputs = outputs }
 
 -- A run under the key as a device.
 pub record IsRun (key : List ℕ) (device : ℕ) (run : Run) : Type 0 where
-  -- its range is a lawful one of the device, and lies behind all that the files held before it
+  -- its range is a lawful one of the device, and is after all that the files held before it
   pub of_device : run.terms.range.device ≡ device
   pub lawful : IsLawfulRange run.terms.range
   pub behind : (lists : Lists) → AreIn lists run.start → next_of (lists (sha256 key) device) ≤ run.terms.range.lo
-  -- and behind it they hold lists over which the next range begins no earlier than where it ends
+  -- and after it they hold lists over which the next range begins no earlier than this one ends
   pub stands : (lists : Lists) × AreIn lists run.files
       × (run.terms.range.lo + run.terms.range.size ≤ next_of (lists (sha256 key) device))
   pub wrote : Wrote key run.terms run.history run.outputs
@@ -148,7 +146,7 @@ IsLeftOf g left files = (crashed : Image) × outcomes g left.log left.db crashed
 abbrev pub Follows : Run → Run → Type 0
 Follows one other = (between : List Image) × PassInTurn one.files between other.start
 
--- in a list each stands so to the next
+-- in a list each has this relation to the next
 abbrev pub AreInTurn : {A : Type 0} → (A → A → Type 0) → List A → Type 0
 AreInTurn next [] = ⊤
 AreInTurn next (x ∷ []) = ⊤
@@ -177,8 +175,8 @@ pub record BeginsContainer (key : List ℕ) (range : Numbers) (bytes : List ℕ)
   pub plain : List ℕ
   pub begins : IsFront bytes (container key shape (prefix_of range.device number) plain)
 
--- The bytes have some of this chunk, and this is its nonce: of whatever container under the key they begin. Its number
--- has 32 bits, as all that the format has.
+-- The bytes have some of this chunk, and this is its nonce, whatever container under the key they begin. The chunk's
+-- number has 32 bits, as in the format.
 pub record HasChunk (key bytes : List ℕ) (chunk : ℕ) (nonce : List ℕ) : Type 0 where
   pub shape : ShapeView
   pub prefix : List ℕ
@@ -214,7 +212,7 @@ finished_in (Discarded name bytes ∷ events) = finished_in events
 
 -- ---- and by a call
 
--- A call of `open_all` (its clause `files`), over a folder that told these events.
+-- A call of `open_all` (its clause `files`), over a folder that reported these events.
 pub record OpenedFiles (key : List ℕ) : Type 0 where
   pub names : List (List ℕ)
   pub before : List Event
@@ -228,13 +226,13 @@ pub record OpenedFiles (key : List ℕ) : Type 0 where
 abbrev pub IsAmong : Event → List Event → Type 0
 IsAmong event events = (before : List Event) × (after : List Event) × (events ≡ before ++ event ∷ after)
 
--- A file was read as `input`, right behind that its output was created, and later it was finished with `bytes`.
+-- A file was read as `input`, right after that its output was created, and later it was finished with `bytes`.
 abbrev pub WasSealed : List Event → List ℕ → List ℕ → List ℕ → Type 0
 WasSealed events file input bytes = (before : List Event) × (between : List Event) × (after : List Event)
     × (events ≡ before ++ Reading file input ∷ Created (sealed_name file) ∷ between
     ++ Finished (sealed_name file) bytes ∷ after)
 
--- A file was read as `bytes`, and right behind that its output was created, and finished with `plain`.
+-- A file was read as `bytes`, and right after that its output was created, and finished with `plain`.
 abbrev pub WasOpened : List Event → List ℕ → List ℕ → List ℕ → Type 0
 WasOpened events file bytes plain = (before : List Event) × (after : List Event)
     × (events ≡ before ++ Reading file bytes ∷ Created (output_of file) ∷ Finished (output_of file) plain ∷ after)

@@ -1,4 +1,4 @@
-//! The end of a run that seals: its seats meet, and its journal is written where one was asked for.
+//! The end of a run that seals: its seats meet, and its journal is written if one was asked for.
 ghost use Rattle.std.specs.Prelude.{List, is_ok, MatchResult, OnOk, OnErr};
 ghost use Rattle.journal_core.specs.declared.entry.Entry.{Entry};
 ghost use Rattle.io_core.specs.Streams.{Appends, AppendsFront, LacksSome};
@@ -59,7 +59,7 @@ fn write_journal<J: Report>(
     }
 }
 
-/// Ends a ledger: its seats meet, with or without a journal, and the journal is written where one was asked for.
+/// Ends a ledger: its seats meet, with or without a journal, and the journal is written if one was asked for.
 pub(crate) fn end_ledger<J: Report>(
     alloc: Global,
     ledger: Ledger,

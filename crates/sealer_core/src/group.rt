@@ -1,6 +1,6 @@
-//! Files sealed in groups of as many as a ledger has lanes. By one lane the file is sealed as it is read. By several
-//! each file in turn is prepared; those that were read are sealed side by side; then each container in turn is
-//! written, its output finished, and its number settled.
+//! Files sealed in groups of as many as a ledger has lanes. With one lane the file is sealed as it is read. With
+//! several, each file in turn is prepared, and those that were read are sealed side by side. Then each container in
+//! turn is written, its output finished, and its number settled.
 ghost use Rattle.std.specs.Prelude.{◌≡◌, ◌⊎◌, ℕ, Option, ◌<◌, ◌≤◌, List, [], ◌∷◌, ◌++◌, length, map, All, flat_map};
 ghost use Rattle.command_core.specs.Lines.{FileLine};
 ghost use Rattle.command_core.specs.Trace.{Does};
@@ -28,8 +28,8 @@ use std::collections::VecDeque;
 use std::sync::Wait;
 use std::thread::Threads;
 
-// Ends one file of a group, by its own fault, or by the next of the outcomes where it was read: of one that was sealed
-// the container may begin, and is written. Where no outcome is left, memory for them was refused.
+// Ends one file of a group by its own fault or, if it was read, by the next outcome. If it was sealed, its container
+// may begin and is written. If no outcome is left, memory for outcomes was refused.
 fn end_file<F: SealingFolder>(
     key: &Key,
     shape: &Shape,
@@ -66,7 +66,7 @@ fn end_file<F: SealingFolder>(
     match outcomes.pop_front() {
         Some(Outcome::Sealed { seat, bytes, spent }) => {
             let (holder, number) = (&seats[seat as usize], spent.number());
-            // It tells that the seat has a legal history.
+            // It shows that the seat has a legal history.
             let _legal = holder.number();
             folder.allow_container(&mut writer, ledger, holder, number, key, shape);
             let sealed = match put_all(&mut writer, bytes.as_slice()) {
@@ -84,7 +84,7 @@ fn end_file<F: SealingFolder>(
     }
 }
 
-// Ends the files of a group in turn, with a line for each. The answer is the status so far.
+// Ends the files of a group in turn, with a line for each. Returns the status so far.
 fn end_group<F: SealingFolder, L: Report>(
     alloc: Global,
     key: &Key,
@@ -119,11 +119,11 @@ fn end_group<F: SealingFolder, L: Report>(
     status
 }
 
-// Bytes of a job that is worth a lane, at least. To seal fewer takes less time than to start a thread.
+// The least bytes of a job that is worth a lane. To seal fewer takes less time than to start a thread.
 const LANE_BYTES: usize = 1 << 15;
 
-// By how many lanes a group of jobs is sealed: as many as it has jobs that are worth one, and at least one where there
-// is any.
+// With how many lanes a group of jobs is sealed: as many as it has jobs that are worth one, but at least one if there
+// is any job.
 fn lanes_for(jobs: &[Vec<u8>]) -> u32
     requires few { length jobs.now ≤ MAX_LANES }
     ensures within { result ≤ length jobs.now }
@@ -133,7 +133,7 @@ fn lanes_for(jobs: &[Vec<u8>]) -> u32
     worth.max(1).min(jobs.len()) as u32
 }
 
-// Seals the jobs of a group, each lane by a seat of its own. Where memory for the outcomes is refused there is none.
+// Seals the jobs of a group, each lane with its own seat. Returns none if memory for the outcomes is refused.
 fn seal_jobs<T: Threads + Sync>(
     rt: &T,
     alloc: Global,
@@ -176,7 +176,7 @@ fn meet_seats(ledger: &Ledger, seats: &mut [Seat])
     ledger.meet_all(seats);
 }
 
-// Tells of each file that memory was refused before anything was done with it.
+// Reports for each file that memory was refused before anything was done with it.
 fn refuse_group<L: Report>(alloc: Global, names: &[&str], lines: &mut L, start: u8) -> u8
     ensures { (before : List FileLine) (first : Option (List ℕ)) (count : Option ℕ)
         → AreTold start before first (L.taken lines.old) count (L.failures lines.old)
@@ -191,7 +191,7 @@ fn refuse_group<L: Report>(alloc: Global, names: &[&str], lines: &mut L, start: 
     status
 }
 
-// Seals the files of a group, of which there are at most as many as seats. The answer is the status so far.
+// Seals the files of a group, at most as many as there are seats. Returns the status so far.
 fn seal_group<T: Threads + Wait + Sync, F: SealingFolder, L: Report>(
     rt: &T,
     alloc: Global,
@@ -232,7 +232,7 @@ fn seal_group<T: Threads + Wait + Sync, F: SealingFolder, L: Report>(
     )
 }
 
-/// Seals the files in groups of as many as there are seats, with a line for each. The answer is the status so far.
+/// Seals the files in groups of as many as there are seats, with a line for each. Returns the status so far.
 pub(crate) fn seal_groups<T: Threads + Wait + Sync, F: SealingFolder, L: Report>(
     rt: &T,
     alloc: Global,

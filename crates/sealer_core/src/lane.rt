@@ -1,5 +1,5 @@
-//! One file: how it is begun and how it ends, whichever lane seals it, and how one lane seals it by as many workers as
-//! are asked for. An output is finished before its number is settled, so that the number of one that can't be is void.
+//! One file: how it begins and ends, whichever lane seals it, and how one lane seals it with several workers. An output
+//! is finished before its number is settled, so the number of one that can't be finished is void.
 ghost use Rattle.std.specs.Prelude.{◌≡◌, ◌<◌, ℕ, Option, List, [], ◌∷◌, ◌++◌, length, IfOk, IfErr, OnOk, Err, Ok};
 ghost use Rattle.journal_core.specs.declared.entry.Event.TheVariants.{Granted, Settled};
 ghost use Rattle.journal_core.specs.declared.entry.Way.{Way};
@@ -65,7 +65,7 @@ pub(crate) fn settle_of_file(ledger: &Ledger, seat: &mut Seat, spent: Spent)
     let _ = ledger.settle(seat, spent);
 }
 
-// Settles a number at the seat of this place, which owes that.
+// Settles a number at the seat at this place, which owes it.
 fn settle_at(ledger: &Ledger, seats: &mut [Seat], place: u32, spent: Spent)
     requires all { AreAllSeats ledger.now seats.old }
     requires owed { OwesAt ledger.now seats.old place spent.device spent.number }
@@ -115,8 +115,8 @@ pub(crate) fn give_up<F: Folder>(folder: &mut F, writer: F::Writer, fault: FileF
     FileOutcome::Failed(fault)
 }
 
-/// Ends an output as its sealing ended. One that holds its whole container is finished, and its number settled as
-/// sealed; where the sealing or the finishing failed the number is void, and the output is given up.
+/// Ends an output according to how its sealing ended. If it holds its whole container it is finished, and its number
+/// settled as sealed. If the sealing or the finishing failed, the number is void, and the output is given up.
 pub(crate) fn end_output<F: Folder>(
     ledger: &Ledger,
     seats: &mut [Seat],
@@ -151,8 +151,8 @@ pub(crate) fn end_output<F: Folder>(
     give_up(folder, writer, FileFault::Unsealed(fault))
 }
 
-/// Seals one file by the one seat. Its input is opened, its output created, and its number issued, in this order; then
-/// its container may begin.
+/// Seals one file with the one seat. Opens its input, creates its output and issues its number, in this order; then its
+/// container may begin.
 pub(crate) fn seal_file<T: Threads + Wait + Sync, F: SealingFolder>(
     rt: &T,
     alloc: Global,

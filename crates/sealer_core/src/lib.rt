@@ -1,8 +1,8 @@
 //! The sealer as a library: what each command does, over any reader and any writer.
 //!
-//! `seal_all` and `pipe_all` are here, with the theorems over their runs (`theorem`). The engines are those of
-//! `engine_core`, `open_all`, `verify_all` and the folders and lines of all commands those of `command_core`, and the
-//! laws on the life of a ledger file those of `life_core`. What must hold before a container begins is in `front_core`.
+//! `seal_all` and `pipe_all` are here, with the theorems over their runs (`theorem`). `engine_core` has the engines.
+//! `command_core` has `open_all`, `verify_all`, and the folders and lines of all commands. `life_core` has the laws on
+//! the life of a ledger file. `front_core` says what must hold before a container begins.
 #![tactic(auto)]
 
 mod ending;

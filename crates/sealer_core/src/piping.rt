@@ -30,13 +30,13 @@ use std::alloc::Global;
 use std::sync::Wait;
 use std::thread::Threads;
 
-/// The exit status where the stream wasn't touched, or the line or the journal couldn't be written whole.
+/// The exit status if the stream wasn't touched, or the line or the journal couldn't be written whole.
 const TROUBLE: u8 = 2;
 
 /// What the line of a stream calls it.
 const STREAM: &str = "-";
 
-/// What `pipe_all` works by.
+/// The options of `pipe_all`.
 #[derive(Clone, Copy)]
 pub struct PipeOptions<'a> {
     /// The device under whose number the stream is sealed. No two machines that share a key share one.
@@ -51,8 +51,8 @@ pub struct PipeOptions<'a> {
     pub shape: &'a Shape,
 }
 
-// Seals what a reader gives under the next number of the ledger, of whose range the ledger file has all numbers for
-// good, and settles that number.
+// Seals what a reader gives under the next number of the ledger, and settles that number. The ledger file has all
+// numbers of the ledger's range for good.
 fn pipe_next<T: Threads + Wait + Sync, S: Fold, R: Source, W: SealingStream>(
     rt: &T,
     alloc: Global,
@@ -104,7 +104,7 @@ fn pipe_next<T: Threads + Wait + Sync, S: Fold, R: Source, W: SealingStream>(
     }
 }
 
-// Seals what a reader gives by the one seat of a new ledger.
+// Seals what a reader gives with the one seat of a new ledger.
 fn pipe_alone<T: Threads + Wait + Sync, S: Fold, R: Source, W: SealingStream>(
     rt: &T,
     alloc: Global,
@@ -135,8 +135,8 @@ fn pipe_alone<T: Threads + Wait + Sync, S: Fold, R: Source, W: SealingStream>(
     pipe_next(rt, alloc, key, file, ledger, seat, reader, writer, options)
 }
 
-// Seals what a reader gives over a new ledger, tells its line, and ends the ledger. The answer is the status of the
-// line, and how the ledger ended.
+// Seals what a reader gives over a new ledger, prints its line, and ends the ledger. Returns the status of the line,
+// and how the ledger ended.
 fn pipe_over<T: Threads + Wait + Sync, S: Fold, R: Source, W: SealingStream, E: Report, J: Report>(
     rt: &T,
     alloc: Global,
@@ -182,17 +182,16 @@ fn pipe_over<T: Threads + Wait + Sync, S: Fold, R: Source, W: SealingStream, E: 
     (told, end_ledger(alloc, ledger, seats, journal))
 }
 
-/// Seals what a reader gives, to its end and as it comes, and writes its container, in the options' shape and under a
-/// number of its own. Its line, `sealed - file NUMBER bytes N` or `failed -: FAULT`, goes to `out.faults`, since
-/// standard output is the container's. The answer is the exit status: 0 where the stream was sealed, 1 where that
-/// failed, 2 where no range was reserved, the ledger file not folded or no ledger opened (then nothing was read or
-/// written), where the line couldn't be written, or where the journal couldn't be written whole. Each of these but
-/// the line has a text on standard error. A stream that knows what it may hold may hold no more yet than it took.
+/// Seals what a reader gives, to its end and as it comes, and writes its container, in the options' shape and under its
+/// own number. Its line, `sealed - file NUMBER bytes N` or `failed -: FAULT`, goes to `out.faults`, since standard
+/// output is for the container. Returns the exit status: 0 if the stream was sealed, 1 if that failed, 2 if no range
+/// was reserved, the ledger file wasn't folded or no ledger opened (then nothing was read or written), if the line
+/// couldn't be written, or if the journal couldn't be written whole. Each of these but the line has a text on standard
+/// error. A stream that knows what it may hold must be allowed no more yet than it took.
 ///
-/// At a fault what was written begins the stream's container: whoever reads it must have the status, or open it. One
-/// range of one number is reserved, for good, and in the ledger file itself before the stream is read; nobody else
-/// may write the ledger file, and no ledger file that was copied or restored may be used again with the same key and
-/// device.
+/// After a fault, what was written is a prefix of the stream's container: check the status, or open it. One range of
+/// one number is reserved, for good, and is in the ledger file itself before the stream is read. Nobody else may write
+/// the ledger file. No copied or restored ledger file may be used again with the same key and device.
 pub fn pipe_all<
     T: Threads + Wait + Sync,
     S: Fold,
@@ -216,9 +215,9 @@ pub fn pipe_all<
     requires most { 0 < options.now.max_chunks }
     requires shut { IsShut (W.bound writer.old) (W.taken writer.old) }
     ensures status { result ≤ 2 }
-    // Nothing was read or written; or the stream was sealed over a range of one number that was reserved, in a ledger
-    // file that has it without its log, with one legal history, which the journal tells. On standard error there is a
-    // complaint, or the stream's line and behind it at most a complaint, each of them perhaps cut short.
+    // Nothing was read or written; or the stream was sealed over a range of one number that was reserved. The ledger
+    // file has that range without its log; one legal history is in the journal. On standard error there is a complaint,
+    // or the stream's line and after it at most a complaint, each perhaps cut short.
     ensures run { ((result ≡ 2) × (reader.new ≡ reader.old) × (writer.new ≡ writer.old)
         × (out.new.journal ≡ out.old.journal) × Complains (E.taken out.old.faults) (E.taken out.new.faults))
         ⊎ ((range : Numbers) × (history : List Entry) × (told : ℕ) × (written : Bool) × (lines : Option (List ℕ))

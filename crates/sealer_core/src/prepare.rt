@@ -1,4 +1,4 @@
-//! Files of a group before they are sealed: of each in turn its input is opened, its output created and its input read.
+//! Files of a group before they are sealed: for each, its input is opened, its output created and its input read.
 ghost use Rattle.std.specs.Prelude.{◌≡◌, ◌≤◌, ◌++◌, length, map, All, flat_map, IfOk, OnErr};
 ghost use Rattle.command_core.specs.Trace.{Does};
 ghost use Rattle.sealer_core.specs.Group.{AreBegun, IsBegunWith, name_of, IsPrepared, read_of};
@@ -15,14 +15,14 @@ use std::collections::VecDeque;
 pub(crate) enum Prepared<'a, W: Drop> {
     /// No output was created.
     Refused(&'a str, FileFault),
-    /// Its output was created, and its plaintext wasn't read.
+    /// Its output was created, but its plaintext wasn't read.
     Unread(&'a str, W, SealFault),
-    /// Its output was created, and its plaintext of so many bytes is among the jobs.
+    /// Its output was created, and its plaintext of this many bytes is among the jobs.
     Read(&'a str, W, u64),
 }
 
 impl<'a, W: Drop> Prepared<'a, W> {
-    /// The file's name.
+    /// Returns the file's name.
     pub(crate) fn name(&self) -> &'a str
         ensures { result.now ≡ name_of self.now }
     {
@@ -68,7 +68,7 @@ fn prepare_file<'a, F: Folder>(
     }
 }
 
-/// Prepares the files of a group in turn: what became of each, and the plaintexts of those that were read.
+/// Prepares the files of a group in turn. Returns what became of each, and the plaintexts of those that were read.
 pub(crate) fn prepare_group<'a, F: Folder>(
     alloc: Global,
     folder: &mut F,

@@ -1,4 +1,4 @@
-//! What the runs of one ledger file are to each other.
+//! How the runs of one ledger file relate.
 ghost use Rattle.std.specs.Prelude.{◌≡◌, ◌⊎◌, ◌+◌, ◌++◌, ◌≤◌, ℕ, List, [], Option, Some, map};
 ghost use Rattle.command_core.specs.Trace.{Event};
 ghost use Rattle.container_core.specs.Shape.{IsShape, ShapeView};
@@ -18,10 +18,10 @@ use reserve_core::LedgerFile;
 use sqlite::Files;
 use sqlite_disk::Disk;
 
-/// No number is in the ranges of two runs. `seal_all` folds a range of a key and device, and a crash leaves of the two
-/// files what it may, or the log is lost; whatever runs pass on what they found there, one after another; a later run's
-/// keeper is made of what it finds, and its range of that key and device lies behind the first. The disks return what
-/// was written to them, and may be of different types.
+/// No number is in the ranges of two runs. `seal_all` folds a range of a key and device; then a crash leaves any
+/// allowed state of the two files, or the log is lost. Any runs pass on what they found there, one after another. A
+/// later run's keeper is made of what it finds, and its range of that key and device is after the first. The disks
+/// return what was written to them, and may be of different types.
 pub fn runs_are_apart<D: Disk + Drop, E: Disk + Drop>()
     ensures { (key_id : List ℕ) (device count more : ℕ) (one other : Numbers) (start files last : Image)
         (between : List Image) (was now : _) (new newer : _) (left : Files D) (rest : Files E)
@@ -35,11 +35,10 @@ pub fn runs_are_apart<D: Disk + Drop, E: Disk + Drop>()
         → one.lo + one.size ≤ other.lo }
 {}
 
-/// What a run of `seal_all` wrote is what the law on outputs asks for (`laws::no_two_outputs_have_one_prefix`): each
-/// output that it finished or gave up, and that holds any byte, holds a beginning of a container under the key and in
-/// the shape, under a number of its own that was granted in this run; a finished one holds the whole container. Each
-/// premise is a clause of `seal_all`, over a folder that tells what happened, but that the shape is one, which that of
-/// the options is.
+/// What a run of `seal_all` wrote meets the law on outputs (`laws::no_two_outputs_have_one_prefix`). Each output that
+/// it finished or gave up, and that holds any byte, holds a prefix of a container under the key and in the shape, under
+/// its own number, granted in this run. A finished one holds the whole container. Each premise is a clause of
+/// `seal_all`, over a folder that reports what happened, except that the shape is one, as the options' shape is.
 pub fn a_run_has_written()
     ensures { (key : List ℕ) (shape : ShapeView) (names : List (List ℕ)) (terms : Terms) (history : List Entry)
         (status most : ℕ) (old new : Option (List ℕ)) (failures later : Option ℕ) (before after : List Event)
@@ -52,9 +51,9 @@ pub fn a_run_has_written()
         × AreGranted terms history outputs }
 {}
 
-/// The same of a run of `pipe_all`: what its writer took, where that is any byte, is a beginning of one container under
-/// the key and in the shape, under a number that was granted in this run. Each premise is a clause of `pipe_all`, over
-/// a reader that tells what it has left to give and a writer that tells what it took.
+/// The same for a run of `pipe_all`: what its writer took, if any byte, is a prefix of one container under the key and
+/// in the shape, under a number granted in this run. Each premise is a clause of `pipe_all`, over a reader that reports
+/// what it has left and a writer that reports what it took.
 pub fn a_stream_has_written()
     ensures { (key : List ℕ) (shape : ShapeView) (most : ℕ) (input : List ℕ) (left : Option (List ℕ))
         (failures failures_then : Option ℕ) (old new : List ℕ) (refusals refusals_then : Option ℕ) (terms : Terms)

@@ -1,7 +1,7 @@
 //! The command that seals: one range of file numbers is reserved, and each file is sealed under one of them.
 //!
-//! A range is reserved for good before any file is touched, and stands in the ledger file itself, so a number that a
-//! run didn't use is given up. Files are sealed in turn by one lane, or in groups by several.
+//! A range is reserved for good before any file is touched, and is in the ledger file itself, so a number that a run
+//! didn't use is given up. Files are sealed in turn with one lane, or in groups with several.
 ghost use Rattle.std.specs.Prelude.{◌≡◌, ◌≢◌, ◌⊎◌, ℕ, Bool, ◌<◌, ◌≤◌, List, length, map, IsTrue, IfOk, OnErr, is_ok};
 ghost use Rattle.std.specs.Prelude.{if◌then◌else◌, IfSome, []};
 ghost use Rattle.sha2.specs.Sha256.{sha256};
@@ -32,7 +32,7 @@ use std::alloc::Global;
 use std::sync::Wait;
 use std::thread::Threads;
 
-/// The exit status where no file was touched, or the journal couldn't be written whole.
+/// The exit status if no file was touched, or the journal couldn't be written whole.
 const TROUBLE: u8 = 2;
 
 /// What `seal_all` works on.
@@ -44,10 +44,10 @@ pub struct SealOptions<'a> {
     pub files: &'a [&'a str],
     /// The number of workers that seal a file: 1 to 16. With more than one lane each file is sealed by its lane alone.
     pub workers: u32,
-    /// How many files are sealed at once, at most: 1 to 16. With more than one, so many inputs and containers are in
-    /// memory at a time, and a group is sealed by as many lanes as it has files of 32 KiB and more, by one at least.
+    /// The greatest number of files sealed at once: 1 to 16. With n > 1, n inputs and containers are in memory at a
+    /// time. A group is sealed with as many lanes as it has files of at least 32 KiB, but at least one.
     pub lanes: u32,
-    /// How many chunks of a file are sealed at a time by one lane: 1 to 256. With more than one lane it has no effect.
+    /// How many chunks of a file one lane seals at a time: 1 to 256. With more than one lane it has no effect.
     pub window: u32,
     /// The greatest number of plaintext bytes of a file: at most 2^40.
     pub max_bytes: u64,
@@ -122,7 +122,7 @@ pub(crate) fn open_ledger<S: Fold>(
         Ok(range) => range,
         Err(fault) => return Err(fault),
     };
-    // It tells that the range is a lawful one.
+    // It shows that the range is a lawful one.
     let _lawful = range.size();
     match Ledger::open(alloc, range, lanes) {
         Ok(opened) => Ok(opened),
@@ -130,8 +130,8 @@ pub(crate) fn open_ledger<S: Fold>(
     }
 }
 
-// Seals the files over a new ledger, of whose range the ledger file has all numbers for good, and ends that. The answer
-// is the status of the lines, and how the ledger ended.
+// Seals the files over a new ledger, and ends it. The ledger file has all numbers of its range for good. Returns the
+// status of the lines, and how the ledger ended.
 fn work_ledger<T: Threads + Wait + Sync, S: Fold, F: SealingFolder, W: Report, J: Report>(
     rt: &T,
     alloc: Global,
@@ -165,19 +165,18 @@ fn work_ledger<T: Threads + Wait + Sync, S: Fold, F: SealingFolder, W: Report, J
     (told, end_ledger(alloc, ledger, seats, journal))
 }
 
-/// Seals each file to its name and `.stm`, which must not be there yet, in the options' shape and under a number of
-/// its own. A file of more than `max_bytes` bytes is too long. The answer is the exit status: 0 where every file was
-/// sealed, 1 where one failed, 2 where no range was reserved, the ledger file not folded or no ledger opened (then no
-/// file was touched), where a line couldn't be written (no further line is tried, and the files and the journal are
-/// still worked), or where the journal couldn't be written whole. Each of these but a line has a text on standard
-/// error. An output whose file failed is given up: it is removed, and what it held begins the container of its input
-/// under a number that is void, or is nothing.
+/// Seals each file to its name and `.stm`, which must not exist yet, in the options' shape and under its own number. A
+/// file of more than `max_bytes` bytes is too long. Returns the exit status: 0 if every file was sealed, 1 if one
+/// failed, 2 if no range was reserved, the ledger file wasn't folded or no ledger opened (then no file was touched), if
+/// a line couldn't be written (no further line is tried; files and journal are still processed), or if the journal
+/// couldn't be written whole. Each of these but a line has a text on standard error. The output of a file that failed
+/// is given up: it is removed. What it held is nothing, or a prefix of its input's container under a void number.
 ///
-/// One range is reserved at most, with as many numbers as there are files, and for good: what it leaves unused is
-/// given up. Before the first file is opened the ledger file is folded, so that it has the range without its log;
-/// after that it is no keeper's, and a further run opens it anew. Nobody else may write the ledger file, and no
-/// ledger file that was copied or restored may be used again with the same key and device. A folder that knows which
-/// containers began in it serves one run.
+/// At most one range is reserved, with as many numbers as there are files, and for good: what it leaves unused is given
+/// up. Before the first file is opened the ledger file is folded, so it has the range without its log. After that it
+/// has no keeper, and a further run opens it anew. Nobody else may write the ledger file. No copied or restored ledger
+/// file may be used again with the same key and device. A folder that knows which containers began in it serves one
+/// run.
 pub fn seal_all<
     T: Threads + Wait + Sync,
     S: Fold,
@@ -201,8 +200,8 @@ pub fn seal_all<
     requires max_bytes { options.now.max_bytes ≤ MAX_BYTES }
     requires idle { IfSome (F.session folder.old) (λ session. session.begun ≡ []) }
     ensures status { result ≤ 2 }
-    // No file was touched; or the files were sealed over a range that was reserved, in a ledger file that has it
-    // without its log, with one legal history, which the journal tells.
+    // No file was touched; or the files were sealed over a range that was reserved. The ledger file has that range
+    // without its log; one legal history is in the journal.
     ensures run { ((result ≡ 2) × (folder.new ≡ folder.old) × (out.new.lines ≡ out.old.lines)
         × (out.new.journal ≡ out.old.journal))
         ⊎ ((range : Numbers) × (history : List Entry) × (told : ℕ) × (written : Bool)
@@ -217,7 +216,7 @@ pub fn seal_all<
         out.old.journal out.new.journal
         × (result ≡ (if written then told else 2))) }
     ensures complaint { result ≢ 2 → out.new.faults ≡ out.old.faults }
-    // Standard error takes one complaint, or a beginning of one, or nothing.
+    // Standard error takes one complaint, or a prefix of one, or nothing.
     ensures complains { (out.new.faults ≡ out.old.faults)
         ⊎ Complains (E.taken out.old.faults) (E.taken out.new.faults) }
     // At most one range is appended, and a crash leaves the lists from before or those with it: up to the fold, and of

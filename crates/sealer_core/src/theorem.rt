@@ -41,7 +41,7 @@ use reserve_core::LedgerFile;
 use sqlite::Files;
 use sqlite_disk::Disk;
 
-// What a run wrote are outputs, each of which held a beginning of a container under a number of its own.
+// A run wrote outputs; each held a prefix of a container under its own number.
 fn a_run_wrote_its_outputs()
     ensures { (key : List ℕ) (terms : Terms) (history : List Entry) (held : List (List ℕ))
         → IsLawfulRange terms.range → Wrote key terms history held
@@ -52,8 +52,8 @@ fn a_run_wrote_its_outputs()
     a_stream_has_written();
 }
 
-// A range that was folded lies behind all that were found in the files; and over whatever a crash leaves of them, the
-// next range lies behind it.
+// A range that was folded is after all that were found in the files. Over whatever a crash leaves of them, the next
+// range is after it.
 fn a_fold_leaves_its_range<D: Disk + Drop>()
     ensures { (key_id : List ℕ) (device count : ℕ) (start files : Image) (keeper : _) (old new : _) (left : Files D)
         (range : Numbers) → old ≡ LedgerFile.Kept keeper → new ≡ LedgerFile.Folded left
@@ -64,13 +64,12 @@ fn a_fold_leaves_its_range<D: Disk + Drop>()
         × (lists : Lists) × AreIn lists files × (range.lo + range.size ≤ next_of (lists key_id device)) }
 {}
 
-/// No nonce is used twice. Take any number of runs of `seal_all` and `pipe_all` under one key, as any devices, each of
-/// which found the ledger file of its device as those before it left it, over any crashes between. What their outputs
-/// held begins containers under the key, each under a number of the range of its run; each chunk of which such bytes
-/// have any has a nonce; and two chunks with one nonce, of whatever outputs, are the same chunk of the same output of
-/// the same run.
+/// No nonce is used twice. Take any number of runs of `seal_all` and `pipe_all` under one key, as any devices. Each
+/// found the ledger file of its device as those before it left it, over any crashes between. What their outputs held
+/// begins containers under the key, each under a number of its run's range. Each chunk of which such bytes have any has
+/// a nonce. Two chunks with one nonce, of any outputs, are the same chunk of the same output of the same run.
 ///
-/// Each run may be over a disk of a type of its own. The steps are the laws that are called here.
+/// Each run may be over a disk of its own type. The steps are the laws that are called here.
 pub fn no_nonce_is_used_twice()
     ensures sealed { (key : List ℕ) (runs : ℕ → List Run) (place : Place) (bytes : List ℕ)
         → AreRunsOf key runs → (held : HeldAt runs place bytes) → (held.run.terms.range.device ≡ place.device)
@@ -89,10 +88,10 @@ pub fn no_nonce_is_used_twice()
     no_two_outputs_have_one_prefix();
 }
 
-/// A call over files is a run of the theorem. What is asked of it is clause `run` of `seal_all` or `pipe_all`, where a
-/// range was reserved, of a ledger file whose keeper was made of what was found; that its disk returned what was
-/// written; and that folder, reader and writer told what they did. The outputs of the run are those of which these
-/// told, and its files are whatever a crash may leave of those that it folded.
+/// A call over files is a run of the theorem. The premises: clause `run` of `seal_all` or `pipe_all`, for a range that
+/// was reserved in a ledger file whose keeper was made of what was found; the disk returned what was written; folder,
+/// reader and writer reported what they did. The outputs of the run are those that these reported. Its files are
+/// whatever a crash may leave of those that it folded.
 pub fn a_call_is_a_run<D: Disk + Drop>()
     ensures files { (key : List ℕ) (shape : ShapeView) (device count lanes status most : ℕ) (names : List (List ℕ))
         (start files : Image) (keeper : _) (old new : _) (left : Files D) (range : Numbers) (history : List Entry)
@@ -120,22 +119,21 @@ pub fn a_call_is_a_run<D: Disk + Drop>()
     a_stream_has_written();
 }
 
-/// What an output holds at any moment, also where the run is killed: bound to the container of some plaintext behind
-/// what it took before (`SealingFolder::allow_container`, `SealingStream::allow_stream`), it took since then a
-/// beginning of one.
+/// What an output holds at any moment, also if the run is killed. It is bound to the container of some plaintext after
+/// what it took before (`SealingFolder::allow_container`, `SealingStream::allow_stream`). Since then it took a prefix
+/// of one.
 pub fn what_an_output_holds<W: Output>()
     ensures { (output : W) (before bytes key prefix : List ℕ) (shape : ShapeView)
         → W.bound output ≡ Some (Container before key shape prefix) → W.taken output ≡ Some (before ++ bytes)
         → ∥ ((plain : List ℕ) × IsFront bytes (container key shape prefix plain)) ∥₁ }
 {}
 
-/// A call that was killed is a run of the theorem: this one, of which no history is told. What is asked of it is what
-/// `a_call_is_a_run` asks of the ledger file, up to the fold of a range: that it had folded one is shown when it says
-/// under which key and range containers begin (`SealingFolder::start`, `SealingStream::allow_stream`: clause `stands`).
-/// And it is asked what holds at every moment. Of a call of `seal_all`: the containers that began have numbers of the
-/// range, no two the same (the law `sound` of `Folder`), and each of them has one output, which begins it
-/// (`what_an_output_holds`). Of a call of `pipe_all`: its stream begins a container, under a number that a seat of the
-/// ledger holds.
+/// A call that was killed is a run of the theorem, with no history. Its premises on the ledger file are those of
+/// `a_call_is_a_run`, up to the fold of a range. That it had folded one is shown when it declares under which key and
+/// range containers begin (`SealingFolder::start`, `SealingStream::allow_stream`: clause `stands`). The others hold at
+/// every moment. For `seal_all`: the containers that began have numbers of the range, no two the same (the law `sound`
+/// of `Folder`), and each has one output, which begins it (`what_an_output_holds`). For `pipe_all`: its stream begins a
+/// container, under a number that a seat of the ledger holds.
 pub fn a_killed_call_is_a_run<D: Disk + Drop>()
     ensures killed { (key : List ℕ) (device count seats : ℕ) (start files : Image) (keeper : _) (old new : _)
         (left : Files D) (session : Session) (outputs : List (List ℕ))
@@ -161,18 +159,17 @@ pub fn a_killed_call_is_a_run<D: Disk + Drop>()
 }
 
 /// What was opened was sealed. Take any run of `seal_all` or `pipe_all` under a key that ended (`IsRun` has one for
-/// each such run of the theorem above), and any call of `open_all` under that key. Whatever the call opened of the
-/// bytes of an output that the run finished is what the run had read of the file of that output, byte for byte; and
-/// of the bytes of a stream that the run sealed it is the run's input. Nothing is asked of a ledger file or of a
-/// disk.
+/// each such run of the theorem above), and any call of `open_all` under that key. What the call opened of the bytes of
+/// an output that the run finished is, byte for byte, what the run had read of that output's file. What it opened of
+/// the bytes of a stream that the run sealed is the run's input. There is no premise on a ledger file or a disk.
 ///
-/// Of each alone: what the call finished is what the bytes open to of a file that it had read right before, and what
-/// the run finished is the container of what it had read of a file before.
+/// For each alone: what the call finished is what the bytes of a file that it had read right before open to. What the
+/// run finished is the container of what it had read of a file before.
 ///
-/// The last two clauses are of two lines, whatever runs they are of. Take what happened for a line `sealed` of
-/// `seal_all`, or a stream that `pipe_all` sealed, and what happened for a line `opened` of `open_all` under the same
-/// key (each line goes with its own events, as `Happened` and `AreWorked` say). Where the input that was opened is the
-/// output that was sealed, what was finished is what had been read to be sealed, byte for byte.
+/// The last two clauses are on two lines, of any runs. Take what happened for a line `sealed` of `seal_all`, or a
+/// stream that `pipe_all` sealed, and what happened for a line `opened` of `open_all` under the same key. (Each line
+/// has its own events, as `Happened` and `AreWorked` say.) If the input that was opened is the output that was sealed,
+/// what was finished is, byte for byte, what had been read to be sealed.
 pub fn what_was_opened_was_sealed()
     ensures runs { (key : List ℕ) (terms : Terms) (history : List Entry) (outputs : List (List ℕ))
         (run : WroteFiles key terms history outputs) (call : OpenedFiles key) (output file bytes plain : List ℕ)

@@ -17,9 +17,9 @@ pub(crate) enum RunFault {
     Unreserved(ReserveFault),
     /// Memory for the shared ledger was refused. A range was reserved and is given up; no file was touched.
     NoLedger,
-    /// Memory for the journal was refused. The files were worked.
+    /// Memory for the journal was refused. The files were processed.
     NoJournal,
-    /// The journal could not be written whole. The files were worked.
+    /// The journal could not be written whole. The files were processed.
     JournalCut,
 }
 
@@ -38,7 +38,7 @@ impl fmt::Display for RunFault {
 
 impl Error for RunFault {}
 
-// Prints the fault's line. Where memory for its text is refused, or the write fails, the exit status alone tells.
+// Prints the fault's line. If memory for its text is refused, or the write fails, only the exit status reports it.
 pub(crate) fn complain<W: Report>(alloc: Global, faults: &mut W, fault: RunFault)
     ensures { Complains (W.taken faults.old) (W.taken faults.new) }
 {

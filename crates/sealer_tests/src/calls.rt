@@ -3,7 +3,7 @@
 use crate::cases::{Case, Left, Trouble, Work, ends};
 use crate::runs::{EMPTY, SECRET};
 
-// What a run has to tell, and to leave.
+// What a run must print and leave.
 struct Run {
     status: u8,
     lines: &'static [u8],
@@ -11,8 +11,7 @@ struct Run {
     left: &'static [(&'static str, Left<'static>)],
 }
 
-// Runs over a folder, of which the first one fails at the first call, each further one at the next, and the last one
-// at none.
+// Runs over a folder. In the first, the first call fails, in the second the second, and so on; in the last none fails.
 struct Runs {
     what: &'static str,
     folder: &'static [(&'static str, &'static [u8])],
@@ -22,8 +21,8 @@ struct Runs {
 }
 
 static RUNS: [Runs; 3] = [
-    // The calls are: open `a`, create `a.stm`, finish it, and the same of `b`. Behind a finishing that fails the output
-    // is removed.
+    // The calls are: open `a`, create `a.stm`, finish it, and the same for `b`. After a failed finish, the output is
+    // removed.
     Runs {
         what: "a sealing by one lane",
         folder: &[("a", b"1"), ("b", b"22")],
@@ -80,7 +79,7 @@ static RUNS: [Runs; 3] = [
             },
         ],
     },
-    // In a group the outputs are finished once all were created, each before its number is settled.
+    // In a group the outputs are finished after all were created, each before its number is settled.
     Runs {
         what: "a sealing by two lanes",
         folder: &[("a", b"1"), ("b", b"22")],
@@ -137,7 +136,7 @@ static RUNS: [Runs; 3] = [
             },
         ],
     },
-    // The calls are: open `a.stm`, create `a`, finish it, and the same of `b.stm`.
+    // The calls are: open `a.stm`, create `a`, finish it, and the same for `b.stm`.
     Runs {
         what: "an opening",
         folder: &[("a.stm", &SECRET), ("b.stm", &EMPTY)],
@@ -190,7 +189,7 @@ static RUNS: [Runs; 3] = [
     },
 ];
 
-// The case of a run whose call of this number fails.
+// The case of a run in which the call with this number fails.
 fn case_of(runs: &Runs, number: u64, run: &Run) -> Case<'static> {
     Case {
         folder: runs.folder,

@@ -1,4 +1,4 @@
-//! Cases: a run over a folder in memory, what it has to tell, and what it has to leave.
+//! Cases: a run over a folder in memory, what it must print, and what it must leave.
 use crate::runs::{
     MemoryOuts, folder_of, has_bytes, holds, journal_of, ledger_after, open_over, outs, seal_over,
     seal_shaped, steady_outs,
@@ -18,42 +18,42 @@ pub(crate) enum Trouble {
     Nothing,
     Readers(Pace),
     Writers(Pace),
-    // The folder's call of this number.
+    // The folder's call with this number.
     Call(u64),
     WritersAndCall(Pace, u64),
     // The writer of the lines.
     Lines(Schedule),
     // The writer of the journal.
     Journal(Schedule),
-    // Nothing, and no journal is asked for.
+    // Nothing fails, and there is no journal.
     NoJournal,
 }
 
 #[derive(Clone, Copy)]
 pub(crate) enum Work {
     Seal { workers: u32, lanes: u32 },
-    // In version 2, in chunks of 4,096 bytes under this label, by one worker.
+    // In version 2, in chunks of 4,096 bytes with this label, with one worker.
     SealLabelled { lanes: u32, label: &'static [u8] },
     Open,
     Verify,
-    // The same where this label is asked for.
+    // The same if this label is required.
     OpenLabelled(&'static [u8]),
     VerifyLabelled(&'static [u8]),
-    // Verifying, and what the headers say is told.
+    // Verifies, and shows what the headers say.
     Show,
 }
 
-// What there is of a file.
+// What is left of a file.
 #[derive(Clone, Copy)]
 pub(crate) enum Left<'a> {
     Absent,
     Is(&'a [u8]),
-    // A container under the number's prefix, of this plaintext.
+    // A container of this plaintext, with the prefix of this number.
     Holds(u8, &'a [u8]),
 }
 
-// A run, what it has to tell, where no journal is an empty one, and what it leaves. `folder` is what `ends` puts in: a
-// run over another folder doesn't look at it.
+// A run, what it must print (an empty journal means none), and what it leaves. `ends` puts `folder` in; a run over
+// another folder ignores it.
 #[derive(Clone, Copy)]
 pub(crate) struct Case<'a> {
     pub(crate) folder: &'a [(&'a str, &'a [u8])],
@@ -68,7 +68,7 @@ pub(crate) struct Case<'a> {
     pub(crate) left: &'a [(&'a str, Left<'a>)],
 }
 
-// What the run writes to.
+// Where the run writes.
 fn outs_of(alloc: Global, trouble: Trouble) -> Option<MemoryOuts> {
     match trouble {
         Trouble::Lines(schedule) => outs(alloc, schedule, Schedule::Never),
@@ -84,7 +84,7 @@ fn without_journal(out: MemoryOuts) -> Option<MemoryOuts> {
     Some(out)
 }
 
-// Whether a run told what the case says.
+// Whether a run printed what the case says.
 fn is_told(status: u8, out: &MemoryOuts, case: &Case) -> bool {
     status == case.status
         && out.lines.bytes() == case.lines
@@ -92,7 +92,7 @@ fn is_told(status: u8, out: &MemoryOuts, case: &Case) -> bool {
         && journal_of(out) == case.journal
 }
 
-// Lets calls, readers and writers of the folder fail.
+// Makes the folder's calls, readers and writers fail.
 fn make_trouble(folder: &mut MemoryFolder, trouble: Trouble) {
     match trouble {
         Trouble::Readers(pace) => folder.pace_readers(pace),
@@ -106,7 +106,7 @@ fn make_trouble(folder: &mut MemoryFolder, trouble: Trouble) {
     }
 }
 
-// Whether the folder has of this name what is to be left.
+// Whether the folder has under this name what must be left.
 fn is_left(alloc: Global, folder: &MemoryFolder, name: &str, left: Left) -> bool {
     match left {
         Left::Absent => !folder.has(name),
@@ -125,7 +125,7 @@ fn are_left(alloc: Global, folder: &MemoryFolder, case: &Case) -> bool {
     true
 }
 
-// What `open_all` or `verify_all` is asked for, by one worker.
+// The options for `open_all` or `verify_all`, with one worker.
 fn options_of<'a>(case: &Case<'a>) -> OpenOptions<'a> {
     OpenOptions {
         files: case.files,
@@ -136,7 +136,7 @@ fn options_of<'a>(case: &Case<'a>) -> OpenOptions<'a> {
     }
 }
 
-// The status of the case's run; `None` where it can't be asked for.
+// The status of the case's run, or `None` if the options are invalid.
 fn status_over<R: AllocGlobal + Threads + Wait + Sync, S: Fold>(
     rt: &R,
     file: &mut LedgerFile<S>,
@@ -198,7 +198,7 @@ fn status_over<R: AllocGlobal + Threads + Wait + Sync, S: Fold>(
     }
 }
 
-// Whether a run over this ledger file and this folder ends as the case says.
+// Whether a run over this ledger file and folder ends as the case says.
 pub(crate) fn ends_over<R: AllocGlobal + Threads + Wait + Sync, S: Fold>(
     rt: &R,
     file: &mut LedgerFile<S>,
@@ -215,7 +215,7 @@ pub(crate) fn ends_over<R: AllocGlobal + Threads + Wait + Sync, S: Fold>(
     }
 }
 
-// The same over a ledger file of its own.
+// The same over its own ledger file.
 pub(crate) fn ends_in<R: AllocGlobal + Threads + Wait + Sync>(
     rt: &R,
     folder: &mut MemoryFolder,
@@ -227,7 +227,7 @@ pub(crate) fn ends_in<R: AllocGlobal + Threads + Wait + Sync>(
     }
 }
 
-// The same over the folder of the case.
+// The same over the case's folder.
 pub(crate) fn ends<R: AllocGlobal + Threads + Wait + Sync>(rt: &R, case: &Case) -> bool {
     match folder_of(rt.alloc(), case.folder) {
         Some(mut folder) => ends_in(rt, &mut folder, case),

@@ -1,7 +1,7 @@
-//! Each call of a folder, of its readers and of its writers fails once in turn, while files are sealed, opened and
-//! verified. Each file has its line, and at most one more fails than where no call does, by the fault of that call; an
-//! output whose line says that it was made is whole, one whose line says that it failed isn't there, and the journal is
-//! legal with nothing open, and as many numbers sealed and void as the lines tell.
+//! Each call of a folder, its readers and its writers fails once in turn, while files are sealed, opened and verified.
+//! Each file has its line. At most one more fails than without the failing call, with that call's fault. An output is
+//! whole if its line says that it was made, and absent if its line says that it failed. The journal is legal with
+//! nothing open, and has as many numbers sealed and void as the lines say.
 use crate::failing::{Calls, Failing};
 use crate::runs::{
     CUT, EMPTY, MemoryOuts, SECRET, folder_of, has_bytes, has_counts, holds, journal_of,
@@ -21,8 +21,8 @@ enum Work {
     Verify { workers: u32 },
 }
 
-// What is worked. `results` has for each of the files the name of its output, the plaintext, and the fault that it has
-// where no call fails, or none.
+// The work to do. For each of the files, `results` has the name of its output, the plaintext, and the fault if no call
+// fails (empty if none).
 #[derive(Clone, Copy)]
 struct Run<'a> {
     work: Work,
@@ -30,24 +30,24 @@ struct Run<'a> {
     files: &'a [&'a str],
     results: &'a [(&'a str, &'a [u8], &'a str)],
     max_bytes: u64,
-    // Bytes of a call of a reader or a writer.
+    // The bytes of a reader's or writer's call.
     step: usize,
 }
 
-// What a run left and told.
+// What a run left and printed.
 #[derive(Drop)]
 struct Ended {
     folder: MemoryFolder,
     out: MemoryOuts,
-    // `None` where it couldn't be asked for.
+    // `None` if the options were invalid.
     status: Option<u8>,
     has_failed: bool,
-    // The fault of the call that failed.
+    // The fault of the failed call.
     fault: &'static str,
     is_unremoved: bool,
 }
 
-// The status of `open_all` or `verify_all` over a folder one of whose calls fails.
+// The status of `open_all` or `verify_all` over a folder with a failing call.
 fn status_of_opening<R: AllocGlobal + Threads + Sync>(
     rt: &R,
     folder: &mut Failing,
@@ -91,7 +91,7 @@ fn status_of<R: AllocGlobal + Threads + Wait + Sync>(
     }
 }
 
-// The run where the call of this number fails.
+// The run in which the call with this number fails.
 fn run_failing<R: AllocGlobal + Threads + Wait + Sync>(
     rt: &R,
     run: &Run,
@@ -129,7 +129,7 @@ fn is_text(line: &str, text: Result<String, AllocError>) -> bool {
     }
 }
 
-// Whether a line says that this file failed, by this fault.
+// Whether a line says that this file failed with this fault.
 fn is_failed(alloc: Global, line: &str, name: &str, fault: &str) -> bool {
     is_text(line, format!(in alloc; "failed {name}: {fault}"))
 }
@@ -147,7 +147,7 @@ fn number_in(alloc: Global, line: &str, name: &str, bytes: usize) -> Option<u8> 
     None
 }
 
-// Whether a line says that a file was worked, and its output is whole.
+// Whether a line says that a file was processed, and its output is whole.
 fn is_worked(
     alloc: Global,
     work: Work,
@@ -173,7 +173,7 @@ fn is_worked(
     }
 }
 
-// Whether some line says that a file of this name was worked.
+// Whether some line says that a file with this name was processed.
 fn is_told_elsewhere(text: &str, name: &str) -> bool {
     for line in text.lines() {
         if line.split_whitespace().nth(1) == Some(name) {
@@ -183,18 +183,18 @@ fn is_told_elsewhere(text: &str, name: &str) -> bool {
     false
 }
 
-// What the lines say of the files that failed.
+// What the lines say of the failed files.
 #[derive(Clone, Copy)]
 struct Failures {
-    // How many files failed, and how many of them by a fault that they have where no call fails.
+    // How many files failed, and how many of them with a fault that they have without a failing call.
     all: usize,
     own: usize,
     // How many left a void number.
     void: usize,
 }
 
-// Whether a file whose line is this one was given a number before it failed: by one lane it is given one before it is
-// read, by several behind that.
+// Whether the file with this line received a number before it failed. With one lane that happens before the file is
+// read, with several after it.
 fn has_void_number(work: Work, line: &str) -> bool {
     match work {
         Work::Seal { lanes } => {
@@ -205,8 +205,8 @@ fn has_void_number(work: Work, line: &str) -> bool {
     }
 }
 
-// How many of the files failed, each by its own fault or by that of the call that failed, where each line fits what is
-// left of its file's output.
+// How many of the files failed, each with its own fault or that of the failed call. Each line must fit what is left of
+// its file's output.
 fn failures_in(alloc: Global, run: &Run, ended: &Ended, text: &str) -> Option<Failures> {
     let mut lines = text.lines();
     let (mut all, mut own, mut void) = (0usize, 0usize, 0usize);
@@ -242,7 +242,7 @@ fn is_journal(alloc: Global, run: &Run, journal: &[u8], failed: Failures) -> boo
     }
 }
 
-// How many files fail where no call does.
+// How many files fail if no call does.
 fn faulty_in(run: &Run) -> usize {
     let mut faulty = 0usize;
     for (_, _, fault) in run.results {
@@ -251,8 +251,8 @@ fn faulty_in(run: &Run) -> usize {
     faulty
 }
 
-// Whether a run ended as it has to: where no call failed each file with a fault of its own failed, and else one more at
-// most.
+// Whether a run ended as expected: without a failed call, each file with its own fault failed; with one, at most one
+// more failed.
 fn is_right(alloc: Global, run: &Run, ended: &Ended) -> Option<bool> {
     let text = std::str::from_utf8(ended.out.lines.bytes()).ok()?;
     let failed = failures_in(alloc, run, ended, text)?;
@@ -267,7 +267,7 @@ fn is_right(alloc: Global, run: &Run, ended: &Ended) -> Option<bool> {
     )
 }
 
-// How many calls there are, where the run ends as it has to whichever of them fails.
+// How many calls there are, if the run ends as expected whichever of them fails.
 fn calls_of<R: AllocGlobal + Threads + Wait + Sync>(rt: &R, run: &Run) -> Option<u64> {
     for number in 0..1_000u64 {
         let ended = run_failing(rt, run, number)?;
@@ -281,7 +281,7 @@ fn calls_of<R: AllocGlobal + Threads + Wait + Sync>(rt: &R, run: &Run) -> Option
     None
 }
 
-// Whether there are at least so many calls, and the run ends as it has to whichever of them fails.
+// Whether there are at least `least` calls, and the run ends as expected whichever of them fails.
 fn holds_at_each_call<R: AllocGlobal + Threads + Wait + Sync>(
     rt: &R,
     run: &Run,
@@ -327,14 +327,14 @@ fn each_call_fails_while_one_lane_seals(rt: HostRuntime) {
     assert!(rt; holds_at_each_call(&rt, &LONG_AND_OTHERS, 40));
 }
 
-// So long that each is worth a lane.
+// Long enough for each to be worth a lane.
 static ONES: [u8; 40_000] = [1; 40_000];
 
 static TWOS: [u8; 40_000] = [2; 40_000];
 
 static LONG: [u8; 40_001] = [3; 40_001];
 
-// Six files by two lanes, in groups of two.
+// Six files with two lanes, in groups of two.
 fn holds_in_groups<R: AllocGlobal + Threads + Wait + Sync>(rt: &R) -> bool {
     let folder: [(&str, &[u8]); 4] = [("a", &ONES), ("b", &TWOS), ("c", b"333"), ("long", &LONG)];
     let results: [(&str, &[u8], &str); 6] = [
@@ -361,7 +361,7 @@ fn each_call_fails_while_two_lanes_seal(rt: HostRuntime) {
     assert!(rt; holds_in_groups(&rt));
 }
 
-// Containers, one of which was cut short.
+// Containers, one of them cut short.
 static OPENED: Run = Run {
     work: Work::Open { workers: 1 },
     folder: &[("a.stm", &EMPTY), ("b.stm", &SECRET), ("cut.stm", &CUT)],

@@ -1,5 +1,5 @@
-//! A folder in memory whose calls, and those of its readers and writers, are counted together: the one of a number
-//! fails.
+//! A folder in memory. Its calls and those of its readers and writers are counted together, and the one with a given
+//! number fails.
 use container_core::{Key, Shape};
 use folder_memory::{MemoryFolder, MemoryReader, MemoryWriter};
 use ledger_core::{Failed, Ledger, Seat, Sink, Source};
@@ -7,18 +7,18 @@ use reserve_core::Fold;
 use sealer_core::{Folder, FolderFault, LedgerFile, OpeningFolder, Plaintext, SealingFolder};
 use std::sync::atomic::{AtomicU64, Ordering};
 
-/// What a call does that fails.
+/// What a failing call does.
 #[derive(Clone, Copy)]
 enum Act {
     Open,
     Create,
     Read,
-    // To a writer, or to finish what was written.
+    // On a writer, or when finishing what was written.
     Write,
     Remove,
 }
 
-// Which acts give a file's line a fault, and which.
+// The acts that give a file's line a fault, and the fault.
 static FAULTS: [(Act, &str); 4] = [
     (Act::Open, "cannot open"),
     (Act::Create, "cannot create"),
@@ -48,7 +48,7 @@ pub(crate) struct Calls {
 }
 
 impl Calls {
-    /// No call was made. The one of this number fails, counted from 0.
+    /// Returns a count of no calls. The call with this number fails, counted from 0.
     pub(crate) fn new(failing: u64) -> Calls {
         Calls {
             failing,
@@ -62,7 +62,8 @@ impl Calls {
         self.act.load(Ordering::SeqCst) != 0
     }
 
-    /// The fault that a file's line has for the call that failed; empty where none did, or to remove a file.
+    /// Returns the fault in a file's line for the failed call; empty if no call failed, or the call was to remove a
+    /// file.
     pub(crate) fn fault(&self) -> &'static str {
         let failed = self.act.load(Ordering::SeqCst);
         for (act, fault) in &FAULTS {
@@ -73,12 +74,12 @@ impl Calls {
         ""
     }
 
-    /// Whether the call that failed was to remove a file.
+    /// Whether the failed call was to remove a file.
     pub(crate) fn has_failed_to_remove(&self) -> bool {
         self.act.load(Ordering::SeqCst) == Act::Remove.number()
     }
 
-    // Whether this call fails, which is to do that.
+    // Whether this call, which performs `act`, fails.
     fn fails(&self, act: Act) -> bool {
         if self.made.fetch_add(1, Ordering::SeqCst) != self.failing {
             return false;
@@ -88,7 +89,7 @@ impl Calls {
     }
 }
 
-/// A folder, one of whose calls fails.
+/// A folder with one failing call.
 #[derive(Drop)]
 pub(crate) struct Failing<'a> {
     pub(crate) folder: MemoryFolder,
@@ -159,7 +160,8 @@ impl<'a> Folder for Failing<'a> {
     ghost sound = { λ _. ∣ tt ∣₁ };
 }
 
-// The folder below isn't told: it asks what was read and what began in it, which this one doesn't tell.
+// These calls aren't passed on to the folder below: it requires what was read and what began in it, and this folder
+// doesn't record that.
 impl<'a> OpeningFolder for Failing<'a> {
     fn allow_plain(
         &mut self,

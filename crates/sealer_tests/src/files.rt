@@ -1,11 +1,11 @@
-//! `open_all` and `verify_all`. The containers are those of Python's `cryptography`, under the key 00 01 .. 1f, device
-//! 1 and number 0; the lines are written by hand.
+//! `open_all` and `verify_all`. The containers are from Python's `cryptography`, with the key 00 01 .. 1f, device 1 and
+//! number 0. The lines are written by hand.
 use crate::cases::{Case, Left, Trouble, Work, ends};
 use crate::runs::{CUT, EMPTY, SECRET};
 use folder_memory::Pace;
 use io_memory::Schedule;
 
-// Texts of 48 bytes, as many as `SECRET` has.
+// Texts of 48 bytes, the length of `SECRET`.
 const NOT_SEALED: [u8; 48] = *b"STRMSEAM\x01\x10 is how a text begins, not a container";
 
 const NO_VERSION: [u8; 48] = *b"STRMSEAL\x03\x10 begins one of a version not there yet";
@@ -14,7 +14,7 @@ const NO_SIZE: [u8; 48] = *b"STRMSEAL\x01\x11 begins one that has some other chu
 
 const ANOTHER_KEY: [u8; 48] = *b"STRMSEAL\x01\x10 begins one that has quite another key";
 
-// The header of `SECRET`, and fewer bytes behind it than a tag has.
+// The header of `SECRET`, followed by fewer bytes than a tag has.
 const NO_TAG: [u8; 39] =
     *b"STRMSEAL\x01\x10\x00\x00\x01\x00\x00\x00\x00\x63\x0d\xcd\x29\x66\xc4\x33fifteen bytes .";
 
@@ -182,7 +182,7 @@ static CASES: [(&str, Case); 10] = [
         },
     ),
     (
-        // The calls are the opening, the creation and the removal.
+        // The calls are to open the input, create the output and remove it.
         "the line is the same where an output that fails can't be removed",
         Case {
             folder: &[("a.stm", &SECRET)],
@@ -204,7 +204,7 @@ static CASES: [(&str, Case); 10] = [
         },
     ),
     (
-        // The second line's write fails, and a third would be taken.
+        // The second line's write fails, and a third would succeed.
         "behind a line that fails no other is tried, and the files are worked",
         Case {
             folder: &[("a.stm", &SECRET), ("b.stm", &SECRET), ("c.stm", &SECRET)],
@@ -239,7 +239,7 @@ static CASES: [(&str, Case); 10] = [
         },
     ),
     (
-        // By 9 bytes a call the fourth one would find the end.
+        // With 9 bytes a call, the fourth call would find the end.
         "a reader that fails where the file ends is told",
         Case {
             folder: &[("a.stm", &SECRET)],

@@ -4,7 +4,7 @@ use sealer_core::{KeyFault, read_key};
 
 const DIGITS: &[u8; 64] = b"000102030405060708090a0b0c0d0e0f101112131415161718191A1B1C1D1E1F";
 
-// What is read of the first `digits` digits and this end.
+// The result of reading the first `digits` digits and this end.
 fn read_of(digits: usize, end: &[u8]) -> Result<[u8; 32], KeyFault> {
     let mut text = [0u8; 80];
     let mut length = 0;
@@ -27,7 +27,7 @@ static ID: [u8; 32] = [
     0xf4, 0x12, 0xa4, 0x9c, 0x73, 0x2d, 0xb2, 0xc8, 0xab, 0xc1, 0xb8, 0x58, 0x1b, 0xd7, 0x10, 0xdd,
 ];
 
-// Whether so many digits and this end are the key.
+// Whether `digits` digits and this end are the key.
 fn is_key(digits: usize, end: &[u8]) -> bool {
     read_of(digits, end) == Ok(ID)
 }

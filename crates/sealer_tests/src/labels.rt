@@ -1,5 +1,5 @@
-//! Labels: `open_all` and `verify_all` where one is asked for or shown. The containers are those of Python's
-//! `cryptography`; the lines are written by hand.
+//! Labels: `open_all` and `verify_all` with a required or shown label. The containers are from Python's `cryptography`;
+//! the lines are written by hand.
 use crate::cases::{Case, Left, Trouble, Work, ends};
 use crate::runs::{BARE, CUT, LABELLED, ODD, SECRET};
 

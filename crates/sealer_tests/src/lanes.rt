@@ -1,5 +1,5 @@
-//! `seal_all` by several lanes, over folders and ledger files in memory. Lines and journals are written by hand; what a
-//! container holds is told by `open`, whose definition is tested elsewhere against Python's `cryptography`.
+//! `seal_all` with several lanes, over folders and ledger files in memory. Lines and journals are written by hand.
+//! `open` reads the containers; its definition is tested elsewhere against Python's `cryptography`.
 use crate::cases::{Case, Left, Trouble, Work, ends};
 use crate::runs::{
     BEGUN, DUMPED_0, DUMPED_1, EMPTY, MemoryOuts, folder_of, holds, is_legal, journal_of,
@@ -11,8 +11,7 @@ use std::alloc::Global;
 use std::sync::Wait;
 use std::thread::Threads;
 
-// Groups of files so short that one lane seals all of them, under numbers in their order. What a row shows, and its
-// case.
+// Groups of files so short that one lane seals all of them, under numbers in order. What a row shows, and its case.
 static CASES: [(&str, Case); 8] = [
     (
         "files that fail in a group spend no number",
@@ -106,7 +105,7 @@ static CASES: [(&str, Case); 8] = [
         },
     ),
     (
-        // A container of one byte has 41 bytes.
+        // The container of one byte has 41 bytes.
         "of a group each file fails or is sealed by its own outcome",
         Case {
             folder: &[("a", b"22"), ("b", b"1"), ("c", b"333")],
@@ -213,12 +212,12 @@ fn each_file_of_a_group_has_its_line_its_number_and_its_output(rt: HostRuntime) 
 
 // ---- two lanes
 
-// Two texts of a group, so large that each is worth a lane.
+// Two texts of a group, long enough for each to be worth a lane.
 static ONES: [u8; 40_000] = [1; 40_000];
 
 static TWOS: [u8; 40_000] = [2; 40_000];
 
-// The numbers of the first two files, if the lines of three are in order.
+// The numbers of the first two files, if the lines of the three are in order.
 fn first_two(lines: &[u8]) -> Option<(u8, u8)> {
     let in_order =
         b"sealed a file 0 bytes 40000\nsealed b file 1 bytes 40000\nsealed c file 2 bytes 3\n";
@@ -233,7 +232,7 @@ fn first_two(lines: &[u8]) -> Option<(u8, u8)> {
     }
 }
 
-// Whether three files were sealed, each under a number of its own, whichever lane drew which.
+// Whether three files were sealed, each under its own number, whichever lane drew which.
 fn has_three(alloc: Global, folder: &MemoryFolder, out: &MemoryOuts) -> bool {
     let Some((first, second)) = first_two(out.lines.bytes()) else {
         return false;
@@ -250,7 +249,7 @@ fn is_journal_of_three(alloc: Global, journal: &[u8]) -> bool {
     journal.starts_with(b"range 1 0 3 2\n") && is_legal(alloc, journal, line)
 }
 
-// The status of a run over the three files by two lanes, over a ledger file of its own.
+// The status of a run over the three files with two lanes and its own ledger file.
 fn status_of_three<R: AllocGlobal + Threads + Wait + Sync>(
     rt: &R,
     folder: &mut MemoryFolder,

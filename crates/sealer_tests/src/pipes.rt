@@ -1,6 +1,6 @@
-//! Streams: a run of `pipe_all` over a reader and a writer in memory, what it has to tell, and what it has to write. It
-//! is under the key 00 01 .. 1f and device 1, in at most two chunks of 4 KiB under an empty label, by two workers with
-//! four chunks in hand.
+//! Streams: a run of `pipe_all` over a reader and a writer in memory, what it must print, and what it must write. The
+//! key is 00 01 .. 1f, the device 1. There are at most two chunks of 4 KiB with an empty label, two workers, and depth
+//! 4.
 use crate::runs::{MemoryOuts, counting_key, journal_of, ledger_after, outs};
 use container_core::{Shape, seal};
 use io_memory::{FromMemory, Schedule, ToMemory};
@@ -18,21 +18,21 @@ pub(crate) enum Left<'a> {
     // Nothing, and nothing is read.
     Untouched,
     Is(&'a [u8]),
-    // So many bytes with this SHA-256.
+    // This many bytes, with this SHA-256.
     Whole(usize, &'a [u8; 32]),
-    // So many bytes at least, and no more than these, of the stream's container under number 0, which has this SHA-256.
+    // A prefix of the stream's container under number 0: its least and greatest length, and the container's SHA-256.
     Begun(usize, usize, &'a [u8; 32]),
 }
 
-// A run, what it has to tell, where no journal is an empty one, and what it writes.
+// A run, what it must print (an empty journal means none), and what it writes.
 #[derive(Clone, Copy)]
 pub(crate) struct Run<'a> {
-    // How many bytes the stream has, and how many are read and written a call.
+    // How many bytes the stream has, and how many a call transfers.
     pub(crate) count: usize,
     pub(crate) step: usize,
     pub(crate) reads: Schedule,
     pub(crate) writes: Schedule,
-    // Of the writer of the line, and of the journal's, where one is asked for.
+    // For the writer of the line, and for the journal's if there is one.
     pub(crate) lines: Schedule,
     pub(crate) journals: Option<Schedule>,
     pub(crate) status: u8,
@@ -44,11 +44,11 @@ pub(crate) struct Run<'a> {
 // How a run ended.
 #[derive(Drop)]
 struct Ended {
-    // `None` where it couldn't be asked for.
+    // `None` if the options were invalid.
     status: Option<u8>,
     writer: ToMemory,
     out: MemoryOuts,
-    // How many bytes of the stream were not read, where none of the reader's calls fails any more.
+    // How many bytes of the stream were not read, if the reader's later calls don't fail.
     unread: Option<usize>,
 }
 
@@ -65,7 +65,7 @@ fn outs_of(alloc: Global, run: &Run) -> Option<MemoryOuts> {
     Some(out)
 }
 
-// How many bytes a reader has left, of 10,000 at most; 0 where it fails.
+// How many bytes a reader has left, at most 10,000; 0 if it fails.
 fn unread_of(alloc: Global, reader: &mut FromMemory<'_>) -> Option<usize> {
     let mut rest = vec![in alloc; 0u8; 10_000].ok()?;
     match fill(reader, rest.as_mut_slice()) {
@@ -113,7 +113,8 @@ fn end_over<R: AllocGlobal + Threads + Wait + Sync, S: Fold>(
     })
 }
 
-// Whether bytes are a beginning, of a length in this range, of the container with this SHA-256 of so many zero bytes.
+// Whether the bytes are a prefix, with a length in this range, of the container of `count` zero bytes with this
+// SHA-256.
 fn is_begun(
     alloc: Global,
     bytes: &[u8],
@@ -144,7 +145,7 @@ fn is_written(alloc: Global, ended: &Ended, run: &Run) -> bool {
     }
 }
 
-// Whether a run ended as it has to.
+// Whether a run ended as expected.
 fn is_as(alloc: Global, ended: &Ended, run: &Run) -> bool {
     ended.status == Some(run.status)
         && ended.out.faults.bytes() == run.line
@@ -153,7 +154,7 @@ fn is_as(alloc: Global, ended: &Ended, run: &Run) -> bool {
         && is_written(alloc, ended, run)
 }
 
-// Whether a run over this ledger file ends as it has to.
+// Whether a run over this ledger file ends as expected.
 pub(crate) fn stream_ends_over<R: AllocGlobal + Threads + Wait + Sync, S: Fold>(
     rt: &R,
     file: &mut LedgerFile<S>,
@@ -173,7 +174,7 @@ pub(crate) fn ends<R: AllocGlobal + Threads + Wait + Sync>(rt: &R, run: &Run) ->
     }
 }
 
-// Whether a run ended as the first or as the second has to; `None` where it ended in another way.
+// `Some(true)` if a run ends as `sealed` expects, `Some(false)` if as `failed` expects, else `None`.
 pub(crate) fn sealed_or_failed<R: AllocGlobal + Threads + Wait + Sync>(
     rt: &R,
     sealed: &Run,

@@ -1,4 +1,4 @@
-//! `seal_all` of three files by one lane where one growth is refused. Run it with each allocation refused in turn
+//! `seal_all` of three files with one lane and one refused growth. Run it with each allocation refused in turn
 //! (`tools/refused_tests.py`).
 use crate::runs::{
     MemoryLedger, MemoryOuts, folder_of, has_counts, holds, journal_of, ledger_after, seal_over,
@@ -13,7 +13,7 @@ static FILES: [(&str, &[u8]); 3] = [("a", b"1"), ("b", b"22"), ("c", b"333")];
 
 static OUTPUTS: [&str; 3] = ["a.stm", "b.stm", "c.stm"];
 
-// The refusal that was asked for is met once, so the same call finds memory at once.
+// An injected refusal comes once, so the second call succeeds.
 
 fn folder_again(alloc: Global) -> Option<MemoryFolder> {
     match folder_of(alloc, &FILES) {
@@ -36,7 +36,7 @@ fn outs_again(alloc: Global) -> Option<MemoryOuts> {
     }
 }
 
-// How many of the outputs are there, each with its plaintext under one of the three numbers.
+// How many of the outputs exist, each with its plaintext under one of the three numbers.
 fn outputs_in(alloc: Global, folder: &MemoryFolder) -> Option<usize> {
     let mut there = 0usize;
     for (output, (_, plain)) in OUTPUTS.iter().zip(&FILES) {
@@ -59,8 +59,8 @@ fn holds_any(alloc: Global, folder: &MemoryFolder, output: &str, plain: &[u8]) -
     false
 }
 
-// How many of the lines say that their file was sealed, and how many that it failed for want of memory. An output is
-// there where its line says so, and not where it says that its file failed.
+// How many of the lines say that their file was sealed, and how many that it failed for lack of memory. If
+// a file has a line, its output exists exactly if the line says that it was sealed.
 fn told_in(folder: &MemoryFolder, text: &str) -> Option<(usize, usize)> {
     let mut lines = text.lines();
     let (mut sealed, mut failed) = (0usize, 0usize);
@@ -84,8 +84,7 @@ fn told_in(folder: &MemoryFolder, text: &str) -> Option<(usize, usize)> {
     }
 }
 
-// Whether a line ends as one of a file for which memory was refused: the folder in memory takes that for a failure of
-// its own.
+// Whether a line ends as for a file that was refused memory. The folder in memory reports that as its own failure.
 fn lacks_memory(line: &str) -> bool {
     for fault in &FAULTS {
         if line.ends_with(*fault) {
@@ -110,13 +109,13 @@ fn is_of(line: &str, word: &str, name: &str) -> bool {
     }
 }
 
-// Whether a journal that was written whole is legal, with nothing open: the number of each file that is sealed is so,
-// and a file that failed has a void one or none.
+// Whether a complete journal is legal with nothing open. The number of each sealed file must be sealed, and a failed
+// file has a void number or none.
 fn is_closed(alloc: Global, journal: &[u8], there: usize) -> bool {
     (there < 3 && has_counts(alloc, journal, there, 1)) || has_counts(alloc, journal, there, 0)
 }
 
-// Whether a run left and told what it has to, where at most one growth was refused.
+// Whether a run left and printed what it must, if at most one growth was refused.
 fn is_kept(alloc: Global, folder: &MemoryFolder, out: &MemoryOuts, status: u8) -> Option<bool> {
     let text = std::str::from_utf8(out.lines.bytes()).ok()?;
     let (sealed, failed) = told_in(folder, text)?;
@@ -127,7 +126,7 @@ fn is_kept(alloc: Global, folder: &MemoryFolder, out: &MemoryOuts, status: u8) -
     Some(match (status, faults) {
         (0, "") => sealed == 3 && whole,
         (1, "") => (sealed, failed, there) == (2, 1, 2) && whole,
-        // A line found no memory.
+        // There was no memory for a line.
         (2, "") => { sealed < 3 && failed == 0 && there == 3 && has_counts(alloc, journal, 3, 0) }
         (2, "journal: out of memory\n") => sealed == 3 && journal.is_empty(),
         (2, "ledger: out of memory\n" | "ledger: store failed\n") => {

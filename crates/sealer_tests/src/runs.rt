@@ -1,5 +1,5 @@
-//! What the tests of the commands share: containers that Python's `cryptography` made, folders, ledger files and
-//! outputs in memory, and a run of a command over them.
+//! What the tests of the commands share: containers made by Python's `cryptography`, folders, ledger files and outputs
+//! in memory, and a run of a command over them.
 ghost use Rattle.std.specs.Prelude.{◌≡◌, IfSome, []};
 
 use container_core::{Key, Shape, open};
@@ -26,7 +26,7 @@ pub(crate) fn counting_key() -> Key {
     Key::new(COUNTING)
 }
 
-// Of no plaintext.
+// Of the empty plaintext.
 pub(crate) const EMPTY: [u8; 40] = [
     0x53, 0x54, 0x52, 0x4d, 0x53, 0x45, 0x41, 0x4c, 0x01, 0x10, 0x00, 0x00, 0x01, 0x00, 0x00, 0x00,
     0x00, 0x63, 0x0d, 0xcd, 0x29, 0x66, 0xc4, 0x33, 0x27, 0x55, 0xaa, 0x90, 0x44, 0xd3, 0x91, 0x66,
@@ -43,7 +43,7 @@ pub(crate) const SECRET: [u8; 48] = [
     0x75, 0x9d, 0xd8, 0xfc, 0x0d, 0xdf, 0x00, 0x33, 0x6f, 0x9c, 0xfe, 0x5a, 0xdf, 0xfe, 0x5b, 0x81,
 ];
 
-// Of `a secret`, in chunks of 4,096 bytes under the label `db dump`.
+// Of `a secret`, in chunks of 4,096 bytes with the label `db dump`.
 pub(crate) const LABELLED: [u8; 56] = [
     0x53, 0x54, 0x52, 0x4d, 0x53, 0x45, 0x41, 0x4c, 0x02, 0x0c, 0x00, 0x00, 0x01, 0x00, 0x00, 0x00,
     0x00, 0x63, 0x0d, 0xcd, 0x29, 0x66, 0xc4, 0x33, 0x07, 0x64, 0x62, 0x20, 0x64, 0x75, 0x6d, 0x70,
@@ -51,7 +51,7 @@ pub(crate) const LABELLED: [u8; 56] = [
     0x11, 0x12, 0x58, 0xdb, 0x14, 0x5c, 0xd0, 0x6c,
 ];
 
-// Of `a secret`, in chunks of 4,096 bytes under the label `db-dump`, of files 0 and 1.
+// Of `a secret`, in chunks of 4,096 bytes with the label `db-dump`, for files 0 and 1.
 pub(crate) const DUMPED_0: [u8; 56] = [
     0x53, 0x54, 0x52, 0x4d, 0x53, 0x45, 0x41, 0x4c, 0x02, 0x0c, 0x00, 0x00, 0x01, 0x00, 0x00, 0x00,
     0x00, 0x63, 0x0d, 0xcd, 0x29, 0x66, 0xc4, 0x33, 0x07, 0x64, 0x62, 0x2d, 0x64, 0x75, 0x6d, 0x70,
@@ -74,14 +74,14 @@ pub(crate) const CUT: [u8; 55] = [
     0x11, 0x12, 0x58, 0xdb, 0x14, 0x5c, 0xd0,
 ];
 
-// Of no bytes, under the empty label.
+// Of the empty plaintext, with the empty label.
 pub(crate) const BARE: [u8; 41] = [
     0x53, 0x54, 0x52, 0x4d, 0x53, 0x45, 0x41, 0x4c, 0x02, 0x10, 0x00, 0x00, 0x01, 0x00, 0x00, 0x00,
     0x00, 0x63, 0x0d, 0xcd, 0x29, 0x66, 0xc4, 0x33, 0x00, 0xc2, 0x2a, 0x78, 0x1a, 0xe4, 0xf7, 0xb5,
     0x71, 0x0b, 0xd6, 0xf9, 0x6a, 0x15, 0xe2, 0xe1, 0xff,
 ];
 
-// Of no bytes, in chunks of 1 MiB under the label `ESC [2J"\`, a line feed and `ä`.
+// Of the empty plaintext, in chunks of 1 MiB with the label `ESC [2J"\`, a line feed and `ä`.
 pub(crate) const ODD: [u8; 50] = [
     0x53, 0x54, 0x52, 0x4d, 0x53, 0x45, 0x41, 0x4c, 0x02, 0x14, 0x00, 0x00, 0x01, 0x00, 0x00, 0x00,
     0x00, 0x63, 0x0d, 0xcd, 0x29, 0x66, 0xc4, 0x33, 0x09, 0x1b, 0x5b, 0x32, 0x4a, 0x22, 0x5c, 0x0a,
@@ -93,7 +93,7 @@ pub(crate) type MemoryOuts = Outs<ToMemory, ToMemory, ToMemory>;
 
 pub(crate) type MemoryLedger = LedgerFile<MemStore>;
 
-// Outputs whose lines and whose journal fail by these schedules.
+// Outputs whose lines and journal fail by these schedules.
 pub(crate) fn outs(alloc: Global, lines: Schedule, journal: Schedule) -> Option<MemoryOuts> {
     let lines = ToMemory::new(alloc, 4096, 4096, lines).ok()?;
     let faults = ToMemory::new(alloc, 64, 64, Schedule::Never).ok()?;
@@ -131,7 +131,7 @@ pub(crate) fn journal_of(out: &MemoryOuts) -> &[u8] {
     }
 }
 
-// Whether the audit of this journal writes this line, and finds it legal.
+// Whether the audit of this journal finds it legal and writes this line.
 pub(crate) fn is_legal(alloc: Global, journal: &[u8], line: &[u8]) -> bool {
     let mut reader = FromMemory::new(journal, 4096, Schedule::Never);
     let Ok(mut verdict) = ToMemory::new(alloc, 256, 256, Schedule::Never) else {
@@ -141,7 +141,7 @@ pub(crate) fn is_legal(alloc: Global, journal: &[u8], line: &[u8]) -> bool {
     status == Ok(0) && verdict.bytes() == line
 }
 
-// Whether the journal is legal, and so many numbers are sealed, so many void, and none open.
+// Whether the journal is legal, with `sealed` numbers sealed, `void` void and none open.
 pub(crate) fn has_counts(alloc: Global, journal: &[u8], sealed: usize, void: usize) -> bool {
     let granted = sealed.saturating_add(void);
     let text = format!(in alloc;
@@ -179,7 +179,7 @@ pub(crate) fn has_bytes(folder: &MemoryFolder, name: &str, bytes: &[u8]) -> bool
     }
 }
 
-// Whether the container of this name is one under the number's prefix, of this plaintext.
+// Whether the container with this name has the prefix of this number, and this plaintext.
 pub(crate) fn holds(
     alloc: Global,
     folder: &MemoryFolder,
@@ -204,8 +204,8 @@ fn opens_to(alloc: Global, sealed: &[u8], number: u8, plain: &[u8]) -> bool {
     }
 }
 
-// The status of `seal_all` under the key of the constant above and device 1, where it may be asked for that, with
-// containers of version 1.
+// The status of `seal_all` with the key above and device 1, for containers of version 1; `None` if the options are
+// invalid.
 pub(crate) fn seal_over<R: AllocGlobal + Threads + Wait + Sync, S: Fold, F: SealingFolder>(
     rt: &R,
     file: &mut LedgerFile<S>,
@@ -224,7 +224,7 @@ pub(crate) fn seal_over<R: AllocGlobal + Threads + Wait + Sync, S: Fold, F: Seal
     )
 }
 
-// `seal_over`, with containers of this shape.
+// `seal_over` for containers of this shape.
 pub(crate) fn seal_shaped<R: AllocGlobal + Threads + Wait + Sync, S: Fold, F: SealingFolder>(
     rt: &R,
     file: &mut LedgerFile<S>,
@@ -258,7 +258,7 @@ pub(crate) fn seal_shaped<R: AllocGlobal + Threads + Wait + Sync, S: Fold, F: Se
     Some(seal_all(rt, rt.alloc(), &key, file, folder, &options, out))
 }
 
-// The status of `open_all`, or of `verify_all`, under that key, where it may be asked for that.
+// The status of `open_all` or `verify_all` with that key; `None` if the options are invalid.
 pub(crate) fn open_over<R: AllocGlobal + Threads + Sync, F: OpeningFolder>(
     rt: &R,
     folder: &mut F,

@@ -1,5 +1,5 @@
-//! `seal_all` by one lane, over folders and ledger files in memory. Containers are those of Python's `cryptography`,
-//! under the key 00 01 .. 1f and device 1; lines and journals are written by hand.
+//! `seal_all` with one lane, over folders and ledger files in memory. Containers are from Python's `cryptography`, with
+//! the key 00 01 .. 1f and device 1. Lines and journals are written by hand.
 use crate::cases::{Case, Left, Trouble, Work, ends, ends_over};
 use crate::runs::{BEGUN, DUMPED_0, DUMPED_1, EMPTY, SECRET, folder_of, ledger_after};
 use folder_memory::Pace;
@@ -73,7 +73,7 @@ static CASES: [(&str, Case); 8] = [
         },
     ),
     (
-        // The calls are the opening, the creation and the removal.
+        // The calls are to open the input, create the output and remove it.
         "the line is the same where it can't be removed",
         Case {
             folder: &[("a", b"x")],
@@ -140,7 +140,7 @@ static CASES: [(&str, Case); 8] = [
         },
     ),
     (
-        // The second line's write fails, and a third would be taken.
+        // The second line's write fails, and a third would succeed.
         "behind a line that fails files and journal are worked",
         Case {
             folder: &[("a", b""), ("b", b""), ("c", b"")],
@@ -192,8 +192,8 @@ fn each_file_that_one_lane_seals_has_its_line_its_number_and_its_output(rt: Host
 
 // ---- two runs over one ledger file
 
-// The tables of a ledger file, and rows that leave one number of device 1 under the key 00 01 .. 1f, whose SHA-256 is
-// named.
+// The tables of a ledger file, and rows that leave device 1 one number under the key 00 01 .. 1f. The key is named by
+// its SHA-256.
 const NEARLY_SPENT: &str = "CREATE TABLE mark (key_id BLOB NOT NULL, device INTEGER NOT NULL,
       next INTEGER NOT NULL, PRIMARY KEY (key_id, device),
       CHECK (next >= 0 AND next <= 4294967296));
@@ -204,7 +204,7 @@ const NEARLY_SPENT: &str = "CREATE TABLE mark (key_id BLOB NOT NULL, device INTE
     INSERT INTO mark VALUES (x'630dcd2966c4336691125448bbb25b4ff412a49c732db2c8abc1b8581bd710dd', 1, 4294967295);
     INSERT INTO taken VALUES (x'630dcd2966c4336691125448bbb25b4ff412a49c732db2c8abc1b8581bd710dd', 1, 0, 4294967295)";
 
-// What a row shows, the statements behind which the ledger file stands, the first run, and the second one.
+// What a row shows, the statements that make the ledger file, the first run, and the second.
 static PAIRS: [(&str, &str, Case, Case); 2] = [
     (
         "where too few numbers are left no file is touched",
@@ -276,7 +276,7 @@ static PAIRS: [(&str, &str, Case, Case); 2] = [
     ),
 ];
 
-// Whether one run and then another over a ledger file after these statements end as told, in the folder of the first.
+// Whether two runs in a row over a ledger file after these statements end as expected, in the folder of the first.
 fn both_end<R: AllocGlobal + Threads + Wait + Sync>(
     rt: &R,
     sql: &str,
@@ -298,7 +298,7 @@ fn a_second_run_has_the_numbers_and_the_ledger_file_that_the_first_left(rt: Host
     }
 }
 
-// Whether so many files of one name are refused.
+// Whether `count` files with one name are refused.
 fn are_too_many<R: AllocGlobal + Threads + Wait + Sync>(rt: &R, count: usize) -> Option<bool> {
     let files = vec![in rt.alloc(); "a"; count].ok()?;
     let case = Case {

@@ -1,6 +1,6 @@
-//! `seal_all` and `pipe_all` over the two files of a ledger: the next run goes on without the log of the first. And a
-//! disk stops below them, one of the two files failing from some call on: each call in turn is the first to fail, until
-//! a run has no stop.
+//! `seal_all` and `pipe_all` over the two files of a ledger. The next run goes on without the log of the first. Then a
+//! disk stops: one of the two files fails from some call on. Each call in turn is the first to fail, until a run has no
+//! stop.
 use crate::cases::{Case, Left, Trouble, Work, ends_over};
 use crate::pipes::{Run, stream_ends_over};
 use crate::runs::{EMPTY, MemoryOuts, folder_of, has_bytes, ledger_over, seal_over, steady_outs};
@@ -13,7 +13,7 @@ use std::alloc::Global;
 use std::sync::Wait;
 use std::thread::Threads;
 
-// All files here stop at some call or other; those that are to go on stop at none.
+// All files here stop at some call, except those that must go on: they stop at none.
 type Stopping = Fuse<Memory>;
 
 // A file that stops at no call.
@@ -21,11 +21,11 @@ fn steady(alloc: Global) -> Stopping {
     Fuse::new(Memory::new(alloc), u64::MAX)
 }
 
-// What is done over a connection is written over any store, since a function that lets go of a value over files costs
-// far more to prove: such a value is moved only.
+// What is done with a connection works with any store, since a function that drops a value over files costs far more to
+// prove. Such a value is only moved.
 
-// A connection over these files, or the files. Its database has little memory, which is filled each time that one is
-// opened.
+// Opens a connection with these files, or returns the files. Its database has little memory, which is filled whenever
+// one is opened.
 fn connect<D: Disk + Drop>(
     alloc: Global,
     files: Files<D>,
@@ -42,7 +42,7 @@ fn connect<D: Disk + Drop>(
     }
 }
 
-// What is left of a ledger that was folded.
+// What is left of a folded ledger.
 fn left_of<S: Fold>(file: LedgerFile<S>) -> Option<S::Left> {
     match file {
         LedgerFile::Folded(left) => Some(left),
@@ -50,7 +50,7 @@ fn left_of<S: Fold>(file: LedgerFile<S>) -> Option<S::Left> {
     }
 }
 
-// The database file of these.
+// The database file of these files.
 fn database_of(files: Option<Files<Stopping>>) -> Option<Stopping> {
     match files {
         Some(Files { log: _log, db }) => Some(db),
@@ -67,7 +67,7 @@ pub(crate) enum Next<'a> {
     Stream(&'a Run<'a>),
 }
 
-// What a run leaves of the files of this connection, where it ends as it has to.
+// What a run leaves of this connection's files, if it ends as expected.
 fn left_after<R: AllocGlobal + Threads + Wait + Sync, S: Fold>(
     rt: &R,
     conn: Connection<S>,
@@ -82,7 +82,7 @@ fn left_after<R: AllocGlobal + Threads + Wait + Sync, S: Fold>(
     if ends { left_of(file) } else { None }
 }
 
-// The database file that a run over this one and an empty log leaves, where it ends as it has to.
+// The database file that a run with this file and an empty log leaves, if it ends as expected.
 fn database_after<R: AllocGlobal + Threads + Wait + Sync>(
     rt: &R,
     db: Stopping,
@@ -96,8 +96,8 @@ fn database_after<R: AllocGlobal + Threads + Wait + Sync>(
     }
 }
 
-// Whether one run and then another, over the database file that the first one leaves, end as they have to. Streams
-// don't look at the folder.
+// Whether two runs end as expected. The second has the database file that the first leaves. Streams don't look at the
+// folder.
 pub(crate) fn both_run<R: AllocGlobal + Threads + Wait + Sync>(
     rt: &R,
     folder: &mut MemoryFolder,
@@ -126,7 +126,7 @@ static FIRST_RUN: Case = Case {
     left: &[("a.stm", Left::Is(&EMPTY)), ("m.stm", Left::Absent)],
 };
 
-// The run behind it, of 65,537 bytes.
+// The run after it, of 65,537 bytes.
 fn second_run<'a>(left: &'a [(&'a str, Left<'a>)]) -> Case<'a> {
     Case {
         folder: &[],
@@ -166,14 +166,14 @@ fn a_second_run_without_the_log_goes_on_behind_the_numbers_of_the_first(rt: Host
 enum End {
     // The ledger file could not be opened.
     Unopened,
-    // It was open, and no number was reserved or the log not copied: nothing was touched, and the text says so.
+    // It was open, but no number was reserved or the log wasn't copied. Nothing was touched, and the text says so.
     Refused,
     // The file or the stream was sealed.
     Sealed,
     Other,
 }
 
-// The end of `seal_all` over a file, or of `pipe_all` over a stream.
+// The end of `seal_all` with a file, or of `pipe_all` with a stream.
 fn end_over<R: AllocGlobal + Threads + Wait + Sync, S: Fold>(
     rt: &R,
     file: &mut LedgerFile<S>,
@@ -220,7 +220,7 @@ fn end_of_run<R: AllocGlobal + Threads + Wait + Sync, S: Fold>(
     }
 }
 
-// The end of a run whose files fail each call after so many.
+// The end of a run whose two files fail each call after the first `log_calls` and `db_calls`.
 fn end_after<R: AllocGlobal + Threads + Wait + Sync>(
     rt: &R,
     log_calls: u64,
@@ -235,7 +235,7 @@ fn end_after<R: AllocGlobal + Threads + Wait + Sync>(
     }
 }
 
-// How many runs were refused before the first that sealed. `None` where one ended in another way.
+// How many runs were refused before the first that sealed, or `None` if one ended otherwise.
 fn refused_before<R: AllocGlobal + Threads + Wait + Sync>(
     rt: &R,
     of_log: bool,
@@ -258,7 +258,7 @@ fn refused_before<R: AllocGlobal + Threads + Wait + Sync>(
     None
 }
 
-// Whether some runs are refused, and each ends in a way that is told.
+// Whether some runs are refused, and each ends in one of these ways.
 fn are_refused<R: AllocGlobal + Threads + Wait + Sync>(rt: &R, of_log: bool, pipes: bool) -> bool {
     match refused_before(rt, of_log, pipes) {
         Some(refused) => refused > 0,

@@ -1,5 +1,5 @@
-//! `pipe_all` over streams of zero bytes. What is written is of Python's `cryptography` and `hashlib`, under the key
-//! 00 01 .. 1f and device 1; lines and journals are written by hand.
+//! `pipe_all` over streams of zero bytes. The expected output is from Python's `cryptography` and `hashlib`, with the
+//! key 00 01 .. 1f and device 1. Lines and journals are written by hand.
 use crate::pipes::{Left, Run, ends, first_or_second, sealed_or_failed};
 use crate::runs::is_legal;
 use crate::stops::{Next, both_run};
@@ -9,7 +9,7 @@ use reserve_core::{Fold, LedgerFile};
 use std::sync::Wait;
 use std::thread::Threads;
 
-// The container of no byte under number 0.
+// The container of the empty plaintext under number 0.
 const EMPTY: [u8; 41] = [
     0x53, 0x54, 0x52, 0x4d, 0x53, 0x45, 0x41, 0x4c, 0x02, 0x0c, 0x00, 0x00, 0x01, 0x00, 0x00, 0x00,
     0x00, 0x63, 0x0d, 0xcd, 0x29, 0x66, 0xc4, 0x33, 0x00, 0xc6, 0x9f, 0x37, 0x43, 0xf1, 0x49, 0x2f,
@@ -22,13 +22,13 @@ const FIRST: [u8; 32] = [
     0x8b, 0xa3, 0x27, 0xcd, 0xd6, 0xa8, 0x88, 0x86, 0x62, 0x34, 0x9b, 0x5c, 0x1d, 0xe2, 0x27, 0x37,
 ];
 
-// That of the same bytes under number 1.
+// The same for number 1.
 const SECOND: [u8; 32] = [
     0xf9, 0xb9, 0x84, 0x77, 0xfb, 0xd2, 0xb1, 0x1f, 0xa5, 0xc8, 0xeb, 0xf8, 0xf7, 0x78, 0x4d, 0x59,
     0x9b, 0x3f, 0xa7, 0x62, 0xb8, 0xd4, 0x88, 0x18, 0x50, 0x04, 0xfe, 0xc2, 0x11, 0xdf, 0x5a, 0x5a,
 ];
 
-// That of 8,193 bytes under number 0.
+// The same for 8,193 bytes under number 0.
 const A_BYTE_MORE: [u8; 32] = [
     0x62, 0xd8, 0xdd, 0x59, 0xef, 0x16, 0xb8, 0x2c, 0x2f, 0x56, 0x41, 0x40, 0x44, 0xea, 0x20, 0xe9,
     0xd1, 0x98, 0x83, 0xae, 0x7a, 0x26, 0xaa, 0x29, 0xb7, 0xd0, 0x9f, 0x79, 0x0d, 0x61, 0x4a, 0x9e,
@@ -95,7 +95,7 @@ static RUNS: [(&str, Run); 6] = [
         },
     ),
     (
-        // The header was written before anything was read; how many chunks were is the workers' affair.
+        // The header was written before anything was read. How many chunks were written depends on the workers.
         "a byte past the most chunks voids the number",
         Run {
             count: 8_193,
@@ -165,7 +165,7 @@ static WRITE_FAILED: Run = Run {
     left: Left::Begun(4_130, 4_130, &FIRST),
 };
 
-// Where a read failed chunk 0 may be sealed, and chunk 1 isn't.
+// If a read failed, chunk 0 may be sealed, and chunk 1 isn't.
 static READ_FAILED: Run = Run {
     count: 8_192,
     step: 1_000,
@@ -179,7 +179,7 @@ static READ_FAILED: Run = Run {
     left: Left::Begun(25, 4_137, &FIRST),
 };
 
-// How many runs fail, each at the next call of the reader or of the writer, before one that fails at none.
+// How many runs fail, each at the next call of the reader or the writer, before a run without a failing call.
 fn failed_before<R: AllocGlobal + Threads + Wait + Sync>(rt: &R, of_reader: bool) -> Option<u64> {
     for call in 0..100u64 {
         let mut sealed = TWO_CHUNKS;
@@ -200,13 +200,13 @@ fn failed_before<R: AllocGlobal + Threads + Wait + Sync>(rt: &R, of_reader: bool
     None
 }
 
-// Of 1,000 bytes a call: 4,097 by five, 4,095 by five more, and the end.
+// With 1,000 bytes a call: 4,097 with five, 4,095 with five more, and the end.
 #[test]
 fn each_failed_read_is_told(rt: HostRuntime) {
     assert!(rt; failed_before(&rt, true) == Some(11));
 }
 
-// Of 1,000 bytes a call: the header by one, and each sealed chunk, of 4,112 bytes, by five.
+// With 1,000 bytes a call: the header with one, and each sealed chunk of 4,112 bytes with five.
 #[test]
 fn each_failed_write_is_told(rt: HostRuntime) {
     assert!(rt; failed_before(&rt, false) == Some(11));
@@ -227,8 +227,8 @@ static UNRESERVED: Run = Run {
     left: Left::Untouched,
 };
 
-// Whether two chunks are sealed by a run over this ledger file; `Some(false)` where no range is reserved, and nothing
-// read or written. `None` where it ends in another way.
+// Whether a run over this ledger file seals two chunks. `Some(false)` if no range is reserved and nothing read or
+// written; `None` if it ends otherwise.
 pub(crate) fn sealed_or_unreserved<R: AllocGlobal + Threads + Wait + Sync, S: Fold>(
     rt: &R,
     file: &mut LedgerFile<S>,
@@ -249,7 +249,7 @@ static UNDER_NUMBER_1: Run = Run {
     left: Left::Whole(8_249, &SECOND),
 };
 
-// Whether the run behind this one has number 1, where both end as they have to.
+// Whether the run after this one has number 1, and both end as expected.
 fn is_followed<R: AllocGlobal + Threads + Wait + Sync>(rt: &R, first: &Run) -> bool {
     let mut folder = MemoryFolder::new(rt.alloc());
     let (first, second) = (Next::Stream(first), Next::Stream(&UNDER_NUMBER_1));
@@ -262,7 +262,7 @@ fn the_next_run_has_the_next_number(rt: HostRuntime) {
     assert!(rt; is_followed(&rt, &WRITE_FAILED));
 }
 
-// Those against which the journals of the runs above are held.
+// The journals that the runs above are compared with.
 #[test]
 fn the_journals_of_a_sealed_and_of_a_failed_stream_are_legal(rt: HostRuntime) {
     let sealed = b"legal: 1 granted, 1 sealed, 0 void, 0 open, 0 refused\n";

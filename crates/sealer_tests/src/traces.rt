@@ -1,6 +1,6 @@
-//! What happened in a folder while `open_all`, `verify_all` and `seal_all` worked its files: what was read, created,
-//! finished and given up, by name and with all its bytes, and what was refused. The short containers are those of
-//! Python's `cryptography`.
+//! What happened in a folder while `open_all`, `verify_all` and `seal_all` processed its files: what was read, created,
+//! finished and discarded, by name and with all its bytes, and what was refused. The short containers are from Python's
+//! `cryptography`.
 use crate::cases::{Case, Left, Trouble, Work, ends_in};
 use crate::runs::{BARE, CUT, EMPTY, LABELLED, SECRET, counting_key, folder_of};
 use container_core::{Shape, seal};
@@ -11,7 +11,7 @@ use std::alloc::Global;
 use std::sync::Wait;
 use std::thread::Threads;
 
-// What has to be told.
+// An expected event.
 #[derive(Clone, Copy)]
 enum Seen<'a> {
     Reading(&'a str, &'a [u8]),
@@ -51,7 +51,7 @@ fn is_seen(told: &Told, seen: Seen) -> bool {
     }
 }
 
-// Whether this and nothing else happened in the folder, in this order.
+// Whether exactly this happened in the folder, in this order.
 fn tells(folder: &MemoryFolder, seen: &[Seen]) -> bool {
     let Some(told) = folder.told() else {
         return false;
@@ -67,7 +67,7 @@ fn tells(folder: &MemoryFolder, seen: &[Seen]) -> bool {
     true
 }
 
-// Whether the run ends as the case says, over the case's folder, and this happened there.
+// Whether the run over the case's folder ends as the case says, and exactly this happened there.
 fn goes<R: AllocGlobal + Threads + Wait + Sync>(rt: &R, case: &Case, seen: &[Seen]) -> bool {
     match folder_of(rt.alloc(), case.folder) {
         Some(mut folder) => ends_in(rt, &mut folder, case) && tells(&folder, seen),
@@ -147,7 +147,7 @@ static OPENED: [(&str, Case, &[Seen]); 6] = [
         ],
     ),
     (
-        // The calls are the opening, the creation and the finishing.
+        // The calls are to open the input, create the output and finish it.
         "an output that could not be finished is given up",
         Case {
             folder: &[("a.stm", &SECRET)],
@@ -168,7 +168,7 @@ static OPENED: [(&str, Case, &[Seen]); 6] = [
         ],
     ),
     (
-        // The calls are the opening and the creation.
+        // The calls are to open the input and create the output.
         "an output that could not be created is refused",
         Case {
             folder: &[("a.stm", &SECRET)],
@@ -249,7 +249,7 @@ fn an_opening_and_a_verifying_do_this_in_the_folder_and_nothing_else(rt: HostRun
     }
 }
 
-// Of no plaintext, under number 1.
+// Of the empty plaintext, under number 1.
 const NONE_UNDER_1: [u8; 40] = [
     0x53, 0x54, 0x52, 0x4d, 0x53, 0x45, 0x41, 0x4c, 0x01, 0x10, 0x00, 0x00, 0x01, 0x00, 0x00, 0x00,
     0x01, 0x63, 0x0d, 0xcd, 0x29, 0x66, 0xc4, 0x33, 0x16, 0x4f, 0xe9, 0x88, 0xc6, 0x2c, 0x60, 0x17,
@@ -263,7 +263,7 @@ const MORE_UNDER_2: [u8; 44] = [
     0xd1, 0x57, 0x3b, 0xa4, 0x48, 0x14, 0x67, 0x19, 0x4f, 0x28, 0x5a, 0xe5,
 ];
 
-// A file of each fate.
+// One file for each outcome.
 static FATES: Case = Case {
     folder: &[
         ("a", b"a secret"),
@@ -301,7 +301,8 @@ fn sealed_by(lanes: u32) -> Case<'static> {
     case
 }
 
-// By how many lanes, and what happens: by one each file in turn, by three the first three files and then the others.
+// The number of lanes, and what happens. One lane takes each file in turn, three take the first three files and then
+// the others.
 static SEALED: [(u32, &[Seen]); 2] = [
     (
         1,
@@ -352,7 +353,7 @@ fn a_sealing_by_one_lane_and_by_three_does_this_in_the_folder_and_nothing_else(r
     }
 }
 
-// ---- three chunks of 4,096, 4,096 and 5 bytes, each with a tag of 16, behind a header of 25
+// ---- three chunks of 4,096, 4,096 and 5 bytes, each with a tag of 16, after a header of 25
 
 fn plain_of_three(alloc: Global) -> Option<Vec<u8>> {
     let mut plain = Vec::with_capacity(alloc, 8197).ok()?;
@@ -367,7 +368,7 @@ fn sealed_of(alloc: Global, plain: &[u8]) -> Option<Vec<u8>> {
     seal(alloc, &counting_key(), &shape, [0, 0, 1, 0, 0, 0, 1], plain).ok()
 }
 
-// A run over one file of the three chunks, which does well.
+// A successful run over one file of the three chunks.
 fn of_three(work: Work, lines: &'static [u8]) -> Case<'static> {
     Case {
         folder: &[],
@@ -383,7 +384,7 @@ fn of_three(work: Work, lines: &'static [u8]) -> Case<'static> {
     }
 }
 
-// Whether a container is opened and found good, with what happens then.
+// Whether a container is opened and found good, and what then happens is as expected.
 fn is_opened<'a, R: AllocGlobal + Threads + Wait + Sync>(
     rt: &R,
     sealed: &'a [u8],

@@ -1,4 +1,4 @@
--- A name after the others is among those that are kept, or among the others; and one line more is printed.
+-- A name after the others is in one of the two lists; and one more line is printed.
 use Rattle.std.proofs.Common.{◌≡◌, ◌<◌, ◌+◌, inl, inr, ⊎_elim, ℕ, List, [], ◌∷◌, ◌++◌, Bor, ap, refl, sym, ◌∙◌, map}
 use Rattle.std.proofs.Common.{add-one, append-nil, get_or, length, subst, take}
 use Rattle.std.proofs.Math.Seq.{take-suc}
@@ -6,7 +6,7 @@ use Rattle.std.proofs.lemmas.Grind.{flat_map-append}
 use Rattle.std.proofs.lemmas.List.{map-append}
 use Rattle.system_files.specs.Kept.{IsSplit, kept_line, kept_text}
 
--- one name more
+-- one more name
 pub names-step : (files : List (Bor (List ℕ))) (i : ℕ) (d : Bor (List ℕ)) → i < length files
     → map (λ (f : Bor (List ℕ)). f.now) (take i files) ++ (get_or files i d).now ∷ []
     ≡ map (λ (f : Bor (List ℕ)). f.now) (take (i + 1) files)

@@ -1,7 +1,7 @@
--- FILEs that a run keeps since their outputs exist, and what it prints of them.
+-- FILEs that a run keeps because their outputs exist, and what it prints for them.
 use Rattle.std.specs.Prelude.{◌≡◌, ◌⊎◌, ℕ, List, [], ◌∷◌, ◌++◌, codes, flat_map}
 
--- each name is among the one list or the other, in order, and nothing else is
+-- each name is in the one list or the other, in order, and nothing else is
 abbrev pub IsSplit : List (List ℕ) → List (List ℕ) → List (List ℕ) → Type 0
 IsSplit [] kept others = (kept ≡ []) × (others ≡ [])
 IsSplit (name ∷ names) kept others =

@@ -19,20 +19,20 @@ use thiserror::Error;
 /// Bytes of the buffer through which a file is read.
 const BUFFER: usize = 1 << 16;
 
-/// The files of the system, by their paths. A path that isn't absolute begins at the current directory.
+/// The files of the system, by their paths. A relative path begins at the current directory.
 #[derive(Drop)]
 pub struct SystemFiles<'p, 'r, R: Files + AllocGlobal + Clock + Eprint> {
-    /// What opens them.
+    /// The runtime that opens them.
     pub rt: &'r R,
-    /// The folder into which outputs go, each under the last name of its path, where one is asked for; else they go
-    /// where their path says.
+    /// The folder into which outputs go, each under the base name of its path. With `None` they go where their path
+    /// says.
     pub into: Option<&'r str>,
-    /// Whether an output and its name are on the disk once it is finished.
+    /// Whether `finish` syncs an output and its name to the disk.
     pub sync: bool,
-    /// What counts the bytes that are read of files, where that is asked for.
+    /// Counts the bytes read of files. `None` if no progress line was asked for.
     pub progress: Option<&'p Progress<'r, R>>,
     outputs: Outputs,
-    // The run's own files, where it has some: looked up as the first file is opened.
+    // The paths of the run's own files, if it has some. They are looked up when the first file is opened.
     own_paths: Option<OwnPaths<'r>>,
     own: Option<OwnFiles>,
 }
@@ -56,14 +56,14 @@ impl<'p, 'r, R: Files + AllocGlobal + Clock + Eprint> SystemFiles<'p, 'r, R> {
         }
     }
 
-    /// From here on the files at these paths can't be opened, by whatever name. They are looked up as the first file is
+    /// From here on the files at these paths can't be opened, by any name. They are looked up when the first file is
     /// opened.
     pub fn keep_out(&mut self, paths: OwnPaths<'r>) {
         self.own_paths = Some(paths);
         self.own = None;
     }
 
-    // Whether a file is one of the run's own. Where that can't be told it counts as one.
+    // Whether a file is one of the run's own. If that can't be found out, it counts as one.
     fn is_own(&mut self, file: FileId) -> bool {
         let Some(paths) = self.own_paths else {
             return false;
@@ -80,8 +80,8 @@ impl<'p, 'r, R: Files + AllocGlobal + Clock + Eprint> SystemFiles<'p, 'r, R> {
     }
 }
 
-/// The path of the output of this name: below a folder under its last name, where one is asked for. There is none where
-/// the name has no last one, or memory is refused.
+/// Returns the path of the output of this name: below `into`, under its base name, if a folder is given. Returns `None`
+/// if the name then has no base name, or memory is refused.
 pub(crate) fn path_of(alloc: Global, into: Option<&str>, name: &str) -> Option<String> {
     let mut path = String::new(alloc);
     let is_placed = match into {
@@ -91,7 +91,7 @@ pub(crate) fn path_of(alloc: Global, into: Option<&str>, name: &str) -> Option<S
     if is_placed { Some(path) } else { None }
 }
 
-/// Why the journal file isn't there. The texts are those that the program prints.
+/// Why the journal file couldn't be made. The texts are those that the program prints.
 #[derive(Clone, Copy, PartialEq, Eq, Debug, Error)]
 pub enum JournalFault {
     /// There is a file of its name already.
@@ -102,8 +102,8 @@ pub enum JournalFault {
     CannotCreate,
 }
 
-/// A new journal file, where one is asked for. It may not be the ledger file or a file beside it, by whatever path: the
-/// ledger would write there, or its next opening would take the journal for what a database left undone.
+/// Creates a journal file, if `path` is given. It may not be the ledger file or a file beside it, by any path. The
+/// ledger would write there, or its next opening would take the journal for an unfinished write of a database.
 pub fn new_journal<R: Files + AllocGlobal>(
     rt: &R,
     path: Option<&str>,
@@ -123,20 +123,20 @@ pub fn new_journal<R: Files + AllocGlobal>(
         Err(FolderFault::Exists) => return Err(JournalFault::Exists),
         Err(FolderFault::Failed) => return Err(JournalFault::CannotCreate),
     };
-    // It stays, empty: another run may have taken it for its ledger by now.
+    // It stays, empty: another run may use it as its ledger by now.
     if is_of_ledger(rt, &journal, ledger) {
         return Err(JournalFault::CannotCreate);
     }
     Ok(Some(ToWrite(journal)))
 }
 
-/// What stands in for standard streams that are closed, so that no file that is opened later takes the number of one
-/// and gets what is meant for the stream.
+/// Opens files in place of closed standard streams. No file opened later then takes a stream's number and gets the
+/// bytes meant for the stream.
 pub fn stand_ins<R: Files>(rt: &R) -> [Option<R::File>; 3] {
     [stand_in(rt), stand_in(rt), stand_in(rt)]
 }
 
-// A folder, opened to be read: who reads or writes it fails, as on a closed stream. It is the current one where the
+// A directory, opened for reading: reads and writes fail, as on a closed stream. It is the current directory if the
 // root may not be read.
 fn stand_in<R: Files>(rt: &R) -> Option<R::File> {
     match File::open(rt, "/") {
@@ -145,7 +145,7 @@ fn stand_in<R: Files>(rt: &R) -> Option<R::File> {
     }
 }
 
-/// Opens a file to be read. A directory is none.
+/// Opens a file for reading. A directory is refused.
 pub fn open_unbuffered<R: Files>(rt: &R, name: &str) -> Result<R::File, FolderFault> {
     match open_known(rt, name) {
         Ok((file, _)) => Ok(file),
@@ -153,7 +153,7 @@ pub fn open_unbuffered<R: Files>(rt: &R, name: &str) -> Result<R::File, FolderFa
     }
 }
 
-// The same, and which file it is.
+// The same, with the file's ID.
 fn open_known<R: Files>(rt: &R, name: &str) -> Result<(R::File, FileId), FolderFault> {
     let Ok(file) = File::open(rt, name) else {
         return Err(FolderFault::Failed);
@@ -170,7 +170,7 @@ fn open_known<R: Files>(rt: &R, name: &str) -> Result<(R::File, FileId), FolderF
 impl<'p, 'r, R: Files + AllocGlobal + Clock + Eprint> Folder for SystemFiles<'p, 'r, R> {
     type Reader = FromRead<Counted<'p, 'r, R, BufReader<R::File>>>;
 
-    // No buffer is wanted: who writes an output hands over a chunk, or many of them, in one call.
+    // Needs no buffer: each call that writes an output passes one chunk or more.
     type Writer = ToWrite<Output<R::File>>;
 
     fn open(&mut self, name: &str) -> Result<Self::Reader, FolderFault> {
@@ -199,7 +199,7 @@ impl<'p, 'r, R: Files + AllocGlobal + Clock + Eprint> Folder for SystemFiles<'p,
         }
     }
 
-    // Without `sync` the file is closed here, and the disk has it when the system writes it.
+    // Without `sync` the file is closed here, and the system writes it to the disk later.
     fn finish(&mut self, output: Self::Writer) -> Result<(), Self::Writer> {
         let ToWrite(mut output) = output;
         match outputs::finish(self.rt, &mut output) {
@@ -215,7 +215,7 @@ impl<'p, 'r, R: Files + AllocGlobal + Clock + Eprint> Folder for SystemFiles<'p,
     ghost sound = { λ _. ∣ tt ∣₁ };
 }
 
-// What an output may hold is asked by the prover, of who writes it. Here nothing is to be done for it.
+// The bound of an output is proof only: the contracts of its writers state it. Nothing happens at run time.
 impl<'p, 'r, R: Files + AllocGlobal + Clock + Eprint> OpeningFolder for SystemFiles<'p, 'r, R> {
     fn allow_plain(
         &mut self,

@@ -1,4 +1,4 @@
-//! FILEs whose outputs exist already: `--skip-existing` keeps these, and works the others.
+//! FILEs whose outputs exist already: `--skip-existing` keeps these and processes the others.
 ghost use Rattle.std.specs.Prelude.{◌≡◌, IfOk, OnOk, [], false, map};
 ghost use Rattle.io_core.specs.Streams.{Appends};
 ghost use Rattle.system_files.specs.Kept.{IsSplit, kept_text};
@@ -12,7 +12,7 @@ use std::rt::Files;
 /// What a run makes of a FILE.
 #[derive(Clone, Copy, PartialEq, Eq, Debug)]
 pub enum Makes {
-    /// Its container, under its name and `.stm`.
+    /// Its container, under its name with `.stm` added.
     Container,
     /// Its plaintext, under its name without `.stm`.
     Plaintext,
@@ -25,8 +25,8 @@ pub struct Split<'n> {
     pub others: Vec<&'n str>,
 }
 
-/// Splits the names of FILEs: with `skip` those are kept of which what the run makes exists already, in the folder into
-/// which outputs go where one is asked for. Where that can't be told the FILE isn't kept.
+/// Splits the names of FILEs. With `skip`, a FILE is kept if its output exists already, in the folder `into` if one is
+/// given. If that can't be found out, the FILE isn't kept.
 pub fn split_names<'n, R: Files + AllocGlobal>(
     rt: &R,
     makes: Makes,
@@ -63,7 +63,7 @@ fn is_kept<R: Files + AllocGlobal>(
     skip && is_made(rt, makes, into, name)
 }
 
-// Whether there is something under the name of what is made of this FILE.
+// Whether the name of this FILE's output is in use.
 fn is_made<R: Files + AllocGlobal>(rt: &R, makes: Makes, into: Option<&str>, name: &str) -> bool {
     match makes {
         Makes::Container => match format!(in rt.alloc(); "{name}.stm") {
@@ -77,7 +77,7 @@ fn is_made<R: Files + AllocGlobal>(rt: &R, makes: Makes, into: Option<&str>, nam
     }
 }
 
-// Whether there is something where the output of this name would be.
+// Whether there is something at the path of the output of this name.
 fn is_there<R: Files + AllocGlobal>(rt: &R, into: Option<&str>, output: &str) -> bool {
     match path_of(rt.alloc(), into, output) {
         Some(path) => fs::symlink_metadata(rt, path.as_str()).is_ok(),
@@ -85,7 +85,7 @@ fn is_there<R: Files + AllocGlobal>(rt: &R, into: Option<&str>, output: &str) ->
     }
 }
 
-/// Prints a line for each FILE that is kept. It fails where a write fails, or memory for a line is refused.
+/// Prints a line for each FILE that is kept. It fails if a write fails, or memory for a line is refused.
 pub fn print_kept<W: Sink>(alloc: Global, names: &[&str], lines: &mut W) -> Result<(), Failed>
     ensures ok { OnOk result (Appends (W.taken lines.old) (W.taken lines.new)
         (kept_text (map (λ name. name.now) names.now))) }

@@ -1,8 +1,8 @@
 //! Outputs: files that get their names only once they are whole.
 //!
-//! An output is written as a part, a hidden file in the folder of its name. Once it is whole a hard link gives it its
-//! name, which never replaces a file, and the part's name is removed. So whatever ends a run, a file that has an output's
-//! name is whole. Where a file can't have two names an output has its own from the beginning.
+//! An output is written as a part, a hidden file in the folder of its name. Once it is whole, a hard link gives it its
+//! name, which never replaces a file, and the part's name is removed. So a file with an output's name is whole, however
+//! the run ends. If a file can't have two names, an output has its own from the beginning.
 
 ghost use Rattle.std.specs.Prelude.{◌≡◌, ◌≢◌, Err};
 
@@ -14,13 +14,13 @@ use std::io::{ErrorKind, Read, Write};
 use std::rt::{Clock, Files};
 use std::{fs, io};
 
-/// An output that is written: its file, and the folder that has its name, where both are to be put on the disk.
+/// An output being written: its file and, if both are to be synced, the folder with its name.
 #[derive(Drop)]
 pub struct Output<F: Read + Write + Drop> {
-    // The names are made before the file is, so that their removal takes no memory.
+    // The names are made before the file, so that removing them takes no memory.
     path: String,
     part: Option<String>,
-    // Whether the file has its own name by now. It has the part's as long as that is there.
+    // Whether the file has its own name by now. It has the part's name while that exists.
     is_named: bool,
     file: F,
     folder: Option<F>,
@@ -41,7 +41,7 @@ impl<F: Read + Write + Drop> Write for Output<F> {
 /// How the outputs of a run are made.
 #[derive(Drop)]
 pub(crate) struct Outputs {
-    // When the run began, in nanoseconds: the names of its parts have it.
+    // When the run began, in nanoseconds. The names of its parts include it.
     begun: u64,
     // The folder of the last output, and whether files there can have two names.
     links: Option<(String, bool)>,
@@ -56,8 +56,8 @@ impl Outputs {
         Outputs { begun, links: None }
     }
 
-    /// Creates an output, where there is no file of its name. With `sync` its folder is opened first, so that an output
-    /// whose name can't be put on the disk isn't made.
+    /// Creates an output, if there is no file of its name. With `sync` its folder is opened first. An output whose name
+    /// can't be synced then isn't made.
     pub(crate) fn create<R: Files + AllocGlobal>(
         &mut self,
         rt: &R,
@@ -95,8 +95,8 @@ impl Outputs {
         }
     }
 
-    // A new part of an output of this name, where files in this folder can have two names. Whether they can is tried
-    // with the first one there.
+    // Creates a part for an output of this name, if files in this folder can have two names. The first output in a
+    // folder tests that.
     fn part<R: Files + AllocGlobal>(
         &mut self,
         rt: &R,
@@ -138,7 +138,7 @@ impl Outputs {
         }
     }
 
-    // Tries whether this part, of an output of this name, can have a second name in its folder.
+    // Tests whether this part, of an output of this name, can have a second name in its folder.
     fn try_links<R: Files + AllocGlobal>(
         &mut self,
         rt: &R,
@@ -157,7 +157,7 @@ impl Outputs {
     }
 }
 
-// The folder that has the name of this path, and that name.
+// The folder and the base name of this path.
 fn folder_and_name(path: &str) -> (&str, &str) {
     match path.rsplit_once('/') {
         None => (".", path),
@@ -166,7 +166,7 @@ fn folder_and_name(path: &str) -> (&str, &str) {
     }
 }
 
-// Whether there is no file at this path, whose last name this is.
+// Checks that there is no file at this path, whose base name is `name`.
 fn is_free<R: Files>(rt: &R, path: &str, name: &str) -> Result<(), FolderFault> {
     if name.is_empty() {
         return Err(FolderFault::Failed);
@@ -178,8 +178,7 @@ fn is_free<R: Files>(rt: &R, path: &str, name: &str) -> Result<(), FolderFault> 
     }
 }
 
-/// Creates a file. The system makes it only where there is none of the name, so no other program's file is ever
-/// replaced.
+/// Creates a file. The system makes it only if there is none of the name, so no other program's file is ever replaced.
 pub(crate) fn create_new<R: Files>(rt: &R, path: &str) -> Result<R::File, FolderFault> {
     match File::create_new(rt, path) {
         Ok(file) => Ok(file),
@@ -188,8 +187,8 @@ pub(crate) fn create_new<R: Files>(rt: &R, path: &str) -> Result<R::File, Folder
     }
 }
 
-// The path of a part. Two outputs of one run that would get one name in one folder have one part, by whatever paths, so
-// that the second isn't created.
+// The path of a part. Two outputs of one run with the same name in the same folder get the same part, by whatever
+// paths. The second then isn't created.
 fn part_name(
     alloc: Global,
     folder: &str,
@@ -213,13 +212,13 @@ fn number_of(name: &str) -> u64 {
     number
 }
 
-// Whether a file can have a second name, which is removed again. It can't where the file system has no links, or the
-// folder lets no name go.
+// Whether a file can have a second name. The name is removed again. It can't if the file system has no links, or the
+// folder doesn't let a name be removed.
 fn has_links<R: Files>(rt: &R, name: &str, second: &str) -> Result<bool, FolderFault> {
     match fs::hard_link(rt, name, second) {
         Ok(()) if fs::remove_file(rt, second).is_ok() => Ok(true),
         Ok(()) => {
-            // Where that failed by chance no part is left.
+            // If that failed by chance, no part is left.
             let _ = fs::remove_file(rt, second);
             Ok(false)
         }
@@ -232,8 +231,7 @@ fn has_links<R: Files>(rt: &R, name: &str, second: &str) -> Result<bool, FolderF
     }
 }
 
-/// Gives an output that is whole its name. Where its folder is there the file is put on the disk first, and its name at
-/// the end.
+/// Gives a whole output its name. If `output.folder` is there, the file is synced first and its folder last.
 pub(crate) fn finish<R: Files>(rt: &R, output: &mut Output<R::File>) -> io::Result<()>
     ensures file { output.new.file ≡ output.old.file }
 {
@@ -247,7 +245,7 @@ pub(crate) fn finish<R: Files>(rt: &R, output: &mut Output<R::File>) -> io::Resu
         }
         match fs::remove_file(rt, part.as_str()) {
             Ok(()) => {}
-            // A folder that lets no name go: the output keeps both.
+            // The folder doesn't let a name be removed: the output keeps both.
             Err(error) if error.kind() == ErrorKind::PermissionDenied => {}
             Err(error) => return Err(error),
         }
@@ -259,18 +257,18 @@ pub(crate) fn finish<R: Files>(rt: &R, output: &mut Output<R::File>) -> io::Resu
     }
 }
 
-// Gives a file that has one name a second one, where no other file has that.
+// Gives a file that has one name a second one, if no other file has that.
 fn link<R: Files>(rt: &R, file: &R::File, name: &str, second: &str) -> io::Result<()> {
     match fs::hard_link(rt, name, second) {
         Ok(()) => Ok(()),
-        // A server of files may have made the link, and have lost its answer.
+        // A file server may have made the link and lost its reply.
         Err(_) if is_at(rt, file, second) == Some(true) => Ok(()),
         Err(error) => Err(error),
     }
 }
 
-/// Removes an output that isn't whole: it is closed, and loses the names that it has. One that another file has by now
-/// stays, and the fault then is `Failed`.
+/// Removes an output that isn't whole: closes it and removes its names. A name that another file has by now stays, and
+/// the fault is then `Failed`.
 pub(crate) fn discard<R: Files>(rt: &R, output: Output<R::File>) -> Result<(), FolderFault>
     ensures fault { result ≢ Err FolderFault.Exists }
 {
@@ -295,8 +293,8 @@ pub(crate) fn discard<R: Files>(rt: &R, output: Output<R::File>) -> Result<(), F
     }
 }
 
-// Whether a name, where there is one, is still this file's: else ours was moved away or removed, and somebody else made
-// one. Where that can't be told it counts as ours.
+// Whether a name, if there is one, is still this file's. Otherwise ours was moved or removed, and another program made
+// one. If that can't be found out, it counts as ours.
 fn is_own<R: Files>(rt: &R, file: &R::File, name: &Option<String>) -> bool {
     match name {
         Some(name) => is_at(rt, file, name.as_str()) != Some(false),
@@ -304,7 +302,7 @@ fn is_own<R: Files>(rt: &R, file: &R::File, name: &Option<String>) -> bool {
     }
 }
 
-// Removes a name, where there is one: whether it is gone.
+// Removes a name, if there is one. Returns whether it is gone.
 fn removes<R: Files>(rt: &R, name: &Option<String>) -> bool {
     match name {
         Some(name) => fs::remove_file(rt, name.as_str()).is_ok(),
@@ -312,7 +310,7 @@ fn removes<R: Files>(rt: &R, name: &Option<String>) -> bool {
     }
 }
 
-// Whether a name is this file's, where that can be told.
+// Whether a name is this file's. `None` if that can't be found out.
 fn is_at<R: Files>(rt: &R, file: &R::File, name: &str) -> Option<bool> {
     match (file.metadata(), fs::symlink_metadata(rt, name)) {
         (Ok(file), Ok(found)) => Some(FileId::of(&file) == FileId::of(&found)),

@@ -1,7 +1,6 @@
 //! The files that a run has of its own: its ledger with what the database keeps beside it, its key file, its journal.
 //!
-//! None of them is an input. What is sealed of a ledger is a copy of it, and whoever opens that copy gets its numbers
-//! again.
+//! None of them may be an input. Sealing a ledger makes a copy of it, and opening that copy gives its numbers again.
 ghost use Rattle.std.specs.Prelude.{◌≡◌, ◌⊎◌, Some, true};
 
 use std::fs::{Metadata, OpenFile};
@@ -10,10 +9,10 @@ use std::os::unix::fs::MetadataExt;
 use std::rt::Files;
 use std::{fs, io};
 
-/// Where the system shows a process its standard input.
+/// The path of a process's standard input.
 const STANDARD_INPUT: &str = "/proc/self/fd/0";
 
-/// Which file it is, by whatever path.
+/// A file's identity, the same by every path.
 #[derive(Clone, Copy, PartialEq, Eq, Debug)]
 pub struct FileId {
     /// The number of its device.
@@ -23,7 +22,7 @@ pub struct FileId {
 }
 
 impl FileId {
-    /// Which file this is told of.
+    /// The identity of the file with this metadata.
     pub(crate) fn of(metadata: &Metadata) -> FileId {
         FileId {
             device: metadata.dev(),
@@ -32,7 +31,7 @@ impl FileId {
     }
 }
 
-/// A ledger file and those that its database keeps beside it, as far as they are there.
+/// A ledger file and those that its database keeps beside it. A file that isn't there is `None`.
 #[derive(Clone, Copy, Debug)]
 pub struct LedgerFiles {
     /// The ledger file.
@@ -46,7 +45,7 @@ pub struct LedgerFiles {
 }
 
 impl LedgerFiles {
-    /// Looks the files up. They are where a link to the ledger file leads.
+    /// Looks the files up. If the path is a link, they are beside the link's target.
     pub(crate) fn at<R: Files + AllocGlobal>(rt: &R, ledger: &str) -> io::Result<LedgerFiles> {
         match fs::canonicalize(rt, ledger) {
             Ok(real) => LedgerFiles::at_real(rt, real.as_str()),
@@ -55,7 +54,7 @@ impl LedgerFiles {
         }
     }
 
-    // The same of a path that is no link.
+    // The same for a path that is no link.
     fn at_real<R: Files + AllocGlobal>(rt: &R, ledger: &str) -> io::Result<LedgerFiles> {
         Ok(LedgerFiles {
             ledger: file_at(rt, ledger)?,
@@ -65,7 +64,7 @@ impl LedgerFiles {
         })
     }
 
-    /// Whether this file is one of them.
+    /// Returns whether this file is one of them.
     pub fn has(&self, file: FileId) -> bool
         ensures ledger { self.now.ledger ≡ Some file → result ≡ true }
         ensures wal { self.now.wal ≡ Some file → result ≡ true }
@@ -86,11 +85,11 @@ pub struct OwnPaths<'a> {
     pub ledger: &'a str,
     /// That of the key file.
     pub key: &'a str,
-    /// That of the journal, where one is asked for.
+    /// That of the journal, if there is one.
     pub journal: Option<&'a str>,
 }
 
-/// A run's own files, as far as they are there.
+/// A run's own files. A file that isn't there is `None`.
 #[derive(Clone, Copy, Debug)]
 pub struct OwnFiles {
     /// The ledger file and those beside it.
@@ -115,7 +114,7 @@ impl OwnFiles {
         })
     }
 
-    /// Whether this file is one of them, so that it is no input.
+    /// Returns whether this file is one of them, and so can't be an input.
     pub fn has(&self, file: FileId) -> bool
         ensures ledger { self.now.ledger.ledger ≡ Some file → result ≡ true }
         ensures wal { self.now.ledger.wal ≡ Some file → result ≡ true }
@@ -139,7 +138,7 @@ fn is_missing(error: &io::Error) -> bool {
     )
 }
 
-// The file at a path, where there is one.
+// The file at a path, if there is one.
 fn file_at<R: Files>(rt: &R, path: &str) -> io::Result<Option<FileId>> {
     match fs::metadata(rt, path) {
         Ok(found) => Ok(Some(FileId::of(&found))),
@@ -148,7 +147,7 @@ fn file_at<R: Files>(rt: &R, path: &str) -> io::Result<Option<FileId>> {
     }
 }
 
-// The file whose name is that of the ledger file with this end.
+// The file with the ledger file's name and this suffix.
 fn file_beside<R: Files + AllocGlobal>(
     rt: &R,
     ledger: &str,
@@ -160,7 +159,8 @@ fn file_beside<R: Files + AllocGlobal>(
     file_at(rt, path.as_str())
 }
 
-/// Whether a file that was just created is the ledger file or one beside it. Where that can't be told it counts as one.
+/// Returns whether a file just created is the ledger file or one beside it. If that can't be found out, it counts as
+/// one.
 pub(crate) fn is_of_ledger<R: Files + AllocGlobal, F: OpenFile>(
     rt: &R,
     created: &F,
@@ -172,14 +172,14 @@ pub(crate) fn is_of_ledger<R: Files + AllocGlobal, F: OpenFile>(
     }
 }
 
-/// What the standard input is read by where it is sealed: it fails where it is one of the run's own files, as far as
-/// `/proc` tells which file it is.
+/// The reader of standard input for sealing. It fails if the input is one of the run's own files, as far as `/proc`
+/// shows which file it is.
 #[derive(Drop)]
 pub struct StandardInput<'r, 'p, R: Files + AllocGlobal, I: Read + Drop> {
     rt: &'r R,
     input: I,
     paths: OwnPaths<'p>,
-    // Whether it was looked at: not before it is read, since only then all of the run's files are there.
+    // Whether it was checked. That is done at the first read, since only then all of the run's files exist.
     is_another: bool,
 }
 

@@ -1,9 +1,9 @@
-//! The line on standard error that shows how far a run is: files done of all, bytes done, bytes a second, and the time
-//! left where the sizes of all files are known.
+//! The progress line on standard error: files done of all, bytes done, bytes a second, and the time left if the sizes
+//! of all files are known.
 //!
-//! It is redrawn at most five times a second, as bytes are read, taken away before a line of the run is told, drawn
-//! again after it, and taken away at the end. The time begins with the first bytes, which its speed doesn't count. It
-//! changes nothing else, and where the clock fails there is none.
+//! It is redrawn at most five times a second, as bytes are read. It is cleared before a line of the run is printed,
+//! drawn again after it, and cleared at the end. Time is counted from the first bytes, which the speed doesn't include.
+//! It changes nothing else, and if the clock fails there is no line.
 ghost use Rattle.std.specs.Prelude.{◌≡◌};
 
 use std::cell::Cell;
@@ -12,7 +12,7 @@ use std::rt::{Clock, Files};
 use std::time::{Duration, Instant};
 use std::{fs, io};
 
-/// Milliseconds between two drawings, at least.
+/// The least time between two drawings, in milliseconds.
 const BETWEEN: u128 = 200;
 
 /// Bytes of a MiB.
@@ -25,7 +25,7 @@ struct Done {
     bytes: u64,
     // When the first bytes were read, and how many they were.
     begun: Option<(Instant, u64)>,
-    // Since when the line may be drawn again.
+    // The time from which the next drawing is timed.
     last: Instant,
     is_drawn: bool,
 }
@@ -34,14 +34,14 @@ struct Done {
 #[derive(Drop)]
 pub struct Progress<'r, R: Clock + Eprint> {
     rt: &'r R,
-    // The files of the run, and the bytes of all, where they are known.
+    // The number of files, and the bytes of all of them if known.
     files: usize,
     bytes: Option<u64>,
     done: Cell<Done>,
 }
 
 impl<'r, R: Clock + Eprint> Progress<'r, R> {
-    /// What is told of a run over these files, of which it asks the sizes. There is none where the clock fails.
+    /// Starts the progress of a run over these files. It reads their sizes. Returns `None` if the clock fails.
     pub fn of(rt: &'r R, names: &[&str]) -> Option<Progress<'r, R>>
     where
         R: Files,
@@ -61,12 +61,12 @@ impl<'r, R: Clock + Eprint> Progress<'r, R> {
         })
     }
 
-    /// So many bytes more were read. The line is drawn where it is time.
+    /// Counts `bytes` more bytes as read, and redraws the line if it is time.
     pub fn add(&self, bytes: usize) {
         let mut done = self.done.get();
         done.bytes = done.bytes.saturating_add(bytes as u64);
         if let Ok(now) = Instant::now(self.rt) {
-            // What the run did before, as to open the ledger file, says nothing of its speed.
+            // What the run did before, such as opening the ledger file, says nothing of its speed.
             if done.begun.is_none() {
                 done.begun = Some((now, done.bytes));
                 done.last = now;
@@ -80,14 +80,14 @@ impl<'r, R: Clock + Eprint> Progress<'r, R> {
         self.done.set(done);
     }
 
-    /// The line of one file more was told.
+    /// Counts one more file, whose line was printed.
     pub fn told(&self) {
         let mut done = self.done.get();
         done.files = done.files.saturating_add(1);
         self.done.set(done);
     }
 
-    /// Takes the line away: whether it was drawn.
+    /// Clears the line. Returns whether it was drawn.
     pub fn clear(&self) -> bool {
         let mut done = self.done.get();
         if !done.is_drawn {
@@ -109,7 +109,7 @@ impl<'r, R: Clock + Eprint> Progress<'r, R> {
         }
     }
 
-    // Draws the line, as it is now.
+    // Draws the line in its present state.
     fn draw(&self, done: &Done, now: Instant) {
         let (begun, first) = done.begun.unwrap_or((now, 0));
         let time = now.saturating_duration_since(begun);
@@ -122,7 +122,7 @@ impl<'r, R: Clock + Eprint> Progress<'r, R> {
             None => eprint!(self.rt;
                 "\r{files} of {all} files, {mib} MiB, {rate}.{tenth} MiB/s\x1b[K"
             ),
-            // So early the time left would be by chance.
+            // The time left would be a guess so early.
             Some(bytes) if time.as_secs() == 0 => {
                 let whole = bytes / MIB;
                 eprint!(self.rt;
@@ -147,12 +147,12 @@ fn per_second(bytes: u64, time: Duration) -> u64 {
     u64::try_from(each).unwrap_or(u64::MAX)
 }
 
-// The seconds until all bytes are read, at so many a second.
+// The seconds until all bytes are read, at `each` bytes a second.
 fn seconds_left(all: u64, done: u64, each: u64) -> u64 {
     all.saturating_sub(done) / each.max(1)
 }
 
-// The bytes of these files, where all that are there are files of a known size.
+// The bytes of these files, if the size of each existing one is known.
 fn bytes_of<R: Files>(rt: &R, names: &[&str]) -> Option<u64> {
     let mut bytes = 0u64;
     for name in names {
@@ -166,7 +166,7 @@ fn bytes_of<R: Files>(rt: &R, names: &[&str]) -> Option<u64> {
     Some(bytes)
 }
 
-/// A reader whose bytes are counted, where that is asked for.
+/// A reader that counts its bytes in `progress`, if there is one.
 #[derive(Drop)]
 pub struct Counted<'p, 'r, R: Clock + Eprint, F: Read + Drop> {
     pub(crate) reader: F,
@@ -185,12 +185,12 @@ impl<R: Clock + Eprint, F: Read + Drop> Read for Counted<'_, '_, R, F> {
     }
 }
 
-/// A stream on which a run prints lines: the line of its progress is taken away first, and drawn again after it.
+/// A stream on which a run prints lines. The progress line is cleared before each of them and drawn again after it.
 #[derive(Drop)]
 pub struct Told<'p, 'r, R: Clock + Eprint, W: Write + Drop> {
     /// The stream.
     pub writer: W,
-    /// What is taken away.
+    /// The progress line to clear.
     pub progress: Option<&'p Progress<'r, R>>,
     /// Whether each line is that of a file.
     pub of_files: bool,
@@ -205,7 +205,7 @@ impl<R: Clock + Eprint, W: Write + Drop> Write for Told<'_, '_, R, W> {
         };
         let was_drawn = progress.clear();
         let put = self.writer.write(buf);
-        // A line is written by one call, and by further ones the rest of it.
+        // A line is written with one call, or its rest with further ones.
         if matches!(put, Ok(bytes) if bytes == buf.len()) {
             if self.of_files {
                 progress.told();

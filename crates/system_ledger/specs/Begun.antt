@@ -1,13 +1,13 @@
--- The log beside an empty ledger file, where a run was cut off as it made the two.
+-- The log beside an empty ledger file, after a run was cut off while it made the two.
 use Rattle.std.specs.Prelude.{◌≡◌, ◌≢◌, ◌⊎◌, ◌≤◌, ℕ, List, length, slice_index, slice_set, take}
 use Rattle.sqlite_wal.specs.Format.{be32, IsSigned}
 use Rattle.sqlite_wal.specs.Recovery.{Passes}
 
--- no frame of the log has sums that hold, for pages of any size
+-- no frame of the log has checksums that hold, for pages of any size
 abbrev pub HasNoFrame : List ℕ → Type 0
 HasNoFrame log = (page_size i : ℕ) → 512 ≤ page_size → ¬ Passes page_size log i
 
--- the header's number of its round is that of a log that is made with its file, which no copying of the log begins
+-- the header has the number of the first round: that of a log made with its file, never of one begun by a fold
 abbrev pub IsOfFirstRound : List ℕ → Type 0
 IsOfFirstRound log = (16 ≤ length log) × (be32 log 12 ≡ 0xffff_ffff)
 
@@ -15,10 +15,10 @@ IsOfFirstRound log = (16 ≤ length log) × (be32 log 12 ≡ 0xffff_ffff)
 abbrev pub IsShut : List ℕ → Type 0
 IsShut log = slice_index log 0 ≢ 0x37
 
--- there is a header whose sum holds, but perhaps for the first byte
+-- there is a header whose checksum holds once the first byte is set
 abbrev pub HasHeader : List ℕ → Type 0
 HasHeader log = (32 ≤ length log) × IsSigned (slice_set (take 32 log) 0 0x37)
 
--- It has no room for a frame with a page, and is of the first round, or was cut off in a write of its header.
+-- It has no room for a frame with a page, and is of the first round or was cut off in a write of its header.
 abbrev pub HasOnlyBegun : List ℕ → Type 0
 HasOnlyBegun log = (length log ≤ 56) × ((length log ≤ 1) ⊎ (IsOfFirstRound log ⊎ (IsShut log × (¬ HasHeader log))))

@@ -1,16 +1,16 @@
-//! The log that a run leaves beside an empty ledger file where it is cut off as it makes the two. The database writes the
-//! log's first byte last, once its others are on the disk, and only then the file; its copies of the log into the file
-//! begin rounds of other numbers.
+//! The log that a run leaves beside an empty ledger file if it is cut off while it makes the two. The database writes
+//! the log's first byte last, once the others are on the disk, and only then the file. When it folds the log, it begins
+//! rounds with other numbers.
 ghost use Rattle.std.specs.Prelude.{◌≡◌, ◌+◌, ◌≤◌, ◌↔◌, length, IsTrue};
 ghost use Rattle.sqlite_wal.specs.Format.{be32, stored_sum, IsSigned};
 ghost use Rattle.system_ledger.specs.Begun.{HasHeader, HasNoFrame, HasOnlyBegun, IsOfFirstRound};
 
 use sqlite_wal::checksum_of;
 
-/// Bytes of a log that holds no page yet: its header, and that of a frame.
+/// Bytes of a log that holds no page yet: the log's header and one frame's header.
 pub const WITHOUT_PAGE: usize = 32 + 24;
 
-// Bytes of a log's header, where it has the number of its round, and where its sum.
+// Bytes of a log's header, and the offsets in it of its round's number and its checksum.
 const HEADER: usize = 32;
 
 const ROUND: usize = 12;
@@ -20,7 +20,8 @@ const SUM: usize = 24;
 // The first byte of a log.
 const FIRST: u8 = 0x37;
 
-/// Whether a log beside an empty ledger file was only begun with it, so that no number was ever reserved in the two.
+/// Returns whether a log beside an empty ledger file was only begun with it. If so, no number was ever reserved in the
+/// two.
 pub fn has_only_begun(log: &[u8]) -> bool
     ensures begun { IsTrue result ↔ HasOnlyBegun log.now }
     ensures no_frame { IsTrue result → HasNoFrame log.now }
@@ -47,7 +48,7 @@ fn is_of_first_round(log: &[u8]) -> bool
     log.len() >= ROUND + 4 && number_at(log, ROUND) == 0xffff_ffff
 }
 
-// Whether it has a header whose sum holds, but perhaps for the first byte.
+// Whether it has a header whose checksum holds once the first byte is set.
 fn has_header(log: &[u8]) -> bool
     ensures { IsTrue result ↔ HasHeader log.now }
 {
@@ -60,7 +61,7 @@ fn has_header(log: &[u8]) -> bool
     is_signed(&header)
 }
 
-// Whether it begins with the magic number and ends with its sum.
+// Whether it begins with the magic number and ends with its checksum.
 fn is_signed(header: &[u8; HEADER]) -> bool
     ensures { IsTrue result ↔ IsSigned header.now }
 {
@@ -74,7 +75,7 @@ fn is_signed(header: &[u8; HEADER]) -> bool
     sum == sum_at(header, SUM)
 }
 
-// The sum that is stored there.
+// The checksum stored at offset `at`.
 fn sum_at(bytes: &[u8], at: usize) -> (u32, u32)
     requires { at + 8 ≤ length bytes.now }
     ensures { result ≡ stored_sum bytes.now at }
@@ -82,7 +83,7 @@ fn sum_at(bytes: &[u8], at: usize) -> (u32, u32)
     (number_at(bytes, at), number_at(bytes, at + 4))
 }
 
-// Four bytes as a number, the highest first.
+// The four bytes at `at` as a big-endian number.
 fn number_at(bytes: &[u8], at: usize) -> u32
     requires { at + 4 ≤ length bytes.now }
     ensures { result ≡ be32 bytes.now at }

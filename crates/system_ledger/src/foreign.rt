@@ -1,5 +1,4 @@
-//! Somebody else's database, where a ledger file is asked for: it is refused before anything is made beside it and before
-//! it is opened by what writes.
+//! Refuses a database that is no ledger, before anything is made beside it and before it is opened for writing.
 
 use crate::begun::WITHOUT_PAGE;
 use crate::holdings::{is_alone, read_both};
@@ -11,16 +10,16 @@ use std::fs::OpenOptions;
 use std::io::Read;
 use std::rt::Files;
 
-// Bytes of the largest page that a database can have, and of the longest file that is read in memory where its first
-// page is enough to refuse it.
+// `PAGE` is the size of the largest page that a database can have. If the first page is enough to refuse a file, a file
+// longer than `READ` bytes is not read into memory.
 const PAGE: usize = 1 << 16;
 
 const READ: u64 = 1 << 24;
 
-// Bytes of the smallest page on which the four entries of a ledger's tables and keys have room in every form.
+// Bytes of the smallest page that has room, in every form, for the four entries of a ledger's tables and keys.
 const ROOMY: usize = 1 << 12;
 
-// Where the database's header ends and the first page's own begins, with its kind, and the number of its entries.
+// Offsets in the first page: its kind, at the end of the database's header, and the number of its entries.
 const KIND: usize = 100;
 
 const ENTRIES: usize = 103;
@@ -29,7 +28,7 @@ const LEAF: u8 = 0x0d;
 
 const INNER: u8 = 0x05;
 
-// What the first page says of the tables, where no log has another.
+// What the first page says of the tables, if no log has another first page.
 #[derive(Clone, Copy, PartialEq, Eq)]
 enum Front {
     // They are a ledger's two, with their keys.
@@ -40,9 +39,9 @@ enum Front {
     Unclear,
 }
 
-/// Whether the tables of a file that isn't empty let it be opened as a ledger, as far as they can be read. The file is
-/// opened as the database opens it, and its log only read; of a ledger that no cut off run left no more than the first
-/// page is read.
+/// Checks whether the tables of a file that isn't empty allow it to be opened as a ledger, as far as they can be read.
+/// It opens the file as the database does, and only reads the log. If the log has no pages and the first page is a
+/// ledger's, it reads at most `PAGE` bytes of the file.
 pub(crate) fn may_be_ledger<R: Files + AllocGlobal>(
     rt: &R,
     ledger: &LedgerPath<'_>,
@@ -70,7 +69,7 @@ pub(crate) fn may_be_ledger<R: Files + AllocGlobal>(
     }
 }
 
-// What the first page of a file says, which can be read and written.
+// Reads what the first page of a file says. The file must be readable and writable.
 fn front_of<R: Files + AllocGlobal>(rt: &R, path: &str) -> Result<Front, LedgerFault> {
     let Ok(file) = OpenOptions::new().read(true).write(true).open(rt, path) else {
         return Err(LedgerFault::CannotOpen);
@@ -84,7 +83,7 @@ fn front_of<R: Files + AllocGlobal>(rt: &R, path: &str) -> Result<Front, LedgerF
     }
 }
 
-// What these bytes say, with which a file begins.
+// What these bytes at the beginning of a file say.
 fn front_in(front: &[u8]) -> Front {
     if front.len() < ENTRIES + 2 || !front.starts_with(b"SQLite format 3\0") {
         return Front::Unclear;
@@ -101,7 +100,7 @@ fn front_in(front: &[u8]) -> Front {
     }
 }
 
-// Whether there are entries of the two tables: in one stand the kind, the name and the table's name, one behind another.
+// Whether there are entries of the two tables. An entry has the kind, the name and the table's name, one after another.
 fn has_both(front: &[u8]) -> bool {
     has(front, b"tablemarkmark") && has(front, b"tabletakentaken")
 }
@@ -115,8 +114,8 @@ fn has(bytes: &[u8], word: &[u8]) -> bool {
     false
 }
 
-// Whether a database that was opened in memory is a ledger, or has no tables yet where one may be made. Where it has a
-// ledger's tables their rows are left to the keeper.
+// Checks that a database opened in memory is a ledger, or has no tables yet if one may be made. If it has a ledger's
+// tables, their rows are left to the keeper.
 fn look_at<S: Alter + Drop>(connection: Connection<S>, may_make: bool) -> Result<(), LedgerFault> {
     if has_tables(&connection) {
         return Ok(());

@@ -1,4 +1,4 @@
-//! What a ledger file holds: read, and nothing is changed, neither the file nor the log beside it.
+//! Reads what a ledger file holds. Neither the file nor the log beside it is changed.
 
 use crate::ledger::{LedgerFault, LedgerPath, goes_with_log, keeper_over};
 use crate::log::{log_beside, opened};
@@ -12,20 +12,20 @@ use std::os::unix::fs::MetadataExt;
 use std::rt::Files;
 use std::{fmt, fs, io};
 
-/// The bytes of a key's id that are told.
+/// Bytes of the key ID that are printed.
 const TOLD: usize = 7;
 
 /// What a ledger file holds of one key and device.
 #[derive(Clone, Copy)]
 pub struct Holding {
-    // The first bytes of the key's id.
+    // The first bytes of the key ID.
     key: [u8; TOLD],
     device: u32,
     ranges: u64,
     given: u64,
 }
 
-/// Its line, without an end.
+/// Its line, without a newline.
 impl Display for Holding {
     fn fmt<W: fmt::Write>(&self, f: &mut Formatter<W>) -> fmt::Result {
         f.write_str("key ")?;
@@ -41,11 +41,11 @@ impl Display for Holding {
     }
 }
 
-/// What the ledger file at a path holds, for each key and device, in the order of their ids and numbers.
+/// Returns what the ledger file at a path holds for each key and device, ordered by key ID and device.
 ///
-/// The files are read twice, and where they were not the same another run wrote them: `CannotOpen`. It refuses what a
-/// run of `seal` refuses that may make no ledger, but that another run may hold the ledger at this time, and that files
-/// and folder need not be writable.
+/// The files are read twice. If they differ, another run wrote them: `CannotOpen`. It refuses what `seal` refuses when
+/// it may not make a ledger, with two exceptions: another run may hold the ledger now, and the files and the folder
+/// need not be writable.
 pub fn read_holdings<R: Files + AllocGlobal>(
     rt: &R,
     path: &str,
@@ -74,7 +74,7 @@ pub(crate) struct Both {
     pub(crate) db: Vec<u8>,
 }
 
-// The two files, where a run could open them, and they were the same when they were read again.
+// The two files, if a run could open them and a second read gives the same bytes.
 fn read_alike<R: Files + AllocGlobal>(rt: &R, path: &str, log: &str) -> Option<Both> {
     if !is_alone(rt, path, log) {
         return None;
@@ -87,8 +87,8 @@ fn read_alike<R: Files + AllocGlobal>(rt: &R, path: &str, log: &str) -> Option<B
     }
 }
 
-/// The two files. What is no database is refused before it is read whole. Where the log has pages the file's first one
-/// may be among them.
+/// Reads the two files. A file that is no database is refused before it is read whole. If the log has pages, the file's
+/// first page may be among them.
 pub(crate) fn read_both<R: Files + AllocGlobal>(rt: &R, path: &str, log: &str) -> Option<Both> {
     let log = read_if_there(rt, log).ok()?;
     if log.is_empty() && !begins_as_database(rt, path) {
@@ -100,7 +100,7 @@ pub(crate) fn read_both<R: Files + AllocGlobal>(rt: &R, path: &str, log: &str) -
     }
 }
 
-// Whether a file has these bytes, none where it isn't there.
+// Whether a file has these bytes. A missing file has none.
 fn is_still<R: Files + AllocGlobal>(rt: &R, path: &str, bytes: &[u8]) -> bool {
     match read_if_there(rt, path) {
         Ok(again) => again.as_slice() == bytes,
@@ -117,8 +117,8 @@ fn begins_as_database<R: Files>(rt: &R, path: &str) -> bool {
     file.read_exact(&mut front).is_ok() && front == *b"SQLite format 3\0"
 }
 
-/// Whether a run could open these files: each has one name and is no folder or device, and no database left something
-/// beside it to play back.
+/// Returns whether a run could open these files: each has one name and is no folder or device, and no database left a
+/// journal beside them to play back.
 pub(crate) fn is_alone<R: Files + AllocGlobal>(rt: &R, path: &str, log: &str) -> bool {
     let Some(base) = log.strip_suffix("-wal") else {
         return false;
@@ -138,7 +138,7 @@ fn has_one_name<R: Files>(rt: &R, path: &str) -> bool {
     }
 }
 
-// Whether there is something else than an empty journal, or one that begins with a byte 0.
+// Whether the journal is anything but missing, empty, or a file whose first byte is 0.
 fn is_hot<R: Files>(rt: &R, journal: &str) -> bool {
     match fs::symlink_metadata(rt, journal) {
         Ok(found) => !found.is_file() || found.len() > 0 && !begins_with_zero(rt, journal),
@@ -146,7 +146,7 @@ fn is_hot<R: Files>(rt: &R, journal: &str) -> bool {
     }
 }
 
-/// Whether a file can be read, and its first byte is a 0.
+/// Returns whether a file can be read and its first byte is 0.
 pub(crate) fn begins_with_zero<R: Files>(rt: &R, path: &str) -> bool {
     let Ok(mut file) = File::open(rt, path) else {
         return false;
@@ -155,7 +155,7 @@ pub(crate) fn begins_with_zero<R: Files>(rt: &R, path: &str) -> bool {
     file.read_exact(&mut front).is_ok() && front == [0]
 }
 
-// The bytes of a file, none where it isn't there.
+// The bytes of a file. A missing file has none.
 fn read_if_there<R: Files + AllocGlobal>(rt: &R, path: &str) -> io::Result<Vec<u8>> {
     match fs::read(rt, path) {
         Err(error) if error.kind() == ErrorKind::NotFound => Ok(Vec::new(rt.alloc())),
@@ -163,7 +163,7 @@ fn read_if_there<R: Files + AllocGlobal>(rt: &R, path: &str) -> io::Result<Vec<u
     }
 }
 
-// What a database holds that is a ledger, where there is one.
+// What a database holds, if there is one and it is a ledger.
 fn held_by<S: Alter + Drop>(
     alloc: Global,
     opened: Result<Option<Connection<S>>, AllocError>,
@@ -199,7 +199,7 @@ fn holdings_of<S: Alter + Drop>(
     Ok(held)
 }
 
-// What a row tells. The keeper has seen that each is of a key, a device and numbers.
+// The holding in a row. The keeper has checked that each row is of a key, a device and numbers.
 fn holding_of(row: &Row) -> Option<Holding> {
     let id = row.get::<Vec<u8>>(0).ok()?;
     let mut key = [0; TOLD];

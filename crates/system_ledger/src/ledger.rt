@@ -25,14 +25,15 @@ use thiserror::Error;
 /// Why the ledger file can't be used. The texts are those that the program prints.
 #[derive(Clone, Copy, PartialEq, Eq, Debug, Error)]
 pub enum LedgerFault {
-    /// There is no such folder, the file is no database or can't be read, its log doesn't go with it, its tables are
-    /// not alone, memory was refused, or another process holds it.
+    /// The folder is missing, the file is no database or can't be read, its log doesn't go with it, its tables are
+    /// other than a ledger's or not alone, a file has more than one name, another database left a journal beside it,
+    /// memory was refused, or another process holds it.
     #[error("cannot open")]
     CannotOpen,
     /// The database holds something else.
     #[error("not a ledger")]
     NotLedger,
-    /// There is no ledger file, or one without tables, and none is to be made.
+    /// There is no ledger file, or one without tables, and none may be made.
     #[error("not there")]
     NotThere,
 }
@@ -40,23 +41,26 @@ pub enum LedgerFault {
 /// Which ledger file a run asks for.
 #[derive(Clone, Copy, Debug)]
 pub struct LedgerPath<'a> {
-    /// Its path. The log lies beside it, where a link leads.
+    /// Its path. If it is a link, the log is beside the link's target.
     pub path: &'a str,
-    /// Whether it is made where there is none.
+    /// Whether it is made if there is none.
     pub may_make: bool,
 }
 
-/// Whether a run may open this ledger file, before anything is opened to be written, or made.
+/// Checks whether a run may open this ledger file, before any file is made or opened for writing.
 ///
-/// `CannotOpen` comes for a log (PATH-wal) that doesn't go with the file: beside no file any that isn't empty, and
-/// beside an empty file any but one that was only begun, since that file was lost or put elsewhere, and the database
-/// would begin anew over it, from number 0; and one with pages with which the file has fewer numbers of some key and
-/// device than without it, as far as the file alone is a ledger, or for which memory to tell this is refused.
-/// `NotThere` comes where there is no file, or an empty one, and none may be made. A file of a single 0 counts as
-/// empty, since the database begins its file so; one of another byte is no database.
+/// It returns `CannotOpen` if the log (PATH-wal) doesn't go with the file:
+/// - There is no file, and the log isn't empty. The file was lost or moved, and the database would begin again from
+///   number 0.
+/// - The file is empty, and the log was not only begun with it. The same holds.
+/// - The log has pages, and with it the file has fewer numbers of some key and device than without it. This is compared
+///   only if the file alone is a ledger. If memory for it is refused, that is `CannotOpen` too.
 ///
-/// Of a file that isn't empty the tables are looked at, as far as it and its log can be read: what is no database is
-/// `CannotOpen`, one of something else `NotLedger`, and one without tables `NotThere` where none may be made.
+/// It returns `NotThere` if there is no file, or an empty one, and none may be made. A file of a single byte 0 counts
+/// as empty, since the database begins its file that way. Any other single byte is no database.
+///
+/// If the file isn't empty, its tables are checked as far as it and its log can be read. No database is `CannotOpen`,
+/// other tables are `NotLedger`. A database without tables is `NotThere` if none may be made.
 pub fn may_open<R: Files + AllocGlobal>(
     rt: &R,
     ledger: &LedgerPath<'_>,
@@ -75,7 +79,8 @@ pub(crate) struct Lengths {
     pub(crate) log_bytes: u64,
 }
 
-/// Whether the log goes with the file, or there is none and one may be made. `None` is that the file is empty.
+/// Checks that the log goes with the file, and that there is a file or one may be made. `None` means that the file is
+/// missing or empty.
 pub(crate) fn goes_with_log<R: Files + AllocGlobal>(
     rt: &R,
     ledger: &LedgerPath<'_>,
@@ -87,7 +92,7 @@ pub(crate) fn goes_with_log<R: Files + AllocGlobal>(
     let (Ok(file_bytes), Ok(log_bytes)) = (length_of(rt, path), length_of(rt, log.as_str())) else {
         return Err(LedgerFault::CannotOpen);
     };
-    // The database takes any file of one byte for one that it only began, and would write over it.
+    // The database takes any file of one byte for one that it only began, and would overwrite it.
     if file_bytes == Some(1) && !begins_with_zero(rt, path) {
         return Err(LedgerFault::CannotOpen);
     }
@@ -116,7 +121,7 @@ pub(crate) fn goes_with_log<R: Files + AllocGlobal>(
     }
 }
 
-// The length of a file, where there is one.
+// The length of a file, if there is one.
 fn length_of<R: Files + AllocGlobal>(rt: &R, path: &str) -> io::Result<Option<u64>> {
     match fs::metadata(rt, path) {
         Ok(file) => Ok(Some(file.len())),
@@ -125,12 +130,11 @@ fn length_of<R: Files + AllocGlobal>(rt: &R, path: &str) -> io::Result<Option<u6
     }
 }
 
-/// This ledger file, with its keeper; it is made where there is none. A path that names no file (an empty one,
-/// `:memory:` or a URI) is refused: two runs must never be without a file between them. A refusal keeps the pages of
-/// the log.
+/// Opens this ledger file, with its keeper. The file is made if there is none. A path that names no file (an empty one,
+/// `:memory:` or a URI) is refused, since two runs must always share a file. A refusal keeps the pages of the log.
 ///
-/// Where none may be made, a database without tables is `NotThere`, also one that the opening itself began since the
-/// file was gone. `S` stands for what the files hold, as the database's own way to open a path has it.
+/// If none may be made, a database without tables is `NotThere`, even one that this call began because the file was
+/// gone. `S` denotes what the files hold, as in the database's own way to open a path.
 pub fn open_ledger<S: Start>(
     rt: &HostRuntime,
     ledger: &LedgerPath<'_>,
@@ -149,7 +153,7 @@ pub fn open_ledger<S: Start>(
     }
 }
 
-// The database at a path, as `Connection::open_from` has it, but that it keeps few pages in memory.
+// Opens the database at a path like `Connection::open_from`, but keeps few pages in memory.
 fn connect<S: Start>(
     rt: &HostRuntime,
     path: &str,
@@ -177,8 +181,8 @@ fn connect<S: Start>(
     }
 }
 
-// Whether the log beside an empty file was only begun, of files that are held by now: the one that was looked at may have
-// been taken away since, and another was made then.
+// Whether the log beside an empty file was only begun, read from the files now held. The log checked before may have
+// been removed since, and another made.
 fn is_still_begun<D: Disk>(files: &mut DiskFiles<D>) -> bool
     requires log_usable { IsTrue (D.Disk.is_usable files.old.log) }
     requires db_usable { IsTrue (D.Disk.is_usable files.old.db) }
@@ -203,11 +207,11 @@ fn is_still_begun<D: Disk>(files: &mut DiskFiles<D>) -> bool
     }
 }
 
-// How many pages of those read, and of those written, the database keeps in memory: a run comes to few of them again,
-// and the 2,000 that it keeps else are filled as it opens.
+// How many pages read, and how many pages written, the database keeps in memory. A run returns to few pages, and the
+// default of 2,000 would be filled at the opening.
 const CACHED_PAGES: usize = 128;
 
-// The salts of a new log are drawn at random. `None` is that the system gives no random bytes.
+// The salts of a new log are drawn at random. `None` means that the system gives no random bytes.
 fn few_pages(rt: &HostRuntime) -> Option<Options> {
     let seed = RandomState::new(rt).ok()?.hash_one(&0u8);
     let mut options = Options::new(seed);
@@ -216,7 +220,7 @@ fn few_pages(rt: &HostRuntime) -> Option<Options> {
     Some(options)
 }
 
-// The keeper of a ledger that was opened. A database without tables is `NotThere` where none may be made.
+// The keeper of a ledger that was opened. A database without tables is `NotThere` if none may be made.
 pub(crate) fn keeper_over<S: Alter + Drop>(
     connection: Connection<S>,
     may_make: bool,
@@ -238,15 +242,16 @@ pub(crate) fn keeper_over<S: Alter + Drop>(
     }
 }
 
-/// Closes a ledger file. Where no fold was tried its log is copied into it; where that fails the log stays, and the
-/// next run reads it.
+/// Closes a ledger file. If no fold was tried, the log is folded into it. If that fails, the log stays and the next run
+/// reads it.
 pub fn close_ledger<D: Disk + Drop>(file: LedgerFile<FileStore<D>>) {
     if let LedgerFile::Kept(keeper) = file {
         let _ = keeper.release().close();
     }
 }
 
-/// Whether a path is, word for word, that of the ledger file or of a file that its database keeps beside it.
+/// Returns whether a path is, byte for byte, the path of the ledger file or of a file that its database keeps beside
+/// it.
 pub fn is_beside(path: &str, ledger: &str) -> bool {
     match path.strip_prefix(ledger) {
         Some(rest) => matches!(rest, "" | "-wal" | "-shm" | "-journal"),

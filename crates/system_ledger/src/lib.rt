@@ -1,4 +1,4 @@
-//! The ledger file at a path: whether a run may open it, its opening and closing, and what it holds.
+//! The ledger file at a path: whether a run may open it, opening and closing it, and what it holds.
 #![tactic(auto)]
 
 mod begun;

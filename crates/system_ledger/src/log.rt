@@ -7,7 +7,7 @@ use std::alloc::{AllocError, Global};
 use std::fs;
 use std::rt::Files;
 
-// The name of the log. It lies where a link to the ledger file leads.
+// The path of the log. If `path` is a link, the log is beside the link's target.
 pub(crate) fn log_beside<R: Files + AllocGlobal>(rt: &R, path: &str) -> Result<String, AllocError> {
     match fs::canonicalize(rt, path) {
         Ok(real) => format!(in rt.alloc(); "{}-wal", real.as_str()),
@@ -15,7 +15,7 @@ pub(crate) fn log_beside<R: Files + AllocGlobal>(rt: &R, path: &str) -> Result<S
     }
 }
 
-// Whether a log of this length is one that a run left which was cut off while it made the file, or there is none.
+// Whether there is no log, or one of this length that a run left when it was cut off while it made the file.
 pub(crate) fn log_is_begun<R: Files + AllocGlobal>(rt: &R, log: &str, bytes: Option<u64>) -> bool {
     match bytes {
         None => true,
@@ -28,9 +28,9 @@ pub(crate) fn log_is_begun<R: Files + AllocGlobal>(rt: &R, log: &str, bytes: Opt
 }
 
 // Whether a log of this length only adds to a ledger file: with it no key and device has fewer numbers than without.
-// That of a run that was cut off does; another ledger's needn't. Where the file alone is no ledger, as where a run was
-// killed while it copied its log, there is nothing to compare. Where memory is refused it doesn't count as one that
-// only adds. Nothing is opened but in memory.
+// The log of a run that was cut off does so. Another ledger's log may not. If the file alone is no ledger, as after a
+// run killed during a fold, there is nothing to compare. If memory is refused, the log doesn't count as one that only
+// adds. Databases are opened in memory only.
 pub(crate) fn log_adds<R: Files + AllocGlobal>(
     rt: &R,
     path: &str,
@@ -47,7 +47,7 @@ pub(crate) fn log_adds<R: Files + AllocGlobal>(
     adds(rt.alloc(), db.as_slice(), log.as_slice())
 }
 
-// The same of the bytes of both files.
+// The same for the bytes of both files.
 fn adds(alloc: Global, db: &[u8], log: &[u8]) -> bool {
     match marks_in(alloc, opened(alloc, &[], db)) {
         Ok(Some(marks)) => match marks_in(alloc, opened(alloc, log, db)) {
@@ -59,7 +59,7 @@ fn adds(alloc: Global, db: &[u8], log: &[u8]) -> bool {
     }
 }
 
-// A database of these bytes, in memory, where they are one.
+// A database of these bytes, in memory, if they are one.
 pub(crate) fn opened(
     alloc: Global,
     log: &[u8],
@@ -77,7 +77,7 @@ pub(crate) fn opened(
     }
 }
 
-// A disk in memory fails where memory is refused, and for nothing else.
+// A disk in memory fails only if memory is refused.
 fn is_for_memory(error: &Error) -> bool {
     matches!(
         error,
@@ -85,7 +85,7 @@ fn is_for_memory(error: &Error) -> bool {
     )
 }
 
-// A file in memory writes all that it has memory for.
+// A write to a file in memory is whole unless memory is refused.
 fn copied(alloc: Global, bytes: &[u8]) -> Result<Memory, AllocError> {
     let mut file = Memory::new(alloc);
     if !bytes.is_empty() && file.write_at(0, bytes).is_err() {
@@ -94,7 +94,7 @@ fn copied(alloc: Global, bytes: &[u8]) -> Result<Memory, AllocError> {
     Ok(file)
 }
 
-// The marks of a database that was opened, where there is one and it has a table of them.
+// The marks of a database that was opened, if there is one and it has a table of them.
 fn marks_in<S: Alter + Drop>(
     alloc: Global,
     opened: Result<Option<Connection<S>>, AllocError>,

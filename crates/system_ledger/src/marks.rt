@@ -1,4 +1,4 @@
-//! The marks of a ledger: for each key and device, the number with which its next range begins.
+//! The marks of a ledger: for each key and device, the first number of its next range.
 ghost use Rattle.std.specs.Prelude.{◌↔◌, IsTrue};
 ghost use Rattle.std.specs.List.{Any};
 ghost use Rattle.system_ledger.specs.Marks.{AreKeptBy, IsKeptBy};
@@ -6,14 +6,14 @@ ghost use Rattle.system_ledger.specs.Marks.{AreKeptBy, IsKeptBy};
 /// A row of a ledger's table of marks.
 #[derive(Drop)]
 pub struct Mark {
-    /// The key's id.
+    /// The key ID.
     pub key: Vec<u8>,
     pub device: i64,
-    /// The number with which the next range begins.
+    /// The first number of the next range.
     pub next: i64,
 }
 
-/// Whether each of these marks has one of the same key and device among the others that is not less.
+/// Returns whether each of these marks is kept by one of the others: same key and device, and `next` not less.
 pub fn keeps_marks(marks: &[Mark], others: &[Mark]) -> bool
     ensures kept { IsTrue result ↔ AreKeptBy marks.now others.now }
 {

@@ -1,7 +1,7 @@
-//! A window over an input: the bytes that were read of it and not worked yet.
+//! A window over an input: the bytes that were read from it and not yet opened.
 //!
-//! `Window::fill` reads on until so many bytes are held, or the end is met. The room is reserved once; what of it was
-//! never read into is never touched.
+//! `Window::fill` reads on until it holds a given number of bytes, or the input ends. The room is reserved once; memory
+//! that no read has reached is never touched.
 #![tactic(auto)]
 
 pub mod window;

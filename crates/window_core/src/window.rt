@@ -1,7 +1,7 @@
-//! The bytes that were read of an input and not worked yet, in room that is reserved once.
+//! The bytes that were read from an input and not yet opened, in room that is reserved once.
 //!
-//! A buffer to be read into has to have bytes. They are written, as zeros, when the input first comes so far, and
-//! read over from then on.
+//! A buffer must have bytes to be read into. They are written as zeros when the input first gets that far, and
+//! overwritten by reads from then on.
 ghost use Rattle.std.specs.Prelude.{◌≡◌, ◌+◌, ◌-◌, ◌<◌, ◌≤◌, ◌++◌, ℕ, List, [], ◌∷◌, length, take, drop, vec_len};
 ghost use Rattle.std.specs.Prelude.{vec_capacity, IfOk, OnOk, OnErr, is_err};
 ghost use Rattle.io_core.specs.Reads.{ConsumesUpTo};
@@ -11,12 +11,13 @@ use io_core::{Failed, Source};
 use std::alloc::{AllocError, Global};
 use std::marker::Model;
 
-// Bytes by which the buffer grows, at most.
+// Most bytes by which the buffer grows at once.
 const STEP: usize = 1 << 16;
 
 static ZEROS: [u8; STEP] = [0; STEP];
 
-/// What was read of an input and not worked yet. Contracts see the bytes that are held, and for how many there is room.
+/// What was read from an input and not yet opened. Contracts see the bytes that are held, and how many there is room
+/// for.
 #[derive(Drop)]
 pub struct Window {
     bytes: Vec<u8>,
@@ -34,7 +35,7 @@ impl Model for Window {
     ghost invariant = { λ w. w.held ≤ vec_len w.bytes };
 }
 
-// Appends so many zeros, for which there is room.
+// Appends `count` zeros, for which there is room.
 fn grow(bytes: &mut Vec<u8>, count: usize)
     requires count { count ≤ STEP }
     requires room { vec_len bytes.old + count ≤ vec_capacity bytes.old }
@@ -48,7 +49,7 @@ fn grow(bytes: &mut Vec<u8>, count: usize)
     }
 }
 
-// Reads once into the part of a buffer behind its first `begin` bytes and before `end`.
+// Reads once into the bytes of a buffer from `begin` to before `end`.
 fn read_between<R: Source>(
     source: &mut R,
     bytes: &mut [u8],
@@ -67,7 +68,7 @@ fn read_between<R: Source>(
     source.read(&mut bytes[begin..end])
 }
 
-// Reads once behind the first `held` bytes of a buffer, so that it has `upto` of them at most.
+// Reads once after the first `held` bytes of a buffer; then it has at most `upto`.
 fn read_behind<R: Source>(
     source: &mut R,
     bytes: &mut Vec<u8>,
@@ -93,8 +94,8 @@ fn read_behind<R: Source>(
     read_between(source, bytes.as_mut_slice(), held, end)
 }
 
-// Reads behind the first `held` bytes of a buffer until it has `upto` of them or the end is met; answers how many it
-// has. A failure leaves those that were held.
+// Reads after the first `held` bytes of a buffer until it has `upto` or the input ends. Returns how many it has. A
+// failure keeps those that were held.
 fn fill_upto<R: Source>(
     source: &mut R,
     bytes: &mut Vec<u8>,
@@ -124,7 +125,7 @@ fn fill_upto<R: Source>(
     Ok(filled)
 }
 
-// Writes the first byte of a buffer, in room that is there. What stands behind it stays, to be read over.
+// Writes the first byte of a buffer, within its capacity. The bytes after it stay, to be overwritten.
 fn put_first(bytes: &mut Vec<u8>, byte: u8)
     requires { 0 < vec_capacity bytes.old }
     ensures first { take 1 bytes.new.items ≡ byte ∷ [] }
@@ -139,7 +140,7 @@ fn put_first(bytes: &mut Vec<u8>, byte: u8)
 }
 
 impl Window {
-    /// A window that holds nothing, with room for so many bytes.
+    /// Returns a window that holds nothing, with room for `room` bytes. `AllocError` if memory was refused.
     pub fn new(alloc: Global, room: usize) -> Result<Window, AllocError>
         ensures held { IfOk result (λ window. window.held ≡ []) }
         ensures room { IfOk result (λ window. room ≤ window.room) }
@@ -148,7 +149,7 @@ impl Window {
         Ok(Window { bytes, held: 0 })
     }
 
-    /// The bytes that are held.
+    /// Returns the bytes that are held.
     pub fn held(&self) -> &[u8]
         ensures { result.now ≡ self.now.held }
     {
@@ -156,7 +157,7 @@ impl Window {
         held
     }
 
-    /// Holds this byte alone, in room that is there.
+    /// Makes this byte all that is held. There is room for it.
     pub fn begin_with(&mut self, byte: u8)
         requires { 0 < self.old.room }
         ensures held { self.new.held ≡ byte ∷ [] }
@@ -166,8 +167,8 @@ impl Window {
         self.held = 1;
     }
 
-    /// Reads on until `upto` bytes are held, for which there is room, or the end is met. A failure leaves what is held,
-    /// and loses what was read since.
+    /// Reads on until `upto` bytes are held, for which there is room, or the input ends. A failure keeps what was held
+    /// before, and loses what was read in this call.
     pub fn fill<R: Source>(&mut self, source: &mut R, upto: usize) -> Result<(), Failed>
         requires upto { (length self.old.held ≤ upto) × (upto ≤ self.old.room) }
         ensures read { OnOk result ((read : List ℕ) × Consumes (R.left source.old) (R.left source.new) read

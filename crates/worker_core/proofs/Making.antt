@@ -1,4 +1,4 @@
--- The pieces of several benches, and how often a number stands among theirs.
+-- The pieces of several benches, and how often a number occurs among theirs.
 use Rattle.std.proofs.Common.{◌≡◌, ℕ, zero, suc, ◌+◌, ◌<◌, ◌≤◌, cond, nat_eq, List, [], ◌∷◌, ◌++◌, length, map, All, refl, sym, ap, ap₂, subst, ◌∙◌, arith}
 use Rattle.std.proofs.Common.{append_assoc, append-nil, length-append, get_or, take, drop, take_at, inl, inr, eq-eqb}
 use Rattle.std.proofs.lemmas.Bool.{cases_lt}
@@ -113,7 +113,7 @@ pub times_append : (x : ℕ) (xs ys : List ℕ) → times x (xs ++ ys) ≡ times
 times_append x [] ys = omega arith
 times_append x (y ∷ xs) ys = let is = times_append x xs ys in omega arith
 
--- benches beside those that have all pieces
+-- other benches beside those that have all pieces
 pub made_beside : (round : RoundView) (used rest : List BenchView) → Covers round used → Covers round (used ++ rest)
 made_beside round used rest made = record {
   each = λ x below.
@@ -225,7 +225,7 @@ pub crew_sizes : (room size : ℕ) (benches : List BenchView) (other : ℕ) → 
     → All (λ bench. bench.size ≡ other) benches
 crew_sizes room size benches other same crew k d below = (crew k d below).0 ∙ sym same
 
--- what a part of a vector, which is all of it, leaves of it
+-- what is left of a vector after a part that is all of it
 pub all_back : (len : ℕ) (old new : List BenchView) → length new ≡ length old → len ≡ length old
     → take len (new ++ drop (length new) old) ≡ new
 all_back len old new same long = take_at new (drop (length new) old) len (sym (long ∙ sym same))

@@ -5,7 +5,7 @@ use Rattle.round_core.specs.Parts.{room_of}
 use Rattle.round_core.specs.Pieces.{times, number_of, IsPiece}
 use Rattle.round_core.specs.Views.{RoundView, MadeView, BenchView}
 
--- a bench has room for all pieces of a round, and none on it
+-- a bench has room for all pieces of a round, and none are on it
 pub record IsReady (round : RoundView) (bench : BenchView) : Type 0 where
   pub size : room_of round.task round.size ≤ bench.size
   pub spare : length round.values ≤ bench.spare
@@ -24,14 +24,14 @@ AreWorked round [] (new ∷ news) = ⊥
 AreWorked round (old ∷ olds) [] = ⊥
 AreWorked round (old ∷ olds) (new ∷ news) = IsWorked round old new × AreWorked round olds news
 
--- the claimant stands for so many workers, which drew these numbers, and each met the end
+-- the claimant represents `count` workers, which drew these numbers, and each met the end
 pub record HasDrawn (claims : ClaimsView) (count : ℕ) (numbers : List ℕ) (claimant : ClaimantView) : Type 0 where
   pub ours : IsOf claims claimant
   pub workers : claimant.workers ≡ count
   pub drawn : claimant.drawn ≡ numbers
   pub ends : claimant.ends ≡ count
 
--- the word of a round that has so many pieces, from which so many workers draw
+-- the word of a round of `pieces` pieces, from which `workers` workers draw
 pub record WordView : Type 0 where
   pub pieces : ℕ
   pub workers : ℕ
@@ -39,15 +39,15 @@ pub record WordView : Type 0 where
 abbrev pub word_of : ℕ → ℕ → WordView
 word_of pieces workers = record { pieces = pieces; workers = workers }
 
--- a crew, as its callers see it: how many workers it has, how many pieces each may make, in buffers of how many bytes,
--- and the pieces that were made and not put on their places
+-- a crew, as its callers see it: its workers, how many pieces each can make, the bytes of each buffer, and the pieces
+-- made and not yet put in their places
 pub record CrewView : Type 0 where
   pub workers : ℕ
   pub room : ℕ
   pub size : ℕ
   pub made : List MadeView
 
--- each bench has as many buffers as pieces may be made, of that size
+-- each bench has buffers for `room` pieces, each of `size` bytes
 abbrev pub IsOfCrew : ℕ → ℕ → BenchView → Type 0
 IsOfCrew room size bench = (bench.size ≡ size) × (bench.spare + length bench.made ≡ room)
 
@@ -55,7 +55,7 @@ IsOfCrew room size bench = (bench.size ≡ size) × (bench.spare + length bench.
 abbrev pub idle : ℕ → ℕ → ℕ → CrewView
 idle workers room size = record { workers = workers; room = room; size = size; made = [] }
 
--- all pieces of a round are there, and no other
+-- all pieces of a round were made, and no other
 pub record HasMade (round : RoundView) (made : List MadeView) : Type 0 where
   pub pieces : All (IsPiece round) made
   pub all : (x : ℕ) → x < length round.values → 0 < times x (map number_of made)

@@ -1,7 +1,7 @@
-//! Workers over the rounds of `round_core`: so many, each with room of its own, draw the pieces of a round one by one
-//! and make them, while the caller's thread does a chore beside them.
+//! Workers over the rounds of `round_core`. They draw the pieces of a round one by one, each with room of its own, and
+//! make them. Meanwhile the caller's thread does a chore.
 //!
-//! `rounds` has the crew. What every worker passes before each piece, and how many there may be, is `gate_core`'s.
+//! `rounds` has the crew. The gate that each worker calls before each piece, and the limits, are in `gate_core`.
 #![tactic(auto)]
 
 pub mod rounds;

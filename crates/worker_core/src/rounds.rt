@@ -1,9 +1,9 @@
-//! Rounds made by a crew: so many workers, each with room for all pieces of a round, which is made before any starts.
+//! Rounds made by a crew. Each of its workers has room for all pieces of a round, allocated before any worker starts.
 //!
-//! `Crew::make` makes the pieces of a round, in whatever order, and `Crew::put` puts them on their places. For a round
-//! it starts its threads, and takes the one word from which the numbers are drawn: one that `Crew::reserve` made, or
-//! else a new one; without a word the caller's thread works alone. So once a crew is there, neither answers that memory
-//! was refused; a chore may.
+//! `Crew::make` makes the pieces of a round, in any order, and `Crew::put` puts them in their places. For a round it
+//! starts its threads, and takes the one word from which the numbers are drawn. That is a word that `Crew::reserve`
+//! made, or else a new one. Without a word the caller's thread works alone. So once a crew exists, no call of the two
+//! fails for lack of memory; a chore may.
 ghost use Rattle.std.specs.Prelude.{◌≡◌, ◌<◌, ◌≤◌, [], length, map, All, IfOk};
 ghost use Rattle.round_core.specs.Parts.{room_of};
 ghost use Rattle.round_core.specs.Pieces.{all_made, emptied, Covers, IsPiece};
@@ -17,14 +17,14 @@ use std::alloc::{AllocError, Global};
 use std::marker::Model;
 use std::thread::Threads;
 
-/// So many workers with their room. Contracts see how many there are, for how many pieces of how many bytes each has
-/// room, and the pieces that were made and not put on their places yet.
+/// Workers with their room. Contracts see how many there are, the room of each (how many pieces, of how many bytes),
+/// and the pieces made and not yet put in their places.
 #[derive(Drop)]
 pub struct Crew {
     room: u32,
     size: usize,
     benches: Vec<Bench>,
-    // The words of rounds to come, that of the next one last.
+    // The words of later rounds, that of the next one last.
     words: Vec<Word>,
 }
 
@@ -46,7 +46,7 @@ impl Model for Crew {
         × All (IsOfCrew c.room c.size) c.benches.items };
 }
 
-// Benches for so many workers, each with room for so many pieces of so many bytes.
+// Returns `workers` benches, each with room for `room` pieces of `size` bytes.
 fn benches_of(alloc: Global, workers: u32, room: u32, size: usize) -> Result<Vec<Bench>, AllocError>
     ensures count { IfOk result (λ benches. length benches.items ≡ workers) }
     ensures each { IfOk result (λ benches. All (IsOfCrew room size) benches.items) }
@@ -59,8 +59,9 @@ fn benches_of(alloc: Global, workers: u32, room: u32, size: usize) -> Result<Vec
     Ok(benches)
 }
 
-// The words of the rounds of a body of so many chunks, cut into rounds of so many and a last one of the rest, for so
-// many workers or, where a round has fewer pieces, for as many. That of the first round is the last.
+// Returns the words of the rounds of a body of `chunks` chunks: rounds of `each` pieces, and a last one of the rest.
+// Each word is for `workers` workers, or for as many as the round has pieces if these are fewer. That of the first
+// round is last.
 fn words_of(alloc: Global, chunks: u32, each: u32, workers: u32) -> Result<Vec<Word>, AllocError>
     requires chunks { 0 < chunks }
     requires each { 0 < each }
@@ -96,7 +97,7 @@ fn make_on<R: Threads + Sync, G: Gate + Sync, C: FnMut() -> A, A>(
     make_round(rt, alloc, kept, round, benches.as_mut_slice(), gate, chore)
 }
 
-// Puts the pieces of a round from benches that have them all onto their places.
+// Puts the pieces of a round from benches that have them all in their places.
 fn put_from(round: &Round, benches: &mut Vec<Bench>, places: &mut Places)
     requires room { length round.now.values ≤ places.old.room }
     requires sizes { All (λ bench. bench.size ≡ places.old.size) benches.old.items }
@@ -111,7 +112,7 @@ fn put_from(round: &Round, benches: &mut Vec<Bench>, places: &mut Places)
 }
 
 impl Crew {
-    /// So many workers, each with room for so many pieces of `size` bytes. `AllocError` where memory was refused.
+    /// Returns `workers` workers, each with room for `room` pieces of `size` bytes. `AllocError` if memory was refused.
     pub fn new(alloc: Global, workers: u32, room: u32, size: usize) -> Result<Crew, AllocError>
         requires { (0 < workers) × (workers ≤ MAX_WORKERS) }
         ensures { IfOk result (λ crew. crew ≡ idle workers room size) }
@@ -126,8 +127,8 @@ impl Crew {
         })
     }
 
-    /// Takes the memory of all words of a body of so many chunks beforehand, where each round but the last has as many
-    /// pieces as there is room for. `AllocError` where it was refused. A single worker needs none.
+    /// Allocates all words of a body of `chunks` chunks beforehand, for rounds of as many pieces as there is room for
+    /// and a last one of the rest. `AllocError` if memory was refused. A single worker needs none.
     pub fn reserve(&mut self, alloc: Global, chunks: u32) -> Result<(), AllocError>
         requires chunks { 0 < chunks }
         requires room { 0 < self.old.room }
@@ -140,10 +141,10 @@ impl Crew {
         Ok(())
     }
 
-    /// Makes all pieces of a round, each by the worker that draws its number, while the caller's thread, worker 0,
-    /// does a chore first and then draws as the others do. Each worker passes the gate before each piece. A worker
-    /// that can't be started makes nothing, and where no word was reserved and memory for one is refused the caller's
-    /// thread makes all.
+    /// Makes all pieces of a round, each with the worker that draws its number. The caller's thread is worker 0: it
+    /// does a chore first, and then draws as the others do. Each worker passes the gate before each piece. A worker
+    /// that can't be started makes nothing. If no word was reserved and memory for one is refused, the caller's thread
+    /// makes all.
     pub fn make<R: Threads + Sync, G: Gate + Sync, C: FnMut() -> A, A>(
         &mut self,
         rt: &R,
@@ -166,7 +167,7 @@ impl Crew {
         make_on(rt, alloc, kept, round, &mut self.benches, gate, chore)
     }
 
-    /// Puts the pieces of a round, which are all there, on their places, and has none left. Takes no memory.
+    /// Puts the pieces of a round in their places, and keeps none. All of them must have been made. Allocates nothing.
     pub fn put(&mut self, round: &Round, places: &mut Places)
         requires made { HasMade round.now self.old.made }
         requires room { length round.now.values ≤ places.old.room }

@@ -1,4 +1,4 @@
-//! The word from which the workers of a round draw the numbers of its pieces, made before the round begins.
+//! The word from which the workers of a round draw the numbers of its pieces, allocated before the round begins.
 ghost use Rattle.std.specs.Prelude.{◌≡◌, ◌<◌, ◌≤◌, IfOk, IfSome};
 ghost use Rattle.std.specs.Bool.{OnTrue};
 ghost use Rattle.claim_core.specs.Claims.{newcomer};
@@ -32,7 +32,7 @@ impl Model for Word {
 }
 
 impl Word {
-    /// The word of a round of so many pieces. `AllocError` where memory for it was refused.
+    /// Returns the word of a round of `pieces` pieces. `AllocError` if memory for it was refused.
     pub(crate) fn new(alloc: Global, pieces: u32, workers: u32) -> Result<Word, AllocError>
         requires { (0 < workers) × (workers ≤ MAX_WORKERS) }
         ensures { IfOk result (λ word. word ≡ word_of pieces workers) }
@@ -46,14 +46,14 @@ impl Word {
         })
     }
 
-    // Whether it is the word of a round of so many pieces.
+    // Whether it is the word of a round of `pieces` pieces, for `workers` workers.
     fn fits(&self, pieces: u32, workers: u32) -> bool
         ensures { OnTrue result (self.now ≡ word_of pieces workers) }
     {
         self.pieces == pieces && self.workers == workers
     }
 
-    /// The claims, and the claimant of all workers.
+    /// Returns the claims, and the claimant of all workers.
     pub(crate) fn parts(self) -> (Claims, Claimant)
         ensures count { result.0.count ≡ self.pieces }
         ensures workers { result.0.workers ≡ self.workers }
@@ -69,7 +69,8 @@ impl Word {
     }
 }
 
-/// The word of a round of so many pieces: the one that was kept for it, or else a new one, where there is memory.
+/// Returns the word of a round of `pieces` pieces: the one kept for it if it fits, or else a new one. `None` if memory
+/// was refused.
 pub(crate) fn word_for(alloc: Global, kept: Option<Word>, pieces: u32, workers: u32) -> Option<Word>
     requires { (0 < workers) × (workers ≤ MAX_WORKERS) }
     ensures { IfSome result (λ word. word ≡ word_of pieces workers) }

@@ -1,6 +1,6 @@
-//! The workers of a round. Each has a bench of its own, draws the numbers of its pieces from the claims that all share,
-//! and makes them there until no number is left. The caller's thread is worker 0: it does a chore first, and then draws
-//! as the others do, so a slow worker holds up one piece alone.
+//! The workers of a round. Each has a bench of its own and draws the numbers of its pieces from claims that all share,
+//! until none is left. The caller's thread is worker 0: it does a chore first, and then draws as the others do. So a
+//! slow worker delays only one piece.
 ghost use Rattle.std.specs.Prelude.{◌≡◌, ℕ, ◌+◌, ◌-◌, ◌*◌, ◌<◌, ◌≤◌, ◌++◌, [], ◌∷◌, length, map, All, IfOk};
 ghost use Rattle.std.specs.Thread.{IsSync};
 ghost use Rattle.claim_core.specs.Claims.{IsOf, newcomer};
@@ -36,7 +36,7 @@ fn work<G: Gate>(
     }
 }
 
-// Makes all pieces, on one bench, in order.
+// Makes all pieces on one bench, in order.
 fn work_alone<G: Gate>(round: &Round, gate: &G, bench: &mut Bench)
     requires ready { IsReady round.now bench.old }
     ensures all { (n : ℕ) → n < length round.now.values → 0 < times n (map number_of bench.new.made) }
@@ -48,7 +48,7 @@ fn work_alone<G: Gate>(round: &Round, gate: &G, bench: &mut Bench)
     }
 }
 
-// The workers of so many benches, the first of which is the caller's thread.
+// Runs a worker for each of these benches, of which the first is the caller's thread.
 #[cycle(crew)]
 fn crew<R: Threads + Sync, G: Gate + Sync, C: FnMut() -> A, A>(
     rt: &R,
@@ -94,7 +94,7 @@ fn crew<R: Threads + Sync, G: Gate + Sync, C: FnMut() -> A, A>(
     done
 }
 
-// The workers of these benches, and beside them one more on a thread of its own.
+// Runs the workers of these benches, and beside them one more on a thread of its own.
 #[cycle(crew)]
 fn crew_beside<R: Threads + Sync, G: Gate + Sync, C: FnMut() -> A, A>(
     rt: &R,
@@ -142,7 +142,7 @@ fn crew_beside<R: Threads + Sync, G: Gate + Sync, C: FnMut() -> A, A>(
     done
 }
 
-// Makes the pieces of a round by a worker for each of these benches, of which there are no more than pieces.
+// Makes the pieces of a round with a worker for each of these benches, of which there are no more than pieces.
 fn make_by<R: Threads + Sync, G: Gate + Sync, C: FnMut() -> A, A>(
     rt: &R,
     alloc: Global,
@@ -174,8 +174,8 @@ fn make_by<R: Threads + Sync, G: Gate + Sync, C: FnMut() -> A, A>(
     done
 }
 
-// Makes the pieces of a round by as many workers as there are benches, each on its bench, while the caller's thread
-// does a chore first.
+// Makes the pieces of a round with as many workers as there are benches, each on its bench. The caller's thread does a
+// chore first.
 pub(crate) fn make_round<R: Threads + Sync, G: Gate + Sync, C: FnMut() -> A, A>(
     rt: &R,
     alloc: Global,
@@ -192,7 +192,7 @@ pub(crate) fn make_round<R: Threads + Sync, G: Gate + Sync, C: FnMut() -> A, A>(
     ensures made { Covers round.now benches.new }
     ensures worked { AreWorked round.now benches.old benches.new }
 {
-    // A worker more than there are pieces would have none.
+    // More workers than pieces would have nothing to do.
     let workers = benches.len().min(round.count() as usize);
     let (used, _) = benches.split_at_mut(workers);
     make_by(rt, alloc, kept, round, used, gate, chore)

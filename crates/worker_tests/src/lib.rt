@@ -1,5 +1,5 @@
-//! Tests of `worker_core`: rounds of a container by crews of 1 to 16 workers, against what `container_core` seals, and
-//! how many chunks a round has.
+//! Tests of `worker_core`: rounds of a container made by crews of 1 to 16 workers, and how many chunks a round has. The
+//! rounds are compared with what `container_core` seals.
 #![tactic(auto)]
 
 #[cfg(test)]

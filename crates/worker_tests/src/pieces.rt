@@ -1,4 +1,4 @@
-//! The pieces of a round, made by a crew, and the bytes that they are.
+//! The pieces of a round, made by a crew, and their bytes.
 ghost use Rattle.std.specs.Prelude.{◌≡◌, ◌^◌, ◌<◌, ◌≤◌, IfSome};
 ghost use Rattle.container_core.specs.Chunks.{chunk_count};
 ghost use Rattle.container_core.specs.Container.{size_in};
@@ -10,7 +10,7 @@ use std::alloc::{AllocError, Global};
 use std::thread::Threads;
 use worker_core::{Crew, Gate, MAX_WORKERS};
 
-// The pieces of a round, made by a new crew beside a chore, which has to be done once.
+// The pieces of a round, made by a new crew during a chore. The chore must be done once.
 pub fn pieces_of<R: Threads + Sync, G: Gate + Sync>(
     rt: &R,
     alloc: Global,
@@ -38,7 +38,7 @@ pub fn pieces_of<R: Threads + Sync, G: Gate + Sync>(
     }
 }
 
-// The pieces one behind the other.
+// The pieces in a row.
 fn joined(alloc: Global, places: &Places) -> Result<Vec<u8>, AllocError> {
     let mut bytes = Vec::new(alloc);
     for number in 0..places.count() {
@@ -49,7 +49,7 @@ fn joined(alloc: Global, places: &Places) -> Result<Vec<u8>, AllocError> {
     Ok(bytes)
 }
 
-// Whether the pieces one behind the other are these bytes.
+// Whether the pieces in a row are these bytes.
 pub fn are_pieces(alloc: Global, places: &Places, bytes: &[u8]) -> bool {
     match joined(alloc, places) {
         Ok(joined) => joined.as_slice() == bytes,
@@ -57,7 +57,7 @@ pub fn are_pieces(alloc: Global, places: &Places, bytes: &[u8]) -> bool {
     }
 }
 
-// The cut of so many plaintext bytes, of 2^24 at most, into the chunks of a header.
+// The cut of `bytes` plaintext bytes (at most 2^24) into the chunks of a header's shape.
 fn cut_of(header: &Header, bytes: usize) -> Option<Cut>
     ensures size { IfSome result (λ cut. cut.size ≡ size_in header.now) }
     ensures plain { IfSome result (λ cut. cut.plain ≡ bytes) }
@@ -72,7 +72,7 @@ fn cut_of(header: &Header, bytes: usize) -> Option<Cut>
     Some(cut)
 }
 
-// Whether so many workers seal a round in a shape to these bytes at a gate.
+// Whether `workers` workers seal a round in a shape to these bytes at a gate.
 pub fn seals_to<R: Threads + Sync, G: Gate + Sync>(
     rt: &R,
     alloc: Global,

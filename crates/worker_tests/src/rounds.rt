@@ -1,4 +1,4 @@
-//! Rounds made by crews. What they must give is a part of the container that one thread seals.
+//! Rounds made by crews. They must equal a part of the container that one thread seals.
 ghost use Rattle.std.specs.Prelude.{◌<◌, ◌≤◌};
 
 use crate::pieces::{are_pieces, pieces_of, seals_to};
@@ -10,7 +10,7 @@ use std::test::Fail;
 use std::thread::Threads;
 use worker_core::{Free, MAX_WORKERS};
 
-// Whether these chunks of a plaintext, sealed as a round by so many workers, are a part of the container.
+// Whether these chunks of a plaintext, sealed as a round with `workers` workers, are a part of the container.
 fn is_part<R: Threads + Sync>(
     rt: &R,
     alloc: Global,
@@ -39,7 +39,7 @@ fn is_part<R: Threads + Sync>(
     )
 }
 
-// Whether these chunks are such a part by 1, 2, 5 and 16 workers.
+// Whether these chunks are such a part with 1, 2, 5 and 16 workers.
 fn is_part_by_all<R: Threads + Sync>(
     rt: &R,
     alloc: Global,
@@ -58,7 +58,7 @@ fn is_part_by_all<R: Threads + Sync>(
     true
 }
 
-// Whether rounds of one chunk, and of many, are such parts of a container of 40 chunks.
+// Whether rounds of one chunk and of many are such parts of a container of 40 chunks.
 fn are_parts<R: Threads + Sync>(rt: &R, alloc: Global, plain: &[u8], whole: &[u8]) -> bool {
     whole.len() == HEADER + 39 * SEALED + 17
         && is_part_by_all(rt, alloc, plain, whole, 0, 1)
@@ -76,8 +76,7 @@ fn rounds_are_parts_of_the_container(rt: HostRuntime) -> Result<(), Fail> {
     Ok(())
 }
 
-// Whether a plaintext, sealed in a shape as a round that is the last, by 1, 3 and 4 workers, is its container behind
-// the header.
+// Whether 1, 3 and 4 workers seal a plaintext as one last round, equal to its container after the header.
 fn all_seal<R: Threads + Sync>(
     rt: &R,
     alloc: Global,
@@ -94,7 +93,7 @@ fn all_seal<R: Threads + Sync>(
     Some(true)
 }
 
-// Whether so many bytes are sealed so. Of eight full chunks of version 1 the digest is known.
+// Whether `length` bytes are sealed that way. For eight full chunks of version 1 the digest is known.
 fn are_sealed<R: Threads + Sync>(
     rt: &R,
     alloc: Global,
@@ -111,7 +110,7 @@ fn are_sealed<R: Threads + Sync>(
     all_seal(rt, alloc, shape, plain, whole)
 }
 
-// Of one empty chunk, of full chunks and a byte, and of full chunks alone.
+// One empty chunk, full chunks and a byte, and only full chunks.
 static LENGTHS: [usize; 6] = [0, 1, CHUNK, 3 * CHUNK, 7 * CHUNK + 1, 8 * CHUNK];
 
 // The same in chunks of 4 KiB.
@@ -135,7 +134,7 @@ fn last_rounds_end_the_container(rt: HostRuntime) -> Result<(), Fail> {
     Ok(())
 }
 
-// The pieces of a round of the sealed chunks of a container, opened or checked.
+// The pieces of a round of a container's sealed chunks, opened or checked.
 fn opened<R: Threads + Sync>(
     rt: &R,
     alloc: Global,
@@ -159,7 +158,7 @@ fn opened<R: Threads + Sync>(
     pieces_of(rt, alloc, &round, workers, &Free)
 }
 
-// Whether all chunks check, and give these bytes.
+// Whether all chunks check, and the pieces are these bytes.
 fn gives<R: Threads + Sync>(
     rt: &R,
     alloc: Global,
@@ -176,7 +175,7 @@ fn gives<R: Threads + Sync>(
     }
 }
 
-// Whether chunk 2 is the least that doesn't check.
+// Whether chunk 2 is the lowest that doesn't check.
 fn refuses_two<R: Threads + Sync>(
     rt: &R,
     alloc: Global,
@@ -204,7 +203,7 @@ fn all_open<R: Threads + Sync>(rt: &R, alloc: Global, whole: &[u8], plain: &[u8]
     true
 }
 
-// Whether 1, 4 and 16 workers that open a container or check it refuse chunk 2.
+// Whether 1, 4 and 16 workers refuse chunk 2, opening and checking.
 fn all_refuse_two<R: Threads + Sync>(rt: &R, alloc: Global, whole: &[u8]) -> bool {
     for workers in [1, 4, 16] {
         if !refuses_two(rt, alloc, Task::Opening, whole, workers)

@@ -1,7 +1,7 @@
-//! How many chunks a round of a file has where no number of them is asked for.
+//! How many chunks a round of a file has by default.
 use worker_core::{MAX_WORKERS, usual_opening, usual_window};
 
-// A chunk's bytes, the workers, and the chunks of a round that is sealed, and of one that is opened.
+// A chunk's bytes, the workers, and the chunks of a round when sealing and when opening.
 static USUAL: [(usize, u32, u32, u32); 13] = [
     (4_096, 1, 16, 16),
     (4_096, 2, 256, 256),
@@ -18,7 +18,7 @@ static USUAL: [(usize, u32, u32, u32); 13] = [
     (1_048_576, 16, 16, 16),
 ];
 
-// Whether so many workers take rounds of so many chunks.
+// Whether `workers` workers use rounds of `sealing` and `opening` chunks.
 fn are_usual(chunk: usize, workers: u32, sealing: u32, opening: u32) -> bool {
     if chunk == 0 || workers == 0 || workers > MAX_WORKERS {
         return false;

@@ -8,12 +8,12 @@ use Rattle.container_core.specs.Stream.{nonce_of, prefix_in, opened_chunk}
 use Rattle.container_core.proofs.StreamLemmas.{opened_chunk-append}
 use Rattle.container_core.proofs.chunk.check_chunk.Goals as goal
 
--- whether a chunk checks is answered rightly
+-- the result, whether a chunk checks, is right
 record IsJudged (right : Bool) (key header : List ℕ) (number : ℕ) (last : Bool) (sealed : List ℕ) : Type 0 where
   checks : OnTrue right ((plain : List ℕ) × (opened_chunk key header number last sealed ≡ Some plain))
   refused : OnFalse right (opened_chunk key header number last sealed ≡ None)
 
--- the text and the tag behind it are a sealed chunk exactly where the tag is the text's
+-- a text followed by a tag is a sealed chunk exactly if the tag is the text's
 judged : (right : Bool) (key header : List ℕ) (number : ℕ) (last : Bool) (text tag : List ℕ) → length tag ≡ 16
     → (IsTrue right ↔ (tag ≡ tag_of key (nonce_of (prefix_in header) number last) header text))
     → IsJudged right key header number last (text ++ tag)

@@ -8,7 +8,7 @@ use Rattle.std.proofs.Common.{◌≤◌, length, drop, take, length-take-le, ari
 use Rattle.container_core.specs.Container.{header_length}
 use Rattle.container_core.proofs.whole.open.Goals as goal
 
--- the body behind the header
+-- the body after the header
 rest_of : (bytes header body : List ℕ) → header ≡ take (header_length bytes) bytes → header_length bytes ≤ length bytes
     → body ≡ drop (length header) bytes → body ≡ drop (header_length bytes) bytes
 rest_of bytes header body is enough back =

@@ -1,5 +1,5 @@
--- What opened so far stands behind what was there, and opening the chunks that are left behind it answers what
--- opening all of them does.
+-- The output is what was there, then what opened so far. Opening the remaining chunks after it gives what opening all
+-- of them does.
 use Rattle.std.proofs.Common.{◌≡◌, ℕ, ◌+◌, ◌*◌, ◌≤◌, List, ◌++◌, length, drop, min, vec_len, vec_capacity}
 use Rattle.container_core.specs.Chunks.{sealed_chunks}
 use Rattle.container_core.specs.Opening.{unsealed, behind}

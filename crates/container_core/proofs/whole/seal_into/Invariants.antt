@@ -1,4 +1,4 @@
--- What is out, followed by STREAM of the chunks that are left, is the container; and there is room for it.
+-- The output, followed by STREAM of the remaining chunks, is the container; and there is room for it.
 use Rattle.std.proofs.Common.{◌≡◌, ◌≤◌, ◌++◌, length, drop, vec_capacity}
 use Rattle.container_core.specs.Chunks.{chunks}
 use Rattle.container_core.specs.Shape.{size_of}

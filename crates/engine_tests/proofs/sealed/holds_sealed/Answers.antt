@@ -4,7 +4,7 @@ use Rattle.container_core.specs.Shape.{ShapeView}
 use Rattle.output_core.specs.Bounds.{Admits, Container}
 use Rattle.engine_tests.proofs.sealed.holds_sealed.Goals as goal
 
--- an output that took nothing may take the container of any plaintext
+-- an output that has taken nothing may take the container of any plaintext
 admits_whole : (key key' prefix prefix' taken plain : List ℕ) (shape shape' : ShapeView) → taken ≡ []
     → key' ≡ key → shape' ≡ shape → prefix' ≡ prefix
     → Admits (Some (Container [] key' shape' prefix')) (Some taken) (container key shape prefix plain)

@@ -1,4 +1,4 @@
--- What is filled was read, and no read failed.
+-- The filled bytes were read, and no read failed.
 use Rattle.std.proofs.Common.{◌≡◌, ◌≤◌, ◌-◌, length, take}
 use Rattle.io_core.specs.Streams.{Consumes}
 use Rattle.io_core.proofs.input.fill.Given as goal

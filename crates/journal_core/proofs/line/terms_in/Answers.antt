@@ -1,4 +1,4 @@
--- The words of the line are the words of the range line that it is said to be.
+-- The words of the line are the words of the range line that it is assumed to be.
 use Rattle.std.proofs.Common.{◌≡◌, sym, ap, ◌∙◌, subst, arith, codes, Some}
 use Rattle.journal_core.specs.Range.{IsLawfulRange}
 use Rattle.journal_core.proofs.Lines.{range_no_space, terms_split, four_small, refused_range, made_range, same_range, same_terms}

@@ -21,7 +21,7 @@ use Rattle.opening_core.proofs.SentLemmas.{sent-all, sent-last, sent-more, sent-
 use Rattle.opening_core.proofs.windows.open_body.Goals.{then-rounds-test+else-held-size, else-rounds-test}
 use Rattle.opening_core.proofs.windows.open_body.Goals as goal
 
--- the header's bytes stand in front
+-- the header's bytes come first
 named-front : (header image whole : List ℕ) → image ≡ header → take (length header) whole ≡ header → take (length image) whole ≡ image
 named-front header image whole same front = subst (λ (l : List ℕ). take (length l) whole ≡ l) (sym same) front
 

@@ -1,4 +1,4 @@
--- What was read, what of it opened, what of that waits to be taken, and what is in hand.
+-- What was read, what of it opened, what of that waits to be taken, and the current round.
 use Rattle.std.proofs.Common.{◌≡◌, ℕ, ◌+◌, ◌-◌, ◌*◌, ◌<◌, ◌≤◌, ◌++◌, false, List, [], length, min, Ok}
 use Rattle.container_core.specs.Chunks.{sealed_chunks}
 use Rattle.container_core.specs.Container.{size_in}

@@ -1,4 +1,4 @@
--- The chunks from `left` on are sealed, those before are as they were.
+-- The chunks from `left` on are sealed, and those before are unchanged.
 use Rattle.std.proofs.Common.{◌≡◌, ◌+◌, ◌-◌, ◌*◌, ◌≤◌, length, take, drop}
 use Rattle.container_core.specs.Chunks.{chunks}
 use Rattle.container_core.specs.Stream.{stream_by}

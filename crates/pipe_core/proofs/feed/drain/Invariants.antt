@@ -1,4 +1,4 @@
--- What was put and written, however it was read and whatever stood before.
+-- What was put and written, however it was read and whatever was written before.
 use Rattle.std.proofs.Common.{◌≡◌, All, ℕ, List, Option, length}
 use Rattle.crossbeam_queue.specs.Passes.{view, IsPassOf}
 use Rattle.pipe_core.specs.declared.round.Plan.{Plan}

@@ -1,4 +1,4 @@
--- A block is no longer than it was at first.
+-- A block is no longer than at first.
 use Rattle.std.proofs.Common.{◌*◌, ◌≤◌}
 use Rattle.pipe_core.proofs.rounds.each_of.Given as goal
 

@@ -1,4 +1,4 @@
--- The groups so far were sealed, and where files are left all of them are full.
+-- The groups so far were sealed, and if files are left all of them are full.
 use Rattle.std.proofs.Common.{◌≡◌, ◌<◌, ◌≤◌, ◌-◌, [], All, length, map, take}
 use Rattle.sha2.specs.Sha256.{sha256}
 use Rattle.sealer_core.specs.Group.{AreOwing, AreSettled}

@@ -1,4 +1,4 @@
--- What is filled was read behind what was held, and no read failed.
+-- The filled bytes were read after what was held, and no read failed.
 use Rattle.std.proofs.Common.{◌≡◌, ℕ, ◌≤◌, ◌-◌, ◌++◌, List, take, vec_len, vec_capacity}
 use Rattle.io_core.specs.Streams.{Consumes}
 use Rattle.window_core.proofs.window.fill_upto.Given as goal

@@ -1,4 +1,4 @@
--- The pieces so far, and no other.
+-- The pieces made so far, and no other.
 use Rattle.std.proofs.Common.{◌≡◌, ◌<◌, ℕ, length, map}
 use Rattle.claim_core.specs.Claims.{times}
 use Rattle.round_core.specs.Pieces.{number_of}

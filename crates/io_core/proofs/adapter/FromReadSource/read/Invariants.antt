@@ -1,4 +1,4 @@
--- The reads that were interrupted took nothing.
+-- The interrupted reads took nothing.
 use Rattle.std.proofs.Common.{◌≡◌, length}
 use Rattle.io_core.specs.Streams.{Keeps}
 use Rattle.io_core.proofs.adapter.FromReadSource.read.Given as goal

@@ -1,4 +1,4 @@
--- The writes that were interrupted left nothing.
+-- The interrupted writes wrote nothing.
 use Rattle.io_core.specs.Streams.{Keeps}
 use Rattle.io_core.proofs.adapter.ToWriteSink.write.Given as goal
 

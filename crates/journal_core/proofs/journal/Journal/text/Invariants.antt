@@ -1,4 +1,4 @@
--- The range line and the lines of the entries passed are written.
+-- The range line and the lines of the entries so far are written.
 use Rattle.std.proofs.Common.{◌≡◌, take, string_bytes}
 use Rattle.journal_core.specs.Text.{journal_text}
 use Rattle.journal_core.proofs.journal.Journal.text.Given as goal

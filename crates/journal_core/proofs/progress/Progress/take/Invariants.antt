@@ -1,4 +1,4 @@
--- The bytes gone from `rest` were read, and each line that ended had one of them.
+-- The bytes removed from `rest` were read, and each line that ended used up one of them.
 use Rattle.std.proofs.Common.{◌≡◌, ◌≤◌, ℕ, ◌+◌, List, ◌++◌, length}
 use Rattle.journal_core.specs.Audit.{HasRead}
 use Rattle.journal_core.proofs.progress.Progress.take.Given as goal

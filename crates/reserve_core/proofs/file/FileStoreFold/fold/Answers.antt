@@ -25,7 +25,7 @@ returns-in-Err-clause-left g c = record {
   quiet = still_quiet c.rollback.ensures.quiet c.checkpoint.ensures.quiet;
 }
 
--- As the kit has it for a connection that is closed.
+-- As in the kit for a connection that is closed.
 pub returns-in-Ok-clause-folded : goal.returns-in-Ok-clause-folded
 returns-in-Ok-clause-folded g c honest =
     let before = c.rollback.new.self in
