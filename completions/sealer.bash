@@ -1,4 +1,5 @@
-# Completions of sealer(1) for bash. tools/check_completions.sh holds them against --help.
+# Completions of sealer(1) for bash. tools/make_options.py writes the parts between its comments, from the options' rows in the sources;
+# tools/check_completions.sh holds them against --help.
 
 _sealer() {
     local current=${COMP_WORDS[COMP_CWORD]} before=${COMP_WORDS[COMP_CWORD - 1]} command='' at only_files='' words='' cut=''
@@ -17,40 +18,44 @@ _sealer() {
     done
     COMPREPLY=()
     if [ -z "$only_files" ] && [ -n "$command" ]; then
+        # make_options.py writes from here: values
         case $before$cut in
-            --progress1) mapfile -t COMPREPLY < <(compgen -W 'terminal always' -- "$current"); return ;;
+            --progress1) _sealer_words 'terminal always' "$current"; return ;;
         esac
         case $before in
-            --key | --ledger | --journal | --files-from) _sealer_files "$current"; return ;;
-            --into) mapfile -t COMPREPLY < <(compgen -d -- "$current"); compopt -o filenames 2>/dev/null; return ;;
-            --workers | --lanes) mapfile -t COMPREPLY < <(compgen -W 'auto 1 2 4 8 16' -- "$current"); return ;;
-            --exponent) mapfile -t COMPREPLY < <(compgen -W '12 13 14 15 16 17 18 19 20' -- "$current"); return ;;
-            --depth) mapfile -t COMPREPLY < <(compgen -W '1 2 4 8 16 32 64' -- "$current"); return ;;
-            --max-bytes | --max-chunks) mapfile -t COMPREPLY < <(compgen -W max -- "$current"); return ;;
-            --device | --window | --label) return ;;
+            --key | --files-from | --ledger | --journal) _sealer_files "$current"; return ;;
+            --workers | --lanes) _sealer_words 'auto 1 2 4 8 16' "$current"; return ;;
+            --into) _sealer_folders "$current"; return ;;
+            --max-bytes | --max-chunks) _sealer_words 'max' "$current"; return ;;
+            --label | --device) return ;;
+            --window) _sealer_words '1 2 4 8 16 32 64 128 256' "$current"; return ;;
+            --depth) _sealer_words '1 2 4 8 16 32 64' "$current"; return ;;
+            --exponent) _sealer_words '12 13 14 15 16 17 18 19 20' "$current"; return ;;
         esac
+        # make_options.py writes to here
     fi
     case $command in
+        # make_options.py writes from here: words
         '') words='seal pipe open verify audit ledger help --help -h --version -V' ;;
-        seal)
-            words='--key --ledger --no-new-ledger --device --workers --lanes --window --exponent --label --max-bytes
-                --journal --into --skip-existing --sync --files-from --null --progress --help -h'
-            ;;
-        pipe)
-            words='--key --ledger --no-new-ledger --device --workers --depth --max-chunks --exponent --label --journal
-                --force-terminal --help -h'
-            ;;
-        open) words='--key --label --workers --max-bytes --into --skip-existing --sync --files-from --null --progress --help -h' ;;
-        verify) words='--key --label --show --workers --max-bytes --files-from --null --progress --help -h' ;;
+        seal) words='--key --workers --files-from --null --progress --ledger --no-new-ledger --device --max-bytes --lanes --window
+                    --into --skip-existing --sync --exponent --label --journal --help -h' ;;
+        pipe) words='--key --workers --ledger --no-new-ledger --device --depth --max-chunks --force-terminal --exponent --label
+                    --journal --help -h' ;;
+        open) words='--key --workers --files-from --null --progress --max-bytes --label --into --skip-existing --sync --help -h' ;;
+        verify) words='--key --workers --files-from --null --progress --max-bytes --label --show --help -h' ;;
         audit) words='--help -h' ;;
         ledger) words='--ledger --help -h' ;;
         help) words='seal pipe open verify audit ledger help' ;;
+        # make_options.py writes to here
         *) return ;;
     esac
     case $only_files$current:$command in
-        -*:* | *: | *:help) mapfile -t COMPREPLY < <(compgen -W "$words" -- "$current") ;;
+        -*:* | *: | *:help) _sealer_words "$words" "$current" ;;
+        # make_options.py writes from here: files
+        *:seal) _sealer_files "$current" ;;
         *:open) _sealer_files "$current" .stm ;;
-        *:seal | *:verify) _sealer_files "$current" ;;
+        *:verify) _sealer_files "$current" ;;
+        # make_options.py writes to here
     esac
 }
 
@@ -62,5 +67,14 @@ _sealer_files() {
     done < <(compgen -f -- "$1")
     compopt -o filenames 2>/dev/null
 }
+
+# _sealer_folders BEGINNING: the folders with this beginning
+_sealer_folders() {
+    mapfile -t COMPREPLY < <(compgen -d -- "$1")
+    compopt -o filenames 2>/dev/null
+}
+
+# _sealer_words WORDS BEGINNING: those of the words that have this beginning
+_sealer_words() { mapfile -t COMPREPLY < <(compgen -W "$1" -- "$2"); }
 
 complete -F _sealer sealer

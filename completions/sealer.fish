@@ -1,47 +1,66 @@
-# Completions of sealer(1) for fish. tools/check_completions.sh holds them against --help.
+# Completions of sealer(1) for fish. tools/make_options.py writes the part between its comments, from the options' rows in the sources;
+# tools/check_completions.sh holds it against --help.
 
-set -l commands seal pipe open verify audit ledger help
-set -l keyed '__fish_seen_subcommand_from seal pipe open verify; and not __fish_seen_subcommand_from audit ledger help'
-set -l over_files '__fish_seen_subcommand_from seal open verify; and not __fish_seen_subcommand_from audit ledger help'
+# __sealer_command COMMANDS: whether the command before the cursor is one of these
+function __sealer_command
+    set -l words (commandline -opc)
+    for word in $words[2..]
+        if not string match -q -- '-*' $word
+            contains -- $word $argv
+            return
+        end
+    end
+    return 1
+end
 
 complete -c sealer -f
-complete -c sealer -n "not __fish_seen_subcommand_from $commands" -a seal -d 'Seal each FILE to FILE.stm'
-complete -c sealer -n "not __fish_seen_subcommand_from $commands" -a pipe -d 'Seal standard input to standard output'
-complete -c sealer -n "not __fish_seen_subcommand_from $commands" -a open -d 'Check each FILE, then write its plaintext'
-complete -c sealer -n "not __fish_seen_subcommand_from $commands" -a verify -d 'Check each FILE and write no file'
-complete -c sealer -n "not __fish_seen_subcommand_from $commands" -a audit -d 'Audit the journal on standard input'
-complete -c sealer -n "not __fish_seen_subcommand_from $commands" -a ledger -d 'Tell what a ledger file holds'
-complete -c sealer -n "not __fish_seen_subcommand_from $commands" -a help -d 'Print help'
-complete -c sealer -n '__fish_seen_subcommand_from help' -a 'seal pipe open verify audit ledger help'
+# make_options.py writes from here: options
+complete -c sealer -n 'not __sealer_command seal pipe open verify audit ledger help' -a seal -d 'Seals each FILE to FILE.stm, each under a number of its own'
+complete -c sealer -n 'not __sealer_command seal pipe open verify audit ledger help' -a pipe -d 'Seals standard input to standard output, a stream of any length, under a number of its own'
+complete -c sealer -n 'not __sealer_command seal pipe open verify audit ledger help' -a open -d 'Checks each FILE whole, then writes its plaintext to the name without .stm'
+complete -c sealer -n 'not __sealer_command seal pipe open verify audit ledger help' -a verify -d 'Checks each FILE whole and writes no file'
+complete -c sealer -n 'not __sealer_command seal pipe open verify audit ledger help' -a audit -d 'Audits the journal on standard input and prints the verdict'
+complete -c sealer -n 'not __sealer_command seal pipe open verify audit ledger help' -a ledger -d 'Prints what a ledger file holds, and changes nothing'
+complete -c sealer -n 'not __sealer_command seal pipe open verify audit ledger help' -a help -d 'Print this message or the help of the given subcommand(s)'
+complete -c sealer -n '__sealer_command help' -a 'seal pipe open verify audit ledger help'
 complete -c sealer -s h -l help -d 'Print help'
-complete -c sealer -n "not __fish_seen_subcommand_from $commands" -s V -l version -d 'Print the version'
+complete -c sealer -n 'not __sealer_command seal pipe open verify audit ledger help' -s V -l version -d 'Print version'
 
-complete -c sealer -n $keyed -l key -rF -d 'The key file'
-complete -c sealer -n $keyed -l workers -x -a 'auto 1 2 4 8 16' -d 'Workers on one file or stream, 1 to 16'
-complete -c sealer -n $over_files -l max-bytes -x -a max -d 'A FILE of more plaintext bytes is refused'
-complete -c sealer -n $keyed -l label -x -d 'The label, which is not secret'
-complete -c sealer -n $over_files -l files-from -rF -d 'A list of further FILEs, one a line'
-complete -c sealer -n $over_files -l null -d 'FILEs in that list end with a NUL byte'
-complete -c sealer -n $over_files -l progress -a 'terminal always' -d 'Show progress'
-complete -c sealer -n '__fish_seen_subcommand_from seal verify' -F
-complete -c sealer -n '__fish_seen_subcommand_from open' -k -xa '(__fish_complete_suffix .stm)'
+complete -c sealer -n '__sealer_command seal pipe open verify' -l key -rF -d 'The key file: 64 hex digits, then nothing or one end of line'
+complete -c sealer -n '__sealer_command seal pipe open verify' -l workers -x -a 'auto 1 2 4 8 16' -d 'Workers on one file or stream, side by side, 1 to 16, or auto: as many as there are processors'
 
-complete -c sealer -n '__fish_seen_subcommand_from seal open' -l skip-existing -d 'Skip each FILE whose output exists'
-complete -c sealer -n '__fish_seen_subcommand_from seal open' -l sync -d 'Sync each output before its line is printed'
-complete -c sealer -n '__fish_seen_subcommand_from seal open' -l into -xa '(__fish_complete_directories)' -d 'Put the outputs into this folder'
+complete -c sealer -n '__sealer_command seal open verify' -l files-from -rF -d 'Read further FILEs from a list, one a line, after those of the command line'
+complete -c sealer -n '__sealer_command seal open verify' -l null -d 'FILEs in the list of --files-from end with a NUL byte, not a line feed'
+complete -c sealer -n '__sealer_command seal open verify' -l progress -a 'terminal always' -d 'Show progress on standard error if that is a terminal, or always'
 
-complete -c sealer -n '__fish_seen_subcommand_from verify' -l show -d 'Print what the header says'
+complete -c sealer -n '__sealer_command seal open' -l into -xa '(__fish_complete_directories)' -d 'Put the outputs into this folder, each under the base name of its FILE'
+complete -c sealer -n '__sealer_command seal open' -l skip-existing -d 'Skip each FILE whose output exists: its line says kept, not failed'
+complete -c sealer -n '__sealer_command seal open' -l sync -d 'Sync each output and its folder before its line is printed'
 
-complete -c sealer -n '__fish_seen_subcommand_from seal pipe' -l ledger -rF -d 'The ledger file'
-complete -c sealer -n '__fish_seen_subcommand_from seal pipe' -l no-new-ledger -d 'Refuse to make a ledger file'
-complete -c sealer -n '__fish_seen_subcommand_from seal pipe' -l device -x -d 'The number of this ledger, 0 to 16777215'
-complete -c sealer -n '__fish_seen_subcommand_from seal' -l lanes -x -a 'auto 1 2 4 8 16' -d 'Files sealed side by side, 1 to 16'
-complete -c sealer -n '__fish_seen_subcommand_from seal' -l window -x -d 'Chunks sealed at a time, 1 to 256'
-complete -c sealer -n '__fish_seen_subcommand_from seal pipe' -l exponent -x -a '(seq 12 20)' -d 'Chunks of 2^N bytes'
-complete -c sealer -n '__fish_seen_subcommand_from seal pipe' -l journal -rF -d "A new file for the run's journal"
+complete -c sealer -n '__sealer_command open verify' -l max-bytes -x -a 'max' -d 'Refuse a FILE of more plaintext bytes, 0 to 4503599626321920, or max'
+complete -c sealer -n '__sealer_command open verify' -l label -x -d 'Accept only FILEs with this label, 0 to 255 bytes of UTF-8'
 
-complete -c sealer -n '__fish_seen_subcommand_from pipe' -l depth -x -a '1 2 4 8 16 32 64' -d 'Chunks read and not yet written, 1 to 64'
-complete -c sealer -n '__fish_seen_subcommand_from pipe' -l max-chunks -x -a max -d 'A stream of more chunks is refused'
-complete -c sealer -n '__fish_seen_subcommand_from pipe' -l force-terminal -d 'Write the container to a terminal too'
+complete -c sealer -n '__sealer_command verify' -l show -d 'After the line of a good FILE print its version, chunk size, device, number and label'
 
-complete -c sealer -n '__fish_seen_subcommand_from ledger' -l ledger -rF -d 'The ledger file'
+complete -c sealer -n '__sealer_command ledger' -l ledger -rF -d 'The ledger file'
+
+complete -c sealer -n '__sealer_command seal pipe' -l ledger -rF -d 'The ledger file, created if there is none'
+complete -c sealer -n '__sealer_command seal pipe' -l no-new-ledger -d 'Create no ledger file: for every run but the first'
+complete -c sealer -n '__sealer_command seal pipe' -l device -x -d 'The number of this ledger under this key, 0 to 16777215: no two ledgers share one'
+
+complete -c sealer -n '__sealer_command seal' -l max-bytes -x -a 'max' -d 'Refuse a FILE of more plaintext bytes, 0 to 1099511627776, or max'
+complete -c sealer -n '__sealer_command seal' -l lanes -x -a 'auto 1 2 4 8 16' -d 'Files sealed side by side at most, 1 to 16, or auto'
+complete -c sealer -n '__sealer_command seal' -l window -x -a '1 2 4 8 16 32 64 128 256' -d 'Chunks sealed at a time, 1 to 256'
+
+complete -c sealer -n '__sealer_command pipe' -l depth -x -a '1 2 4 8 16 32 64' -d 'At most this many chunks are read and not yet written, 1 to 64'
+complete -c sealer -n '__sealer_command pipe' -l max-chunks -x -a 'max' -d 'Refuse a stream of more chunks, once the next one begins, 1 to 4294967295, or max'
+complete -c sealer -n '__sealer_command pipe' -l force-terminal -d 'Write the container even to a terminal'
+
+complete -c sealer -n '__sealer_command seal pipe' -l exponent -x -a '12 13 14 15 16 17 18 19 20' -d 'Version 2, with chunks of 2^N bytes, 12 to 20'
+complete -c sealer -n '__sealer_command seal pipe' -l label -x -d 'Version 2, with this label, which is not secret: 0 to 255 bytes of UTF-8'
+complete -c sealer -n '__sealer_command seal pipe' -l journal -rF -d "A new file for the run's journal"
+
+complete -c sealer -n '__sealer_command seal' -F
+complete -c sealer -n '__sealer_command open' -k -xa '(__fish_complete_suffix .stm)'
+complete -c sealer -n '__sealer_command verify' -F
+# make_options.py writes to here
