@@ -1,17 +1,17 @@
 #!/usr/bin/env python3
-"""What `sealer verify` says of containers, cut and altered, by one worker and by several; prints how many answers were
-as they should be.
+"""Compares what `sealer verify` prints for cut and altered containers with the rules, with one worker and with several.
+Prints how many answers were right.
 
     altered_containers.py [--self-check]
 
 The containers hold zero bytes, two chunks and one byte more, under the key 00 01 .. 1f, device 1, file 0: one of
-version 1, and of version 2 those with labels of 0, 1 and 255 bytes at the exponents 12, 16 and 20; and one has 1,100
-chunks. All are made by tools/seal_container.py. The answers are rules written by hand from docs/FORMATS.md; before the program is asked,
-tools/open_container.py, another reading of that text, has to give the same. With --self-check that is all, and no
-program is needed.
+version 1, and of version 2 those with labels of 0, 1 and 255 bytes at the exponents 12, 16 and 20. One more has 1,100
+chunks. All are made by tools/seal_container.py. The answers are rules written by hand from docs/FORMATS.md. Before the
+program is run, tools/open_container.py, another reading of that text, must give the same. With --self-check that is
+all, and no program is needed.
 
-The program is crates/sealer/out/sealer, or $SEALER. Where Python's package `cryptography` isn't there it says so and
-ends well, and under CI it fails.
+The program is crates/sealer/out/sealer, or $SEALER. If Python's package `cryptography` is missing it says so and exits
+with status 0; under CI it fails.
 """
 import os
 import subprocess
@@ -71,7 +71,7 @@ class Shape:
 
 
 def cuts(shape):
-    """Its beginnings, of lengths around each boundary, and the container with some bytes behind it."""
+    """Its beginnings, of lengths around each boundary, and the container followed by some bytes."""
     header, first, second = shape.header, shape.header + shape.chunk, shape.header + 2 * shape.chunk
     # up to which length, what is said
     rules = [
@@ -84,7 +84,7 @@ def cuts(shape):
 
 
 def header_bytes(shape):
-    """Each byte of the header changed, but those that tell version, chunk size and the label's length."""
+    """Each byte of the header changed, but those of the version, the chunk size and the label's length."""
     rules = [(7, MAGIC), (16, forged(0)), (23, ANOTHER_KEY), (shape.header - 1, forged(0))]
     for place in range(shape.header):
         if place not in (8, 9, 24):
@@ -93,7 +93,7 @@ def header_bytes(shape):
 
 
 def versions(shape):
-    """Other versions. Read as the other one that there is, the chunks begin at another byte."""
+    """Other versions. Read as the other known version, the chunks begin at another byte."""
     for value in (0, 3, 255):
         yield f"version-{value}", shape.put(8, value), VERSION
     if shape.is_second:
@@ -104,7 +104,7 @@ def versions(shape):
 
 
 def exponents(shape):
-    """Other exponents. Each that there is can cut so many bytes into chunks."""
+    """Other exponents. Each valid one can cut this many bytes into chunks."""
     for value in (0, 1, *range(10, 23), 255):
         if value != shape.exponent:
             answer = forged(0) if shape.is_second and 12 <= value <= 20 else EXPONENT
@@ -124,7 +124,7 @@ def label_lengths(shape):
 
 
 def moves(shape):
-    """Its chunks in another order, twice, and left out, and one of another container in the place of its own."""
+    """Its chunks in another order, repeated, left out, or replaced by one of another container."""
     first, second, third = shape.chunks_of(shape.whole)
     rows = [
         ("exchanged", [second, first, third], forged(0)), ("left-out", [first, third], forged(1)),
@@ -147,7 +147,7 @@ def moves(shape):
 
 
 def altered(shape):
-    """All of a shape, behind the container as it is."""
+    """The container unaltered, and then all alterations of it."""
     yield f"{shape.name}-unaltered", shape.whole, shape.plain
     for kind in [cuts, header_bytes, versions, exponents, moves] + [label_lengths] * shape.is_second:
         for name, container, answer in kind(shape):
@@ -175,7 +175,7 @@ def groups(containers):
 
 
 def differs(who, found, wanted):
-    """Tells of an answer that is not the one that is wanted. The answer is whether it is another."""
+    """Prints an answer that isn't the wanted one, and returns whether it differs."""
     if found != wanted:
         print(f"altered_containers: {who}: '{found}', not '{wanted}'")
     return found != wanted

@@ -20,7 +20,7 @@ with open(f"{top}/examples/journal.txt", encoding="ascii") as journal:
 LEGAL = "legal: 2 granted, 1 sealed, 1 void, 0 open, 1 refused"
 DIGITS = 1_000_000
 ADDRESSES = 1 << 26
-# A line's number, what stands there instead, and the verdict.
+# A line's number, what replaces it, and the verdict.
 CHANGED = [
     (2, "0 issue 8", "illegal line 2"), (2, "2 issue 7", "illegal line 2"), (2, "63 issue 7", "illegal line 2"),
     (2, "64 issue 7", "malformed line 2"), (2, "0 issue 4294967296", "malformed line 2"), (2, "0 issue 4294967295", "illegal line 2"),
@@ -70,11 +70,11 @@ def journals():
         # No lawful line has such a byte. In the place of a line feed it joins two lines.
         for byte in (0, 0x0D, 0x2B, 0x80, 0xFF):
             yield f"byte {at} is {byte:#x}", whole[:at] + bytes([byte]) + whole[at + 1 :], f"malformed line {whole[:at].count(10) + 1}"
-    # the longest line that there is, and what follows behind it
+    # the longest possible line, and bytes after it
     longest = b"range 16777215 4294901760 65535 64"
     yield "the longest line", longest + b"\n", FRONTS[0]
     for rest in (b"0", b" ", b"\0", b"\r", b"0" * 2, b" " * (1 << 14), b"0" * (1 << 20)):
-        yield f"{len(rest)} bytes behind the longest line", longest + rest + b"\n", "malformed line 1"
+        yield f"{len(rest)} bytes after the longest line", longest + rest + b"\n", "malformed line 1"
     for size in (34, 35, 36, 1 << 14, 1 << 27):
         yield f"{size} bytes and no line feed", b"7" * size, "malformed line 1"
         yield f"a second line of {size} bytes", text(LINES[:1]) + b"7" * size + b"\n" + text(LINES[1:]), "malformed line 2"

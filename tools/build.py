@@ -2,21 +2,21 @@
 """build.py [-j N] [-p PROGRAM] [--figures] [CPU]: proves and builds the program, which is then crates/sealer/out/sealer.
 
 CPU is the level of the processors that the program is for: x86-64-v3 has AVX2, and x86-64-v2 is the portable one, which
-the gate builds. Where none is given it is x86-64-v3 if this machine's processor has all features of it. The last line
+the gate builds. By default it is x86-64-v3 if this machine's processor has all features of it. The last line
 names it. A program for x86-64-v3 is crates/sealer/out/sealer-x86-64-v3 too; on a processor that lacks a feature it says
 so, and ends with status 127. The cipher takes eight blocks side by side there and else four, so that level proves the
 crates from chacha_core up over the other answer of `is_wide`, in out/x86-64-v3 of each; out/ stays as it was. PROGRAM is
 another program of crates/.
 
-Each crate is proved once those below it are, N side by side, in place of one for each processor that there is to use,
-and each by several processes; where memory is short, of the machine or of a container, there are fewer. The processors
-go first to those whose chain of crates above takes longest, by tools/build_figures.txt: what each crate took, which
---figures writes anew for those that it proves from nothing.
+Each crate is proved once those below it are, N side by side (by default one for each usable processor), and each by
+several processes. If the machine or a container is short of memory, there are fewer. The processors go first to the
+crates whose chain of crates above takes longest, by tools/build_figures.txt. That file has the processor seconds of each
+crate; --figures renews those of the crates that it proves from nothing.
 
 `cd crates/sealer && rt run` builds the portable one, one crate at a time. `rt lib` keeps the folders of all crates below
 its own to itself, so here each crate is proved in a room of its own among the system's temporary files: a copy of it and
-of those below, with the libraries that were built before. What was proved goes back to the crate's folder at once, so
-that a run that was ended goes on where it was.
+of those below, with the libraries that were built before. What was proved goes back to the crate's folder at once, so an
+interrupted run continues where it was.
 """
 import argparse
 import contextlib
@@ -94,7 +94,7 @@ def write_figures(crates):
 
 
 def crates_of_program(program):
-    """Returns the program's crate and all that it stands on, each behind those below it."""
+    """Returns the program's crate and all crates that it uses, each after those below it."""
     text = (CRATES.parent / "crates.txt").read_text(encoding="utf-8")
     rows = [line.partition("#")[0].strip() for line in text.splitlines()]
     known = {it.name: it for it in map(Crate, filter(None, rows))}
@@ -117,7 +117,7 @@ def crates_of_program(program):
 
 
 def words_of(name):
-    """The words of a file of the control group, which in a container is its own; none where it isn't there."""
+    """The words of a file of the control group, which in a container is its own; none if the file is missing."""
     try:
         return (GROUP / name).read_text(encoding="utf-8").split()
     except OSError:
@@ -125,7 +125,7 @@ def words_of(name):
 
 
 def free_memory():
-    """The memory that is free, in MB: of the machine, or of what the control group may have."""
+    """The free memory in MB: of the machine, or what the control group may still take."""
     with open("/proc/meminfo", encoding="utf-8") as file:
         free = next(int(line.split()[1]) // 1024 for line in file if line.startswith("MemAvailable"))
     for limit, held, word in (("memory.max", "memory.stat", "anon"), ("memory/memory.limit_in_bytes", "memory/memory.stat", "total_rss")):
@@ -173,14 +173,14 @@ class Runs:
 
 
 class Progress:
-    """Says on standard error how far it is: on one line of a terminal, else in a line a crate."""
+    """Shows progress on standard error: on one line of a terminal, else in a line for each crate."""
 
     def __init__(self, crates):
         self.crates, self.proved, self.begun = crates, 0, time.monotonic()
         self.on_terminal = sys.stderr.isatty()
 
     def show(self, running, proved=None):
-        """Says what is proved and what runs, and behind a proof whose it was."""
+        """Prints what is proved and what runs; after a proof also the crate's name."""
         self.proved += proved is not None
         minutes = (time.monotonic() - self.begun) / 60
         line = f"{self.proved} of {self.crates} crates are proved, {minutes:.0f} min"
@@ -348,8 +348,8 @@ def watched(runs, progress, program, folder, *words):
 def fitting(ready, taken, most, memory):
     """Gives the crates to begin with now, each with its number of processes, beside checks with these numbers of them.
 
-    There are as many checks as processors, and more processes: while a check reads what it stands on, or puts together
-    what its processes proved, it keeps one processor busy, and the others are for those with a shorter chain.
+    There are as many checks as processors, and more processes. While a check reads the libraries below it, or joins what
+    its processes proved, it keeps one processor busy; the others are for crates with a shorter chain.
     """
     for crate in ready[:max(most - len(taken), 0)]:
         spare = memory - sum(OF_CHECK + OF_PROCESS * (it - 1) for it in taken)

@@ -1,7 +1,7 @@
 #!/bin/bash
-# The completions in bash, zsh and fish: each shell is run on a terminal of its own, lines are typed and TAB is pressed. What is listed
-# must be the commands and options that --help of the built program tells, and for names the files that suit. Prints how many lines were
-# completed as they should be, or what differs. A shell that isn't there is left out, which is a failure under CI.
+# Tests the completions in bash, zsh and fish: each shell runs on its own terminal, lines are typed and TAB is pressed. The listed words must
+# be the commands and options that --help of the built program lists, and for names the files that suit. Prints how many lines were
+# completed correctly, or what differs. A missing shell is left out, which is a failure under CI.
 # usage: tools/check_completions.sh [PROGRAM [FOLDER OF COMPLETIONS]]
 set -u
 cd "$(dirname "$0")/.."
@@ -20,7 +20,7 @@ SEALER, FROM, SECONDS = os.environ["sealer"], os.environ["from"], 20
 
 
 def told(*words):
-    """The commands and the options that --help tells."""
+    """The commands and the options that --help lists."""
     text = subprocess.run([SEALER, *words, "--help"], capture_output=True, text=True, stdin=subprocess.DEVNULL).stdout
     commands = re.search(r"^Commands:\n((?: .*\n)*)", text, re.M)
     options = re.search(r"^Options:\n((?: .*\n)*)", text, re.M)
@@ -50,7 +50,7 @@ class Terminal:
         seen, last = "", time.monotonic() + SECONDS
         while end not in seen:
             if not select.select([self.file], [], [], max(0, last - time.monotonic()))[0]:
-                raise TimeoutError(f"'{end}' didn't come behind: {seen!r}")
+                raise TimeoutError(f"'{end}' didn't come after: {seen!r}")
             seen += os.read(self.file, 65536).decode(errors="replace")
         return seen[: seen.index(end)]
 
@@ -61,12 +61,12 @@ class Terminal:
         return self.until(f"mark-{self.rounds}-")
 
     def listed(self, line, seconds):
-        """What is on the terminal so long after TAB was pressed behind a line, which is then taken back."""
+        """What the terminal shows some seconds after a line and TAB were typed. The line is then erased."""
         self.type(line + "\t")
         # zsh lists nothing while more is typed
         time.sleep(seconds)
         self.type("\x15")
-        # what stands behind that is typed here
+        # what comes after that is typed here
         return re.sub(r"\x1b\[[0-9;?]*\w", "", self.run("true")).split("true; echo mark")[0]
 
     def end(self):
@@ -93,7 +93,7 @@ def zsh(room):
 
 
 class Fish:
-    """fish, which tells its completions by a command."""
+    """fish, which prints its completions by a command."""
 
     def __init__(self, room):
         self.room = room
@@ -116,7 +116,7 @@ try:
     os.mkdir(os.path.join(room, "below"))
     names, options = told()
     if not {"seal", "pipe", "open", "verify", "audit"} <= names:
-        sys.exit(f"--help tells these commands: {names}")
+        sys.exit(f"--help lists these commands: {names}")
     for kind, start in (("bash", bash), ("zsh", zsh), ("fish", Fish)):
         if not shutil.which(kind):
             continue
@@ -130,7 +130,7 @@ try:
             # fish has those with the end first, and then the others
             asked += [("sealer open ", all_names if kind == "fish" else stm, pattern)]
             asked += [("sealer verify --key ", all_names, pattern), ("sealer seal ", all_names, pattern)]
-            # in a folder behind a tilde, folders too
+            # in a folder after a tilde, folders too
             asked += [("sealer open ~/", {"below"} | (all_names if kind == "fish" else stm), r"(?:one\.stm|words\.stm|plain|below)\b")]
             asked += [("sealer audit ", set(), pattern), ("sealer pipe ", set(), pattern), ("sealer seal --label ", set(), pattern)]
             asked += [(f"sealer {it} --exponent ", {str(it) for it in range(12, 21)}, r"\b\d\d\b") for it in ("seal", "pipe")]

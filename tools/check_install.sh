@@ -103,7 +103,7 @@ is uninstalled-below-it test $status = 0
 is what-is-above-stays test -f "$room/precious"
 is nothing-else-stays test "$(find "$prefix" | wc -l)" = 2
 
-# below a home's .local man and the shells find what they look for by themselves, and zsh by what is told
+# below a home's .local man and the shells find their files by themselves, and zsh by the printed advice
 home="$room/home"
 mkdir "$home"
 install "$home/.local"
@@ -148,7 +148,7 @@ is avx2 says "this processor has AVX2: the program is $v3"
 printf '#!/bin/sh\necho this machine lacks a feature of x86-64-v3 >&2\nexit 127\n' > "$v3"
 chmod +x "$v3"
 install "$prefix"
-is no-avx2-is-told says "$v3 doesn't run on this machine"
+is no-avx2-is-reported says "$v3 doesn't run on this machine"
 is no-avx2 says "the program is $tree/crates/sealer/out/sealer"
 is no-avx2-installed cmp -s "$prefix/bin/sealer" crates/sealer/out/sealer
 cp crates/sealer/out/sealer "$v3"

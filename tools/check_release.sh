@@ -71,7 +71,7 @@ is folder-not-empty says 'is not empty'
 refused() { # NAME TEXT, of a release that must fail
     release "$room/refused"
     is "$1" test $status = 1
-    is "$1-told" says "$2"
+    is "$1-reported" says "$2"
     is "$1-makes-nothing" test -z "$(ls -A "$room/refused" 2>/dev/null)"
 }
 mv "$built/sealer" "$room/sealer"
@@ -90,7 +90,7 @@ touch "$built/sealer"
 touch -d '2001-01-01' "$built/sealer-x86-64-v3"
 release "$room/three"
 is portable-alone test $status = 0
-is portable-alone-told says 'sealer-x86-64-v3 is left out'
+is portable-alone-reported says 'sealer-x86-64-v3 is left out'
 
 # The archive.
 unpacked() { zstd -qdc "$room/$1" | tar -C "$2" -x; } # ARCHIVE FOLDER
@@ -162,7 +162,7 @@ works() { # NAME, of $program in $root
     input=$root/journal in_root audit
     is "$1-audits" says 'legal: 3 granted, 3 sealed'
     in_root ledger --ledger /ledger
-    is "$1-tells-the-ledger" says 'given 7'
+    is "$1-prints-the-ledger" says 'given 7'
     printf x | dd of="$root/large.stm" bs=1 seek=99999 conv=notrunc 2>/dev/null
     in_root verify --key key large.stm
     is "$1-finds-a-change" test "$status" = 1

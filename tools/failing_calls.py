@@ -1,14 +1,16 @@
 #!/usr/bin/env python3
-"""failing_calls.py: makes each call of `open`, `verify` and `audit` on files and memory fail once in turn, by strace, and looks at what they leave.
+"""failing_calls.py: makes each call of `open`, `verify` and `audit` on files and memory fail once, by strace, and checks what they leave.
 
-By one worker and by two, each call behind the opening of the key file (for `audit` behind the first read of its input) fails with EIO,
-ENOSPC and EINTR, those on memory with ENOMEM, and the program is killed at each. And of `open` and of `seal` each write of an output fails,
-or the file takes no more than so many bytes, while its removal fails too, or doesn't. Under `--progress` each read of a FILE by `seal`, `open` and
-`verify` fails, and so does standard output. After an error: a status and a text of docs/MANUAL.md, which fit the lines; an output is there whole or not at all,
-and not where its line says that it failed (but where its removal failed too); no input is altered, and no other file is there. After a kill:
-what has a line is whole, and the same `open` with `--skip-existing` opens the rest.
+With one worker and with two, each call after the opening of the key file (for `audit` after the first read of its input) fails with EIO,
+ENOSPC and EINTR, those on memory with ENOMEM, and the program is killed at each. For `open` and `seal` each write of an output fails too, or
+the file is limited to some length; its removal then fails, or doesn't. Under `--progress` each read of a FILE by `seal`, `open` and `verify`
+fails, and so does standard output.
 
-Prints 'N failing calls as they should be', or what differs. Needs strace; where it isn't there it says so and ends well, and under CI it
+After an error the status and the text are of docs/MANUAL.md, and fit the lines. An output is whole or absent; it is absent if its line says
+that it failed, unless its removal failed. No input is altered, and no other file is left. After a kill each output with a line is whole, and
+the same `open` with `--skip-existing` opens the rest.
+
+Prints 'N failing calls as they should be', or what differs. Needs strace: without it it says so and exits with status 0, and under CI it
 fails. The program is crates/sealer/out/sealer, or $SEALER.
 """
 import multiprocessing
@@ -63,8 +65,7 @@ class Way:
         self.count, self.bad, self.shown = 0, [], Counter()
 
     def run(self, *strace, most=resource.RLIM_INFINITY, output=subprocess.PIPE):
-        """One run under strace, with the files as they were given, where no file takes more than so many bytes. The answer is status, lines
-        and texts."""
+        """One run under strace, with the given files, where no file may be longer than `most` bytes. Returns status, lines and texts."""
         for name in os.listdir("."):
             os.remove(name)
         for name, data in self.given.items():
@@ -141,7 +142,7 @@ class Way:
         if status != (2 if texts or len(lines) < len(done) else 1 if failed else 0):
             yield "another status"
         if status == 0 and how in MUST_SHOW.get(call, ()):
-            yield "a fault that nobody tells"
+            yield "a fault that is not reported"
 
     def wrong_files(self, lines, killed):
         outputs = {name[:-4]: name for name in NAMES} if self.words[0] == "open" else {}
@@ -175,7 +176,7 @@ class Way:
 
 
 def worked(asked):
-    """All calls of one way, or one of so many parts of them."""
+    """All calls of one way, or those of one part out of `step`."""
     name, given, shared, first, step = asked
     way = Way(name, given)
     with tempfile.TemporaryDirectory(dir=shared) as place:
@@ -202,7 +203,7 @@ def left_of(output):
 
 
 def removals(given, ledger):
-    """A write of an output fails, and its removal too: the line tells, and what is left is a beginning of it."""
+    """A write of an output fails, and its removal too: the line says so, and what is left is a beginning of it."""
     count, bad = 0, []
     sealing = ["seal", "--key", key, "--ledger", "ledger", "--device", "1", "long"]
     ways = {
@@ -214,7 +215,7 @@ def removals(given, ledger):
         way = Way("audit", files)
         way.words = words
         told = (1, [f"failed {words[-1]}: write failed"], [])
-        # the first removal is of the name that tells whether files can have two
+        # the first removal is of the second name by which links are tried
         unremoved = ["-o", "/dev/null", "-e", "trace=write,unlink,unlinkat", "-e", "inject=unlink,unlinkat:error=EIO:when=2+"]
         trace = f"../trace {name} removals"
         way.run("-o", trace, "-y", "-e", "trace=write")
@@ -240,7 +241,7 @@ def removals(given, ledger):
 
 
 def under_progress(given, ledger):
-    """Where it is shown how far a run is, a read of its FILE fails, and then its line."""
+    """With progress shown, a read of the FILE fails, and then the write of its line."""
     count, bad = 0, []
     ways = {
         "seal": (["--ledger", "ledger", "--device", "1"], {"long": PLAIN["long"], **ledger}, "long", "long.stm", "sealed"),

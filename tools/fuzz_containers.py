@@ -1,19 +1,19 @@
 #!/usr/bin/env python3
-"""Asks the built program about inputs that are made by chance, and holds its answers against the formats' text.
+"""Runs the built program on random inputs, and compares its answers with the text of the formats.
 
     fuzz_containers.py [--version-1-only] [CASES [SEED]]
 
 The inputs are containers of both versions, for `verify` and `open`, key files, journals for `audit`, and command lines.
-Some are as they should be; the others are wrong where the formats have their fields and bounds, and of the containers
-some are sealed in a wrong way with good tags. What must be said of each is computed in tools/fuzz/ from docs/FORMATS.md
-and docs/MANUAL.md, apart from the program and the other tools.
+Some are valid. The others are wrong in the fields and bounds of the formats, and some containers are sealed wrongly with
+good tags. The right answers are computed in tools/fuzz/ from docs/FORMATS.md and docs/MANUAL.md, independently of the
+program and the other tools.
 
-There are 10,000 cases where no number is given, and a seed is drawn where none is given; the same numbers make the same
-cases. Any other answer, a crash or a hang is printed with the seed and the case, and what the case was given is kept in
-a folder; then the status is 1. With --version-1-only no container of version 2 is made, and no option of it given.
+By default there are 10,000 cases, and the seed is drawn; the same numbers make the same cases. A wrong answer, a crash
+or a hang is printed with the seed and the case, and the files of the case are kept in a folder; then the status is 1.
+With --version-1-only no container of version 2 is made, and none of its options is given.
 
-The program is crates/sealer/out/sealer, or $SEALER. Where Python's package `cryptography` isn't there it says so and
-ends well, and under CI it fails.
+The program is crates/sealer/out/sealer, or $SEALER. If Python's package `cryptography` is missing it says so and exits
+with status 0; under CI it fails.
 """
 import argparse
 import os
@@ -29,12 +29,12 @@ except ImportError:
     sys.exit(1 if os.environ.get("CI") else 0)
 from fuzz import command, container, journal, key_file, run
 
-# Cases of one kind that are made one behind the other, and faults after which it ends.
+# Cases of one kind that are made one after the other, and faults after which it ends.
 GROUP, ENOUGH = 40, 10
 
 
 def runs_of(rng, first, count, first_only):
-    """So many cases of one kind, numbered from the first one, in lists of those that can be one run."""
+    """`count` cases of one kind, numbered from `first` on, in lists of those that can be one run."""
     kind = rng.choices(("containers", "keys", "journals", "commands"), (14, 2, 4, 2))[0]
     if kind == "containers":
         return [list(container.asks(rng, first, count, first_only))]
@@ -47,7 +47,7 @@ def runs_of(rng, first, count, first_only):
 
 
 def main():
-    parser = argparse.ArgumentParser(description="Asks the built program about inputs that are made by chance.")
+    parser = argparse.ArgumentParser(description="Runs the built program on random inputs.")
     parser.add_argument("--version-1-only", action="store_true", help="containers and options of version 1 alone")
     parser.add_argument("cases", metavar="CASES", type=int, nargs="?", default=10_000)
     parser.add_argument("seed", metavar="SEED", type=int, nargs="?")

@@ -1,10 +1,10 @@
 #!/usr/bin/env python3
-"""gate_cost.py FILE [COMMAND..]: tells what the gate costs, by crate.
+"""gate_cost.py FILE [COMMAND..]: prints what the gate costs, by crate.
 
-Runs a command (.ci/run where none is given), looks at each process below it once a second, and adds what it saw to FILE, so that a gate which was
-done in several runs, each over what the ones before kept, gives one table. Then it prints the table of docs/DEVELOPING.md: for each crate the
-processor seconds of its proof, of its tests, and of its edits in must-fail/ (how many checks these were, the first of which proves the crate from
-nothing), and the most memory of one check. It misses what ends sooner than it looks.
+Runs a command (by default .ci/run), looks at each process below it once a second, and adds what it saw to FILE. So a gate that took several
+runs, each over what the ones before kept, gives one table. Then it prints the table of docs/DEVELOPING.md. For each crate that has the
+processor seconds of its proof, its tests, and its edits in must-fail/, with their number; the first edit proves the crate from nothing. It
+also has the most memory of one check. Processes that end within a second can be missed.
 """
 import collections
 import json

@@ -1,6 +1,6 @@
 #!/bin/bash
-# Reads a ledger file of the built program's with the stock sqlite3, and gives the program one of sqlite3's. Where sqlite3 isn't there
-# it ends well, and under CI it fails.
+# Reads a ledger file of the built program with the stock sqlite3, and gives the program one that sqlite3 made. Without sqlite3 it exits with
+# status 0, and under CI it fails.
 set -eu
 cd "$(dirname "$0")/.."
 if ! command -v sqlite3 >/dev/null; then
@@ -14,7 +14,7 @@ trap 'rm -rf "$folder"' EXIT
 cd "$folder"
 printf '%064d\n' 7 > key
 key_id=$(head -c 64 key | python3 -c 'import sys, hashlib; print(hashlib.sha256(bytes.fromhex(sys.stdin.read())).hexdigest().upper())')
-# ours LEDGER DEVICE COUNT: a run over so many files that aren't there, which reserves a number for each; the first line of its journal
+# ours LEDGER DEVICE COUNT: runs over COUNT missing files, which reserves a number for each; prints the first line of the journal
 ours() {
     local status=0
     rm -f journal
@@ -27,7 +27,7 @@ wants() { # NAME WANTED GOT
 }
 on_one_line() { tr '\n' ' ' | sed 's/ $//'; }
 
-# A file of ours.
+# A file of the program.
 wants 'first range' 'range 1 0 3 1' "$(ours ours 1 3)"
 wants 'second range' 'range 1 3 1 1' "$(ours ours 1 1)"
 wants 'other device' 'range 2 0 9999 1' "$(ours ours 2 9999)"
@@ -51,7 +51,7 @@ for row in "mark VALUES (X'$key_id', 3, 4294967297)" "mark VALUES (X'$key_id', 3
     esac
 done
 
-# A file of sqlite3's, by the statements of docs/FORMATS.md.
+# A file of sqlite3, made by the statements of docs/FORMATS.md.
 written | sqlite3 theirs
 sqlite3 theirs "INSERT INTO mark VALUES (X'$key_id', 7, 70002)" "INSERT INTO taken VALUES (X'$key_id', 7, 0, 70000)" "INSERT INTO taken VALUES (X'$key_id', 7, 70000, 2)"
 wants 'next of theirs' 'range 7 70002 5 1' "$(ours theirs 7 5)"

@@ -1,8 +1,8 @@
 #!/bin/bash
-# One key on eight devices at once, as docs/MANY_MACHINES.md has it: GNU parallel seals a thousand small files by eight slots, each slot
-# with a ledger file and a device number of its own. Then every container is opened and compared, every journal audited, and no two
-# containers may have one prefix, which is the beginning of all nonces of a container, nor two runs ranges that share a number. At last a
-# ledger is copied, and the copy used: then both must be seen. Prints what was sealed, or what is wrong.
+# One key on eight devices at once, as in docs/MANY_MACHINES.md: GNU parallel seals a thousand small files in eight slots, each with its own
+# ledger file and device number. Then every container is opened and compared, and every journal audited. No two containers may have one
+# prefix, with which all nonces of a container begin, and no two runs ranges that share a number. At last a ledger is copied and the copy
+# used: then both must be noticed. Prints what was sealed, or what is wrong.
 # usage: tools/many_devices.sh [FILES [SLOTS]]
 set -u
 cd "$(dirname "$0")/.."
@@ -68,7 +68,7 @@ first, slots, seen = int(sys.argv[1]), int(sys.argv[2]), Counter()
 for name in sorted(Path(sys.argv[3]).glob("*.stm")):
     seen[name.read_bytes()[10:17]] += 1
 for prefix in [it for it, times in seen.items() if times > 1]:
-    print("prefix", prefix.hex(), "stands in", seen[prefix], "containers")
+    print("prefix", prefix.hex(), "is in", seen[prefix], "containers")
 devices = Counter(int.from_bytes(it[:3], "big") for it in seen)
 if set(devices) != set(range(first + 1, first + slots + 1)):
     print("devices:", sorted(devices))
@@ -94,7 +94,7 @@ echo one > twice/one
 echo two > twice/two
 seals 1 one twice/one > lines && mv ledgers/copy ledgers/1 && seals 1 two twice/two > lines || fault 'the copied ledger is not used'
 case $(prefixes twice) in
-    'prefix 000041'*' stands in 2 containers'*) ;;
+    'prefix 000041'*' is in 2 containers'*) ;;
     *) fault "a copied ledger isn't seen by prefixes: $(prefixes twice)" ;;
 esac
 [ -n "$(ranges)" ] || fault "a copied ledger isn't seen by ranges"

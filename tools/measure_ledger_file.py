@@ -1,10 +1,9 @@
 #!/usr/bin/env python3
 """measure_ledger_file.py FOLDER [ROUNDS]: what a ledger file of many ranges costs a run of the built program.
 
-Makes, with Python's sqlite3 by the statements of docs/FORMATS.md, ledger files whose 10, 1,000 and 10,000 ranges of one number belong to one
-other device, to as many other devices, or to the device that reserves, and seals one empty file over each in turn, ROUNDS times over (21).
-Prints of each the least and the middle milliseconds of a whole run, and the least less that of a run over a ledger of one range. FOLDER: an
-empty folder.
+Makes ledger files of 10, 1,000 and 10,000 ranges of one number, with Python's sqlite3 and the statements of docs/FORMATS.md. The ranges belong
+to one other device, to as many other devices, or to the device that reserves. Seals one empty file over each in turn, ROUNDS times (21).
+Prints for each the least and the median milliseconds of a whole run, and the least minus that over a ledger of one range. FOLDER is empty.
 """
 import hashlib
 import os
@@ -31,7 +30,7 @@ key_id = hashlib.sha256(bytes([7] * 32)).digest()
 
 
 def make(path, owners):
-    """A ledger file: of each device in owners, so many ranges of one number."""
+    """A ledger file: for each device in owners, its count of ranges of one number."""
     base = sqlite3.connect(path)
     for table in tables:
         base.execute(table)

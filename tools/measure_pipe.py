@@ -1,10 +1,10 @@
 #!/usr/bin/env python3
 """measure_pipe.py FOLDER [ROUNDS [GIB]]: a stream of 1 GiB through `sealer pipe`, beside `age -e`.
 
-FOLDER is an empty one, best in memory-backed storage. Each round takes every row once, in turn; of 5 rounds the best is told, as a part of that of
-`age -e` to a public key. Above, standard input and output are files in FOLDER; below, `cat` stands on either side (`cat FILE | .. | cat > OUT`). Of
-each row the processor seconds of the best run, and the greatest resident memory of all, which may be 8 MiB and as many chunks as --depth and
---workers have together. The last run of each row is opened, and compared.
+FOLDER is an empty one, best in memory-backed storage. Each round takes every row once, in turn; of 5 rounds the best is printed, as a part of
+that of `age -e` to a public key. In the upper rows standard input and output are files in FOLDER; in the lower ones `cat` is on either side
+(`cat FILE | .. | cat > OUT`). Each row has the processor seconds of the best run, and the greatest resident memory of all runs. That may be
+8 MiB and a chunk for each of --depth and --workers. The last run of each row is opened, and compared.
 
 The program is crates/sealer/out/sealer, or $SEALER. `age` is Debian's package.
 """

@@ -3,9 +3,9 @@
 
     measure_shapes.py FOLDER [ROUNDS [MIB]]
 
-FOLDER is an empty folder, best in memory-backed storage, with room for three files of so many MiB (256 where no number
-is given). Each command is run for each exponent in turn, ROUNDS times over (7 where no number is given); of each the
-least wall time counts, and beside it the least processor time, of a whole process. The program is
+FOLDER is an empty folder, best in memory-backed storage, with room for three files of MIB (256) MiB. Each command is run
+for each exponent in turn, ROUNDS (7) times. Of each the least wall time of a whole process counts, and beside it the
+least processor time. The program is
 crates/sealer/out/sealer, or $SEALER.
 """
 import os

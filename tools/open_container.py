@@ -3,8 +3,8 @@
 
     open_container.py KEYFILE CONTAINER OUTPUT
 
-KEYFILE holds the key as 64 hex digits. Needs the package `cryptography`; ends with status 3 where it isn't there.
-Prints the first fault, with status 1, where the container doesn't open.
+KEYFILE holds the key as 64 hex digits. Needs the package `cryptography`; exits with status 3 without it.
+If the container doesn't open, prints the first fault, with status 1.
 """
 import hashlib
 import sys
@@ -25,7 +25,7 @@ class Fault(Exception):
 
 
 def container_length(header, exponent, plain):
-    """The bytes of a container with so many bytes of header and of plaintext."""
+    """The length of a container with `header` bytes of header and `plain` bytes of plaintext."""
     return header + plain + TAG * max(1, -(-plain // (1 << exponent)))
 
 

@@ -1,20 +1,20 @@
 #!/usr/bin/env python3
-"""pipe_runs.py [GIGABYTES [SEED]]: streams through `sealer pipe` of the built program, and what becomes of them where something goes wrong.
+"""pipe_runs.py [GIGABYTES [SEED]]: streams through `sealer pipe` of the built program, and what becomes of them if something goes wrong.
 
-What has to be written is computed by tools/seal_container.py, which knows docs/FORMATS.md alone, for the number that the line tells.
+The right output is computed by tools/seal_container.py, which is written from docs/FORMATS.md alone, for the number in the line.
 
-- Streams of each length around the bounds of a chunk, at three sizes of chunks, by several workers and depths, and the greatest and least values of
-  each option; a stream of one byte more than --max-chunks has.
-- A stream of GIGABYTES (8; the gate gives 2) of zeros from `head`, by four workers at depth 16 in 256 MiB of addresses: each chunk is opened as it
-  comes, and no more memory is taken than by an empty stream and so many chunks.
+- Streams of each length around the bounds of a chunk, at three chunk sizes, with several workers and depths; the least and greatest value of
+  each option; a stream one byte longer than --max-chunks allows.
+- A stream of GIGABYTES (8; the gate gives 2) of zeros from `head`, with four workers at depth 16 in 256 MiB of addresses. Each chunk is opened
+  as it comes, and no more memory is taken than by an empty stream and the chunks that may wait.
 - Readers that stall for ten seconds, and a source that does: the program takes less than a tenth of a processor second.
-- A chunk is written once a byte behind it came, at depth 1, and not before.
+- At depth 1 a chunk is written once a byte after it came, and not before.
 - Readers that end early, and full disks: what came begins the container, the number is void, and the next run has another.
-- 50 runs are killed, at times and lengths that SEED draws: no later run has a number that one had before.
+- 50 runs are killed, at times and lengths drawn from SEED: no later run has a number that one had before.
 - A terminal as standard output, which is refused, and values past each bound: nothing is reserved.
 
-Prints 'N streams as they should be', or what differs. Where Python's package `cryptography` isn't there it says so and ends well, and under CI
-it fails. The program is crates/sealer/out/sealer, or $SEALER.
+Prints 'N streams as they should be', or what differs. If Python's package `cryptography` is missing it says so and exits with status 0; under
+CI it fails. The program is crates/sealer/out/sealer, or $SEALER.
 """
 import os
 import pty
@@ -126,7 +126,7 @@ def judged(what, verdict):
 
 def next_number(what):
     """The number of another run, which succeeds."""
-    return is_whole(f"behind {what}", piped(source=b"next"), b"next")
+    return is_whole(f"after {what}", piped(source=b"next"), b"next")
 
 
 def lengths():
@@ -159,7 +159,7 @@ def lengths():
                 if os.path.exists(name):
                     os.remove(name)
     if numbers != list(range(numbers[0] or 0, (numbers[0] or 0) + len(numbers))):
-        differs("the numbers aren't one behind the other", numbers)
+        differs("the numbers aren't consecutive", numbers)
 
 
 def bounds():
@@ -226,8 +226,8 @@ def of_an_empty_stream():
 
 
 def long_stream():
-    """Gigabytes of zeros in 256 MiB of addresses: each chunk is opened as it comes, and is zeros. No more memory than an empty stream's and so many
-    chunks is taken."""
+    """Gigabytes of zeros in 256 MiB of addresses: each chunk is opened as it comes, and is zeros. It takes no more memory than an empty stream and
+    the chunks that may wait."""
     global count
     count += 1
     least = of_an_empty_stream()
@@ -314,7 +314,7 @@ class Stalls(threading.Thread):
 
 
 def as_it_comes():
-    """At depth 1 a chunk is written once a byte behind it came, and what is written then is all that can be."""
+    """At depth 1 a chunk is written once a byte after it came, and what is written then is all that can be."""
     global count
     for workers in (1, 2):
         count += 1
@@ -413,7 +413,7 @@ def full_disks():
 
 
 def killed(times=50):
-    """Runs that are killed: no later run has a number that a line told, or that stands in an output."""
+    """Runs that are killed: no later run has a number that was in a line or in an output."""
     global count
     had, cut = {}, 0
     for at in range(times):
@@ -437,9 +437,9 @@ def killed(times=50):
         cut += status == -signal.SIGKILL
         number, line = number_in(got), SEALED.fullmatch(err)
         if line and int(line[1]) != number:
-            differs(what, f"the line tells {err.strip()}, and the output has number {number}")
-        after = is_whole(f"behind {what}", piped(source=b"next", ledger="killed"), b"next")
-        for it, which in ((number, "it"), (after, "the run behind it")):
+            differs(what, f"the line is {err.strip()}, and the output has number {number}")
+        after = is_whole(f"after {what}", piped(source=b"next", ledger="killed"), b"next")
+        for it, which in ((number, "it"), (after, "the run after it")):
             if it is not None and it in had:
                 differs(what, f"{which} has number {it}, which {had[it]} had")
             had[it] = f"{which} of {what}"

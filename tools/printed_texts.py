@@ -8,7 +8,7 @@ import re
 from pathlib import Path
 
 TOP = Path(__file__).resolve().parent.parent
-# Of each command the types of the faults behind each subject. Those of RunFault begin with their subject.
+# For each command the types of the faults after each subject. Those of RunFault begin with their subject.
 RUN = {"key": ["KeyFault"], "ledger": ["LedgerFault"], "journal": ["JournalFault"], "": ["RunFault"]}
 FAULTS = {
     "seal": {**RUN, "failed": ["FileFault"], "usage": ["UsageFault", "PlaceFault"]},
@@ -46,7 +46,7 @@ UNPRINTED = {
     "PutFault": "a Shelf's, which the program doesn't have",
     "ShelfFault": "the same",
 }
-# Of each command what its lines on standard output, those of pipe on standard error, tell.
+# For each command its lines on standard output, or of pipe on standard error.
 LINES = {
     "seal": ["FileOutcome::Sealed", "FileOutcome::Failed"],
     "pipe": ["FileOutcome::Sealed", "FileOutcome::Failed"],
@@ -130,7 +130,7 @@ def everywhere():
 
 
 def faults(command):
-    """The texts of a command's faults: those behind `failed NAME: `, and those on standard error, with their subjects."""
+    """The texts of a command's faults: those after `failed NAME: `, and those on standard error, with their subjects."""
     never = {(name, it) for commands, name, several, _ in NEVER for it in several.split() if command in commands.split()}
     failed, errors = set(), set(everywhere())
     for subject, names in FAULTS[command].items():

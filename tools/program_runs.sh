@@ -8,7 +8,7 @@ room=$(mktemp -d)
 trap 'umount "$room/small" 2>/dev/null; rm -rf "$room"' EXIT
 runs=0 bad=0
 
-# has TOOL: what some runs need. Where it isn't there they are left out, which is told at the end, and is a failure under CI.
+# has TOOL: what some runs need. Without it they are left out, which is reported at the end, and is a failure under CI.
 missing=
 command -v sqlite3 >/dev/null || missing="$missing sqlite3"
 python3 -c 'import cryptography' 2>/dev/null || missing="$missing cryptography"
@@ -17,10 +17,10 @@ has() { case " $missing " in *" $1 "*) return 1 ;; esac; }
 # parts FOLDER: the outputs there that aren't whole
 parts() { find "$1" -maxdepth 1 -name '.*.part'; }
 
-# as_user COMMAND..: as a user whom modes bind, where the tests are run as root
+# as_user COMMAND..: as a user whom modes bind, if the tests are run as root
 as_user() { if [ "$(id -u)" = 0 ]; then setpriv --reuid=65534 --regid=65534 --clear-groups "$@"; else "$@"; fi; }
 
-# wants NAME STATUS OUT ERR: what the last run left; OUT and ERR are whole texts less their last line feed, or 'begins TEXT'
+# wants NAME STATUS OUT ERR: what the last run left; OUT and ERR are whole texts without their last line feed, or 'begins TEXT'
 wants() {
     runs=$((runs + 1))
     for stream in out err; do
@@ -70,7 +70,7 @@ status=$(cat "$room/status"); : > "$room/out"
 wants nobody-reads 2 '' 'audit: write failed'
 "$sealer" audit --help > /dev/full 2> "$room/err"; status=$?; : > "$room/out"
 wants full-help 2 '' ''
-# Each help is the whole text of tools/help/NAME.txt, by whatever words it is asked for; no line of these has over 100 columns.
+# Each help is the whole text of tools/help/NAME.txt, whichever words ask for it; none of its lines has over 100 columns.
 helps() { # NAME ARGS..
     runs=$((runs + 1))
     run "${@:2}" < /dev/null
@@ -188,7 +188,7 @@ is the-files-are-worked cmp -s files/second numbers.plain
 "$sealer" verify --key "$key" files/numbers.stm files/none 2> err >&-; status=$?; : > out
 wants closed-verify 2 '' ''
 
-# Programs that race for one output: one makes it. The others find it there as they begin, or as they end.
+# Programs that race for one output: one makes it. The others find it there at their beginning or end.
 fresh
 for racer in 1 2 3 4 5 6; do "$sealer" open --key "$key" files/numbers.stm > "race.$racer" & done
 wait
@@ -235,7 +235,7 @@ is nothing-at-the-root no test -e /numbers
 run verify --key "$key" --into files/into files/numbers.stm
 wants verify-has-no-into 2 '' "begins error: unexpected argument '--into' found"
 
-# FILEs whose outputs exist are kept, and no number is spent for them: so a run that was cut short is repaired by the same command.
+# FILEs whose outputs exist are kept, and take no number: so a run that was cut short is repaired by the same command.
 fresh
 mkdir files/into
 printf 1 > files/a
@@ -280,7 +280,7 @@ wants kept-behind-a-link 0 'kept files/d/b' ''
 rm files/d/b.stm
 "$sealer" seal --key "$key" --ledger files/ledger --device 1 --skip-existing files/a files/d/b > /dev/full 2> err; status=$?; : > out
 wants kept-line-is-not-written 2 '' ''
-is nothing-behind-it-is-sealed no test -e files/d/b.stm
+is nothing-after-it-is-sealed no test -e files/d/b.stm
 run open --key "$key" --skip-existing files/numbers.stm files/a.stm files/numbers
 wants open-kept 1 'kept files/a.stm
 opened files/numbers.stm bytes 1492
@@ -325,7 +325,7 @@ if command -v strace >/dev/null; then
     for lanes in 1 2; do
         cp numbers.plain files/a
         cp numbers.plain files/b
-        # the folder's is behind the file's, and no name is known before: all but the first file's output goes elsewhere
+        # the folder's sync is after the file's, and no name is known before: all but the first file's output goes elsewhere
         mkdir "files/synced$lanes"
         strace -f -P "$PWD/files/synced$lanes" -e trace=fsync -e inject=fsync:error=EIO:when=1 -o calls "$sealer" seal --key "$key" \
             --ledger files/new$lanes --into "files/synced$lanes" --device 1 --lanes $lanes --sync --journal files/journal$lanes files/a files/b > out 2> err
@@ -423,7 +423,7 @@ if command -v strace >/dev/null; then
     is no-links-no-part test "$(ls -A files/to)" = a.stm
 fi
 
-# How far a run is: one line on standard error, which is gone at the end. What stands in the pipe comes slowly, and has no size.
+# How far a run is: one line on standard error, which is gone at the end. What is in the pipe comes slowly, and has no size.
 fresh
 cp files/numbers.stm files/second.stm
 mkfifo files/slow.stm
@@ -452,7 +452,7 @@ wants progress-takes-no-file 0 'good files/numbers.stm bytes 1492' ''
 if command -v strace >/dev/null; then
     head -c 6000000 /dev/zero > files/large
     cp numbers.plain files/small
-    # What comes before the first bytes isn't counted: else the first drawing would tell a time left.
+    # Time before the first bytes isn't counted: else the first drawing would show a time left.
     strace -f -P "$PWD/files/large" -e trace=read,openat -e inject=read:delay_exit=30000 -e inject=openat:delay_exit=1500000 -o calls \
         "$sealer" seal --key "$key" --ledger files/progress --device 1 --progress=always "$PWD/files/large" files/small > out 2> err
     status=$?
@@ -460,8 +460,8 @@ if command -v strace >/dev/null; then
     is progress-of-a-sealing test "$status $(tail -n 1 out)" = '0 sealed files/small file 1 bytes 1492'
     is progress-of-known-sizes test "$(grep -c '^0 of 2 files, [0-5] of 5 MiB, [0-9]*\.[0-9] MiB/s' drawn)" -ge 3
     is progress-has-no-time-at-first test "$(sed -n 2p drawn | grep -c left)" = 0
-    is progress-tells-the-time-left grep -q ' of 5 MiB, [0-9.]* MiB/s, [0-9]* s left' drawn
-    is progress-is-drawn-behind-a-line grep -q '^1 of 2 files' drawn
+    is progress-shows-the-time-left grep -q ' of 5 MiB, [0-9.]* MiB/s, [0-9]* s left' drawn
+    is progress-is-drawn-after-a-line grep -q '^1 of 2 files' drawn
 fi
 # on a terminal, and where both streams are one
 cat > terminal.py <<'END'
@@ -483,7 +483,7 @@ try:
         text += more
 except OSError:
     pass
-# what a terminal shows: a line is written over from its beginning, and erased behind that
+# what a terminal shows: a line is overwritten from its beginning, and erased after that
 shown = [part.split(b"\x1b[K")[-1] for part in text.replace(b"\r\n", b"\n").split(b"\n")]
 sys.stdout.write(f"{run.returncode} {1 <= text.count(b' of 2 files') <= 8} {shown}\n")
 END
@@ -519,7 +519,7 @@ run verify --key "$key"
 wants no-file 2 '' 'begins error: the following required arguments were not provided:
   <FILE>...'
 
-# Lists of names: they stand behind the FILEs of the command line. The last line needs no end.
+# Lists of names: they come after the FILEs of the command line. The last line needs no end.
 fresh
 cp files/numbers.stm 'files/two words.stm'
 cp files/numbers.stm 'files/c
@@ -545,7 +545,7 @@ wants lines-end-names 1 'failed files/c: cannot open
 failed d.stm: cannot open' ''
 printf ' files/numbers.stm\n-\n--key\nfiles/numbers.stm\r\n' > list
 run verify --key "$key" --files-from list
-wants names-as-they-stand 1 'failed  files/numbers.stm: cannot open
+wants names-as-they-are 1 'failed  files/numbers.stm: cannot open
 failed -: cannot open
 failed --key: cannot open
 failed files/numbers.stm'$'\r'': cannot open' ''
@@ -594,8 +594,8 @@ for value in 4503599626321921 -1; do
 done
 run open --key "$key" --max-bytes 4503599626321920 files/numbers.stm
 wants greatest 0 'opened files/numbers.stm bytes 1492' ''
-# Limits as people write them. What is no such number is refused like any other text, and what is past the greatest by the number that it
-# stands for. No other word is changed.
+# Limits as people write them. What is no such number is refused like any other text, and what is past the greatest under its digits. No
+# other word is changed.
 for value in 2K +2K 64K 1M 20G 1T 4095T max; do
     for words in "--max-bytes $value" "--max-bytes=$value"; do
         run verify --key "$key" $words files/numbers.stm
@@ -666,7 +666,7 @@ opened life/empty.stm bytes 0' ''
 is the-plaintext-comes-back cmp -s life/numbers life/numbers.plain
 is the-empty-one-too cmp -s life/empty life/empty.plain
 
-# The next run goes on behind the range of the first, with any number of workers.
+# The next run goes on after the range of the first, with any number of workers.
 seals --workers 4 life/more
 wants next-run 0 'sealed life/more file 4 bytes 348894' ''
 run verify --key "$key" --workers 3 life/more.stm
@@ -774,7 +774,7 @@ journal: write failed'
     rm small/fill small/x
     run seal --key "$key" --ledger small/ledger --device 1 life/small.empty
     wants room-again 0 'sealed life/small.empty file 0 bytes 0' ''
-    # A reservation that finds no room gives no number away, and the next one goes on behind the first.
+    # A reservation that finds no room uses no number, and the next one goes on after the first.
     cat /dev/zero > small/fill 2>/dev/null
     run seal --key "$key" --ledger small/ledger --device 1 life/none
     is full-disk-reserves-nothing test "$status $(cat out err | head -c 7)" = '2 ledger:'
@@ -828,7 +828,7 @@ rm life/untold.stm
 wants closed-seal 2 '' ''
 is closed-sealed test -s life/untold.stm
 
-# A standard stream that is closed: what is meant for it goes into no other file.
+# A closed standard stream: what is meant for it goes into no other file.
 cp life/numbers life/closed
 "$sealer" seal --key "$key" --ledger life/ledger --device 5 --journal life/closed.journal life/none life/closed 2> err >&-; status=$?; : > out
 wants closed-with-journal 2 '' ''
@@ -840,7 +840,7 @@ wants closed-container 0 'good life/closed.stm bytes 1492' ''
 wants closed-error 2 '' ''
 is quiet-journal no test -s life/quiet.journal
 
-# A journal in the place of the ledger, or of its log, is refused by whatever path, and no number is lost or given twice.
+# A journal in the place of the ledger, or of its log, is refused under any path, and no number is lost or issued twice.
 mkdir life/place
 ln -s place life/same
 cp life/numbers life/place/a
@@ -893,7 +893,7 @@ for n in $(seq 1 6000); do : > "many/$n"; done
 (trap '' XFSZ; ulimit -f 128; cd many && exec "$sealer" seal --key "$key" --ledger ledger --device 1 --journal journal $(seq 1 6000)) 2> err | cat > out
 status=${PIPESTATUS[0]}
 wants journal-write-fails 2 'begins sealed 1 file 0 bytes 0' 'journal: write failed'
-is the-lines-stand test "$(wc -l < out)" = 6000
+is the-lines-are-there test "$(wc -l < out)" = 6000
 
 # What fails: the ledger.
 run seal --key "$key" --ledger life/no/ledger --device 1 life/waits
@@ -1067,7 +1067,7 @@ if has sqlite3; then
     is nothing-of-others-was-touched cmp before after
     run seal --key "$key" --ledger life/foreign/one --no-new-ledger --device 1 life/waits
     is others-keep-their-journal-mode test "$(sqlite3 life/foreign/one 'PRAGMA journal_mode')" = delete
-    # Beside a ledger's two tables nothing else may stand, and its file may have no second name.
+    # Nothing else may be beside a ledger's two tables, and its file may have no second name.
     cp life/ledger life/indexed
     sqlite3 life/indexed 'CREATE INDEX more ON taken (lo)'
     run seal --key "$key" --ledger life/indexed --device 1 life/waits
@@ -1121,7 +1121,7 @@ sealed life/listed/b file 1 bytes 1492
 sealed life/listed/c file 2 bytes 1492' ''
 rm list
 
-# Outputs in a folder. Names are told apart before the key is read, and nothing is reserved.
+# Outputs in a folder. Names are compared before the key is read, and nothing is reserved.
 mkdir life/into life/from
 cp life/numbers life/from/a
 cp life/numbers life/from/b
@@ -1172,7 +1172,7 @@ holds life/held/l
 is held-without-its-log test "$status $(wc -l < out)" = '0 3'
 is no-log-was-made no test -e life/held/l-wal
 "$sealer" ledger --ledger life/held/l > /dev/full 2> err; status=$?; : > out
-wants held-is-not-told 2 '' 'ledger: write failed'
+wants held-is-not-printed 2 '' 'ledger: write failed'
 for name in life/held/none '' :memory:; do
     holds "$name"
     wants "held by '$name'" 2 '' 'ledger: not there'
@@ -1414,7 +1414,7 @@ unnumbered
 wants lanes 1 "$(for i in 1 2 3 4 5 6 7 8 9; do echo "sealed life/lanes/$i bytes $(wc -c < "life/lanes/$i")"; done)
 failed life/lanes/none: cannot open" ''
 is lanes-terms test "$(head -1 life/lanes/journal)" = 'range 9 0 10 4'
-# For each file a number is issued once, by whichever lane drew it.
+# For each file a number is issued once, to whichever lane drew it.
 is lanes-issue-each test "$(grep -c ' issue [0-9]' life/lanes/journal)" = 9
 run audit < life/lanes/journal
 wants lanes-journal 0 'legal: 9 granted, 9 sealed, 0 void, 0 open, 0 refused' ''
@@ -1428,7 +1428,7 @@ wants lanes-again 1 'failed life/lanes/1: output exists
 failed life/lanes/2.plain: too long
 sealed life/lanes/1.plain file 10 bytes 3893' ''
 is lanes-no-output no test -e life/lanes/2.plain.stm
-# A FILE that is the output of another: one lane seals the finished container, two don't find it.
+# A FILE that is the output of another: one lane seals the finished container, two lanes don't find it.
 cp life/numbers life/lanes/a
 cp life/numbers life/lanes/b
 by_lanes 1 life/lanes/a life/lanes/a.stm
@@ -1510,14 +1510,14 @@ wants stream 0 '' 'sealed - file 0 bytes 1492'
 streamed stream 0 numbers.plain
 opens stream numbers.plain
 journaled stream "$whole" 'range 6 0 1 1'
-# seal and pipe go on one behind the other in one ledger.
+# seal and pipe go on one after the other in one ledger.
 cp numbers.plain life/stream/file
 run seal --key "$key" --ledger life/stream/ledger --device 6 life/stream/file
-wants seal-behind-a-stream 0 'sealed life/stream/file file 1 bytes 1492' ''
+wants seal-after-a-stream 0 'sealed life/stream/file file 1 bytes 1492' ''
 piped --no-new-ledger --workers 4 --depth 2 --exponent 12 --label 'a stream' < life/more
-wants stream-behind-a-seal 0 '' "sealed - file 2 bytes $(wc -c < life/more)"
-streamed stream-behind-a-seal 2 life/more --exponent 12 --label 'a stream'
-opens stream-behind-a-seal life/more
+wants stream-after-a-seal 0 '' "sealed - file 2 bytes $(wc -c < life/more)"
+streamed stream-after-a-seal 2 life/more --exponent 12 --label 'a stream'
+opens stream-after-a-seal life/more
 cp life/stream/out life/stream/shown.stm
 run verify --key "$key" --show --label 'a stream' life/stream/shown.stm
 wants stream-shown 0 "good life/stream/shown.stm bytes $(wc -c < life/more)
@@ -1593,7 +1593,7 @@ if has sqlite3; then
 fi
 
 # Two runs on one ledger at once: the second is refused. The first waits for its input, a pipe, with its range reserved; it is then
-# killed, and the next run goes on behind that range.
+# killed, and the next run goes on after that range.
 mkfifo life/pipe
 exec 8<> life/pipe
 "$sealer" seal --key "$key" --ledger life/busy --device 1 life/pipe > first 2> first.err &
@@ -1608,7 +1608,7 @@ wait "$first" 2>/dev/null
 exec 8>&-
 is killed-said-nothing test ! -s first
 run seal --key "$key" --ledger life/busy --device 1 life/second
-wants behind-the-killed 0 'sealed life/second file 1 bytes 1492' ''
+wants after-the-killed 0 'sealed life/second file 1 bytes 1492' ''
 run verify --key "$key" life/pipe.stm life/second.stm
 wants killed-output 1 'failed life/pipe.stm: cannot open
 good life/second.stm bytes 1492' ''
@@ -1671,7 +1671,7 @@ failed files/home/ledger-wal: cannot open' ''
     rm files/vault/*
 done
 
-# Two runs at once on one ledger that isn't there yet: no number is given twice, and one that is refused says so.
+# Two runs at once on one missing ledger: no number is issued twice, and one that is refused says so.
 for i in 1 2 3 4 5 6 7 8 9 10; do
     mkdir "life/both$i"
     echo "$i" > "life/both$i/a"
@@ -1791,7 +1791,7 @@ else
     echo 'left out: the opening of a file of 1 GiB, since there are no 4 GB of free memory, or no 3 GB of room'
 fi
 
-# Files of more than 64 MiB by two lanes: each is a job of its own, whole in memory.
+# Files of more than 64 MiB with two lanes: each is a job of its own, whole in memory.
 fresh
 yes one | head -c 70000001 > files/one
 yes other | head -c 67108865 > files/other
@@ -1807,7 +1807,7 @@ opened files/other.stm bytes 67108865' ''
 for name in one other; do is "plaintext-of-large-$name" cmp -s "files/$name" "$name.plain"; done
 rm -f files/one files/other files/*.stm one.plain other.plain
 
-# Three chunks and more, sealed by Python's `cryptography`, where that is there.
+# Three chunks and more, sealed by Python's `cryptography`, if it is installed.
 if has cryptography; then
     fresh
     seq 1 60000 > more.plain

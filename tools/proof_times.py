@@ -3,9 +3,9 @@
 
 It reads when each file below crates/CRATE/out/incremental was written, so the check has to be one process:
 `rt check --jobs 1`, or `rt check --test --jobs 1`, best from nothing and with nothing beside it. With --last only what was
-written in the last so many seconds of it counts, as behind an edit. With --parts the parts of the functions with WORD in their
-name are told apart: their code, the relation of their steps (Lts), what is let go of (Tie, Kinds), the goals that tactics
-close (Proof) and those with an answer (Answers).
+written in its last SECONDS counts, as after an edit. With --parts the time of functions with WORD in their name is split
+into parts: their code, the relation of their steps (Lts), drops (Tie, Kinds), the goals that tactics close (Proof), and
+those with an answer (Answers).
 
 With --goals it names the goals that tactics close in the functions with WORD in their name ('' for all), the dearest first,
 by millions of the kernel's steps. Nothing else on the machine changes these, and any check will do.

@@ -2,16 +2,16 @@
 """refusal_runs.py [EVERY]: runs the built program with each of its allocations refused in turn, with threads refused, and with reads and
 writes that move few bytes (tools/refuse.c).
 
-Of each kind of run below the 1st, 2nd, .. allocation is refused alone, and in other runs that one and all after it, until a run meets no
-refusal. Of a sealing each second is refused with all after it, over a log each fourth with all after it, and of a stream and of outputs
-in a folder the last ones, behind the ledger's, and of a stream each fourth and eighth of all; EVERY is a number by which these distances
-are multiplied, or 0 for all. And of each read and write what is beyond 1, 2, 4, 8, .. bytes. The kinds are worked side by side over the
-processors. Whatever is refused: the run ends by itself with a status and a text of docs/MANUAL.md, and both fit its lines; an output is
-there whole or not at all, and not where its line says that it failed, but of a stream what was written begins its container; a journal
-that was written is legal; no other file is left; and the next run on the ledger succeeds, under a number that no output has, nor a
-journal.
+For each kind of run below the 1st, 2nd, .. allocation is refused alone, and in other runs that one and all after it, until a run meets no
+refusal. For a sealing only each second is refused with all after it, and over a log each fourth. For a stream, and for outputs in a folder,
+only the last ones are refused, after the ledger's; for a stream also each fourth and eighth of all. EVERY multiplies these distances; with 0
+every allocation is refused. Each read and write is also limited to 1, 2, 4, 8, .. bytes. The kinds run side by side over the processors.
 
-Prints what each kind had and 'N refusals as they should be', or what differs. Where no C compiler is there it says so and ends well, and
+Whatever is refused, the run ends by itself with a status and a text of docs/MANUAL.md, and both fit its lines. An output is whole or absent,
+and absent if its line says that it failed; what was written of a stream begins its container. A journal that was written is legal, and no
+other file is left. The next run on the ledger succeeds, under a number that no output and no journal has.
+
+Prints what each kind had and 'N refusals as they should be', or what differs. Without a C compiler it says so and exits with status 0, and
 under CI it fails. The program is crates/sealer/out/sealer, or $SEALER.
 """
 import dataclasses
@@ -60,13 +60,13 @@ THREE, LANES = ["a", "b", "c"], ["x", "y", "z"]
 
 @dataclasses.dataclass
 class Kind:
-    """One command. `given` are the files that lie there, and `made` the files that it works."""
+    """One command. `given` are the files in its folder, and `made` the files that it works."""
 
     name: str
     words: list
     made: list
     given: dict = dataclasses.field(default_factory=dict)
-    least: int = 800  # a run has at least so many allocations
+    least: int = 800  # a run has at least this many allocations
     which: tuple = ("REFUSE", "REFUSE_FROM", "REFUSE_BEYOND")
     input: bytes = b""
     line: str = ""  # what is said where nothing is refused
@@ -74,7 +74,7 @@ class Kind:
     each: dict = dataclasses.field(default_factory=dict)  # the distance of the allocations that are refused, where it isn't 1
     refused: bool = False  # the ledger is refused whatever is given to it
     threads: bool = False  # some allocation is another thread's; workers make none
-    last: int = 0  # only so many of the last allocations are refused, where it isn't 0
+    last: int = 0  # if not 0, only this many of the last allocations are refused
 
 
 def read(name):
@@ -306,7 +306,7 @@ def kinds(made):
     yield Kind("seal three by two lanes", sealing("--lanes", "2", "--journal", "journal", *LANES), LANES, some(*LANES), threads=True, each=half)
     yield Kind("seal three", sealing("--journal", "journal", *THREE), THREE, some(*THREE), each=half)
     yield Kind("seal over a ledger", sealing("--journal", "journal", "small"), ["small"], some("small", **ledger), first=1, each=half)
-    # What they do behind the ledger.
+    # What they do after the ledger.
     placed = ["--into", ".", "--journal", "journal"]
     yield Kind("seal into a folder", sealing(*placed, "--sync", *THREE), THREE, some(*THREE), last=150)
     yield Kind("lanes into a folder", sealing(*placed, "--lanes", "2", *LANES), LANES, some(*LANES), threads=True, last=150)
@@ -317,7 +317,7 @@ def kinds(made):
     elif os.environ.get("CI"):
         sys.exit("refusal_runs: no run left a log")
     stream = FILES["long"]
-    # What they do behind the ledger, and at a distance all.
+    # What they do after the ledger, and at a distance all.
     yield Kind("pipe", piping(), ["-"], some(), input=stream, last=150)
     yield Kind("pipe by two workers", piping("--workers", "2", "--depth", "3"), ["-"], some(**ledger), input=stream, first=1, last=150)
     both, wide = ("REFUSE", "REFUSE_FROM"), {"REFUSE": 4, "REFUSE_FROM": 8}

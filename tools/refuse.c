@@ -1,4 +1,4 @@
-/* Refuses a program what it asks the system for, and says on standard error that it did. Loaded before the program:
+/* Refuses a program memory, threads or bytes, and reports it on standard error. Loaded before the program:
  *
  *     cc -O2 -shared -fPIC -o /tmp/refuse.so tools/refuse.c -ldl
  *     REFUSE=20 LD_PRELOAD=/tmp/refuse.so crates/sealer/out/sealer --help
@@ -87,7 +87,7 @@ int pthread_create(pthread_t *thread, const pthread_attr_t *how, void *(*body)(v
     return next_thread(thread, how, body, with);
 }
 
-/* That much is read or written. It is told once. */
+/* How many bytes are read or written. A refusal is reported once. */
 static size_t within(size_t bytes) {
     static atomic_int told;
     if (beyond <= 0 || bytes <= (size_t)beyond)

@@ -1,12 +1,12 @@
 #!/usr/bin/env python3
-"""run_examples.py [DOCUMENT...]: runs the examples of the documents and manual pages as they stand.
+"""run_examples.py [DOCUMENT...]: runs the examples of the documents and manual pages exactly as printed.
 
 In a document an example is a block marked `console`; in a manual page it is a literal display with a line that begins
-with '$ '. A line '$ COMMAND' is run, with the lines '> ..' behind it; what stands below is what it prints on both
-streams, where a line '...' stands for any lines. A command with nothing below it prints nothing and ends with status 0.
-The blocks of a document are one session of bash, in a folder like the top of a fresh clone, with the built program. A
-block marked `sh` takes long, or another machine: only its syntax is looked at, and whether the files are there that it
-names. A block marked `text` is no example. Prints how many were run, or what differs, with status 1.
+with '$ '. A line '$ COMMAND' is run, with the lines '> ..' after it. The lines below are what it prints on both streams,
+where a line '...' is any number of lines. A command with nothing below it prints nothing and exits with status 0. The
+blocks of a document are one session of bash, in a folder like the top of a fresh clone, with the built program. A block
+marked `sh` takes long, or another machine: only its syntax is checked, and whether the files exist that it names. A
+block marked `text` is no example. Prints how many were run, or what differs, with status 1.
 """
 import os
 import re
@@ -30,7 +30,7 @@ SECONDS = 120
 
 
 def blocks_of(text):
-    """The fenced blocks of a text of Markdown: the word behind the fence, the number of its line, and its lines."""
+    """The fenced blocks of a text of Markdown: the word after the fence, the number of its line, and its lines."""
     found, block = [], None
     for number, line in enumerate(text.splitlines(), 1):
         if line.startswith("```"):

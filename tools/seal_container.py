@@ -3,8 +3,8 @@
 
     seal_container.py [--exponent N] [--label TEXT] KEYFILE DEVICE NUMBER INPUT CONTAINER
 
-Version 2 is written where an exponent (12 to 20) or a label (0 to 255 bytes) is given; the other is then 16 or empty.
-KEYFILE holds the key as 64 hex digits. Needs the package `cryptography`; ends with status 3 where it isn't there.
+Version 2 is written if an exponent (12 to 20) or a label (0 to 255 bytes) is given; the other is then 16 or empty.
+KEYFILE holds the key as 64 hex digits. Needs the package `cryptography`; exits with status 3 without it.
 """
 import argparse
 import hashlib

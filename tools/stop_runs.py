@@ -1,23 +1,24 @@
 #!/usr/bin/env python3
-"""stop_runs.py [NIGHTS [NIGHT]]: stops the built program at its system calls, by strace, and looks at what the next run does.
+"""stop_runs.py [NIGHTS [NIGHT]]: stops the built program at its system calls, by strace, and checks what the next run does.
 
-Over one ledger file that lives on, by one lane, two lanes and two workers, and of a stream by one worker and two, the program is killed at each
-of its system calls, and each of its calls on files and memory is made to fail (EIO, ENOSPC, EINTR, ENOMEM). After a kill no number may be given out that a container
-already has, and the run after must succeed. After an error the run must end by itself, with a status and a text of docs/MANUAL.md, and an output
-that is there is whole, its line doesn't say that it failed, and a journal without a fault is legal and has nothing open; of a stream what was written
-begins its container, and is all of it where its line says so. All stops are tried, side by side over the processors, each process over a
-ledger of its own; with NIGHTS each NIGHTS-th, from the NIGHT-th on (0).
+Over one ledger file that lives on, with one lane, two lanes and two workers, and for a stream with one worker and two, the program is killed at
+each of its system calls. Each of its calls on files and memory also fails (EIO, ENOSPC, EINTR, ENOMEM). After a kill no number may be issued
+that a container already has, and the next run must succeed. After an error the run must end by itself, with a status and a text of
+docs/MANUAL.md. An output that is there is whole, and its line doesn't say that it failed. A journal without a fault is legal and has nothing
+open. What was written of a stream begins its container, and is all of it if its line says so. All stops are tried, side by side over the
+processors, each process over its own ledger; with NIGHTS each NIGHTS-th, from the NIGHT-th on (0).
 
-Then it is killed as it makes a ledger, at each of its calls on files, and cut within each of its writes there: the next run succeeds, and no number
-comes twice. A ledger that was emptied beside the log of a later run, wherever that was killed, is refused. And it is killed right behind its first finished
-output, and of the ledger's two files the log is deleted, cut at 20 lengths, has one bit flipped at 50 places, or is another ledger's, without
-pages and with them: the next run gives a number that no run had, or ends with `ledger: cannot open` and leaves the file as it was; the latter where the
-file is lost or emptied. So it does where the file itself is cut at each page and about its ends, has a page of zeros, or one behind it, with its
-log and without. And of a ledger with two keys and two devices, the log of a killed run is put back after two more runs of its key and device:
-the next run gives a number that none of them had, or is refused.
+Then it is killed as it makes a ledger, at each of its calls on files, and cut within each of its writes there: the next run succeeds, and no
+number comes twice. A ledger that was emptied beside the log of a later run, wherever that was killed, is refused.
 
-Prints 'N stops as they should be', or what differs. Needs strace, and Python's package `cryptography`; where one isn't there it says so and ends
-well, and under CI it fails.
+Then it is killed right after its first finished output, and the log is deleted, cut at 20 lengths, has one bit flipped at 50 places, or is
+another ledger's, with pages or without. The next run gives a number that no run had, or ends with `ledger: cannot open` and leaves the file
+unchanged. The same holds if the file itself is cut at each page and around its ends, has a page of zeros, or one after it, with its log and
+without. A file that is lost or emptied must be refused. At last, in a ledger with two keys and two devices, the log of a killed run is put
+back after two more runs of its key and device: the next run gives a number that none of them had, or is refused.
+
+Prints 'N stops as they should be', or what differs. Needs strace, and Python's package `cryptography`: if one is missing it says so and exits
+with status 0; under CI it fails.
 """
 import multiprocessing
 import os
@@ -60,7 +61,7 @@ OTHERS = "execve access arch_prctl set_tid_address set_robust_list rseq prlimit6
 FAULTS = {**{call: ("error=EIO", "error=ENOSPC", "error=EINTR") for call in ON_FILES}, **{call: ("error=ENOMEM",) for call in ON_MEMORY}}
 # It answers the end of the heap, and never an error: one that is not higher says that memory was refused.
 FAULTS["brk"] = ("retval=0",)
-# The ledger's bytes, and that the disk has them: a run that couldn't see to these tells it.
+# The ledger's bytes, and that the disk has them: a run that couldn't ensure these must report it.
 MUST_SHOW = ["fsync", "fdatasync", "pwrite64", "ftruncate"]
 # How often these are called is open, and they do nothing.
 PASSED_OVER = ["sched_yield"]
@@ -122,7 +123,7 @@ def take(what):
 
 
 def calls(way):
-    """How often each thread makes each call, at most, behind the opening of the key file and in all."""
+    """How often each thread makes each call, at most, after the opening of the key file and in all."""
     ran(way, ["strace", "-f", "-o", "trace"], check=True)
     own, late = Counter(), Counter()
     begun = False
@@ -157,7 +158,7 @@ def stopped(way, call, n, how):
         if run.returncode not in (0, 1, 2):
             differs(f"{what}: status {run.returncode}")
         if run.returncode == 0 and call in MUST_SHOW and how in ("error=EIO", "error=ENOSPC"):
-            differs(f"{what}: nobody tells of it")
+            differs(f"{what}: it is not reported")
         for line in run.stderr.splitlines():
             if not TEXTS.fullmatch(line):
                 differs(f"{what}: prints {line}")
@@ -221,7 +222,7 @@ def number_in(name):
 
 
 def killed_behind_an_output():
-    """A run of two files that is killed as it tells that the first was sealed. The answer is the last number of its range."""
+    """A run of two files that is killed as it prints the line of the first. Returns the last number of its range."""
     subprocess.run(["strace", "-o", "trace", "-e", "trace=write", *command("one lane", ["a", "b"])], stdout=subprocess.DEVNULL, check=True)
     with open("trace", encoding="utf-8", errors="replace") as file:
         writes = [line.startswith('write(1, "sealed a ') for line in file]
@@ -280,7 +281,7 @@ def altered_ledgers():
     put(*mine)
     last = killed_behind_an_output()
     if not os.path.exists("a.stm") or os.path.getsize("a.stm") < 200_000 or not os.path.exists("ledger-wal"):
-        differs("the run was not killed behind its first output")
+        differs("the run was not killed after its first output")
     clear()
     ledger, log = files_of_ledger()
     bits = [round(i * (8 * len(log) - 1) / 49) for i in range(50)] if log else []
@@ -311,7 +312,7 @@ def altered_ledgers():
     cuts = {1, 16, 99, 100, page - 1, len(ledger) - 1, *pages[1:]}
     files = [(f"cut at {at} bytes", ledger[:at]) for at in sorted(cuts)]
     files += [(f"with zeros at {at}", ledger[:at] + bytes(page) + ledger[at + page :]) for at in pages]
-    files += [("with a page of zeros behind it", ledger + bytes(page))]
+    files += [("with a page of zeros after it", ledger + bytes(page))]
     for what, bytes_of_file in files:
         for which, bytes_of_log in ("its log", log), ("no log", None):
             stops += 1
@@ -426,7 +427,7 @@ def writes_of_first_run():
 
 
 def cuts_of(data):
-    """So many bytes of a write reach the file: of a small one each number, of a page some."""
+    """How many bytes of a write reach the file: of a small one each number, of a page some."""
     return range(len(data) + 1) if len(data) <= 64 else sorted({0, 1, 23, 24, 25, 100, 511, 512, 513, len(data) // 2, len(data) - 1, len(data)})
 
 
@@ -443,9 +444,9 @@ def first_writes():
             states.append((f"{which} set to {place} bytes ({at})", dict(files)))
             continue
         for cut in cuts_of(data):
-            for what, end in ("nothing behind it", b""), ("zeros behind it", bytes(len(data) - cut)):
+            for what, end in ("nothing after it", b""), ("zeros after it", bytes(len(data) - cut)):
                 new = data[:cut] + end
-                # what is behind the write stays as it was
+                # what is after the write stays as it was
                 body = files[which].ljust(place, b"\0") if new else files[which]
                 left = body[:place] + new + body[place + len(new) :]
                 states.append((f"{cut} bytes of a write of {len(data)} at {place} of {which} ({at}), {what}", {**files, which: left}))

@@ -28,7 +28,7 @@ from pathlib import Path
 TOP = Path(__file__).resolve().parent.parent
 RECORD = TOP / "docs" / "edits.txt"
 HEAD = "# What each edit in crates/*/edits/ came to, written by tools/try_edits.py: edit, day, sum of its crate, sum of those below, refused by.\n"
-# What stands in a line for the sums and the goal of an edit that was moved here and not tried yet.
+# The sums and the goal in the line of an edit that was moved here and not tried yet.
 UNTRIED = ("-", "-", "untried")
 # How many edits a turn has: of the crate where they are dearest these take ten minutes of one processor.
 TURN = 8
@@ -46,7 +46,7 @@ def sum_of(*parts):
 
 
 def crates_below():
-    """The lines of crates.txt, by crate, and what each crate stands on, directly or not."""
+    """The lines of crates.txt, by crate, and what each crate uses, directly or not."""
     used, rows = {}, {}
     for row in (TOP / "crates.txt").read_text(encoding="utf-8").splitlines():
         name, _, rest = row.partition("#")[0].partition(":")

@@ -1,9 +1,8 @@
 #!/bin/bash
-# Runs the built program on small inputs under valgrind: memcheck finds no read or write of what isn't the program's, no use of what was
-# never written, and nothing lost; helgrind and drd find no race of lanes, nor of workers that open or check, and there is nothing that they are
-# told to pass over.
-# Status, lines and files are those of a run without them. Prints 'N runs under valgrind as they should be', or what differs. Where valgrind
-# isn't there it says so and ends well, and under CI it fails. The program is crates/sealer/out/sealer, or $SEALER.
+# Runs the built program on small inputs under valgrind. Memcheck finds no invalid read or write, no use of uninitialized memory, and no leak.
+# Helgrind and drd find no race of lanes, nor of workers that open or check; nothing is suppressed. Status, lines and files are those of a run
+# without valgrind. Prints 'N runs under valgrind as they should be', or what differs. Without valgrind it says so and exits with status 0, and
+# under CI it fails. The program is crates/sealer/out/sealer, or $SEALER.
 set -u
 cd "$(dirname "$0")/.."
 sealer=$(realpath "${SEALER:-crates/sealer/out/sealer}")

@@ -15,7 +15,7 @@ NOT_OF_PIPE = ("--lanes=2", "--window=2", "--max-bytes=1", "--show", "--max-chun
 UNKNOWN = ("--worker", "--Workers", "--keys", "--key-file=key", "-k", "-w1", "--dry-run", "--max_bytes=1", "-1")
 # The commands that seal; `pipe` takes no file.
 SEALS = ("seal", "pipe")
-# What no command stands in, or more than `audit` takes.
+# No command at all, or more than `audit` takes.
 NO_COMMANDS = ([], ["--key", "key"], ["audit", "a"], ["audit", "--key", "key"], ["audit", "audit"], ["audit", "-1"])
 
 

@@ -36,7 +36,7 @@ def container_length(header, size, plain):
 
 
 def plaintext(key, data, most):
-    """What a container holds, where plaintexts of at most so many bytes are accepted."""
+    """What a container holds, if plaintexts of at most `most` bytes are accepted."""
     if data[:9] == MAGIC + b"\x02":
         refuse(len(data) < 24, "header cut short")
         refuse(data[9] not in range(12, 21), "unknown chunk size")
@@ -52,7 +52,7 @@ def plaintext(key, data, most):
         refuse(data[8] != 1, "unknown version")
         refuse(data[9] != 16, "unknown chunk size")
         refuse(data[17:24] != hint_of(key), "sealed under another key")
-    # No other number of chunks can give so many bytes.
+    # No other number of chunks can give this many bytes.
     count = max(1, -(-(len(data) - header) // (size + TAG)))
     plain = len(data) - header - TAG * count
     refuse(plain < 0 or container_length(header, size, plain) != len(data), "wrong length")
@@ -329,7 +329,7 @@ def as_words(label):
 
 
 def asks(rng, first, count, first_only):
-    """So many containers, numbered from the first one, for one run."""
+    """`count` containers, numbered from `first` on, for one run."""
     key = rng.randbytes(32)
     command = rng.choice(("verify", "verify", "open"))
     words = [command, "--key", "key", "--workers", str(rng.choice((1, 1, 2, 3, 16)))]

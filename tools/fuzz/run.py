@@ -18,14 +18,14 @@ class Ask:
 
     case: int
     words: list
-    names: list  # words behind the others, most often of files
+    names: list  # words after the others, most often of files
     files: dict  # a name, and its bytes
     status: int
     out: list  # the lines on standard output
-    faults: object = ""  # what stands on standard error; None is anything but nothing
+    faults: object = ""  # what is on standard error; None is any text but an empty one
     input: bytes = b""
-    container: object = None  # the bytes on standard output, in the place of lines
-    is_cut: bool = False  # they are a beginning of these, and not all
+    container: object = None  # the bytes on standard output, in place of lines
+    is_cut: bool = False  # the output is a beginning of these, but not all
     left: dict = dataclasses.field(default_factory=dict)  # the files that are there afterwards besides
     may_leave: tuple = ()  # files that may be there too
 
@@ -61,12 +61,12 @@ def wrong_files(folder, ask):
 
 
 def is_written(out, ask):
-    """Whether these bytes are the container that is wanted, or a beginning of it where it is cut."""
+    """Whether these bytes are the wanted container, or a beginning of it if it is cut."""
     return out != ask.container and ask.container.startswith(out) if ask.is_cut else out == ask.container
 
 
 def differs(ask):
-    """Runs the program. The answer tells what isn't as it is wanted, or is None."""
+    """Runs the program. Returns what isn't as wanted, or None."""
     with tempfile.TemporaryDirectory() as folder:
         write(folder, ask.files)
         words = [sealer, *ask.words, *ask.names]
@@ -88,17 +88,17 @@ def differs(ask):
 
 
 def tell(seed, ask, what):
-    """Prints what isn't as it is wanted of a case, and keeps what the case was given."""
+    """Prints what isn't as wanted in a case, and keeps the files of the case."""
     folder = tempfile.mkdtemp(prefix="fuzz_containers.")
     write(folder, {**ask.files, "standard-input": ask.input})
-    # A word that is no text has a question mark here.
+    # In a word that isn't UTF-8, bytes are printed as question marks.
     words = shlex.join(word.encode(errors="replace").decode() for word in ask.words + ask.names)
     print(f"fuzz_containers: seed {seed}, case {ask.case}: sealer {words[:1000]}")
     print(f"    {what[:2000]}\n    its files are in {folder}", flush=True)
 
 
 def faults_of(seed, asks):
-    """How many of some cases, which can be one run, aren't as they should be. They are told."""
+    """How many of some cases, which can be one run, are wrong. They are printed."""
     whole = together(asks)
     what = differs(whole)
     if what is None:
