@@ -29,7 +29,7 @@ except SystemExit:
     sys.exit(1 if os.environ.get("CI") else 0)
 sealer = os.path.abspath(os.environ.get("SEALER", os.path.join(tools, "../crates/sealer/out/sealer")))
 key = bytes(range(32))
-# Bytes of containers that lie in a folder at a time.
+# Bytes of containers in a folder at a time.
 FOLDER = 1 << 26
 
 SHORT, MAGIC, VERSION = "header cut short", "not a sealed file", "unknown version"
@@ -196,7 +196,7 @@ def line_of(name, answer):
 
 
 def program_differs(group):
-    """How many answers of the program are others."""
+    """How many answers of the program are wrong."""
     bad = 0
     with tempfile.TemporaryDirectory() as folder:
         with open(os.path.join(folder, "key"), "w", encoding="ascii") as file:

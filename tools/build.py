@@ -39,11 +39,11 @@ PROGRAM = "sealer"
 SOURCES = ("src", "specs", "proofs")
 # What rt makes of a library, and what it keeps for the next check.
 MADE = ("rlib", "incremental")
-# The memory that a check is taken to need, in MB, and each further process of it. Few need more.
+# The memory assumed for a check, in MB, and for each further process of it. Few need more.
 OF_CHECK, OF_PROCESS = 3000, 1000
 # More processes than that make no check faster beside others.
 MOST = 3
-# How much nicer a check is for each one beside it that has a longer chain above.
+# How much is added to a check's nice value for each one beside it that has a longer chain above.
 NICER = 4
 # The files of the control group, of version 2 and below it of version 1.
 GROUP = Path("/sys/fs/cgroup")
@@ -51,13 +51,13 @@ GROUP = Path("/sys/fs/cgroup")
 OTHER_CPU = 127
 # The level of the gate's build, and the one that has AVX2.
 PORTABLE, WIDE = "x86-64-v2", "x86-64-v3"
-# What says which levels a machine has.
+# Prints which levels a machine has.
 LOADER = "/lib64/ld-linux-x86-64.so.2"
 # The crate whose function `is_wide` says how many blocks the cipher takes side by side: its file, and its two bodies.
 CIPHER = "chacha_core"
 SWITCH = Path("src") / "lib.rt"
 NARROW_BODY, WIDE_BODY = (f"fn is_wide() -> bool {{\n    {answer}\n}}" for answer in ("false", "true"))
-# How often a terminal's line is written anew, in seconds.
+# Seconds after which a terminal's line is redrawn.
 REFRESH = 5
 
 
@@ -69,7 +69,7 @@ class Crate:
         self.folder = CRATES / self.name
         # processor seconds: of the longest chain of crates from this one up, and of its own proof in this run
         self.chain = self.took = 0
-        # where what rt made of it is kept
+        # the folder for what rt makes of it
         self.kept = self.folder / "out"
 
     def widen(self):
@@ -110,7 +110,7 @@ def crates_of_program(program):
     visit(known[program])
     took = figures()
     for crate in reversed(found):
-        # a new crate is taken for one like the others
+        # a new crate is assumed to take as long as the average
         seconds = took.get(crate.name, sum(took.values()) / len(took))
         crate.chain = seconds + max((it.chain for it in found if crate in it.below), default=0)
     return found
@@ -209,14 +209,14 @@ def prove(runs, crate, processes, nice):
 
 @contextlib.contextmanager
 def room_of(crate):
-    """Makes a room for a crate, and gives its folder there."""
+    """Makes a room for a crate, and returns its folder there."""
     room = Path(tempfile.mkdtemp(prefix="sealer-build-"))
     try:
         for it in [*crate.below, crate]:
             there = room / "crates" / it.name
             for part in [part for part in SOURCES if (it.folder / part).is_dir()]:
                 shutil.copytree(it.folder / part, there / part)
-            # of this crate too, where it was built before: then rt has nothing to do
+            # of this crate too, if it was built before: then rt has nothing to do
             with locked(it.folder, fcntl.LOCK_SH):
                 if (it.kept / "rlib").is_dir():
                     shutil.copytree(it.kept / "rlib", there / "out" / "rlib", copy_function=linked)

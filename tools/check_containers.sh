@@ -1,6 +1,6 @@
 #!/bin/bash
-# Seals a handful of files with the built program, crates/sealer/out/sealer or $SEALER, and opens them with tools/open_container.py, which knows docs/FORMATS.md alone.
-# Where Python's package `cryptography` isn't there it says so and ends well, and under CI it fails.
+# Seals a few files with the built program, crates/sealer/out/sealer or $SEALER, and opens them with tools/open_container.py, which is written
+# from docs/FORMATS.md alone. If Python's package `cryptography` is missing it says so and exits with status 0; under CI it fails.
 set -eu
 cd "$(dirname "$0")/.."
 sealer=$(realpath "${SEALER:-crates/sealer/out/sealer}")

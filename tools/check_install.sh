@@ -1,6 +1,6 @@
 #!/bin/bash
-# tools/install.sh in scratch folders: what it puts where, what it says, which build it picks, what it doesn't replace, and that nothing
-# stays after --uninstall. Prints 'N conditions hold', or those that don't. What it does in a release is in tools/check_release.sh.
+# tools/install.sh in scratch folders: what it puts where, what it prints, which build it picks, what it doesn't replace, and that nothing
+# is left after --uninstall. Prints 'N conditions hold', or those that don't. What it does in a release is in tools/check_release.sh.
 # usage: tools/check_install.sh [INSTALL.SH]
 set -u
 cd "$(dirname "$0")/.."

@@ -28,7 +28,7 @@ COMMANDS, ALL = "commands", "all"
 LONGEST = {"README.md": 110, "docs/MANUAL.md": 420}
 # The columns of README.md at most.
 WIDEST = 140
-# What isn't of the sources: the parser's texts, and the loader's.
+# Texts that aren't in the sources: the parser's and the loader's.
 OF_NO_SOURCE = {
     "error: out of memory",
     "error: ..",
@@ -40,7 +40,7 @@ OF_PARSER = "error: out of memory"
 
 
 class Option:
-    """An option: the word for its value, whether it has to be given, the ranges in its text, and its default."""
+    """An option: the word for its value, whether it is required, the ranges in its text, and its default."""
 
     def __init__(self, value, required, ranges, default):
         self.value, self.required, self.ranges, self.default = value, required, ranges, default
@@ -107,7 +107,7 @@ def from_help(program):
 
 
 def synopsis(text):
-    """The options of a synopsis: each with the word for its value, and whether it has to be given."""
+    """The options of a synopsis: each with the word for its value, and whether it is required."""
     found = {}
     for bracket, long, value in re.findall(r"(\[)?--([\w-]+)(?:(?: |\[=)([A-Z]+))?", text):
         found[long] = (value or None, not bracket)
@@ -203,7 +203,7 @@ def shape(line):
 
 
 def differences(where, told, printed):
-    """What a document has and nobody prints; what is printed, and it doesn't have; and what it has more than once."""
+    """What a document has that is never printed; what is printed and it lacks; and what it has more than once."""
     for it in sorted(set(told) - set(printed)):
         yield f"'{it}': in {where}, and it can't be printed there"
     for it in sorted(set(printed) - set(told)):
@@ -289,7 +289,7 @@ def anchors(text):
 
 
 def broken_links():
-    """The links between the documents that lead nowhere."""
+    """The broken links between the documents."""
     for document in [TOP / "README.md", *sorted((TOP / "docs").glob("*.md"))]:
         for link in re.findall(r"\]\(([^)#]*(?:#[^)]*)?)\)", document.read_text(encoding="utf-8")):
             name, _, anchor = link.partition("#")

@@ -1,6 +1,6 @@
 #!/bin/bash
-# The manual pages: mandoc and groff print no warning of them, and each page that one of ours names in section 5 is there. Prints
-# 'N pages without a warning', or the warnings. A tool that isn't there is left out, which is a failure under CI.
+# The manual pages: mandoc and groff print no warning of them, and each page of section 5 that they name exists. Prints
+# 'N pages without a warning', or the warnings. A missing tool is left out, which is a failure under CI.
 # usage: tools/check_pages.sh [FOLDER]
 set -u
 cd "$(dirname "$0")/.."

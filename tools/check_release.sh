@@ -1,10 +1,10 @@
 #!/bin/bash
-# tools/release.sh: makes a release twice, and takes it to where nothing else is. Each static program seals, verifies, opens, pipes and audits in
+# tools/release.sh: makes a release twice, and runs it where nothing else is. Each static program seals, verifies, opens, pipes and audits in
 # an empty root: no /proc, no shell, no C library. The archive and the Debian package are installed, run and removed. Prints 'N conditions
 # hold', or those that don't.
 # usage: tools/check_release.sh [RELEASE.SH]
 #
-# The program is crates/sealer/out/sealer, for x86-64-v2. Where there is none for x86-64-v3, a copy that says it is one takes its place. What
+# The program is crates/sealer/out/sealer, for x86-64-v2. If there is none for x86-64-v3, a copy that claims to be one takes its place. What
 # is missing (chroot, dpkg, Python's `cryptography`) is left out, and fails if CI is set.
 set -u
 cd "$(dirname "$0")/.." || exit

@@ -2,8 +2,9 @@
 # The checks of containers over the program for x86-64-v3, crates/sealer/out/sealer-x86-64-v3.
 # usage: tools/check_wide.sh
 #
-# tools/build.py makes that program on a machine with AVX2, in minutes where the portable one was built. It isn't part of the gate.
-# The cipher's vectors aren't among them: cipher_tests runs both bodies as the gate compiles them. Ends by 0 where all is well, and where this machine can't run it.
+# tools/build.py makes that program on a machine with AVX2, in minutes if the portable one was built. It isn't part of the gate.
+# The cipher's vectors aren't among the checks: cipher_tests runs both bodies as the gate compiles them. Exits with status 0 if all is well, or
+# if this machine can't run the program.
 set -u
 cd "$(dirname "$0")/.."
 if ! /lib64/ld-linux-x86-64.so.2 --help 2>/dev/null | grep -q 'x86-64-v3 (supported'; then

@@ -37,9 +37,9 @@ ON_FILES = (
 ).split()
 FAULTS = {call: ("error=EIO", "error=ENOSPC", "error=EINTR") for call in ON_FILES}
 FAULTS.update({call: ("error=ENOMEM",) for call in ("mmap", "mremap", "munmap", "madvise", "mprotect", "clone3")})
-# It answers the end of the heap: one that is not higher says that memory was refused.
+# It returns the end of the heap; an unchanged end means that memory was refused.
 FAULTS["brk"] = ("retval=0",)
-# The loader's and the threads', neither on files nor on memory: the program is killed at these, and that is all.
+# The loader's and the threads', neither on files nor on memory: the program is only killed at these.
 OTHERS = "execve access arch_prctl set_tid_address set_robust_list rseq prlimit64 getrandom futex rt_sigaction rt_sigprocmask exit exit_group".split()
 # An error of these can't be passed over.
 MUST_SHOW = {"read": ("error=EIO", "error=ENOSPC"), "write": ("error=EIO", "error=ENOSPC")}
@@ -104,7 +104,7 @@ class Way:
         return [(call, early[call] + 1, count) for call, count in sorted(most.items()) if count > early[call]]
 
     def done(self):
-        """The lines where nothing fails."""
+        """The lines if nothing fails."""
         if self.words == ["audit"]:
             return [VERDICT]
         word = "opened" if self.words[0] == "open" else "good"

@@ -31,7 +31,7 @@ seals() { # SLOT JOURNAL FILE..
     "$sealer" seal --key key --ledger "$PWD/ledgers/$1" $new --device $((first + $1)) --exponent 12 \
         --journal "journals/$1.$2" -- "${@:3}"
 }
-# A run is over before the next one is started, so each rests a little: all slots get work.
+# A run ends before the next one is started, so each pauses a little: then all slots get work.
 rests() {
     seals "$@"
     local status=$?
@@ -87,7 +87,7 @@ for journal in journals/*; do
 done
 has 'numbers granted' "$(cat journals/* | grep -c ' issue [0-9]')" $((files + slots))
 
-# a copied ledger gives a number twice, and it is seen
+# a copied ledger issues a number twice, and it is noticed
 mkdir twice
 cp ledgers/1 ledgers/copy
 echo one > twice/one

@@ -1,7 +1,7 @@
 #!/usr/bin/env python3
 """measure_cipher.py [-c CORE] [-r ROUNDS] [BENCH..]: our cipher beside OpenSSL's and libsodium's, over texts of 64 KiB and of 1 KiB.
 
-BENCH: built programs of crates/bench, as NAME=PATH; v2=crates/bench/out/bench where none is given. They and the peers run in turn on one
+BENCH: built programs of crates/bench, as NAME=PATH; v2=crates/bench/out/bench by default. They and the peers run in turn on one
 core (2), ROUNDS times over (7), and of each work the best sample of all rounds counts. Prints GB/s, the ratios to each peer, and the ratios
 that have a mark, of programs named v2 and v3. OpenSSL runs as it is, with AVX2 at most, and without AVX. Needs cc and Debian's libssl-dev and
 libsodium-dev.

@@ -1,7 +1,6 @@
 #!/bin/bash
-# Times sealing, verifying and opening of one file of 1 GiB, by workers and windows, and sealing and opening of many files of one size,
-# by lanes, beside `age` and `cp`: each in turn, ROUNDS times over; prints of each the best wall seconds, and the user seconds and the peak
-# memory of that run.
+# Times sealing, verifying and opening of one file of 1 GiB, by workers and windows, and of many files of one size, by lanes, beside `age` and
+# `cp`: each in turn, ROUNDS times. Prints for each the best wall seconds, and the user seconds and the peak memory of that run.
 # usage: tools/measure_files.sh FOLDER [ROUNDS]    FOLDER: an empty folder, best in memory-backed storage, with 6 GiB free
 # `age` and GNU `time` are Debian's packages of these names.
 set -eu

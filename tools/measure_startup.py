@@ -1,7 +1,7 @@
 #!/usr/bin/env python3
-"""measure_startup.py [ROUNDS]: how much longer than `true` the program takes to say its help, and to audit a journal of ten lines.
+"""measure_startup.py [ROUNDS]: how much longer than `true` the program takes to print its help, and to audit a journal of ten lines.
 
-Of each the least and the median of ROUNDS runs, 200 where none is given, done in turn, in milliseconds, with what they take above `true`.
+Prints for each the least and the median of ROUNDS (200) runs in turn, in milliseconds, and what they take above `true`.
 The program is crates/sealer/out/sealer, or $SEALER.
 """
 import os

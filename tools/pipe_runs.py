@@ -83,12 +83,12 @@ def piped(*options, source=b"", ledger="ledger", **more):
 
 
 def number_in(data):
-    """The file number in a container's header, or None where that is cut."""
+    """The file number in a container's header, or None if that is cut."""
     return int.from_bytes(data[13:17], "big") if len(data) >= 17 else None
 
 
 def is_whole(what, answer, plain, exponent=None, label=None):
-    """A stream was sealed: its line, status and container. The answer is its number."""
+    """A stream was sealed: checks its line, status and container. Returns its number."""
     status, out, err = answer
     found = SEALED.fullmatch(err)
     if status != 0 or not found or int(found[2]) != len(plain):
@@ -103,7 +103,7 @@ def is_whole(what, answer, plain, exponent=None, label=None):
 
 
 def is_failed(what, answer, fault, plain, number, exponent=None):
-    """A stream failed: its line and status, and what was written begins its container and isn't it."""
+    """A stream failed: checks its line and status. What was written begins its container, and isn't all of it."""
     status, out, err = answer
     if (status, err) != (1, f"failed -: {fault}\n"):
         differs(what, f"status {status}", err)
@@ -478,7 +478,7 @@ def on_a_terminal(*options):
 
 
 def terminals():
-    """A terminal is refused before anything is done, and taken where it is asked for."""
+    """A terminal is refused before anything is done, unless it is asked for."""
     answer = on_a_terminal()
     if answer != (2, b"", "usage: standard output is a terminal\n"):
         differs("a terminal", answer)
@@ -495,7 +495,7 @@ def terminals():
 
 def main():
     begun = time.monotonic()
-    # In memory, where that can be: the disk's pace is no part of this.
+    # In memory if possible: the disk's speed doesn't matter here.
     place = "/dev/shm" if os.access("/dev/shm", os.W_OK) and shutil.disk_usage("/dev/shm").free > 1 << 28 else None
     with tempfile.TemporaryDirectory(dir=place) as folder:
         os.chdir(folder)

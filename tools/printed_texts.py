@@ -59,7 +59,7 @@ LINES = {
 KEPT = r'"(kept \{name\})\\n"'
 # The types that are written by the code of another one.
 WRITTEN_BY = {"FileOutcome": "Line"}
-# What prints, but for `eprintln!(RUNTIME; TEXT)` with a name alone for the runtime.
+# Code that prints, except `eprintln!(RUNTIME; TEXT)` whose runtime is a single name.
 PRINT = r'\b(?:e?print|println)!\([^;]*;\s*"[^"]*|\beprintln!\((?!\s*\w+;)[^;]*'
 ARM = r"\b[A-Z]\w*::([A-Z]\w*)(?: \{[^}]*\}|\([^=]*?\))? =>"
 
@@ -156,7 +156,7 @@ def lines(command):
 
 
 def unlisted():
-    """What the sources print, or could, that the tables above don't know, and what these have that the sources don't."""
+    """What the sources print, or could, that is not in the tables above; and what these have that the sources don't."""
     reached = {name for subjects in FAULTS.values() for names in subjects.values() for name in names}
     for name in sorted(reached):
         reached.update(re.findall(r"\w+Fault", " ".join(variants(name).values())))

@@ -31,17 +31,17 @@ key = f"{top}/examples/key"
 every = int(sys.argv[1]) if len(sys.argv) > 1 else 1
 # Seconds after which a run hangs, and faults of one process after which it ends.
 HANG, ENOUGH = 60, 5
-# With these refused the answer is the same.
+# Refusing these changes no answer.
 HARMLESS = ("REFUSE_THREADS", "REFUSE_BEYOND")
 
 TEXTS = re.compile(
     r"usage: (an argument is no text|out of memory|cannot read the list)|error: out of memory|key: cannot open|journal: (cannot create|out of memory)"
     r"|ledger: (cannot open|store failed|out of memory)|audit: out of memory"
 )
-# Where memory is refused as a stream's own files are looked up, its input isn't read.
+# If memory is refused while the run's own files are looked up, a stream's input isn't read.
 FAULT = re.compile(r"failed (\S+): (out of memory|cannot open|cannot create)|failed -: read failed")
 DONE = re.compile(r"sealed (\S+) file ([0-9]+) bytes ([0-9]+)|(?:opened|good) (\S+) bytes ([0-9]+)|legal: .*|key [0-9a-f]{14} device .*")
-# What some run has to say.
+# Texts that some run must print.
 WANTED = (
     "failed a: out of memory", "failed -: out of memory", "failed long.stm: out of memory", "ledger: out of memory", "journal: out of memory", "audit: out of memory",
     "error: out of memory", "usage: an argument is no text", "ledger: store failed", "ledger: cannot open",
@@ -52,7 +52,7 @@ def text(lines):
     return "".join(f"{i}\n" for i in range(1, lines + 1)).encode()
 
 
-# Of seven chunks the long one. The last three are so long that the second lane has begun before the first has sealed all.
+# The long one has seven chunks. The last three are long enough for the second lane to begin before the first has sealed all.
 FILES = {"small": text(400), "long": text(70_000), "a": text(8_000), "b": text(9_000)[::-1], "c": text(10_000), "next": b"next\n"}
 FILES.update({"x": text(90_000), "y": text(80_000)[::-1], "z": text(85_000)})
 THREE, LANES = ["a", "b", "c"], ["x", "y", "z"]
@@ -69,10 +69,10 @@ class Kind:
     least: int = 800  # a run has at least this many allocations
     which: tuple = ("REFUSE", "REFUSE_FROM", "REFUSE_BEYOND")
     input: bytes = b""
-    line: str = ""  # what is said where nothing is refused
+    line: str = ""  # what is printed if nothing is refused
     first: int = 0  # the number that a sealing begins at
-    each: dict = dataclasses.field(default_factory=dict)  # the distance of the allocations that are refused, where it isn't 1
-    refused: bool = False  # the ledger is refused whatever is given to it
+    each: dict = dataclasses.field(default_factory=dict)  # the distance of the refused allocations, if it isn't 1
+    refused: bool = False  # the ledger is always refused
     threads: bool = False  # some allocation is another thread's; workers make none
     last: int = 0  # if not 0, only this many of the last allocations are refused
 
@@ -83,7 +83,7 @@ def read(name):
 
 
 def put(files):
-    """Leaves these files alone in the folder."""
+    """Leaves only these files in the folder."""
     for name in os.listdir("."):
         os.remove(name)
     for name, data in files.items():
@@ -114,7 +114,7 @@ class Checker:
         self.bad.append(f"{self.what}: {what}: {self.out} {self.err} status {self.status}")
 
     def refused(self, kind, which, n):
-        """One run and what it leaves. Whether something was refused."""
+        """One run and what it leaves. Returns whether something was refused."""
         self.what, self.out, self.err, self.status = f"{kind.name}, {which}={n}", None, None, None
         put(kind.given)
         env = {**os.environ, which: str(n), "LD_PRELOAD": f"{self.shared}/refuse.so"}
@@ -157,7 +157,7 @@ class Checker:
         if any(line not in faults and not DONE.fullmatch(line) for line in self.out) or len(self.out) > wanted:
             self.differs("another line")
         if self.status == 2:
-            # All said and nothing wrong: by one refusal that can't be.
+            # All is printed and nothing is wrong: a single refusal can't do that.
             if not self.err and len(self.out) == wanted and which == "REFUSE":
                 self.differs("no cause")
         elif len(self.out) != wanted or self.status != bool(faults):
@@ -167,7 +167,7 @@ class Checker:
         return None
 
     def outputs(self, kind, name_of, wanted):
-        """Each output is whole or isn't there, as its line says, and no other file is left. The answer is which are there."""
+        """Each output is whole or absent, as its line says, and no other file is left. Returns which are there."""
         left = set(os.listdir(".")) - set(kind.given)
         if kind.words[0] in ("seal", "pipe"):
             left -= {"ledger", "ledger-wal", "journal"}
@@ -200,7 +200,7 @@ class Checker:
     def sealed(self, kind):
         size = len(kind.made)
         if kind.refused:
-            # Over it numbers would be given again: no run opens it, nor alters it.
+            # Over it numbers would be issued again: no run opens or alters it.
             if self.status != 2 or self.out or set(os.listdir(".")) - {"journal"} != set(kind.given):
                 self.differs(f"leaves {sorted(os.listdir('.'))}")
             if any(read(name) != data for name, data in kind.given.items()):
@@ -216,7 +216,7 @@ class Checker:
         self.followed(kind, there)
 
     def streamed(self, kind, written):
-        """What was written is the stream's container, where its line says so, and else a beginning of it."""
+        """What was written is the stream's container if its line says so, else a beginning of it."""
         self.outputs(kind, lambda name: None, None)
         whole = self.made["long", kind.first]
         if self.out == [f"sealed - file {kind.first} bytes {len(kind.input)}"]:
@@ -229,7 +229,7 @@ class Checker:
         self.followed(kind, {"-"} if written else set())
 
     def followed(self, kind, there):
-        """The journal, where one was written, and the next run; `there` is what was written."""
+        """The journal, if one was written, and the next run; `there` is what was written."""
         size = len(kind.made)
         journal = read("journal") if os.path.exists("journal") else b""
         if journal and not self.err:
@@ -243,7 +243,7 @@ class Checker:
                     self.differs(f"the journal is {verdict.stdout}")
             elif int(found[2]) < len(there):
                 self.differs(f"{len(there)} outputs, and the journal is {verdict.stdout}")
-        # The range was reserved or it wasn't; and it was where something was done with it.
+        # The range was reserved or not; it was if something was done with it.
         if os.path.exists("ledger") or there:
             after = started(sealing("next"))
             found = re.fullmatch(rb"sealed next file ([0-9]+) bytes 5\n", after.stdout)
@@ -335,7 +335,7 @@ def kinds(made):
     holding = f"key {hashlib.sha256(bytes.fromhex(read(key).decode().strip())).hexdigest()[:14]} device 1 ranges 1 given 1 left 4294967295"
     yield Kind("ledger", ["ledger", "--ledger", "ledger"], [], ledger, 100, line=holding)
     yield Kind("audit", ["audit"], [], least=10, input=history, line=verdict)
-    # Of four workers or lanes three are threads: what can't be started is worked on the others, with the same answer.
+    # Of four workers or lanes three are threads. If one can't be started the others do its work, with the same answer.
     by = ("REFUSE_THREADS",)
     yield Kind("seal, threads refused", sealing("--workers", "4", "long"), ["long"], some("long"), 3, by)
     yield Kind("open, threads refused", ["open", "--key", key, "--workers", "4", "long.stm"], ["long.stm"], {"long.stm": long_stm}, 3, by, line=opened)
@@ -354,7 +354,7 @@ def allocations(checker, kind):
 
 
 def part(asked):
-    """One kind's runs from a first one on, at a distance: a process works them in a folder of its own."""
+    """One kind's runs from a first one on, at a distance. A process does them in a folder of its own."""
     kind, which, first, step, made, shared = asked
     with tempfile.TemporaryDirectory(dir=shared) as folder:
         os.chdir(folder)
@@ -366,7 +366,7 @@ def part(asked):
             if which in HARMLESS and checker.status != (2 if kind.refused else 0):
                 checker.differs("another answer")
             n += n if which == "REFUSE_BEYOND" else step
-        # In which run another thread makes some is open.
+        # It isn't fixed in which run another thread makes some.
         for _ in range(25) if kind.threads and which == "REFUSE" else ():
             checker.refused(kind, "REFUSE_OTHERS", 1)
         os.chdir("/")
@@ -378,7 +378,7 @@ def main():
         print("refusal_runs: skipped, no C compiler is there")
         sys.exit(1 if os.environ.get("CI") else 0)
     begun = time.monotonic()
-    # In memory, where that can be: the disk's pace is no part of this.
+    # In memory if possible: the disk's speed doesn't matter here.
     processors = len(os.sched_getaffinity(0))
     place = "/dev/shm" if os.access("/dev/shm", os.W_OK) and shutil.disk_usage("/dev/shm").free > processors << 24 else None
     with tempfile.TemporaryDirectory(dir=place) as shared:

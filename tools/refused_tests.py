@@ -1,12 +1,12 @@
 #!/usr/bin/env python3
 """refused_tests.py [WORD]: runs tests of the libraries' calls with each of their allocations refused in turn (tools/refuse.c).
 
-Each test below is made for it: what it asks for holds whichever one allocation is refused, of the calls or of the test itself, which
-makes the refused call again. Of each the 1st, 2nd, .. allocation is refused, until a run meets no refusal. With WORD the tests whose names
-have it, worked side by side over the processors.
+Each test below is made for it: it passes whichever one allocation is refused, of the calls or of the test itself, which makes the refused
+call again. For each test the 1st, 2nd, .. allocation is refused, until a run meets no refusal. With WORD only tests with WORD in their names
+run. They run side by side over the processors.
 
 Prints how many refusals each test met, and 'N refusals in T tests as they should be', or what differs. It runs the programs that `rt ci` and
-`rt test` leave in crates/NAME/out; where one of them isn't there, or no C compiler, it says so and ends well, and under CI it fails.
+`rt test` leave in crates/NAME/out. If one of them is missing, or a C compiler, it says so and exits with status 0; under CI it fails.
 """
 import multiprocessing
 import os

@@ -24,7 +24,7 @@ DOCUMENTS = ["README.md", "docs/MANUAL.md", "docs/MANY_MACHINES.md", *sorted(
 )]
 # What a document's examples need besides; without it they are left out, which is a failure under CI.
 NEEDS = {"docs/MANY_MACHINES.md": "parallel"}
-# What the folder has of the repository.
+# What is copied from the repository.
 PARTS = ("README.md", "completions", "docs", "examples", "man", "tools")
 SECONDS = 120
 
@@ -55,7 +55,7 @@ def displays_of(text):
 
 
 def is_whole(command):
-    """Whether nothing more has to follow."""
+    """Whether the command is complete."""
     ran = subprocess.run(["bash", "-n"], input=command, capture_output=True, text=True, check=False)
     return not ran.returncode and not ran.stderr and not command.endswith("\\")
 

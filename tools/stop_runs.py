@@ -47,7 +47,7 @@ with open(key, encoding="ascii") as digits:
 nights = int(sys.argv[1]) if len(sys.argv) > 1 else 1
 night = int(sys.argv[2]) if len(sys.argv) > 2 else 0
 
-# What a run may print on standard error, and how a line of a file may end that failed.
+# What a run may print on standard error, and the lines that it may print.
 TEXTS = re.compile(
     r"(usage: (an argument is no text|out of memory)|error: out of memory|key: (cannot open|read failed)|journal: (cannot create|out of memory|write failed)"
     r"|ledger: (cannot open|store failed|out of memory|not a ledger|not there))"
@@ -56,14 +56,14 @@ LINES = re.compile(r"sealed \S+ file [0-9]+ bytes [0-9]+|failed \S+: (cannot ope
 # The calls that are made to fail, and how.
 ON_FILES = "openat read pread64 write pwrite64 fsync fdatasync ftruncate statx newfstatat close fadvise64 readlink getcwd fchmod fchown fcntl ioctl link unlink".split()
 ON_MEMORY = ["mmap", "mremap", "munmap", "mprotect", "madvise", "clone3"]
-# The program is killed at these too, and that is all: they are the loader's and the threads', and neither on files nor on memory.
+# At these the program is only killed: they are the loader's and the threads', neither on files nor on memory.
 OTHERS = "execve access arch_prctl set_tid_address set_robust_list rseq prlimit64 getrandom futex rt_sigaction rt_sigprocmask exit exit_group".split()
 FAULTS = {**{call: ("error=EIO", "error=ENOSPC", "error=EINTR") for call in ON_FILES}, **{call: ("error=ENOMEM",) for call in ON_MEMORY}}
-# It answers the end of the heap, and never an error: one that is not higher says that memory was refused.
+# It returns the end of the heap, never an error; an unchanged end means that memory was refused.
 FAULTS["brk"] = ("retval=0",)
 # The ledger's bytes, and that the disk has them: a run that couldn't ensure these must report it.
 MUST_SHOW = ["fsync", "fdatasync", "pwrite64", "ftruncate"]
-# How often these are called is open, and they do nothing.
+# These are called any number of times, and do nothing.
 PASSED_OVER = ["sched_yield"]
 WAYS = {"one lane": [], "two lanes": ["--lanes", "2"], "two workers": ["--workers", "2"]}
 STREAMS = {"a stream": ["--depth", "2"], "a stream by two workers": ["--workers", "2", "--depth", "2"]}
@@ -106,7 +106,7 @@ def clear():
 
 
 def take(what):
-    """The outputs that lie there, whole or in part, have prefixes that no container had. One file can have two names."""
+    """The outputs in the folder, whole or in part, have prefixes that no container had. One file can have two names."""
     seen = set()
     for name in sorted(os.listdir(".")):
         if name.endswith((".stm", ".part")):
@@ -206,10 +206,10 @@ def stopped(way, call, n, how):
 
 
 def streamed(what, run):
-    """What a stream's run wrote is its container, where its line says so, and else a beginning of it."""
+    """What a stream's run wrote is its container if its line says so, else a beginning of it."""
     with open("a.stm", "rb") as file:
         written = file.read()
-    # Before its number was written there is nothing to hold it against.
+    # Before its number was written there is nothing to compare it with.
     whole = sealed(KEY, 1, int.from_bytes(written[13:17], "big"), b"a" * 200_000)
     says, fails = (run.stdout.startswith(word) for word in ("sealed - ", "failed -: "))
     if not whole.startswith(written) and len(written) >= 17 or says and written != whole or fails and written == whole:
@@ -330,7 +330,7 @@ def altered_ledgers():
 
 
 def seals_c(key_file, device):
-    """A run of one file under a key and device. The answer is its number, or what it said where it was refused."""
+    """A run of one file under a key and device. Returns its number, or what it printed if it was refused."""
     run = subprocess.run(seal_c(key_file, device), capture_output=True, text=True, timeout=60)
     answer = number_in("c.stm") if run.returncode == 0 else f"status {run.returncode}, {run.stderr}"
     clear()
@@ -344,7 +344,7 @@ def seal_c(key_file, device):
 def logs_put_back():
     """Of a ledger with two keys and two devices, the log of a killed run is put back after two more of its key and device.
 
-    The next run is refused, or gives a number that none had; of each key and device some log would take numbers back."""
+    The next run is refused, or gives a number that none had. For each key and device some log would take numbers back."""
     global stops
     with open("another key", "w", encoding="ascii") as file:
         file.write(KEY[::-1].hex())
@@ -490,7 +490,7 @@ def goes_on(what, used=False):
 
 
 def emptied_beside_each_log():
-    """Empties a ledger beside each log that a later run leaves which is killed: none counts as begun, also where it is cut, or its header damaged."""
+    """Empties a ledger beside each log that a killed later run leaves. None counts as begun, even if it is cut or its header damaged."""
     global stops
     before = files_of_ledger()
     logs = [before[1]]
@@ -523,7 +523,7 @@ def emptied_beside_each_log():
 
 
 def in_a_folder(work):
-    """Does some work in a folder of its own, over a ledger that has a number. The answer is stops, and what differs."""
+    """Does some work in a folder of its own, over a ledger that has a number. Returns the stops, and what differs."""
     folder = tempfile.mkdtemp(dir=shared)
     os.chdir(folder)
     given.clear()
@@ -573,7 +573,7 @@ def worked(chosen):
 
 
 begun = time.monotonic()
-# In memory, where that can be: the disk's pace is no part of this.
+# In memory if possible: the disk's speed doesn't matter here.
 place = "/dev/shm" if os.access("/dev/shm", os.W_OK) and shutil.disk_usage("/dev/shm").free > 1 << 28 else None
 shared = tempfile.mkdtemp(dir=place)
 processors = len(os.sched_getaffinity(0))

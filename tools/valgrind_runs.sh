@@ -36,7 +36,7 @@ under() {
     mkdir "$folder" && cp -r "$room/given" "$folder/plain" && cp -r "$room/given" "$folder/tool"
     (cd "$folder/plain" && "$sealer" "$@" < "$from" > ../plain.out 2> ../plain.err; echo $? > ../plain.status)
     (cd "$folder/tool" && valgrind "${options[@]}" "$sealer" "$@" < "$from" > ../tool.out 2> ../tool.err; echo $? > ../tool.status)
-    # by lanes which file gets which number is open
+    # with lanes a file can get any number
     sed -i 's/ file [0-9]* / /' "$folder/plain.out" "$folder/tool.out"
     for run in plain tool; do
         [ "$(cat "$folder/$run.status")" = "$wanted" ] || found="$found status $(cat "$folder/$run.status") ($run), not $wanted;"
@@ -71,8 +71,8 @@ piping=(pipe --key "$key" --ledger ledger --device 1 --journal journal --exponen
 input=$room/given/a limited pipe memcheck 0 "${piping[@]}"
 input=$room/given/a limited pipe-of-too-many-chunks memcheck 1 "${piping[@]}" --depth 2 --max-chunks 9
 input=$room/given limited pipe-of-a-folder memcheck 1 "${piping[@]}" --workers 2
-# What the workers of a stream share, or of a file that is sealed, goes through two queues without locks, whose order helgrind and drd don't
-# see in their plain loads and stores: they take each job and piece for a race. So of these memcheck alone.
+# The workers that seal a stream or a file share jobs and pieces through two queues without locks. Helgrind and drd don't see the order in
+# their plain loads and stores, and report each job and piece as a race. So these run under memcheck alone.
 for depth in 1 3; do
     input=$room/given/plain limited pipe-by-workers-$depth memcheck 0 "${piping[@]}" --workers 2 --depth $depth
 done

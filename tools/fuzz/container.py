@@ -90,7 +90,7 @@ def pieces_of(plain, size):
 
 
 class Parts:
-    """A container in its parts, each of which may be changed. It is of version 2 where it has a label."""
+    """A container in its parts, each of which may be changed. With a label it is of version 2."""
 
     def __init__(self, key, prefix, plain, exponent=16, label=None):
         self.magic, self.version, self.exponent = MAGIC, 1 if label is None else 2, exponent
@@ -135,7 +135,7 @@ def length_near(rng, size, most):
 
 
 def drawn(rng, key, most, first_only):
-    """A container as it should be."""
+    """A valid container."""
     prefix = rng.choice((bytes(7), b"\xff" * 7, rng.randbytes(7), rng.randbytes(7)))
     exponent, label = 16, None
     if not first_only and rng.random() < 0.75:
