@@ -979,6 +979,14 @@ head -c 41 /dev/zero > life/zeros-wal
 run seal --key "$key" --ledger life/zeros --device 1 life/first
 wants a-log-of-zeros 0 'sealed life/first file 0 bytes 1492' ''
 rm -f life/first.stm
+# an emptied ledger whose log was overwritten by a text: no cut leaves such a first byte
+: > life/over
+for over in hello 7; do
+    printf $over > life/over-wal
+    run seal --key "$key" --ledger life/over --device 1 life/first
+    wants "a-log-of-the-text $over" 2 '' 'ledger: cannot open'
+    is "the-text-stays $over" test "$(cat life/over-wal)" = $over -a ! -s life/over
+done
 # a ledger that vanishes between the look at it and its opening, as the run calls for it the first time or the second
 if command -v strace > /dev/null; then
     for n in 1 2; do

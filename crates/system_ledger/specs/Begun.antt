@@ -1,5 +1,5 @@
 -- The log beside an empty ledger file, after a run was cut off while it made the two.
-use Rattle.std.specs.Prelude.{◌≡◌, ◌≢◌, ◌⊎◌, ◌≤◌, ℕ, List, length, slice_index, slice_set, take}
+use Rattle.std.specs.Prelude.{◌≡◌, ◌⊎◌, ◌≤◌, ℕ, List, [], length, slice_index, slice_set, take}
 use Rattle.sqlite_wal.specs.Format.{be32, IsSigned}
 use Rattle.sqlite_wal.specs.Recovery.{Passes}
 
@@ -11,14 +11,14 @@ HasNoFrame log = (page_size i : ℕ) → 512 ≤ page_size → ¬ Passes page_si
 abbrev pub IsOfFirstRound : List ℕ → Type 0
 IsOfFirstRound log = (16 ≤ length log) × (be32 log 12 ≡ 0xffff_ffff)
 
--- the first byte of a log is written last, once all others are on the disk
+-- The first byte is 0, as from the first write of a log until its header is whole.
 abbrev pub IsShut : List ℕ → Type 0
-IsShut log = slice_index log 0 ≢ 0x37
+IsShut log = slice_index log 0 ≡ 0
 
 -- there is a header whose checksum holds once the first byte is set
 abbrev pub HasHeader : List ℕ → Type 0
 HasHeader log = (32 ≤ length log) × IsSigned (slice_set (take 32 log) 0 0x37)
 
--- It has no room for a frame with a page, and is of the first round or was cut off in a write of its header.
+-- It has no room for a frame with a page. It is empty, or of the first round, or was cut off in a write of its header.
 abbrev pub HasOnlyBegun : List ℕ → Type 0
-HasOnlyBegun log = (length log ≤ 56) × ((length log ≤ 1) ⊎ (IsOfFirstRound log ⊎ (IsShut log × (¬ HasHeader log))))
+HasOnlyBegun log = (length log ≤ 56) × ((log ≡ []) ⊎ (IsOfFirstRound log ⊎ (IsShut log × (¬ HasHeader log))))

@@ -1,6 +1,8 @@
-//! The log that a run leaves beside an empty ledger file if it is cut off while it makes the two. The database writes
-//! the log's first byte last, once the others are on the disk, and only then the file. When it folds the log, it begins
-//! rounds with other numbers.
+//! The log that a run leaves beside an empty ledger file if it is cut off while it makes the two.
+//!
+//! The database first writes a single byte 0 to the empty log, then the header's other bytes, then the header's own
+//! first byte over the 0. Each write is on the disk before the next, and the file comes last. When the database folds
+//! the log, it begins rounds with other numbers.
 ghost use Rattle.std.specs.Prelude.{◌≡◌, ◌+◌, ◌≤◌, ◌↔◌, length, IsTrue};
 ghost use Rattle.sqlite_wal.specs.Format.{be32, stored_sum, IsSigned};
 ghost use Rattle.system_ledger.specs.Begun.{HasHeader, HasNoFrame, HasOnlyBegun, IsOfFirstRound};
@@ -20,8 +22,8 @@ const SUM: usize = 24;
 // The first byte of a log.
 const FIRST: u8 = 0x37;
 
-/// Returns whether a log beside an empty ledger file was only begun with it. If so, no number was ever reserved in the
-/// two.
+/// Returns whether a log beside an empty ledger file was only begun with it. If so, and if nobody altered the two, no
+/// number was ever reserved in them.
 pub fn has_only_begun(log: &[u8]) -> bool
     ensures begun { IsTrue result ↔ HasOnlyBegun log.now }
     ensures no_frame { IsTrue result → HasNoFrame log.now }
@@ -29,13 +31,13 @@ pub fn has_only_begun(log: &[u8]) -> bool
     if log.len() > WITHOUT_PAGE {
         return false;
     }
-    if log.len() <= 1 {
+    if log.is_empty() {
         return true;
     }
     if is_of_first_round(log) {
         return true;
     }
-    if log[0] == FIRST {
+    if log[0] != 0 {
         return false;
     }
     !has_header(log)
