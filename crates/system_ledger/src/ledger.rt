@@ -1,6 +1,8 @@
 //! The ledger file.
-ghost use Rattle.std.specs.Prelude.{◌≡◌, ◌≢◌, false, [], IfOk, IsTrue};
+ghost use Rattle.std.specs.Prelude.{◌≡◌, ◌≢◌, ◌≤◌, ◌⊎◌, false, [], length, IfOk, IsTrue};
+ghost use Rattle.sqlite_disk.specs.Disk.{MoreFaults};
 ghost use Rattle.sqlite_wal.specs.Files.{image_at};
+ghost use Rattle.sqlite_wal.specs.Reads.{IsClean};
 ghost use Rattle.sqlite.specs.Files.{file_state, over_files, IsOpened};
 ghost use Rattle.sqlite.specs.Start.{FindsIn};
 ghost use Rattle.sqlite.specs.Held.{state};
@@ -8,6 +10,7 @@ ghost use Rattle.sqlite.specs.State.{HasCleanDisk, Survives};
 ghost use Rattle.reserve_core.specs.Lasting.{LeavesOnlyThis};
 ghost use Rattle.reserve_core.specs.Reservations.{Holds, Opened, no_lists};
 ghost use Rattle.reserve_core.specs.NextRun.{IsFound};
+ghost use Rattle.system_ledger.specs.Begun.{HasOnlyBegun};
 
 use crate::begun::{WITHOUT_PAGE, has_only_begun};
 use crate::foreign::may_be_ledger;
@@ -181,8 +184,8 @@ fn connect<S: Start>(
     }
 }
 
-// Whether the log beside an empty file was only begun, read from the files now held. The log checked before may have
-// been removed since, and another made.
+// Whether the file has more than a byte, or the log was only begun with it, read from the files now held. The log that
+// was checked before may have been removed since, and another made. A failed call gives `false` too.
 fn is_still_begun<D: Disk>(files: &mut DiskFiles<D>) -> bool
     requires log_usable { IsTrue (D.Disk.is_usable files.old.log) }
     requires db_usable { IsTrue (D.Disk.is_usable files.old.db) }
@@ -190,6 +193,12 @@ fn is_still_begun<D: Disk>(files: &mut DiskFiles<D>) -> bool
     ensures db_usable { IsTrue (D.Disk.is_usable files.new.db) }
     ensures log { D.Disk.seen files.new.log ≡ D.Disk.seen files.old.log }
     ensures db { D.Disk.seen files.new.db ≡ D.Disk.seen files.old.db }
+    ensures begun { IsTrue result → IsClean D.Disk files.new.log → IsClean D.Disk files.new.db
+        → length (D.Disk.seen files.new.db) ≤ 1 → HasOnlyBegun (D.Disk.seen files.new.log) }
+    ensures refused { result ≡ false → (IsClean D.Disk files.new.log → IsClean D.Disk files.new.db
+        → (length (D.Disk.seen files.new.db) ≤ 1) × (¬ HasOnlyBegun (D.Disk.seen files.new.log)))
+        ⊎ MoreFaults (D.Disk.faults files.old.log) (D.Disk.faults files.new.log)
+        ⊎ MoreFaults (D.Disk.faults files.old.db) (D.Disk.faults files.new.db) }
 {
     let (Ok(file_bytes), Ok(log_bytes)) = (files.db.len(), files.log.len()) else {
         return false;
