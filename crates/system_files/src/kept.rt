@@ -1,7 +1,7 @@
 //! FILEs whose outputs exist already: `--skip-existing` keeps these and processes the others.
-ghost use Rattle.std.specs.Prelude.{◌≡◌, IfOk, OnOk, [], false, map};
-ghost use Rattle.io_core.specs.Streams.{Appends};
-ghost use Rattle.system_files.specs.Kept.{IsSplit, kept_text};
+ghost use Rattle.std.specs.Prelude.{◌≡◌, IfOk, OnOk, OnErr, [], false, map, is_err};
+ghost use Rattle.io_core.specs.Streams.{Appends, AppendsFront, LacksSome, counted};
+ghost use Rattle.system_files.specs.Kept.{IsSplit, kept_line, kept_text};
 
 use crate::files::path_of;
 use ledger_core::{Failed, Sink, write_all};
@@ -85,16 +85,43 @@ fn is_there<R: Files + AllocGlobal>(rt: &R, into: Option<&str>, output: &str) ->
     }
 }
 
-/// Prints a line for each FILE that is kept. It fails if a write fails, or memory for a line is refused.
+/// Prints a line for each FILE that is kept. It fails if a write fails; then a proper prefix of the lines was printed.
 pub fn print_kept<W: Sink>(alloc: Global, names: &[&str], lines: &mut W) -> Result<(), Failed>
     ensures ok { OnOk result (Appends (W.taken lines.old) (W.taken lines.new)
         (kept_text (map (λ name. name.now) names.now))) }
+    ensures err { OnErr result (AppendsFront (W.taken lines.old) (W.taken lines.new)
+        (kept_text (map (λ name. name.now) names.now))) }
+    ensures short { OnErr result (LacksSome (W.taken lines.old) (W.taken lines.new)
+        (kept_text (map (λ name. name.now) names.now))) }
+    ensures count { W.failures lines.new ≡ counted (is_err result) (W.failures lines.old) }
 {
     for name in names {
-        let Ok(line) = format!(in alloc; "kept {name}\n") else {
-            return Err(Failed);
-        };
-        write_all(lines, line.as_bytes())?;
+        print_line(alloc, name, lines)?;
     }
     Ok(())
+}
+
+// Prints one of them, in one call if there is memory for it, so that lines of two programs don't mix.
+fn print_line<W: Sink>(alloc: Global, name: &str, lines: &mut W) -> Result<(), Failed>
+    ensures ok { OnOk result (Appends (W.taken lines.old) (W.taken lines.new) (kept_line name.now)) }
+    ensures err { OnErr result (AppendsFront (W.taken lines.old) (W.taken lines.new) (kept_line name.now)) }
+    ensures short { OnErr result (LacksSome (W.taken lines.old) (W.taken lines.new) (kept_line name.now)) }
+    ensures count { W.failures lines.new ≡ counted (is_err result) (W.failures lines.old) }
+{
+    match format!(in alloc; "kept {name}\n") {
+        Ok(line) => write_all(lines, line.as_bytes()),
+        Err(_) => print_parts(name.as_bytes(), lines),
+    }
+}
+
+// The same without memory.
+fn print_parts<W: Sink>(name: &[u8], lines: &mut W) -> Result<(), Failed>
+    ensures ok { OnOk result (Appends (W.taken lines.old) (W.taken lines.new) (kept_line name.now)) }
+    ensures err { OnErr result (AppendsFront (W.taken lines.old) (W.taken lines.new) (kept_line name.now)) }
+    ensures short { OnErr result (LacksSome (W.taken lines.old) (W.taken lines.new) (kept_line name.now)) }
+    ensures count { W.failures lines.new ≡ counted (is_err result) (W.failures lines.old) }
+{
+    write_all(lines, b"kept ")?;
+    write_all(lines, name)?;
+    write_all(lines, b"\n")
 }
