@@ -1,24 +1,9 @@
--- A name after the others is in one of the two lists; and one more line is printed.
+-- A name after the others is in one of the two lists.
 use Rattle.std.proofs.Common.{◌≡◌, ◌<◌, ◌+◌, inl, inr, ⊎_elim, ℕ, List, [], ◌∷◌, ◌++◌, Bor, ap, refl, sym, ◌∙◌, map}
-use Rattle.std.proofs.Common.{add-one, append-nil, get_or, length, subst, take}
-use Rattle.std.proofs.Math.Seq.{take-suc}
-use Rattle.std.proofs.lemmas.Grind.{flat_map-append}
+use Rattle.std.proofs.Common.{get_or, length, subst, take}
 use Rattle.std.proofs.lemmas.List.{map-append}
-use Rattle.system_files.specs.Kept.{IsSplit, kept_line, kept_text}
-
--- one more name
-pub names-step : (files : List (Bor (List ℕ))) (i : ℕ) (d : Bor (List ℕ)) → i < length files
-    → map (λ (f : Bor (List ℕ)). f.now) (take i files) ++ (get_or files i d).now ∷ []
-    ≡ map (λ (f : Bor (List ℕ)). f.now) (take (i + 1) files)
-names-step files i d h =
-    sym (ap (λ n. map (λ (f : Bor (List ℕ)). f.now) (take n files)) (add-one i)
-    ∙ ap (map (λ (f : Bor (List ℕ)). f.now)) (take-suc files i d h)
-    ∙ map-append (λ (f : Bor (List ℕ)). f.now) (take i files) (get_or files i d ∷ []))
-
-pub kept_text-push : (names : List (List ℕ)) (name : List ℕ)
-    → kept_text (names ++ name ∷ []) ≡ kept_text names ++ kept_line name
-kept_text-push names name = flat_map-append kept_line names (name ∷ [])
-    ∙ ap (λ l. kept_text names ++ l) (append-nil (kept_line name))
+use Rattle.command_core.proofs.Telling.{names-step}
+use Rattle.system_files.specs.Kept.{IsSplit}
 
 pub push_kept : (names kept others : List (List ℕ)) (name : List ℕ) → IsSplit names kept others
     → IsSplit (names ++ name ∷ []) (kept ++ name ∷ []) others
