@@ -1,37 +1,80 @@
 -- The status of a run is that of its lines, if all of them were written.
-use Rattle.std.proofs.Common.{◌≡◌, inl, inr, ⊎_elim, ℕ, Bool, true, false, if◌then◌else◌, List, [], Option, codes, map, refl, sym, subst}
+use Rattle.std.proofs.Common.{◌≡◌, inl, inr, ⊎_elim, All, ℕ, Bool, true, false, if◌then◌else◌, List, [], Option, codes, map, refl, sym, subst}
 use Rattle.std.proofs.KnownBytes.{Appends-trans}
+use Rattle.std.proofs.lemmas.List.Elements.{All-weaker}
 use Rattle.std.proofs.lemmas.Bool.{cases_eq}
 use Rattle.clap.specs.declared.parser.matches.ArgMatches.{ArgMatches}
 use Rattle.io_core.specs.Streams.{Appends}
+use Rattle.container_core.specs.Shape.{ShapeView}
+use Rattle.command_core.specs.declared.line.FileFault.TheVariants.{CannotOpen, NoSuffix, OutputExists, CannotCreate}
+use Rattle.command_core.specs.declared.line.FileFault.TheVariants.{OutOfMemory, NoNumber, AnotherLabel, Unopened}
+use Rattle.command_core.specs.declared.line.FileFault.TheVariants.{Unsealed}
+use Rattle.command_core.specs.declared.line.FileOutcome.{FileOutcome}
+use Rattle.command_core.specs.declared.line.FileOutcome.TheVariants.{Sealed, Opened, Good, Shown, Failed}
+use Rattle.sealer_core.specs.Piping.{WorksStream}
 use Rattle.command_core.specs.Lines.{FileLine, lines_text}
 use Rattle.command_core.specs.Work.{AreTold}
 use Rattle.system_files.specs.Kept.{IsSplit, kept_text}
 use Rattle.command_line.specs.Given.{IsFlag}
-use Rattle.sealer.specs.Status.{IsStatusOf, IsStatusOver}
+use Rattle.sealer.specs.Status.{IsOfPiping, IsStatusOf, IsStatusOver}
 
 -- lines that were reported
-pub of_lines : (status : ℕ) (lines : List FileLine) (old new : Option (List ℕ)) (failures failures' : Option ℕ)
-    → AreTold status lines old new failures failures' → IsStatusOf status (map (λ line. line.name) lines) old new
-of_lines status lines old new _ _ told = ⊎_elim (λ two. inl two)
-    (λ other. inr (lines, refl, (told.whole other).0, (told.whole other).1)) (cases_eq status 2)
+pub of_lines : (fits : List ℕ → FileOutcome → Type 0) (status : ℕ) (lines : List FileLine) (old new : Option (List ℕ))
+    (failures failures' : Option ℕ) → All (λ line. fits line.name line.outcome) lines
+    → AreTold status lines old new failures failures' → IsStatusOf fits status (map (λ line. line.name) lines) old new
+of_lines fits status lines old new _ _ fitting told = ⊎_elim (λ two. inl two)
+    (λ other. inr (lines, refl, fitting, (told.whole other).0, (told.whole other).1)) (cases_eq status 2)
 
 -- and a journal that was written after them, or wasn't
-pub of_written : (status told : ℕ) (written : Bool) (lines : List FileLine) (old mid new : Option (List ℕ))
-    (failures failures' : Option ℕ) → AreTold told lines old mid failures failures' → (written ≡ true → new ≡ mid)
-    → status ≡ (if written then told else 2) → IsStatusOf status (map (λ line. line.name) lines) old new
-of_written status told true lines old mid new failures failures' all same is =
-    subst (λ s. IsStatusOf s (map (λ line. line.name) lines) old new) (sym is)
-    (subst (λ n. IsStatusOf told (map (λ line. line.name) lines) old n) (sym (same refl))
-    (of_lines told lines old mid failures failures' all))
-of_written status told false lines old mid new failures failures' all same is = inl is
+pub of_written : (fits : List ℕ → FileOutcome → Type 0) (status told : ℕ) (written : Bool) (lines : List FileLine)
+    (old mid new : Option (List ℕ)) (failures failures' : Option ℕ) → All (λ line. fits line.name line.outcome) lines
+    → AreTold told lines old mid failures failures' → (written ≡ true → new ≡ mid)
+    → status ≡ (if written then told else 2) → IsStatusOf fits status (map (λ line. line.name) lines) old new
+of_written fits status told true lines old mid new failures failures' fitting all same is =
+    subst (λ s. IsStatusOf fits s (map (λ line. line.name) lines) old new) (sym is)
+    (subst (λ n. IsStatusOf fits told (map (λ line. line.name) lines) old n) (sym (same refl))
+    (of_lines fits told lines old mid failures failures' fitting all))
+of_written fits status told false lines old mid new failures failures' fitting all same is = inl is
+
+-- what became of a stream is an outcome of `pipe`
+pub fits_stream : (key : List ℕ) (shape : ShapeView) (most : ℕ) (left left' : Option (List ℕ)) (failures failures' : Option ℕ)
+    (taken taken' : Option (List ℕ)) (refusals refusals' : Option ℕ) (device : ℕ) (outcome : FileOutcome) (voids : List ℕ)
+    → WorksStream key shape most left left' failures failures' taken taken' refusals refusals' device outcome voids
+    → IsOfPiping outcome
+fits_stream _ _ _ _ _ _ _ _ _ _ _ _ (Sealed number bytes) _ _ = tt
+fits_stream _ _ _ _ _ _ _ _ _ _ _ _ (Failed NoNumber) _ _ = tt
+fits_stream _ _ _ _ _ _ _ _ _ _ _ _ (Failed (Unsealed fault)) _ _ = tt
+fits_stream _ _ _ _ _ _ _ _ _ _ _ _ (Failed CannotOpen) _ never = never
+fits_stream _ _ _ _ _ _ _ _ _ _ _ _ (Failed NoSuffix) _ never = never
+fits_stream _ _ _ _ _ _ _ _ _ _ _ _ (Failed OutputExists) _ never = never
+fits_stream _ _ _ _ _ _ _ _ _ _ _ _ (Failed CannotCreate) _ never = never
+fits_stream _ _ _ _ _ _ _ _ _ _ _ _ (Failed OutOfMemory) _ never = never
+fits_stream _ _ _ _ _ _ _ _ _ _ _ _ (Failed AnotherLabel) _ never = never
+fits_stream _ _ _ _ _ _ _ _ _ _ _ _ (Failed (Unopened fault)) _ never = never
+fits_stream _ _ _ _ _ _ _ _ _ _ _ _ (Opened bytes) _ never = never
+fits_stream _ _ _ _ _ _ _ _ _ _ _ _ (Good bytes) _ never = never
+fits_stream _ _ _ _ _ _ _ _ _ _ _ _ (Shown bytes facts) _ never = never
+
+-- the same for outcomes that fit in another way too
+pub weaker : (fits others : List ℕ → FileOutcome → Type 0) (status : ℕ) (names : List (List ℕ)) (old new : Option (List ℕ))
+    → ((name : List ℕ) (outcome : FileOutcome) → fits name outcome → others name outcome)
+    → IsStatusOf fits status names old new → IsStatusOf others status names old new
+weaker fits others status names old new so = ⊎_elim (λ two. inl two)
+    (λ some. inr (
+      some.0,
+      some.1,
+      All-weaker (λ line. fits line.name line.outcome) (λ line. others line.name line.outcome)
+          (λ line. so line.name line.outcome) some.0 some.2,
+      some.3,
+      some.4,
+    ))
 
 -- after the lines of the files that are kept
-pub with_kept : (matches : ArgMatches) (skip : Bool) (status : ℕ) (names kept others : List (List ℕ))
-    (old mid new : Option (List ℕ)) → IsFlag matches (codes "skip-existing") skip → IsSplit names kept others
-    → (skip ≡ false → kept ≡ []) → Appends old mid (kept_text kept) → IsStatusOf status others mid new
-    → IsStatusOver matches status names old new
-with_kept matches skip status names kept others old mid new flag split none first of = ⊎_elim (λ two. inl two)
+pub with_kept : (fits : List ℕ → FileOutcome → Type 0) (matches : ArgMatches) (skip : Bool) (status : ℕ)
+    (names kept others : List (List ℕ)) (old mid new : Option (List ℕ)) → IsFlag matches (codes "skip-existing") skip
+    → IsSplit names kept others → (skip ≡ false → kept ≡ []) → Appends old mid (kept_text kept)
+    → IsStatusOf fits status others mid new → IsStatusOver fits matches status names old new
+with_kept fits matches skip status names kept others old mid new flag split none first of = ⊎_elim (λ two. inl two)
     (λ some. inr (
       skip,
       flag,
@@ -42,12 +85,14 @@ with_kept matches skip status names kept others old mid new flag split none firs
       some.0,
       some.1,
       some.2,
-      Appends-trans old mid new (kept_text kept) (lines_text some.0) first some.3,
+      some.3,
+      Appends-trans old mid new (kept_text kept) (lines_text some.0) first some.4,
     )) of
 
 -- the same for equal arguments
-pub moved : (status : ℕ) (names names' : List (List ℕ)) (old old' new new' : Option (List ℕ)) → names ≡ names' → old ≡ old'
-    → new ≡ new' → IsStatusOf status names old new → IsStatusOf status names' old' new'
-moved status names names' old old' new new' n o e of =
-    subst (λ e'. IsStatusOf status names' old' e') e
-    (subst (λ o'. IsStatusOf status names' o' new) o (subst (λ n'. IsStatusOf status n' old new) n of))
+pub moved : (fits : List ℕ → FileOutcome → Type 0) (status : ℕ) (names names' : List (List ℕ))
+    (old old' new new' : Option (List ℕ)) → names ≡ names' → old ≡ old'
+    → new ≡ new' → IsStatusOf fits status names old new → IsStatusOf fits status names' old' new'
+moved fits status names names' old old' new new' n o e of =
+    subst (λ e'. IsStatusOf fits status names' old' e') e
+    (subst (λ o'. IsStatusOf fits status names' o' new) o (subst (λ n'. IsStatusOf fits status n' old new) n of))

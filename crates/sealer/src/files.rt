@@ -1,5 +1,8 @@
 //! What a run needs before its files: the key, the list of their names, where its lines go, and its progress.
-ghost use Rattle.std.specs.Prelude.{◌<◌, ◌≡◌, IfOk, IfSome};
+ghost use Rattle.std.specs.Prelude.{◌<◌, ◌≡◌, ◌++◌, ℕ, IfOk, IfSome, List, map, option_map, unwrap_or};
+ghost use Rattle.command_line.specs.Given.{files_given};
+ghost use Rattle.command_line.specs.Names.{IsListed};
+ghost use Rattle.sealer.specs.Names.{IsListText};
 
 use crate::{Streams, Terminals};
 use clap::ArgMatches;
@@ -22,7 +25,7 @@ pub(crate) fn key_of<R: Files + AllocGlobal>(rt: &R, path: &str) -> Result<Key, 
 
 /// A list of names that was read.
 #[derive(Drop)]
-pub(crate) struct List {
+pub(crate) struct NameList {
     text: Vec<u8>,
     separator: char,
 }
@@ -32,8 +35,10 @@ pub(crate) fn read_list<R: Files + AllocGlobal, I: Read + Drop>(
     rt: &R,
     matches: &ArgMatches<'_>,
     input: I,
-) -> Result<Option<List>, UsageFault>
+) -> Result<Option<NameList>, UsageFault>
     ensures ascii { IfOk result (λ list. IfSome list (λ one. one.separator < 128)) }
+    ensures text { IfOk result (λ list. IsListText matches.now (I.remaining input)
+        (option_map (λ one. one.text.items) list) (unwrap_or (option_map (λ one. one.separator) list) 10)) }
 {
     let Some(ListRequest { path, separator }) = list_request(matches) else {
         return Ok(None);
@@ -46,11 +51,13 @@ pub(crate) fn read_list<R: Files + AllocGlobal, I: Read + Drop>(
             Err(_) => return Err(UsageFault::CannotReadList),
         }
     };
-    Ok(Some(List { text, separator }))
+    Ok(Some(NameList { text, separator }))
 }
 
 // Reads an input to its end.
-fn read_whole<I: Read + Drop>(alloc: Global, input: I) -> Result<Vec<u8>, UsageFault> {
+fn read_whole<I: Read + Drop>(alloc: Global, input: I) -> Result<Vec<u8>, UsageFault>
+    ensures text { IfOk result (λ text. IfSome (I.remaining input) (λ bytes. text.items ≡ bytes)) }
+{
     let mut input = input;
     let mut text = Vec::new(alloc);
     match input.read_to_end(&mut text) {
@@ -64,9 +71,13 @@ fn read_whole<I: Read + Drop>(alloc: Global, input: I) -> Result<Vec<u8>, UsageF
 pub(crate) fn names_of<'n>(
     alloc: Global,
     matches: &'n ArgMatches<'_>,
-    list: &'n Option<List>,
+    list: &'n Option<NameList>,
 ) -> Result<Vec<&'n str>, UsageFault>
     requires ascii { IfSome list.now (λ one. one.separator < 128) }
+    ensures names { IfOk result (λ names. (listed : List (List ℕ))
+        × IsListed (unwrap_or (option_map (λ one. one.separator) list.now) 10)
+        (option_map (λ one. one.text.items) list.now) listed
+        × (map (λ name. name.now) names.items ≡ files_given matches.now ++ listed)) }
 {
     let given = matches.get_strs("FILE").unwrap_or(&[]);
     match list {

@@ -5,14 +5,14 @@
 //! ledger or the journal file, or of the program's own reading and writing.
 #![tactic(auto)]
 
-ghost use Rattle.std.specs.Prelude.{◌≡◌, ◌⊎◌, ◌∷◌, ◌++◌, ℕ, IfSome, List, Some, [], codes};
+ghost use Rattle.std.specs.Prelude.{◌≡◌, ◌⊎◌, ◌∷◌, ◌++◌, IfSome, Some, [], codes};
 ghost use Rattle.clap.specs.Matches.{subcommand_name_of};
 ghost use Rattle.io_core.specs.Streams.{Appends};
 ghost use Rattle.journal_core.specs.declared.verdict.Verdict.{Verdict};
 ghost use Rattle.ledger_core.specs.Verdict.{IsVerdict, verdict_text};
 ghost use Rattle.engine_core.specs.Status.{status_of};
 ghost use Rattle.clap.specs.declared.parser.matches.ArgMatches.{ArgMatches};
-ghost use Rattle.sealer.specs.Status.{IsStatusOf, IsStatusOver};
+ghost use Rattle.sealer.specs.Status.{AreAsked, IsOfCommand, IsOfPiping, IsStatusOf, IsStatusOfRun};
 
 mod files;
 mod kept;
@@ -81,7 +81,7 @@ pub(crate) struct Terminals {
 
 /// A command over files.
 #[derive(Clone, Copy)]
-enum OverFiles {
+pub(crate) enum OverFiles {
     Seal,
     Read(Reading),
 }
@@ -159,13 +159,18 @@ fn run<
     input: I,
     streams: Streams<O, E>,
 ) -> (u8, Streams<O, E>)
-    ensures files { (subcommand_name_of matches.now ≡ Some (codes "seal"))
-        ⊎ (subcommand_name_of matches.now ≡ Some (codes "open"))
-        ⊎ (subcommand_name_of matches.now ≡ Some (codes "verify"))
-        → (asked : ArgMatches) × (names : List (List ℕ)) × IsStatusOver asked result.0 names
-        (O.contents streams.output.0) (O.contents result.1.output.0) }
+    ensures seal { subcommand_name_of matches.now ≡ Some (codes "seal") → (asked : ArgMatches)
+        × AreAsked matches.now asked × IsStatusOfRun (IsOfCommand OverFiles.Seal asked) asked (I.remaining input)
+        result.0 (O.contents streams.output.0) (O.contents result.1.output.0) }
+    ensures open { subcommand_name_of matches.now ≡ Some (codes "open") → (asked : ArgMatches)
+        × AreAsked matches.now asked × IsStatusOfRun (IsOfCommand (OverFiles.Read Reading.Open) asked) asked
+        (I.remaining input) result.0 (O.contents streams.output.0) (O.contents result.1.output.0) }
+    ensures verify { subcommand_name_of matches.now ≡ Some (codes "verify") → (asked : ArgMatches)
+        × AreAsked matches.now asked × IsStatusOfRun (IsOfCommand (OverFiles.Read Reading.Verify) asked) asked
+        (I.remaining input) result.0 (O.contents streams.output.0) (O.contents result.1.output.0) }
     ensures stream { subcommand_name_of matches.now ≡ Some (codes "pipe")
-        → IsStatusOf result.0 (codes "-" ∷ []) (E.contents streams.errors.0) (E.contents result.1.errors.0) }
+        → IsStatusOf (λ name. IsOfPiping) result.0 (codes "-" ∷ [])
+        (E.contents streams.errors.0) (E.contents result.1.errors.0) }
     ensures verdict { subcommand_name_of matches.now ≡ Some (codes "audit")
         → (result.0 ≡ FAULT) ⊎ ((verdict : Verdict) × (result.0 ≡ status_of verdict)
         × IfSome (I.remaining input) (λ journal. IsVerdict journal verdict)
@@ -202,7 +207,7 @@ fn over_files<
     input: I,
     streams: Streams<O, E>,
 ) -> (u8, Streams<O, E>)
-    ensures status { (names : List (List ℕ)) × IsStatusOver matches.now result.0 names
+    ensures status { IsStatusOfRun (IsOfCommand command matches.now) matches.now (I.remaining input) result.0
         (O.contents streams.output.0) (O.contents result.1.output.0) }
 {
     let list = match read_list(rt, matches, input) {

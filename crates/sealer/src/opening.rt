@@ -1,11 +1,11 @@
 //! The commands that open and verify.
 ghost use Rattle.std.specs.Prelude.{◌<◌, ◌≤◌, ◌≡◌, length, map, option_map};
 ghost use Rattle.command_core.specs.Work.{AreWorked, IsOfOpening, IsOfVerifying, Opening, Verifying};
-ghost use Rattle.sealer.specs.Status.{IsStatusOf, IsStatusOver};
+ghost use Rattle.sealer.specs.Status.{IsOfCommand, IsOfReading, IsStatusOf, IsStatusOver};
 
 use crate::files::{clear, key_of, outs_of, progress_of, streams_of};
 use crate::kept::worked_of;
-use crate::{Streams, complain};
+use crate::{OverFiles, Streams, complain};
 use clap::ArgMatches;
 use command_line::{OpenRequest, open_request};
 use container_core::{Key, MAX_OPENED};
@@ -38,8 +38,8 @@ pub(crate) fn open<
     names: &[&str],
     streams: Streams<O, E>,
 ) -> (u8, Streams<O, E>)
-    ensures status { IsStatusOver matches.now result.0 (map (λ name. name.now) names.now)
-        (O.contents streams.output.0) (O.contents result.1.output.0) }
+    ensures status { IsStatusOver (IsOfCommand (OverFiles.Read reading) matches.now) matches.now result.0
+        (map (λ name. name.now) names.now) (O.contents streams.output.0) (O.contents result.1.output.0) }
 {
     let request = match open_request(matches, names) {
         Ok(request) => request,
@@ -78,8 +78,8 @@ fn open_to<
     requires files { 0 < length request.now.files.now }
     requires workers { (0 < request.now.workers) × (request.now.workers ≤ MAX_WORKERS) }
     requires max_bytes { request.now.max_bytes ≤ MAX_OPENED }
-    ensures status { IsStatusOf result.0 (map (λ name. name.now) request.now.files.now) (O.contents streams.output.0)
-        (O.contents result.1.output.0) }
+    ensures status { IsStatusOf (IsOfReading reading request.now.show) result.0
+        (map (λ name. name.now) request.now.files.now) (O.contents streams.output.0) (O.contents result.1.output.0) }
 {
     let mut folder = folder;
     let progress = folder.progress;

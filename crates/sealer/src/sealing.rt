@@ -12,12 +12,12 @@ ghost use Rattle.sqlite.specs.State.{HasCleanDisk};
 ghost use Rattle.reserve_core.specs.NextRun.{IsFound};
 ghost use Rattle.sealer_core.specs.Complaints.{Complains};
 ghost use Rattle.sealer_core.specs.Piping.{HasSealedStream};
-ghost use Rattle.sealer_core.specs.Sealing.{FoldsFiles, Happened, HasSealed, IsWritten, ReservesFilesOnce};
-ghost use Rattle.sealer.specs.Status.{IsStatusOf, IsStatusOver};
+ghost use Rattle.sealer_core.specs.Sealing.{FoldsFiles, Happened, HasSealed, IsOfSealing, IsWritten, ReservesFilesOnce};
+ghost use Rattle.sealer.specs.Status.{IsOfCommand, IsOfPiping, IsStatusOf, IsStatusOver};
 
 use crate::files::{clear, key_of, outs_of, progress_of, streams_of};
 use crate::kept::worked_of;
-use crate::{FAULT, Streams, complain};
+use crate::{FAULT, OverFiles, Streams, complain};
 use clap::ArgMatches;
 use command_line::{PipeRequest, SealRequest, UsageFault, pipe_request, seal_request};
 use container_core::Key;
@@ -70,8 +70,8 @@ pub(crate) fn seal<
     names: &[&str],
     streams: Streams<O, E>,
 ) -> (u8, Streams<O, E>)
-    ensures status { IsStatusOver matches.now result.0 (map (λ name. name.now) names.now)
-        (O.contents streams.output.0) (O.contents result.1.output.0) }
+    ensures status { IsStatusOver (IsOfCommand OverFiles.Seal matches.now) matches.now result.0
+        (map (λ name. name.now) names.now) (O.contents streams.output.0) (O.contents result.1.output.0) }
 {
     let request = match seal_request(matches, names) {
         Ok(request) => request,
@@ -113,8 +113,8 @@ fn seal_to<
     requires window { (0 < request.now.window) × (request.now.window ≤ MAX_WINDOW) }
     requires lanes { (0 < request.now.lanes) × (request.now.lanes ≤ MAX_LANES) }
     requires max_bytes { request.now.max_bytes ≤ MAX_BYTES }
-    ensures status { IsStatusOf result.0 (map (λ name. name.now) request.now.files.now) (O.contents streams.output.0)
-        (O.contents result.1.output.0) }
+    ensures status { IsStatusOf (λ name. IsOfSealing) result.0 (map (λ name. name.now) request.now.files.now)
+        (O.contents streams.output.0) (O.contents result.1.output.0) }
 {
     let mut folder = folder;
     // Sealing a ledger would make a copy of it.
@@ -160,7 +160,7 @@ pub(crate) fn pipe<
     input: I,
     streams: Streams<O, E>,
 ) -> (u8, Streams<O, E>)
-    ensures status { IsStatusOf result.0 (codes "-" ∷ []) (E.contents streams.errors.0)
+    ensures status { IsStatusOf (λ name. IsOfPiping) result.0 (codes "-" ∷ []) (E.contents streams.errors.0)
         (E.contents result.1.errors.0) }
 {
     let request = match pipe_request(matches) {
@@ -189,7 +189,7 @@ fn pipe_to<
     requires workers { (0 < request.now.workers) × (request.now.workers ≤ MAX_WORKERS) }
     requires depth { (0 < request.now.depth) × (request.now.depth ≤ MAX_DEPTH) }
     requires most { 0 < request.now.max_chunks }
-    ensures status { IsStatusOf result.0 (codes "-" ∷ []) (E.contents streams.errors.0)
+    ensures status { IsStatusOf (λ name. IsOfPiping) result.0 (codes "-" ∷ []) (E.contents streams.errors.0)
         (E.contents result.1.errors.0) }
 {
     let ledger = ledger_of(request.ledger, request.may_make);
@@ -246,6 +246,27 @@ fn ledger_of(path: &str, may_make: bool) -> LedgerPath<'_>
     LedgerPath { path, may_make }
 }
 
+// The options of this request.
+fn seal_options<'q>(request: &'q SealRequest<'q, '_>) -> SealOptions<'q>
+    ensures device { result.device ≡ request.now.device }
+    ensures files { result.files.now ≡ request.now.files.now }
+    ensures workers { result.workers ≡ request.now.workers }
+    ensures lanes { result.lanes ≡ request.now.lanes }
+    ensures window { result.window ≡ request.now.window }
+    ensures max_bytes { result.max_bytes ≡ request.now.max_bytes }
+    ensures shape { result.shape.now ≡ request.now.shape }
+{
+    SealOptions {
+        device: request.device,
+        files: request.files,
+        workers: request.workers,
+        lanes: request.lanes,
+        window: request.window,
+        max_bytes: request.max_bytes,
+        shape: &request.shape,
+    }
+}
+
 /// Opens the ledger file that is asked for, and seals the files under a range reserved there. Returns the status, with
 /// the ledger file. `S` denotes what the ledger file and its log hold.
 fn seal_from<
@@ -299,18 +320,27 @@ fn seal_from<
     // The ledger file can't be used: no input or output was touched, no line and no journal was written.
     ensures unopened { OnErr result ((folder.new ≡ folder.old) × (out.new ≡ out.old)) }
 {
-    let options = SealOptions {
-        device: request.device,
-        files: request.files,
-        workers: request.workers,
-        lanes: request.lanes,
-        window: request.window,
-        max_bytes: request.max_bytes,
-        shape: &request.shape,
-    };
+    let options = seal_options(request);
     let mut file = open_ledger(host, &ledger_of(request.ledger, request.may_make), start)?;
     let status = seal_all(rt, rt.alloc(), key, &mut file, folder, &options, out);
     Ok((status, file))
+}
+
+// The options of this request.
+fn pipe_options<'q>(request: &'q PipeRequest<'_>) -> PipeOptions<'q>
+    ensures device { result.device ≡ request.now.device }
+    ensures workers { result.workers ≡ request.now.workers }
+    ensures depth { result.depth ≡ request.now.depth }
+    ensures max_chunks { result.max_chunks ≡ request.now.max_chunks }
+    ensures shape { result.shape.now ≡ request.now.shape }
+{
+    PipeOptions {
+        device: request.device,
+        workers: request.workers,
+        depth: request.depth,
+        max_chunks: request.max_chunks,
+        shape: &request.shape,
+    }
 }
 
 /// Opens the ledger file that is asked for, and seals a stream under a range of one number reserved there. Returns the
@@ -364,13 +394,7 @@ fn pipe_from<
     // The ledger file can't be used: nothing was read or written, including lines and the journal.
     ensures unopened { OnErr result ((reader.new ≡ reader.old) × (writer.new ≡ writer.old) × (out.new ≡ out.old)) }
 {
-    let options = PipeOptions {
-        device: request.device,
-        workers: request.workers,
-        depth: request.depth,
-        max_chunks: request.max_chunks,
-        shape: &request.shape,
-    };
+    let options = pipe_options(request);
     let mut file = open_ledger(host, &ledger_of(request.ledger, request.may_make), start)?;
     let alloc = rt.alloc();
     let status = pipe_all(rt, alloc, key, &mut file, reader, writer, &options, out);

@@ -1,7 +1,9 @@
-use Rattle.std.proofs.Common.{inl, inr, ⊎_elim, [], ◌∷◌, ◌∙◌}
+use Rattle.std.proofs.Common.{inl, ⊎_elim, [], ◌∷◌, ◌∙◌}
+use Rattle.std.proofs.lemmas.List.Elements.{All-cons, All-nil}
 use Rattle.sealer_core.specs.Piping.{stream_name}
 use Rattle.sealer_core.specs.Sealing.{line_of}
-use Rattle.sealer.proofs.Statuses.{of_written}
+use Rattle.sealer.specs.Status.{IsOfPiping}
+use Rattle.sealer.proofs.Statuses.{fits_stream, of_written}
 use Rattle.sealer.proofs.sealing.pipe_to.Goals.{in-Ok-pipe_from, in-Err-pipe_from}
 use Rattle.sealer.proofs.sealing.pipe_to.Goals as goal
 
@@ -13,7 +15,7 @@ returns g c = record {
         ⊎_elim (λ none. inl (w.status-is ∙ none.0))
         (λ all.
         let (range, history, told, written, lines, failures, folds, lawful, sealed, journal, is, same, cut) = all in
-        of_written c.match-pipe_from.status told written (line_of stream_name sealed.outcome ∷ []) _ lines _ _ _ sealed.told (λ yes. (same yes).0)
+        of_written (λ name. IsOfPiping) c.match-pipe_from.status told written (line_of stream_name sealed.outcome ∷ []) _ lines _ _ _ (All-cons (λ line. IsOfPiping line.outcome) (line_of stream_name sealed.outcome) [] (fits_stream _ _ _ _ _ _ _ _ _ _ _ _ sealed.outcome sealed.piped.voids sealed.piped.works) (All-nil (λ line. IsOfPiping line.outcome))) sealed.told (λ yes. (same yes).0)
         (w.status-is ∙ is))
         ended
     | in-Err-pipe_from w ↦ inl (w.status-is ∙ w.complain-status.ensures.status)

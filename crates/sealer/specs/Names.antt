@@ -1,0 +1,28 @@
+-- The names of the FILEs of a run, from the command line and from the list that it asks for.
+use Rattle.std.specs.Prelude.{◌≡◌, ℕ, List, ◌++◌, Option, Some, None, codes, is_some, IfSome}
+use Rattle.clap.specs.Matches.{first_value, found_of, one_text}
+use Rattle.clap.specs.declared.parser.matches.ArgMatches.{ArgMatches}
+use Rattle.command_line.specs.Given.{files_given}
+use Rattle.command_line.specs.Names.{IsListed}
+
+-- what ends each name of a list: a byte 0 with `--null`, else a line feed
+pub record IsSeparator (matches : ArgMatches) (separator : ℕ) : Type 0 where
+  pub given : one_text (found_of matches) (codes "null") ≡ Some (codes "true") → separator ≡ 0
+  pub other : one_text (found_of matches) (codes "null") ≡ Some (codes "false") → separator ≡ 10
+  pub without : one_text (found_of matches) (codes "null") ≡ None → separator ≡ 10
+
+-- The text of the list that is asked for, if one is: from `-` it is all that the input had.
+pub record IsListText (matches : ArgMatches) (input text : Option (List ℕ)) (separator : ℕ) : Type 0 where
+  pub asked : is_some text ≡ is_some (first_value (found_of matches) (codes "files-from"))
+  pub separated : IfSome text (λ _. IsSeparator matches separator)
+  pub whole : first_value (found_of matches) (codes "files-from") ≡ Some (codes "-")
+      → IfSome input (λ bytes. text ≡ Some bytes)
+
+-- The names of a run: those of the command line, then those of its list.
+pub record AreNames (matches : ArgMatches) (input : Option (List ℕ)) (names : List (List ℕ)) : Type 0 where
+  pub text : Option (List ℕ)
+  pub separator : ℕ
+  pub read : IsListText matches input text separator
+  pub listed : List (List ℕ)
+  pub each : IsListed separator text listed
+  pub all : names ≡ files_given matches ++ listed
