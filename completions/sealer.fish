@@ -36,6 +36,7 @@ complete -c sealer -n '__sealer_command seal open verify' -l progress -a 'termin
 complete -c sealer -n '__sealer_command seal open' -l into -xa '(__fish_complete_directories)' -d 'Put the outputs into this folder, each under the base name of its FILE'
 complete -c sealer -n '__sealer_command seal open' -l skip-existing -d 'Skip each FILE whose output exists: its line says kept, not failed'
 complete -c sealer -n '__sealer_command seal open' -l sync -d 'Sync each output and its folder before its line is printed'
+complete -c sealer -n '__sealer_command seal open' -l private -d 'Create each output with the mode 0600: for its owner only'
 
 complete -c sealer -n '__sealer_command open verify' -l max-bytes -x -a 'max' -d 'Refuse a FILE of more plaintext bytes, 0 to 4503599626321920, or max'
 complete -c sealer -n '__sealer_command open verify' -l label -x -d 'Accept only FILEs with this label, 0 to 255 bytes of UTF-8'

@@ -368,6 +368,58 @@ done
 run verify --key "$key" --sync files/numbers.stm
 wants verify-has-no-sync 2 '' "begins error: unexpected argument '--sync' found"
 
+# Modes of outputs: what the umask leaves, or with --private 0600, also while an output is a part. That of a FILE, or of a journal, is another matter.
+fresh
+mkdir files/into
+cp numbers.plain files/a
+cp numbers.plain files/b
+chmod 640 files/a files/numbers.stm
+masked() { (umask "$1"; exec "$sealer" "${@:2}") > out 2> err; status=$?; }
+modes() { stat -c %a "$@" | tr '\n' ' '; }
+masked 022 seal --key "$key" --ledger files/ledger --device 1 --private --journal files/journal files/a files/b
+wants private-seal 0 'sealed files/a file 0 bytes 1492
+sealed files/b file 1 bytes 1492' ''
+is private-containers test "$(modes files/a.stm files/b.stm files/journal files/a)" = '600 600 644 640 '
+masked 022 open --key "$key" --private files/numbers.stm
+wants private-open 0 'opened files/numbers.stm bytes 1492' ''
+is private-plaintext test "$(modes files/numbers)" = '600 '
+masked 022 open --key "$key" --into files/into files/numbers.stm
+wants open-for-all 0 'opened files/numbers.stm bytes 1492' ''
+masked 027 seal --key "$key" --ledger files/ledger --device 1 --into files/into files/a
+wants seal-for-some 0 'sealed files/a file 2 bytes 1492' ''
+is modes-by-the-umask test "$(modes files/into/numbers files/into/a.stm)" = '644 640 '
+masked 0277 open --key "$key" --private --into files/into files/b.stm
+wants private-by-the-umask 0 'opened files/b.stm bytes 1492' ''
+is private-takes-from-the-umask test "$(modes files/into/b)" = '400 '
+mkfifo files/waits
+mode_of_part() {
+    for _ in $(seq 200); do [ -z "$(parts files)" ] || break; sleep 0.05; done
+    stat -c %a $(parts files) > part
+    head -c 100 /dev/zero
+}
+export -f mode_of_part parts
+for words in '' --private; do
+    timeout 60 bash -c 'mode_of_part > files/waits' & masked 022 seal --key "$key" --ledger files/ledger --device 1 $words files/waits
+    wait
+    is "mode-of-a-part $words" test "$status $(cat part) $(modes files/waits.stm)" = "0 $(test -z "$words" && echo '644 644' || echo '600 600') "
+    rm files/waits.stm
+done
+if command -v strace >/dev/null; then
+    rm files/a.stm files/numbers
+    for words in 'seal --ledger files/ledger --device 1 files/a' 'open files/numbers.stm'; do
+        strace -f -o calls -e trace=openat,link,chmod,fchmod,fchmodat "$sealer" ${words%% *} --key "$key" --private ${words#* } > out 2> err
+        status=$?
+        is "private-from-the-first-byte ${words%% *}" test "$status $(grep -c 'part".*O_CREAT.*, 0600) = ' calls) $(grep -c 'part".*O_CREAT.*, 0666\|chmod' calls)" = '0 1 0'
+    done
+    rm files/a.stm
+    strace -f -o calls -e trace=link -e inject=link:error=EPERM "$sealer" seal --key "$key" --ledger files/ledger --device 1 --private files/a > out 2> err
+    is private-without-links test "$? $(modes files/a.stm)" = '0 600 '
+fi
+run verify --key "$key" --private files/numbers.stm
+wants verify-is-not-private 2 '' "begins error: unexpected argument '--private' found"
+run pipe --key "$key" --ledger files/ledger --device 1 --private < numbers.plain
+wants pipe-is-not-private 2 '' "begins error: unexpected argument '--private' found"
+
 # An output that failed is removed only while its name is its own.
 fresh
 mkfifo files/waits

@@ -11,7 +11,7 @@ SECOND_BOUNDS = {"--exponent": (12, 20)}
 LABELS = ("", "a", "two words", "\u00e4" * 127 + "b", "x" * 255, "\n")
 NO_NUMBERS = ("", " ", "x", "1x", "1.0", "0x1", "1e1", "1,0", "--", "99999999999999999999", "\uff11", "one", "1 1")
 # Options of other commands.
-NOT_OF_PIPE = ("--lanes=2", "--window=2", "--max-bytes=1", "--show", "--max-chunk=1")
+NOT_OF_PIPE = ("--lanes=2", "--window=2", "--max-bytes=1", "--show", "--max-chunk=1", "--private")
 UNKNOWN = ("--worker", "--Workers", "--keys", "--key-file=key", "-k", "-w1", "--dry-run", "--max_bytes=1", "-1")
 # The commands that seal; `pipe` takes no file.
 SEALS = ("seal", "pipe")
@@ -47,6 +47,8 @@ def lawful_options(rng, command, first_only):
         given["--force-terminal"] = None
     if not first_only and command == "verify" and rng.random() < 0.2:
         given["--show"] = None
+    if command in ("seal", "open") and rng.random() < 0.1:
+        given["--private"] = None
     return given
 
 

@@ -106,7 +106,7 @@ pub(crate) static FILE_ROWS: [Row; 4] = [
 ];
 
 /// What `seal` and `open` take in addition, for their outputs.
-pub(crate) static OUTPUT_ROWS: [Row; 3] = [
+pub(crate) static OUTPUT_ROWS: [Row; 4] = [
     Row {
         name: "into",
         takes: Takes::Folder,
@@ -122,6 +122,11 @@ pub(crate) static OUTPUT_ROWS: [Row; 3] = [
         name: "sync",
         takes: Takes::Nothing,
         help: "Sync each output and its folder before its line is printed",
+    },
+    Row {
+        name: "private",
+        takes: Takes::Nothing,
+        help: "Create each output with the mode 0600: for its owner only",
     },
 ];
 

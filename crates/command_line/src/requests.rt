@@ -70,6 +70,8 @@ pub struct SealRequest<'m, 'a> {
     pub skip: bool,
     /// Whether an output and its name are synced to the disk before its line is printed.
     pub sync: bool,
+    /// Whether outputs are created for their owner only.
+    pub private: bool,
 }
 
 /// Returns the request of `seal` for these files. Errors, in this order: `NoFiles` if there are none, `LanesAndWorkers`
@@ -103,6 +105,7 @@ pub fn seal_request<'m, 'a>(
         ≡ first_value (found_of matches.now) (codes "into")) }
     ensures skip { IfOk result (λ request. IsFlag matches.now (codes "skip-existing") request.skip) }
     ensures sync { IfOk result (λ request. IsFlag matches.now (codes "sync") request.sync) }
+    ensures private { IfOk result (λ request. IsFlag matches.now (codes "private") request.private) }
 
     ensures shape { IfOk result (λ request. request.shape ≡ shape_asked (number_given matches.now (codes "exponent"))
         (first_value (found_of matches.now) (codes "label"))) }
@@ -146,6 +149,7 @@ pub fn seal_request<'m, 'a>(
         into: matches.get_str("into"),
         skip: matches.get_flag("skip-existing"),
         sync: matches.get_flag("sync"),
+        private: matches.get_flag("private"),
     })
 }
 
@@ -239,6 +243,8 @@ pub struct OpenRequest<'m, 'a> {
     pub skip: bool,
     /// Whether an output and its name are synced to the disk before its line is printed. `verify` has no such option.
     pub sync: bool,
+    /// Whether outputs are created for their owner only. `verify` has no such option.
+    pub private: bool,
 }
 
 /// Returns the request of `open` or `verify` for these files. `NoFiles` if there are none, then `LabelTooLong` if the
@@ -263,6 +269,7 @@ pub fn open_request<'m, 'a>(
         ≡ first_value (found_of matches.now) (codes "into")) }
     ensures skip { IfOk result (λ request. IsFlag matches.now (codes "skip-existing") request.skip) }
     ensures sync { IfOk result (λ request. IsFlag matches.now (codes "sync") request.sync) }
+    ensures private { IfOk result (λ request. IsFlag matches.now (codes "private") request.private) }
     ensures too_long { result ≡ Err UsageFault.LabelTooLong
         → IfSome (first_value (found_of matches.now) (codes "label")) (λ label. MAX_LABEL < length label) }
 {
@@ -290,6 +297,7 @@ pub fn open_request<'m, 'a>(
         into: matches.get_str("into"),
         skip: matches.get_flag("skip-existing"),
         sync: matches.get_flag("sync"),
+        private: matches.get_flag("private"),
     })
 }
 

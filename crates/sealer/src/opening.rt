@@ -59,7 +59,8 @@ pub(crate) fn open<
         ..request
     };
     let progress = progress_of(rt, matches, request.files, streams.terminals.errors);
-    let folder = SystemFiles::new(rt, request.into, request.sync, progress.as_ref());
+    let (sync, private) = (request.sync, request.private);
+    let folder = SystemFiles::new(rt, request.into, sync, private, progress.as_ref());
     open_to(rt, reading, &request, folder, streams)
 }
 

@@ -91,7 +91,8 @@ pub(crate) fn seal<
         ..request
     };
     let progress = progress_of(rt, matches, request.files, streams.terminals.errors);
-    let folder = SystemFiles::new(rt, request.into, request.sync, progress.as_ref());
+    let (sync, private) = (request.sync, request.private);
+    let folder = SystemFiles::new(rt, request.into, sync, private, progress.as_ref());
     seal_to(rt, host, &request, folder, streams)
 }
 

@@ -1,5 +1,7 @@
 //! The file system as a folder.
-use crate::outputs::{self, Output, Outputs, create_new};
+ghost use Rattle.std.specs.Prelude.{◌≡◌, true, false};
+
+use crate::outputs::{self, Output, Outputs, PRIVATE, SHARED, create_new};
 use crate::own::{FileId, OwnFiles, OwnPaths, is_of_ledger};
 use crate::progress::{Counted, Progress};
 use command_core::{Folder, FolderFault, OpeningFolder, Plaintext};
@@ -29,6 +31,8 @@ pub struct SystemFiles<'p, 'r, R: Files + AllocGlobal + Clock + Eprint> {
     pub into: Option<&'r str>,
     /// Whether `finish` syncs an output and its name to the disk.
     pub sync: bool,
+    /// The mode with which outputs are created. The system takes away what the umask has.
+    pub mode: u32,
     /// Counts the bytes read of files. `None` if no progress line was asked for.
     pub progress: Option<&'p Progress<'r, R>>,
     outputs: Outputs,
@@ -43,12 +47,18 @@ impl<'p, 'r, R: Files + AllocGlobal + Clock + Eprint> SystemFiles<'p, 'r, R> {
         rt: &'r R,
         into: Option<&'r str>,
         sync: bool,
+        private: bool,
         progress: Option<&'p Progress<'r, R>>,
-    ) -> SystemFiles<'p, 'r, R> {
+    ) -> SystemFiles<'p, 'r, R>
+        ensures sync { result.sync ≡ sync }
+        ensures private { private ≡ true → result.mode ≡ PRIVATE }
+        ensures shared { private ≡ false → result.mode ≡ SHARED }
+    {
         SystemFiles {
             rt,
             into,
             sync,
+            mode: if private { PRIVATE } else { SHARED },
             progress,
             outputs: Outputs::new(rt),
             own_paths: None,
@@ -118,7 +128,7 @@ pub fn new_journal<R: Files + AllocGlobal>(
             Err(_) => Err(JournalFault::CannotCreate),
         };
     }
-    let journal = match create_new(rt, path) {
+    let journal = match create_new(rt, path, SHARED) {
         Ok(journal) => journal,
         Err(FolderFault::Exists) => return Err(JournalFault::Exists),
         Err(FolderFault::Failed) => return Err(JournalFault::CannotCreate),
@@ -193,7 +203,7 @@ impl<'p, 'r, R: Files + AllocGlobal + Clock + Eprint> Folder for SystemFiles<'p,
         let Some(path) = path_of(self.rt.alloc(), self.into, name) else {
             return Err(FolderFault::Failed);
         };
-        match self.outputs.create(self.rt, path, self.sync) {
+        match self.outputs.create(self.rt, path, self.sync, self.mode) {
             Ok(output) => Ok(ToWrite(output)),
             Err(fault) => Err(fault),
         }

@@ -9,10 +9,17 @@ ghost use Rattle.std.specs.Prelude.{◌≡◌, ◌≢◌, Err};
 use crate::own::FileId;
 use command_core::FolderFault;
 use std::alloc::Global;
-use std::fs::{File, OpenFile};
+use std::fs::{File, OpenFile, OpenOptions};
 use std::io::{ErrorKind, Read, Write};
+use std::os::unix::fs::OpenOptionsExt;
 use std::rt::{Clock, Files};
 use std::{fs, io};
+
+/// The mode of a new file that only its owner may read and write.
+pub(crate) const PRIVATE: u32 = 0o600;
+
+/// The mode of any other new file. The system takes away what the umask has.
+pub(crate) const SHARED: u32 = 0o666;
 
 /// An output being written: its file and, if both are to be synced, the folder with its name.
 #[derive(Drop)]
@@ -56,13 +63,14 @@ impl Outputs {
         Outputs { begun, links: None }
     }
 
-    /// Creates an output, if there is no file of its name. With `sync` its folder is opened first. An output whose name
+    /// Creates an output of this mode, if there is no file of its name. With `sync` its folder is opened first. An output whose name
     /// can't be synced then isn't made.
     pub(crate) fn create<R: Files + AllocGlobal>(
         &mut self,
         rt: &R,
         path: String,
         sync: bool,
+        mode: u32,
     ) -> Result<Output<R::File>, FolderFault> {
         let (folder, name) = folder_and_name(path.as_str());
         let opened = if sync {
@@ -74,7 +82,7 @@ impl Outputs {
             None
         };
         is_free(rt, path.as_str(), name)?;
-        match self.part(rt, folder, name)? {
+        match self.part(rt, folder, name, mode)? {
             Some((part, file)) => Ok(Output {
                 path,
                 part: Some(part),
@@ -83,7 +91,7 @@ impl Outputs {
                 folder: opened,
             }),
             None => {
-                let file = create_new(rt, path.as_str())?;
+                let file = create_new(rt, path.as_str(), mode)?;
                 Ok(Output {
                     path,
                     part: None,
@@ -102,6 +110,7 @@ impl Outputs {
         rt: &R,
         folder: &str,
         name: &str,
+        mode: u32,
     ) -> Result<Option<(String, R::File)>, FolderFault> {
         let known = match &self.links {
             Some((last, links)) if last.as_str() == folder => Some(*links),
@@ -111,7 +120,7 @@ impl Outputs {
             return Ok(None);
         }
         let part = part_name(rt.alloc(), folder, self.begun, name, "")?;
-        let file = match File::create_new(rt, part.as_str()) {
+        let file = match make_new(rt, part.as_str(), mode) {
             Ok(file) => file,
             Err(error) => {
                 return match error.kind() {
@@ -178,13 +187,24 @@ fn is_free<R: Files>(rt: &R, path: &str, name: &str) -> Result<(), FolderFault> 
     }
 }
 
-/// Creates a file. The system makes it only if there is none of the name, so no other program's file is ever replaced.
-pub(crate) fn create_new<R: Files>(rt: &R, path: &str) -> Result<R::File, FolderFault> {
-    match File::create_new(rt, path) {
+/// Creates a file of this mode. The system makes it only if there is none of the name, so no other program's file is
+/// ever replaced.
+pub(crate) fn create_new<R: Files>(rt: &R, path: &str, mode: u32) -> Result<R::File, FolderFault> {
+    match make_new(rt, path, mode) {
         Ok(file) => Ok(file),
         Err(error) if error.kind() == ErrorKind::AlreadyExists => Err(FolderFault::Exists),
         Err(_) => Err(FolderFault::Failed),
     }
+}
+
+// Makes a file, with the system's error. It has this mode from the beginning, less what the umask takes away.
+fn make_new<R: Files>(rt: &R, path: &str, mode: u32) -> io::Result<R::File> {
+    OpenOptions::new()
+        .read(true)
+        .write(true)
+        .create_new(true)
+        .mode(mode)
+        .open(rt, path)
 }
 
 // The path of a part. Two outputs of one run with the same name in the same folder get the same part, by whatever
