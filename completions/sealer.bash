@@ -37,15 +37,15 @@ _sealer() {
     case $command in
         # make_options.py writes from here: words
         '') words='seal pipe open verify audit ledger help --help -h --version -V' ;;
-        seal) words='--key --workers --files-from --null --progress --ledger --no-new-ledger --device --max-bytes --lanes --window
-                    --into --skip-existing --sync --private --exponent --label --journal --help -h' ;;
-        pipe) words='--key --workers --ledger --no-new-ledger --device --depth --max-chunks --force-terminal --exponent --label
-                    --journal --help -h' ;;
-        open) words='--key --workers --files-from --null --progress --max-bytes --label --into --skip-existing --sync --private
-                    --help -h' ;;
-        verify) words='--key --workers --files-from --null --progress --max-bytes --label --show --help -h' ;;
+        seal) words='--key --workers --verbose --files-from --null --progress --ledger --no-new-ledger --device --max-bytes --lanes
+                    --window --into --skip-existing --sync --private --exponent --label --journal --help -h' ;;
+        pipe) words='--key --workers --verbose --ledger --no-new-ledger --device --depth --max-chunks --force-terminal --exponent
+                    --label --journal --help -h' ;;
+        open) words='--key --workers --verbose --files-from --null --progress --max-bytes --label --into --skip-existing --sync
+                    --private --help -h' ;;
+        verify) words='--key --workers --verbose --files-from --null --progress --max-bytes --label --show --help -h' ;;
         audit) words='--help -h' ;;
-        ledger) words='--ledger --help -h' ;;
+        ledger) words='--ledger --verbose --help -h' ;;
         help) words='seal pipe open verify audit ledger help' ;;
         # make_options.py writes to here
         *) return ;;

@@ -28,6 +28,7 @@ complete -c sealer -n 'not __sealer_command seal pipe open verify audit ledger h
 
 complete -c sealer -n '__sealer_command seal pipe open verify' -l key -rF -d 'The key file: 64 hex digits, then nothing or one end of line'
 complete -c sealer -n '__sealer_command seal pipe open verify' -l workers -x -a 'auto 1 2 4 8 16' -d 'Workers on one file or stream, side by side, 1 to 16, or auto: as many as there are processors'
+complete -c sealer -n '__sealer_command seal pipe open verify' -l verbose -d 'Print the cause of a fault before the first FILE, and warn of a key file that is open to others'
 
 complete -c sealer -n '__sealer_command seal open verify' -l files-from -rF -d 'Read further FILEs from a list, one a line, after those of the command line'
 complete -c sealer -n '__sealer_command seal open verify' -l null -d 'FILEs in the list of --files-from end with a NUL byte, not a line feed'
@@ -44,6 +45,7 @@ complete -c sealer -n '__sealer_command open verify' -l label -x -d 'Accept only
 complete -c sealer -n '__sealer_command verify' -l show -d 'After the line of a good FILE print its version, chunk size, device, number and label'
 
 complete -c sealer -n '__sealer_command ledger' -l ledger -rF -d 'The ledger file'
+complete -c sealer -n '__sealer_command ledger' -l verbose -d 'Print why it cannot be used'
 
 complete -c sealer -n '__sealer_command seal pipe' -l ledger -rF -d 'The ledger file, created if there is none'
 complete -c sealer -n '__sealer_command seal pipe' -l no-new-ledger -d 'Create no ledger file: for every run but the first'

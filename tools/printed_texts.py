@@ -8,16 +8,20 @@ import re
 from pathlib import Path
 
 TOP = Path(__file__).resolve().parent.parent
-# For each command the types of the faults after each subject. Those of RunFault begin with their subject.
-RUN = {"key": ["KeyFault"], "ledger": ["LedgerFault"], "journal": ["JournalFault"], "": ["RunFault"]}
+# For each command the types of the faults after each subject. Those of RunFault begin with their subject. A cause is a second line.
+CAUSE = {"cause": ["Cause"]}
+RUN = {"key": ["KeyFault"], "ledger": ["LedgerFault"], "journal": ["JournalFault"], "": ["RunFault"], **CAUSE}
 FAULTS = {
     "seal": {**RUN, "failed": ["FileFault"], "usage": ["UsageFault", "PlaceFault"]},
     "pipe": {**RUN, "failed": ["FileFault"], "usage": ["UsageFault"]},
-    "open": {"failed": ["FileFault"], "key": ["KeyFault"], "usage": ["UsageFault", "PlaceFault"]},
-    "verify": {"failed": ["FileFault"], "key": ["KeyFault"], "usage": ["UsageFault"]},
+    "open": {"failed": ["FileFault"], "key": ["KeyFault"], "usage": ["UsageFault", "PlaceFault"], **CAUSE},
+    "verify": {"failed": ["FileFault"], "key": ["KeyFault"], "usage": ["UsageFault"], **CAUSE},
     "audit": {"audit": ["AuditFault"]},
-    "ledger": {"ledger": ["LedgerFault", "TellFault"]},
+    "ledger": {"ledger": ["LedgerFault", "TellFault"], **CAUSE},
 }
+# The causes that only a ledger file has, and those that only a journal has.
+OF_LEDGER = "NoPath LostLedger EmptyLedger AnotherLog UnusableLog HardLink LeftJournal CannotMake Empty NoDatabase NoTables SomethingElse Damaged Held"
+OF_JOURNAL = "Exists OfLedger"
 # The faults that can't come at these commands, and why.
 NEVER = (
     ("seal", "FileFault", "NoSuffix AnotherLabel Unopened", "IsOfSealing leaves them out"),
@@ -33,7 +37,13 @@ NEVER = (
     ("pipe", "UsageFault", "NoFiles EmptyName ListNoText CannotReadList", "there are no FILEs"),
     ("seal pipe", "ReserveFault", "ZeroCount", "a run without FILEs ended before"),
     ("pipe", "ReserveFault", "TooMany", "it reserves one number"),
+    ("open verify", "Cause", f"{OF_LEDGER} {OF_JOURNAL}", "there is no ledger, and no journal"),
+    ("ledger", "Cause", f"NoDigits Passed Input CannotMake {OF_JOURNAL}", "there is no key, no list and no journal, and nothing is made"),
+    ("pipe", "Cause", "Input", "there is no list"),
 )
+# The line about a key file that others can read, and its commands.
+WARNING = r'eprintln!\(rt; "(warning: \{path\} can be read by others)"\)'
+WARNED = ("seal", "pipe", "open", "verify")
 # The types of faults that are never printed themselves, and what becomes of them.
 UNPRINTED = {
     "Failed": "a stream's: read failed, or write failed",
@@ -124,15 +134,18 @@ def texts(name, never):
 def everywhere():
     """The texts that the program prints itself, before it knows its command."""
     printed = re.findall(r'\beprintln!\(\s*\w+;\s*"([^"]*)"', SOURCES)
-    if "{subject}: {fault}" not in printed:
-        raise SystemExit("where are faults printed?")
-    return frozenset(it for it in printed if it != "{subject}: {fault}")
+    apart = {"{subject}: {fault}", "cause: {cause}", only(WARNING, "the warning about a key file")}
+    if not apart <= set(printed):
+        raise SystemExit("where are faults and causes printed?")
+    return frozenset(printed) - apart
 
 
 def faults(command):
     """The texts of a command's faults: those after `failed NAME: `, and those on standard error, with their subjects."""
     never = {(name, it) for commands, name, several, _ in NEVER for it in several.split() if command in commands.split()}
     failed, errors = set(), set(everywhere())
+    if command in WARNED:
+        errors.add(only(WARNING, "the warning about a key file").replace("{path}", "F"))
     for subject, names in FAULTS[command].items():
         for name in names:
             for text in texts(name, never):
@@ -173,8 +186,8 @@ def unlisted():
     for it in re.findall(PRINT, SOURCES):
         if " of {all} files, " not in it and '"\\r\\x1b[K' not in it:
             yield f"{' '.join(it.split())}: is it a text of a fault, or a line?"
-    subjects = set(re.findall(r'\bcomplain\(\s*rt,\s*"(\w*)"', SOURCES))
-    for it in sorted(subjects ^ ({it for table in FAULTS.values() for it in table} - {"failed", ""})):
+    subjects = set(re.findall(r'\b(?:complain|explain)\(\s*rt,\s*"(\w*)"', SOURCES))
+    for it in sorted(subjects ^ ({it for table in FAULTS.values() for it in table} - {"failed", "", "cause"})):
         yield f"a fault of '{it}': {'nobody knows its types' if it in subjects else 'it is printed nowhere'}"
     told = {tuple(it.split("::")) for several in LINES.values() for it in several}
     for name in sorted({name for name, _ in told}):

@@ -273,8 +273,8 @@ printf '%s\n' files/b files/d/a | "$sealer" seal --key "$key" --ledger files/led
 wants kept-of-a-list 0 'kept files/a
 kept files/b
 sealed files/d/a file 8 bytes 1' ''
-ln -s nowhere files/d/b.stm
 cp files/b files/d/b
+ln -s ../a.stm files/d/b.stm
 seals --skip-existing files/d/b
 wants kept-behind-a-link 0 'kept files/d/b' ''
 rm files/d/b.stm
@@ -539,7 +539,8 @@ except OSError:
 shown = [part.split(b"\x1b[K")[-1] for part in text.replace(b"\r\n", b"\n").split(b"\n")]
 sys.stdout.write(f"{run.returncode} {1 <= text.count(b' of 2 files') <= 8} {shown}\n")
 END
-is progress-on-a-terminal test "$(python3 terminal.py "$sealer" verify --key "$key" --progress)" = "1 True [b'good files/slow.stm bytes 1492', b'failed files/none: cannot open', b'']"
+install -m 600 "$key" own-key
+is progress-on-a-terminal test "$(python3 terminal.py "$sealer" verify --key own-key --progress)" = "1 True [b'good files/slow.stm bytes 1492', b'failed files/none: cannot open', b'']"
 
 # Key files.
 digits=$(cat "$key")
@@ -1866,6 +1867,165 @@ wants large-jobs-opened 0 'opened files/one.stm bytes 70000001
 opened files/other.stm bytes 67108865' ''
 for name in one other; do is "plaintext-of-large-$name" cmp -s "files/$name" "$name.plain"; done
 rm -f files/one files/other files/*.stm one.plain other.plain
+
+# Causes, by --verbose: a second line after a fault of the key, the list, the journal or the ledger.
+fresh
+mkdir files/d files/full
+install -m 600 "$key" files/key
+caused() { # NAME FAULT CAUSE ARGS..
+    run "${@:4}"
+    wants "cause: $1" 2 '' "$2
+cause: $3"
+}
+long=$(printf 'x%.0s' $(seq 256))
+caused key-none 'key: cannot open' 'there is no such file' verify --key none --verbose files/numbers.stm
+caused key-no-folder 'key: cannot open' 'the folder is missing' open --key none/key --verbose files/numbers.stm
+caused key-below-a-file 'key: cannot open' 'a part of the path is no folder' open --key files/key/key --verbose files/numbers.stm
+caused key-folder 'key: cannot open' 'it is a folder' verify --verbose --key files files/numbers.stm
+caused key-long 'key: cannot open' 'the name is too long' verify --verbose --key "$long" files/numbers.stm
+caused key-unread 'key: read failed' 'the system reports an error' verify --verbose --key /proc/self/mem files/numbers.stm
+ln -s circle files/circle
+caused key-circle 'key: cannot open' 'symbolic links lead in a circle' verify --verbose --key files/circle files/numbers.stm
+caused key-text 'key: not a key file' 'it is not 64 hex digits and at most one end of line' verify --verbose --key numbers.plain files/numbers.stm
+caused list-none 'usage: cannot read the list' 'there is no such file' open --verbose --key none --files-from none
+caused list-folder 'usage: cannot read the list' 'it is a folder' verify --verbose --key none --files-from files
+run verify --verbose --key none --files-from - <&-
+wants 'cause: list-closed' 2 '' 'usage: cannot read the list
+cause: standard input cannot be read'
+printf '\n' > files/list
+run verify --verbose --key none --files-from files/list
+wants 'no-cause: what a list holds' 2 '' 'usage: a name in the list is empty'
+run verify --verbose --key files/key files/none
+wants 'no-cause: a FILE' 1 'failed files/none: cannot open' ''
+sealing() { caused "$1" "$2" "$3" seal --verbose --key files/key --device 1 --ledger "${@:4}" files/numbers.stm; }
+: > files/j
+sealing journal-exists 'journal: output exists' 'there is a file of this name' files/l --journal files/j
+sealing journal-no-folder 'journal: cannot create' 'the folder is missing' files/l --journal none/j
+sealing journal-long 'journal: cannot create' 'the name is too long' files/l --journal "$long"
+sealing journal-of-the-ledger 'journal: cannot create' 'it is the ledger, or a file beside it' files/l --journal files/l-wal
+sealing ledger-not-there 'ledger: not there' 'there is no such file' files/l --no-new-ledger
+sealing ledger-not-there-no-folder 'ledger: not there' 'the folder is missing' none/l --no-new-ledger
+: > files/l
+sealing ledger-not-there-empty 'ledger: not there' 'the file is empty' files/l --no-new-ledger
+rm files/l
+sealing ledger-no-folder 'ledger: cannot open' 'the folder is missing' none/l
+sealing ledger-folder 'ledger: cannot open' 'it is a folder' files/d
+sealing ledger-device 'ledger: cannot open' 'it is no regular file' /dev/null
+sealing ledger-long 'ledger: cannot open' 'the name is too long' "$long"
+sealing ledger-memory 'ledger: cannot open' 'the path is :memory: or a URI' :memory:
+sealing ledger-text 'ledger: cannot open' 'it is no database' numbers.plain
+printf x > files/l
+sealing ledger-of-one-byte 'ledger: cannot open' 'it is no database' files/l
+rm files/l
+cp numbers.plain files/l-wal
+sealing log-of-no-ledger 'ledger: cannot open' 'LEDGER-wal is there and LEDGER is not: do not delete it' files/l
+caused ledger-log-alone 'ledger: cannot open' 'LEDGER-wal is there and LEDGER is not: do not delete it' ledger --verbose --ledger files/l
+: > files/l
+sealing log-of-an-empty-ledger 'ledger: cannot open' 'LEDGER is empty and LEDGER-wal is not: do not delete them' files/l
+rm files/l files/l-wal
+cp numbers.plain files/a
+run seal --key files/key --ledger files/l --device 1 --verbose files/a
+wants verbose-seal 0 'sealed files/a file 0 bytes 1492' ''
+ln files/l files/second
+sealing ledger-of-two-names 'ledger: cannot open' 'the file has more than one name (a hard link)' files/l
+caused ledger-of-two-names-read 'ledger: cannot open' 'the file has more than one name (a hard link)' ledger --verbose --ledger files/l
+rm files/second
+rm files/l-wal
+mkdir files/l-wal
+sealing ledger-unusable-log 'ledger: cannot open' 'LEDGER-wal is no regular file, has more than one name, or gives no permission' files/l
+rmdir files/l-wal
+printf 'a journal' > files/l-journal
+sealing ledger-left-journal 'ledger: cannot open' 'another program left LEDGER-journal, which only that program can play back' files/l
+rm files/l-journal
+head -c 4096 files/l > files/cut
+sealing ledger-damaged 'ledger: cannot open' 'the database is damaged or was altered, or memory was refused' files/cut
+caused ledger-damaged-read 'ledger: cannot open' 'the database is damaged or was altered, or memory was refused' ledger --verbose --ledger files/cut
+if has sqlite3; then
+    sqlite3 files/other 'CREATE TABLE t (a); INSERT INTO t VALUES (1)'
+    sealing ledger-of-another 'ledger: not a ledger' 'the database holds something else than a ledger' files/other
+    sqlite3 files/bare 'PRAGMA user_version = 1'
+    sealing ledger-without-tables 'ledger: not there' 'the database has no tables yet' files/bare --no-new-ledger
+fi
+# another run holds it; the same fault without the option, and of `pipe`
+mkfifo files/waits
+exec 8<> files/waits
+"$sealer" seal --key files/key --ledger files/l --device 1 files/waits > first 2> first.err &
+first=$!
+for _ in $(seq 200); do [ -n "$(parts files)" ] && break; sleep 0.05; done
+sealing ledger-held 'ledger: cannot open' 'another run holds it, or this one may not open as many files' files/l
+run seal --key files/key --ledger files/l --device 1 files/numbers.stm
+wants no-cause-unasked 2 '' 'ledger: cannot open'
+run pipe --verbose --key files/key --ledger files/l --device 1 < numbers.plain
+wants 'cause: held-of-a-stream' 2 '' 'ledger: cannot open
+cause: another run holds it, or this one may not open as many files'
+kill -9 "$first"
+wait "$first" 2>/dev/null
+exec 8>&-
+# modes
+mkdir locked/mine
+cp files/key locked/no-key
+cp files/l locked/no-ledger
+cp files/key locked/key
+chmod 600 locked/key
+chmod 755 locked
+[ "$(id -u)" != 0 ] || chown 65534 locked/no-key locked/key locked/no-ledger
+chmod 000 locked/no-key locked/no-ledger
+chmod 555 locked locked/mine
+unprivileged verify --verbose --key no-key numbers.stm
+wants 'cause: key-of-no-mode' 2 '' 'key: cannot open
+cause: this user has no permission'
+unprivileged seal --verbose --key key --ledger no-ledger --device 1 a
+wants 'cause: ledger-of-no-mode' 2 '' 'ledger: cannot open
+cause: this user has no permission'
+unprivileged seal --verbose --key key --ledger mine/l --device 1 a
+wants 'cause: ledger-in-a-locked-folder' 2 '' 'ledger: cannot open
+cause: it cannot be made: another run makes it, or see its folder'\''s mode, the disk'\''s room, and the path'\''s length and UTF-8'
+unprivileged seal --verbose --key key --ledger l --device 1 --journal mine/j a
+wants 'cause: journal-in-a-locked-folder' 2 '' 'journal: cannot create
+cause: this user has no permission'
+chmod 755 locked locked/mine
+if mount -t tmpfs -o size=300k none files/full 2>/dev/null; then
+    cat /dev/zero > files/full/fill 2>/dev/null
+    sealing ledger-full-disk 'ledger: cannot open' 'it cannot be made: another run makes it, or see its folder'\''s mode, the disk'\''s room, and the path'\''s length and UTF-8' files/full/l
+    umount files/full
+fi
+# A key file that others can read or write: the run goes on.
+for mode in 640 604 620 602 444; do
+    chmod $mode files/key
+    run verify --verbose --key files/key files/numbers.stm
+    wants "warning $mode" 0 'good files/numbers.stm bytes 1492' 'warning: files/key can be read by others'
+    run verify --key files/key files/numbers.stm
+    wants "no-warning-unasked $mode" 0 'good files/numbers.stm bytes 1492' ''
+done
+run pipe --verbose --key files/key --ledger files/l --device 1 < numbers.plain
+is warning-of-a-stream test "$status $(tr '\n' ';' < err)" = '0 warning: files/key can be read by others;sealed - file 2 bytes 1492;'
+for mode in 600 400 700; do
+    chmod $mode files/key
+    run verify --verbose --key files/key files/numbers.stm
+    wants "no-warning $mode" 0 'good files/numbers.stm bytes 1492' ''
+done
+run audit --verbose < /dev/null
+wants audit-has-no-causes 2 '' "begins error: unexpected argument '--verbose' found"
+# On a terminal both come unasked.
+cat > on_terminal.py <<'END'
+import os, pty, subprocess, sys
+main, other = pty.openpty()
+run = subprocess.Popen(sys.argv[1:], stdout=subprocess.DEVNULL, stderr=other)
+run.wait()
+os.close(other)
+text = b""
+try:
+    while more := os.read(main, 65536):
+        text += more
+except OSError:
+    pass
+print(run.returncode, *text.decode().splitlines(), sep=";")
+END
+is cause-on-a-terminal test "$(python3 on_terminal.py "$sealer" verify --key none files/numbers.stm)" = '2;key: cannot open;cause: there is no such file'
+is cause-of-a-ledger-on-a-terminal test "$(python3 on_terminal.py "$sealer" ledger --ledger none)" = '2;ledger: not there;cause: there is no such file'
+chmod 644 files/key
+is warning-on-a-terminal test "$(python3 on_terminal.py "$sealer" verify --key files/key files/numbers.stm)" = '0;warning: files/key can be read by others'
+fresh
 
 # Three chunks and more, sealed by Python's `cryptography`, if it is installed.
 if has cryptography; then

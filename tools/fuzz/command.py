@@ -121,7 +121,8 @@ def another_command(rng, command, given, names, _):
 
 
 def value_of_a_flag(rng, command, given, names, _):
-    flag = rng.choice(("--no-new-ledger", "--force-terminal")[: 1 + (command == "pipe")]) if command in SEALS else "--show"
+    flags = ("--no-new-ledger", "--force-terminal")[: 1 + (command == "pipe")] if command in SEALS else ("--show",)
+    flag = rng.choice(("--verbose", *flags))
     given.pop(flag, None)
     return [command, *words_of(rng, list(given.items())), f"{flag}=yes"], names
 

@@ -58,7 +58,7 @@ pub(crate) struct Row {
 }
 
 /// What every command takes that seals, opens or verifies.
-pub(crate) static KEY_ROWS: [Row; 2] = [
+pub(crate) static KEY_ROWS: [Row; 3] = [
     Row {
         name: "key",
         takes: Takes::Path { is_required: true },
@@ -73,6 +73,12 @@ pub(crate) static KEY_ROWS: [Row; 2] = [
         },
         help: "Workers on one file or stream, side by side, 1 to 16, or auto:\n\
             as many as there are processors",
+    },
+    Row {
+        name: "verbose",
+        takes: Takes::Nothing,
+        help: "Print the cause of a fault before the first FILE, and warn of a key file\n\
+            that is open to others; done anyway if standard error is a terminal",
     },
 ];
 
@@ -159,11 +165,18 @@ pub(crate) static SHOW_ROWS: [Row; 1] = [Row {
 }];
 
 /// What the command takes that prints the contents of a ledger file.
-pub(crate) static HOLDINGS_ROWS: [Row; 1] = [Row {
-    name: "ledger",
-    takes: Takes::Path { is_required: true },
-    help: "The ledger file; it is not changed",
-}];
+pub(crate) static HOLDINGS_ROWS: [Row; 2] = [
+    Row {
+        name: "ledger",
+        takes: Takes::Path { is_required: true },
+        help: "The ledger file; it is not changed",
+    },
+    Row {
+        name: "verbose",
+        takes: Takes::Nothing,
+        help: "Print why it cannot be used; done anyway if standard error is a terminal",
+    },
+];
 
 /// What a command that seals takes in addition: its numbers.
 pub(crate) static LEDGER_ROWS: [Row; 3] = [

@@ -46,6 +46,13 @@ pub fn showing_asked(matches: &ArgMatches<'_>) -> Showing
     }
 }
 
+/// Returns whether a command was asked for the causes of faults.
+pub fn verbose_asked(matches: &ArgMatches<'_>) -> bool
+    ensures { IsFlag matches.now (codes "verbose") result }
+{
+    matches.get_flag("verbose")
+}
+
 /// A request of `seal`.
 #[derive(Drop)]
 pub struct SealRequest<'m, 'a> {

@@ -1,10 +1,10 @@
 //! What a run needs before its files: the key, the list of their names, where its lines go, and its progress.
-ghost use Rattle.std.specs.Prelude.{◌<◌, ◌≡◌, ◌++◌, ℕ, IfOk, IfSome, List, map, option_map, unwrap_or};
+ghost use Rattle.std.specs.Prelude.{◌<◌, ◌≡◌, ◌++◌, ℕ, IfErr, IfOk, IfSome, List, map, option_map, unwrap_or};
 ghost use Rattle.command_line.specs.Given.{files_given};
 ghost use Rattle.command_line.specs.Names.{IsListed};
 ghost use Rattle.sealer.specs.Names.{IsListText};
 
-use crate::{Streams, Terminals};
+use crate::{FAULT, Streams, Terminals, explain};
 use clap::ArgMatches;
 use command_line::{ListRequest, Showing, UsageFault, files_of, list_request, showing_asked};
 use container_core::Key;
@@ -13,10 +13,34 @@ use sealer_core::{KeyFault, Outs, read_key};
 use std::alloc::Global;
 use std::io::{ErrorKind, Read, Write};
 use std::rt::{Clock, Files};
-use system_files::{Progress, Told, open_unbuffered};
+use system_files::{About, Cause, Progress, Told, is_for_others, open_unbuffered};
 
-/// Reads the key from the file at this path.
-pub(crate) fn key_of<R: Files + AllocGlobal>(rt: &R, path: &str) -> Result<Key, KeyFault> {
+/// Reads the key from the file at this path. A fault is printed, and the error is its status. With `causes` its cause is
+/// printed too, and a warning if others can read or write the file.
+pub(crate) fn key_at<R: Files + AllocGlobal + Eprint>(
+    rt: &R,
+    path: &str,
+    causes: bool,
+) -> Result<Key, u8>
+    ensures status { IfErr result (λ status. status ≡ FAULT) }
+{
+    match key_of(rt, path) {
+        Ok(key) => {
+            if causes && is_for_others(rt, path) {
+                let _ = eprintln!(rt; "warning: {path} can be read by others");
+            }
+            Ok(key)
+        }
+        Err(KeyFault::NotKeyFile) => {
+            let about = About::Known(Cause::NoDigits);
+            Err(explain(rt, "key", KeyFault::NotKeyFile, causes, about))
+        }
+        Err(fault) => Err(explain(rt, "key", fault, causes, About::Input(path))),
+    }
+}
+
+// Reads the key from the file at this path.
+fn key_of<R: Files + AllocGlobal>(rt: &R, path: &str) -> Result<Key, KeyFault> {
     match open_unbuffered(rt, path) {
         Ok(file) => read_key(&mut FromRead(file)),
         Err(_) => Err(KeyFault::CannotOpen),
@@ -52,6 +76,15 @@ pub(crate) fn read_list<R: Files + AllocGlobal, I: Read + Drop>(
         }
     };
     Ok(Some(NameList { text, separator }))
+}
+
+/// Returns what a fault of reading the list of names is about.
+pub(crate) fn about_list<'a>(matches: &ArgMatches<'a>, fault: UsageFault) -> About<'a> {
+    match (fault, list_request(matches)) {
+        (UsageFault::CannotReadList, Some(list)) if list.path != "-" => About::Input(list.path),
+        (UsageFault::CannotReadList, _) => About::Known(Cause::Input),
+        _ => About::Known(Cause::OutOfMemory),
+    }
 }
 
 // Reads an input to its end.

@@ -1,11 +1,12 @@
 //! The command that prints what a ledger file holds.
 
-use crate::{Streams, complain};
+use crate::{Streams, complain, explain};
 use clap::ArgMatches;
 use ledger_core::{Sink, write_all};
 use std::alloc::Global;
 use std::io::Write;
 use std::rt::Files;
+use system_files::{About, Step};
 use system_ledger::{Holding, read_holdings};
 use thiserror::Error;
 
@@ -29,7 +30,15 @@ pub(crate) fn tell_ledger<R: Files + AllocGlobal + Eprint, O: Write + Drop, E: W
     let path = matches.get_str("ledger").unwrap_or("");
     let held = match read_holdings(rt, path) {
         Ok(held) => held,
-        Err(fault) => return (complain(rt, "ledger", fault), streams),
+        Err(fault) => {
+            let about = About::Ledger {
+                path,
+                fault,
+                step: Step::Read,
+            };
+            let status = explain(rt, "ledger", fault, streams.terminals.causes, about);
+            return (status, streams);
+        }
     };
     let mut streams = streams;
     let status = match tell_all(rt.alloc(), held.as_slice(), &mut streams.output) {

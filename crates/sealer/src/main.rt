@@ -20,12 +20,12 @@ mod ledger;
 mod opening;
 mod sealing;
 
-use crate::files::{names_of, read_list};
+use crate::files::{about_list, names_of, read_list};
 use crate::ledger::tell_ledger;
 use crate::opening::{Reading, open};
 use crate::sealing::{pipe, seal};
 use clap::{ArgMatches, Error};
-use command_line::{asks_for_processors, command, write_out};
+use command_line::{asks_for_processors, command, verbose_asked, write_out};
 use ledger_core::{FromRead, ToWrite};
 use sealer_core::run_audit;
 use std::alloc::Global;
@@ -36,7 +36,7 @@ use std::rt::{Clock, Env, Files};
 use std::sync::Wait;
 use std::thread;
 use std::thread::Threads;
-use system_files::stand_ins;
+use system_files::{About, cause_of, stand_ins};
 
 /// The status of a fault of usage, of the list of names, of the key file, the ledger or the journal file, or of the
 /// program's own reading and writing.
@@ -55,6 +55,7 @@ fn main(rt: HostRuntime) -> ExitCode {
                 terminals: Terminals {
                     output: rt.stdout().is_terminal(),
                     errors: rt.stderr().is_terminal(),
+                    causes: rt.stderr().is_terminal() || is_verbose(&matches),
                 },
             };
             run(&rt, &rt, &matches, rt.stdin(), streams).0
@@ -72,11 +73,13 @@ pub(crate) struct Streams<O: Write + Drop, E: Write + Drop> {
     pub(crate) terminals: Terminals,
 }
 
-/// Which of the streams are terminals.
+/// Which of the streams are terminals, and whether causes are printed.
 #[derive(Clone, Copy)]
 pub(crate) struct Terminals {
     pub(crate) output: bool,
     pub(crate) errors: bool,
+    /// Whether causes and warnings are printed: on a terminal, or with `--verbose`.
+    pub(crate) causes: bool,
 }
 
 /// A command over files.
@@ -137,12 +140,38 @@ fn told<R: Print + Eprint>(rt: &R, error: &Error) -> u8 {
     if error.exit_code() == 0 { 0 } else { FAULT }
 }
 
+/// Whether `--verbose` was given to the command.
+fn is_verbose(matches: &ArgMatches<'_>) -> bool {
+    match matches.subcommand() {
+        Some((_, asked)) => verbose_asked(asked),
+        None => false,
+    }
+}
+
 /// Prints on standard error what is at fault, and why. Returns the status.
 pub(crate) fn complain<R: Eprint, F: Display + Drop>(rt: &R, subject: &str, fault: F) -> u8
     ensures status { result ≡ FAULT }
 {
     let _ = eprintln!(rt; "{subject}: {fault}");
     FAULT
+}
+
+/// Does the same, and with `causes` prints a second line with the cause of the fault.
+pub(crate) fn explain<R: Files + AllocGlobal + Eprint, F: Display + Drop>(
+    rt: &R,
+    subject: &str,
+    fault: F,
+    causes: bool,
+    about: About<'_>,
+) -> u8
+    ensures status { result ≡ FAULT }
+{
+    let status = complain(rt, subject, fault);
+    if causes {
+        let cause = cause_of(rt, about);
+        let _ = eprintln!(rt; "cause: {cause}");
+    }
+    status
 }
 
 /// Runs the command that was asked for. `host` is the runtime too, and only it opens ledger files. Returns the status,
@@ -212,7 +241,11 @@ fn over_files<
 {
     let list = match read_list(rt, matches, input) {
         Ok(list) => list,
-        Err(fault) => return (complain(rt, "usage", fault), streams),
+        Err(fault) => {
+            let about = about_list(matches, fault);
+            let status = explain(rt, "usage", fault, streams.terminals.causes, about);
+            return (status, streams);
+        }
     };
     match names_of(rt.alloc(), matches, &list) {
         Ok(names) => match command {

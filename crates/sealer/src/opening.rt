@@ -3,7 +3,7 @@ ghost use Rattle.std.specs.Prelude.{◌<◌, ◌≤◌, ◌≡◌, length, map, 
 ghost use Rattle.command_core.specs.Work.{AreWorked, IsOfOpening, IsOfVerifying, Opening, Verifying};
 ghost use Rattle.sealer.specs.Status.{IsOfCommand, IsOfReading, IsStatusOf, IsStatusOver};
 
-use crate::files::{clear, key_of, outs_of, progress_of, streams_of};
+use crate::files::{clear, key_at, outs_of, progress_of, streams_of};
 use crate::kept::worked_of;
 use crate::{OverFiles, Streams, complain};
 use clap::ArgMatches;
@@ -84,11 +84,11 @@ fn open_to<
 {
     let mut folder = folder;
     let progress = folder.progress;
-    let key = match key_of(rt, request.key) {
-        Ok(key) => key,
-        Err(fault) => return (complain(rt, "key", fault), streams),
-    };
     let terminals = streams.terminals;
+    let key = match key_at(rt, request.key, terminals.causes) {
+        Ok(key) => key,
+        Err(status) => return (status, streams),
+    };
     let mut out = outs_of(streams, progress, None);
     let status = match reading {
         Reading::Open => open_files(rt, &key, &mut folder, request, &mut out),

@@ -15,9 +15,9 @@ ghost use Rattle.sealer_core.specs.Piping.{HasSealedStream};
 ghost use Rattle.sealer_core.specs.Sealing.{FoldsFiles, Happened, HasSealed, IsOfSealing, IsWritten, ReservesFilesOnce};
 ghost use Rattle.sealer.specs.Status.{IsOfCommand, IsOfPiping, IsStatusOf, IsStatusOver};
 
-use crate::files::{clear, key_of, outs_of, progress_of, streams_of};
+use crate::files::{clear, key_at, outs_of, progress_of, streams_of};
 use crate::kept::worked_of;
-use crate::{FAULT, OverFiles, Streams, complain};
+use crate::{FAULT, OverFiles, Streams, complain, explain};
 use clap::ArgMatches;
 use command_line::{PipeRequest, SealRequest, UsageFault, pipe_request, seal_request};
 use container_core::Key;
@@ -31,31 +31,43 @@ use std::io::{Read, Write, sink};
 use std::rt::{Clock, Files};
 use std::sync::Wait;
 use std::thread::Threads;
-use system_files::{Makes, OwnPaths, StandardInput, SystemFiles, new_journal};
+use system_files::{About, Makes, OwnPaths, StandardInput, Step, SystemFiles, new_journal};
 use system_ledger::{LedgerFault, LedgerPath, close_ledger, may_open, open_ledger};
 
 /// Begins a run that seals: reads the key file, creates the journal, then checks whether the ledger file may be opened.
-/// A fault is printed, and the error is its status.
+/// A fault is printed, with `causes` its cause too, and the error is its status.
 fn begin<R: Files + AllocGlobal + Eprint>(
     rt: &R,
     key: &str,
     ledger: &LedgerPath<'_>,
     journal: Option<&str>,
+    causes: bool,
 ) -> Result<(Key, Option<ToWrite<R::File>>), u8>
     ensures status { IfErr result (λ status. status ≡ FAULT) }
 {
-    let key = match key_of(rt, key) {
+    let key = match key_at(rt, key, causes) {
         Ok(key) => key,
-        Err(fault) => return Err(complain(rt, "key", fault)),
+        Err(status) => return Err(status),
     };
     let journal = match new_journal(rt, journal, ledger.path) {
         Ok(journal) => journal,
-        Err(fault) => return Err(complain(rt, "journal", fault)),
+        Err(fault) => {
+            let about = About::Known(fault.cause());
+            return Err(explain(rt, "journal", fault, causes, about));
+        }
     };
     match may_open(rt, ledger) {
         Ok(()) => Ok((key, journal)),
-        Err(fault) => Err(complain(rt, "ledger", fault)),
+        Err(fault) => {
+            let about = about_ledger(ledger.path, fault, Step::Check);
+            Err(explain(rt, "ledger", fault, causes, about))
+        }
     }
+}
+
+// What a fault of this ledger file is about.
+fn about_ledger(path: &str, fault: LedgerFault, step: Step) -> About<'_> {
+    About::Ledger { path, fault, step }
 }
 
 /// Seals the files of these names. Returns the status, with the streams.
@@ -125,16 +137,17 @@ fn seal_to<
         journal: request.journal,
     });
     let progress = folder.progress;
+    let terminals = streams.terminals;
     let (key, journal) = match begin(
         rt,
         request.key,
         &ledger_of(request.ledger, request.may_make),
         request.journal,
+        terminals.causes,
     ) {
         Ok(begun) => begun,
         Err(status) => return (status, streams),
     };
-    let terminals = streams.terminals;
     let mut out = outs_of(streams, progress, journal);
     let status = match seal_from(rt, host, &key, request, Wary, &mut folder, &mut out) {
         Ok((status, file)) => {
@@ -142,7 +155,10 @@ fn seal_to<
             clear(progress);
             status
         }
-        Err(fault) => complain(rt, "ledger", fault),
+        Err(fault) => {
+            let about = about_ledger(request.ledger, fault, Step::Open);
+            explain(rt, "ledger", fault, terminals.causes, about)
+        }
     };
     (status, streams_of(out, terminals))
 }
@@ -194,7 +210,8 @@ fn pipe_to<
         (E.contents result.1.errors.0) }
 {
     let ledger = ledger_of(request.ledger, request.may_make);
-    let (key, journal) = match begin(rt, request.key, &ledger, request.journal) {
+    let causes = streams.terminals.causes;
+    let (key, journal) = match begin(rt, request.key, &ledger, request.journal, causes) {
         Ok(begun) => begun,
         Err(status) => return (status, streams),
     };
@@ -229,7 +246,10 @@ fn pipe_to<
             close_ledger(file);
             status
         }
-        Err(fault) => complain(rt, "ledger", fault),
+        Err(fault) => {
+            let about = about_ledger(request.ledger, fault, Step::Open);
+            explain(rt, "ledger", fault, causes, about)
+        }
     };
     let streams = Streams {
         output,

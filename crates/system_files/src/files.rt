@@ -1,7 +1,8 @@
 //! The file system as a folder.
 ghost use Rattle.std.specs.Prelude.{◌≡◌, true, false};
 
-use crate::outputs::{self, Output, Outputs, PRIVATE, SHARED, create_new};
+use crate::cause::Cause;
+use crate::outputs::{self, Output, Outputs, PRIVATE, SHARED, make_new};
 use crate::own::{FileId, OwnFiles, OwnPaths, is_of_ledger};
 use crate::progress::{Counted, Progress};
 use command_core::{Folder, FolderFault, OpeningFolder, Plaintext};
@@ -13,7 +14,7 @@ use reserve_core::{Fold, LedgerFile};
 use std::alloc::Global;
 use std::fs;
 use std::fs::{File, OpenFile};
-use std::io::BufReader;
+use std::io::{BufReader, ErrorKind};
 use std::rt::{Clock, Files};
 use system_ledger::is_beside;
 use thiserror::Error;
@@ -109,7 +110,20 @@ pub enum JournalFault {
     Exists,
     /// Any other cause.
     #[error("cannot create")]
-    CannotCreate,
+    CannotCreate(Cause),
+}
+
+impl JournalFault {
+    /// Returns the cause.
+    pub fn cause(self) -> Cause
+        ensures exists { self ≡ JournalFault.Exists → result ≡ Cause.Exists }
+        ensures other { (cause : Cause) → self ≡ JournalFault.CannotCreate cause → result ≡ cause }
+    {
+        match self {
+            JournalFault::Exists => Cause::Exists,
+            JournalFault::CannotCreate(cause) => cause,
+        }
+    }
 }
 
 /// Creates a journal file, if `path` is given. It may not be the ledger file or a file beside it, by any path. The
@@ -125,17 +139,17 @@ pub fn new_journal<R: Files + AllocGlobal>(
     if is_beside(path, ledger) {
         return match fs::metadata(rt, path) {
             Ok(_) => Err(JournalFault::Exists),
-            Err(_) => Err(JournalFault::CannotCreate),
+            Err(_) => Err(JournalFault::CannotCreate(Cause::OfLedger)),
         };
     }
-    let journal = match create_new(rt, path, SHARED) {
+    let journal = match make_new(rt, path, SHARED) {
         Ok(journal) => journal,
-        Err(FolderFault::Exists) => return Err(JournalFault::Exists),
-        Err(FolderFault::Failed) => return Err(JournalFault::CannotCreate),
+        Err(error) if error.kind() == ErrorKind::AlreadyExists => return Err(JournalFault::Exists),
+        Err(error) => return Err(JournalFault::CannotCreate(Cause::of_making(&error))),
     };
     // It stays, empty: another run may use it as its ledger by now.
     if is_of_ledger(rt, &journal, ledger) {
-        return Err(JournalFault::CannotCreate);
+        return Err(JournalFault::CannotCreate(Cause::OfLedger));
     }
     Ok(Some(ToWrite(journal)))
 }

@@ -1,12 +1,14 @@
-//! The file system as `sealer` uses it: its files as a `Folder`, and the journal's file.
+//! The file system as `sealer` uses it: its files as a `Folder`, the journal's file, and why a file can't be used.
 #![tactic(auto)]
 
+pub mod cause;
 pub mod files;
 pub mod kept;
 pub mod outputs;
 pub mod own;
 pub mod progress;
 
+pub use crate::cause::{About, Cause, Step, cause_of, is_for_others};
 pub use crate::files::{JournalFault, SystemFiles, new_journal, open_unbuffered, stand_ins};
 pub use crate::kept::{Makes, Split, print_kept, split_names};
 pub use crate::own::{OwnPaths, StandardInput};

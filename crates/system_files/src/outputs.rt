@@ -166,8 +166,8 @@ impl Outputs {
     }
 }
 
-// The folder and the base name of this path.
-fn folder_and_name(path: &str) -> (&str, &str) {
+/// Returns the folder and the base name of this path.
+pub(crate) fn folder_and_name(path: &str) -> (&str, &str) {
     match path.rsplit_once('/') {
         None => (".", path),
         Some(("", name)) => ("/", name),
@@ -187,9 +187,9 @@ fn is_free<R: Files>(rt: &R, path: &str, name: &str) -> Result<(), FolderFault> 
     }
 }
 
-/// Creates a file of this mode. The system makes it only if there is none of the name, so no other program's file is
-/// ever replaced.
-pub(crate) fn create_new<R: Files>(rt: &R, path: &str, mode: u32) -> Result<R::File, FolderFault> {
+// Creates a file of this mode. The system makes it only if there is none of the name, so no other program's file is
+// ever replaced.
+fn create_new<R: Files>(rt: &R, path: &str, mode: u32) -> Result<R::File, FolderFault> {
     match make_new(rt, path, mode) {
         Ok(file) => Ok(file),
         Err(error) if error.kind() == ErrorKind::AlreadyExists => Err(FolderFault::Exists),
@@ -197,8 +197,8 @@ pub(crate) fn create_new<R: Files>(rt: &R, path: &str, mode: u32) -> Result<R::F
     }
 }
 
-// Makes a file, with the system's error. It has this mode from the beginning, less what the umask takes away.
-fn make_new<R: Files>(rt: &R, path: &str, mode: u32) -> io::Result<R::File> {
+/// Makes a file, with the system's error. It has this mode from the beginning, less what the umask takes away.
+pub(crate) fn make_new<R: Files>(rt: &R, path: &str, mode: u32) -> io::Result<R::File> {
     OpenOptions::new()
         .read(true)
         .write(true)

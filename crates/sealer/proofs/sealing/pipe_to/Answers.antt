@@ -18,6 +18,6 @@ returns g c = record {
         of_written (λ name. IsOfPiping) c.match-pipe_from.status told written (line_of stream_name sealed.outcome ∷ []) _ lines _ _ _ (All-cons (λ line. IsOfPiping line.outcome) (line_of stream_name sealed.outcome) [] (fits_stream _ _ _ _ _ _ _ _ _ _ _ _ sealed.outcome sealed.piped.voids sealed.piped.works) (All-nil (λ line. IsOfPiping line.outcome))) sealed.told (λ yes. (same yes).0)
         (w.status-is ∙ is))
         ended
-    | in-Err-pipe_from w ↦ inl (w.status-is ∙ w.complain-status.ensures.status)
+    | in-Err-pipe_from w ↦ inl (w.status-is ∙ w.explain-status.ensures.status)
   ];
 }

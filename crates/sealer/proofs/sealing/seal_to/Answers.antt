@@ -15,6 +15,6 @@ returns g c = record {
         moved (λ name. IsOfSealing) _ _ _ _ _ _ _ sealed.worked.named (ap g.O.Write.contents c.outs_of-out.ensures.lines) (ap g.O.Write.contents (sym c.streams_of.ensures.output))
         (of_written (λ name. IsOfSealing) c.match-seal_from.status told written sealed.worked.lines _ _ _ _ _ sealed.worked.fitting sealed.worked.told (λ yes. refl) (w.status-is ∙ is)))
         ended
-    | in-Err-seal_from w ↦ inl (w.status-is ∙ w.complain-status.ensures.status)
+    | in-Err-seal_from w ↦ inl (w.status-is ∙ w.explain-status.ensures.status)
   ];
 }
