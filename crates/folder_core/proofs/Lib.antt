@@ -1,0 +1,3 @@
+mod Taken
+pub mod Entries
+pub mod Sound

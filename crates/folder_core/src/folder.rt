@@ -1,0 +1,123 @@
+//! What a run writes to: outputs, of which one at a time is in hand and is written. A folder has many outputs, a stream
+//! has one.
+//!
+//! At every moment the record of the run is sound: this is a law of the trait, so it also holds where a run is killed.
+ghost use Rattle.std.specs.Prelude.{◌≡◌, ℕ, ◌<◌, List, [], length, None, Some, Option, IfOk, IfErr, IfSome, OnOk};
+ghost use Rattle.std.specs.Prelude.{OnErr, is_err, option_map};
+ghost use Rattle.std.specs.Io.{WritesAtMost};
+ghost use Rattle.io_core.specs.Streams.{WriteAppends, counted};
+ghost use Rattle.output_core.specs.Bounds.{Admits};
+ghost use Rattle.folder_core.specs.Record.{Container, Created, Finished, GivenUp, IsSoundWith, Plain, Read};
+ghost use Rattle.folder_core.specs.Record.{Refused, RunRecord, Unread, bound_in};
+ghost use Rattle.folder_core.specs.Changes.{Becomes, Closes, IsIdle, IsNew, MayBegin, MayOpen, allowed};
+ghost use Rattle.folder_core.specs.Changes.{closed_at, new_output, with_entry};
+
+use crate::fault::FolderFault;
+use crate::reader::FileReader;
+use container_core::Shape;
+use io_core::Failed;
+
+/// What stands for an output that isn't in hand.
+pub trait Place {
+    // Its place in the record.
+    ghost at: { Self → ℕ } = { λ _. 0 };
+}
+
+/// Outputs, one of which may be in hand, to be written.
+pub trait Outputs {
+    /// An output that isn't in hand.
+    type Handle: Place + Drop;
+
+    // The record of the run, but for the bytes of the output in hand, if it is known. It may be forgotten.
+    ghost rest: { Self → Option RunRecord } = { λ _. None };
+
+    // The bytes that the output in hand took, if known.
+    ghost taken: { Self → Option (List ℕ) } = { λ _. None };
+
+    // How many writes failed so far, if known.
+    ghost failures: { Self → Option ℕ } = { λ _. None };
+
+    /// Takes a new output in hand. It is to hold the container of some plaintext, under this number and in this shape.
+    fn allow_container(&mut self, output: Self::Handle, number: u32, shape: &Shape)
+        requires may { IfSome (rest self.old) (MayBegin (Self.Handle.at output) number shape.now) }
+        ensures allowed { Becomes (allowed (Self.Handle.at output) (Container number shape.now))
+            (rest self.old) (rest self.new) }
+        ensures empty { IsIdle (rest self.new) (taken self.new) };
+
+    /// Writes a prefix of `bytes` to the output in hand, and returns its length. A call with a nonempty slice takes at
+    /// least one byte, or fails. A failed call takes none, and raises the count of failures by one (past 2^64 - 1 it is
+    /// unknown).
+    fn write(&mut self, bytes: &[u8]) -> Result<usize, Failed>
+        requires may { Admits (option_map bound_in (rest self.old)) (taken self.old) bytes.now }
+        ensures most { WritesAtMost result bytes.now }
+        ensures some { IfOk result (λ n. 0 < length bytes.now → 0 < n) }
+        ensures bytes { WriteAppends (taken self.old) (taken self.new) result bytes.now }
+        ensures same { rest self.new ≡ rest self.old }
+        ensures count { failures self.new ≡ counted (is_err result) (failures self.old) };
+
+    /// Finishes the output in hand: it is whole. If that fails it stays in hand, to be given up.
+    fn finish(&mut self) -> Result<(), Failed>
+        ensures finished { OnOk result (Closes Finished (rest self.old) (taken self.old) (rest self.new)) }
+        ensures empty { OnOk result (IsIdle (rest self.new) (taken self.new)) }
+        ensures rest { OnErr result (rest self.new ≡ rest self.old) }
+        ensures taken { OnErr result (taken self.new ≡ taken self.old) };
+
+    /// Gives the output in hand up, and tries to remove it.
+    fn discard(&mut self) -> Result<(), Failed>
+        ensures discarded { Closes GivenUp (rest self.old) (taken self.old) (rest self.new) }
+        ensures empty { IsIdle (rest self.new) (taken self.new) };
+
+    // At every moment the record is sound, and what the output in hand took is a prefix of what it may hold.
+    ghost sound: { (outputs : Self) → ∥ IsSoundWith (rest outputs) (taken outputs) ∥₁ };
+}
+
+/// A folder of files, each of which has a name.
+pub trait Folder: Outputs {
+    /// What reads a file of this folder.
+    type Reader: FileReader + Drop;
+
+    /// Opens a file for reading from its beginning.
+    fn open(&mut self, name: &str) -> Result<Self::Reader, Failed>
+        ensures opened { IfOk result (λ reader. IfSome (Self.rest self.new) (λ _. (bytes : List ℕ)
+            × (Self.Reader.left reader ≡ Some bytes) × (Self.Reader.whole reader ≡ Some bytes)
+            × Becomes (with_entry (Read name.now bytes)) (Self.rest self.old) (Self.rest self.new))) }
+        ensures unopened { OnErr result
+            (Becomes (with_entry (Unread name.now)) (Self.rest self.old) (Self.rest self.new)) }
+        ensures taken { Self.taken self.new ≡ Self.taken self.old };
+
+    /// Creates an empty output, in which nothing may be written yet. It never replaces a file: `Exists` if the name
+    /// exists, `Failed` for any other cause.
+    fn create(&mut self, name: &str) -> Result<Self::Handle, FolderFault>
+        ensures created { OnOk result
+            (Becomes (with_entry (Created (new_output name.now))) (Self.rest self.old) (Self.rest self.new)) }
+        ensures place { IfOk result (λ output. IfSome (Self.rest self.old)
+            (λ was. Self.Handle.at output ≡ length was.entries)) }
+        ensures refused { IfErr result (λ fault.
+            Becomes (with_entry (Refused name.now fault)) (Self.rest self.old) (Self.rest self.new)) }
+        ensures taken { Self.taken self.new ≡ Self.taken self.old };
+
+    /// Gives up an output that was never in hand, and tries to remove it. Nothing is in hand.
+    fn abandon(&mut self, output: Self::Handle) -> Result<(), Failed>
+        requires new { IfSome (Self.rest self.old) (IsNew (Self.Handle.at output)) }
+        ensures abandoned { Becomes (closed_at (Self.Handle.at output) GivenUp [])
+            (Self.rest self.old) (Self.rest self.new) }
+        ensures empty { IsIdle (Self.rest self.new) (Self.taken self.new) };
+}
+
+/// Names a key and a plaintext, in proofs alone.
+pub trait Whole {
+    ghost key: { List ℕ };
+
+    ghost plain: { List ℕ };
+}
+
+/// A folder into whose outputs plaintexts are written, of containers that were read in it.
+pub trait OpeningFolder: Folder {
+    /// Takes a new output in hand. It is to hold the plaintext of a file that was read. The caller needn't have the
+    /// plaintext: a second reading of the file may give it, piece by piece.
+    fn allow_plain<N: Whole>(&mut self, output: Self::Handle)
+        requires may { IfSome (Self.rest self.old) (MayOpen (Self.Handle.at output) N.key N.plain) }
+        ensures allowed { Becomes (allowed (Self.Handle.at output) (Plain N.key N.plain))
+            (Self.rest self.old) (Self.rest self.new) }
+        ensures empty { IsIdle (Self.rest self.new) (Self.taken self.new) };
+}

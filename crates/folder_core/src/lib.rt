@@ -1,0 +1,15 @@
+//! The record of a run: which files were read, and what its outputs hold, at every moment. This is proof only.
+//!
+//! Begin with `folder`. An engine writes to the output in hand of a folder through `hand`.
+#![tactic(auto)]
+
+pub mod fault;
+pub mod folder;
+pub mod hand;
+pub mod laws;
+pub mod reader;
+
+pub use crate::fault::FolderFault;
+pub use crate::folder::{Folder, OpeningFolder, Outputs, Place, Whole};
+pub use crate::hand::{InHand, Rest, lent_of, taken_in_hand};
+pub use crate::reader::{FileReader, Reading, WholeFile};

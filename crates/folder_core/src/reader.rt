@@ -1,0 +1,76 @@
+//! Readers of files, which may be read once more from the first byte.
+ghost use Rattle.std.specs.Prelude.{◌≡◌, ℕ, List, None, Option, OnOk, OnErr, is_err};
+ghost use Rattle.std.specs.Io.{ReadsAtMost};
+ghost use Rattle.io_core.specs.Streams.{ReadConsumes, counted};
+
+use io_core::{Failed, Source};
+use std::marker::{Brand, PhantomData};
+
+/// A reader of a file.
+pub trait FileReader: Source {
+    // All bytes of the file, as they were when it was opened, if known.
+    ghost whole: { Self → Option (List ℕ) } = { λ _. None };
+
+    /// Reads as `Source::read` does, and remains a reader of the same file.
+    fn read_on(&mut self, buffer: &mut [u8]) -> Result<usize, Failed>
+        ensures bound { ReadsAtMost result buffer.new }
+        ensures bytes { ReadConsumes (Self.left self.old) (Self.left self.new) result buffer.new }
+        ensures count { Self.failures self.new ≡ counted (is_err result) (Self.failures self.old) }
+        ensures whole { whole self.new ≡ whole self.old };
+
+    /// Goes back to the file's first byte. Fails if the file can't be read again, as a pipe.
+    fn again(&mut self) -> Result<(), Failed>
+        ensures again { OnOk result (Self.left self.new ≡ whole self.old) }
+        ensures kept { OnErr result (Self.left self.new ≡ Self.left self.old) }
+        ensures whole { whole self.new ≡ whole self.old };
+}
+
+/// Names all bytes of a file, in proofs alone.
+pub trait WholeFile {
+    ghost whole: { Option (List ℕ) };
+}
+
+// A call that passes `Brand` picks the bytes.
+impl WholeFile for Brand {
+    ghost whole = { None };
+}
+
+/// A reader that an engine reads from: whatever the engine does, it remains a reader of the same file.
+#[derive(Drop)]
+pub struct Reading<R: FileReader + Drop, N: WholeFile> {
+    /// The reader.
+    pub reader: R,
+    of: PhantomData<N>,
+    ghost same: { R.whole reader ≡ N.whole },
+}
+
+impl<R: FileReader + Drop, N: WholeFile> Source for Reading<R, N> {
+    ghost left = { λ r. R.left r.reader };
+
+    ghost failures = { λ r. R.failures r.reader };
+
+    fn read(&mut self, buffer: &mut [u8]) -> Result<usize, Failed> {
+        self.reader.read_on(buffer)
+    }
+}
+
+impl<R: FileReader + Drop, N: WholeFile> Reading<R, N> {
+    /// Returns the reader, of the file that `N` names.
+    pub fn of(reader: R) -> Reading<R, N>
+        requires file { R.whole reader ≡ N.whole }
+        ensures { result.reader ≡ reader }
+    {
+        Reading {
+            reader,
+            of: PhantomData,
+        }
+    }
+
+    /// Goes back to the file's first byte, whatever the engine did. Fails if the file can't be read again.
+    pub fn again(&mut self) -> Result<(), Failed>
+        ensures again { OnOk result (R.left self.new.reader ≡ N.whole) }
+        ensures kept { OnErr result (R.left self.new.reader ≡ R.left self.old.reader) }
+    {
+        self.reader.again()
+    }
+}
