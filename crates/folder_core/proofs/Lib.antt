@@ -1,3 +1,4 @@
 mod Taken
 pub mod Entries
 pub mod Sound
+pub mod Calls

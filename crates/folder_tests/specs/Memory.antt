@@ -1,0 +1,60 @@
+-- The record that a folder in memory keeps.
+use Rattle.std.specs.Prelude.{◌≡◌, ℕ, Bool, true, false, List, [], map, Option, None, Some, string_bytes}
+use Rattle.journal_core.specs.Range.{Numbers, range_of}
+use Rattle.folder_core.specs.Record.{Entry, KeyedRange, RunRecord, State}
+use Rattle.folder_core.specs.Record as run
+use Rattle.folder_core.specs.Changes.{Becomes, with_entry}
+use Rattle.folder_tests.specs.declared.pages.File.{File}
+use Rattle.folder_tests.specs.declared.pages.Mark.{Mark}
+use Rattle.folder_tests.specs.declared.pages.Mark.TheVariants.{Open, Finished, GivenUp}
+use Rattle.folder_tests.specs.declared.pages.MemoryEntry.{MemoryEntry}
+use Rattle.folder_tests.specs.declared.pages.MemoryEntry.TheVariants.{Read, Unread, Refused, Created}
+use Rattle.folder_tests.specs.declared.pages.Pages.{Pages}
+use Rattle.folder_tests.specs.Noted.{content_of}
+
+abbrev pub state_of : Mark → State
+state_of Open = run.Open
+state_of Finished = run.Finished
+state_of GivenUp = run.GivenUp
+
+abbrev pub output_of : File → run.Output
+output_of file = record {
+  name = string_bytes file.name;
+  content = content_of file.note.mark.me.0;
+  bytes = file.bytes.items;
+  state = state_of file.mark;
+}
+
+abbrev pub entry_of : MemoryEntry → Entry
+entry_of (Read name bytes) = run.Read (string_bytes name) bytes.items
+entry_of (Unread name) = run.Unread (string_bytes name)
+entry_of (Refused name fault) = run.Refused (string_bytes name) fault
+entry_of (Created file) = run.Created (output_of file)
+
+-- The key and range that the folder was made with.
+abbrev pub under_of : Pages → KeyedRange
+under_of pages = record { key = pages.secret; range = range_of pages.device pages.lo pages.size }
+
+abbrev pub record_of : Pages → RunRecord
+record_of pages = record {
+  under = Some (under_of pages);
+  entries = map entry_of pages.entries.items;
+  in_hand = pages.in_hand;
+}
+
+-- The record, unless it was forgotten.
+abbrev pub rest_by : Bool → RunRecord → Option RunRecord
+rest_by true r = Some r
+rest_by false r = None
+
+abbrev pub rest_of : Pages → Option RunRecord
+rest_of pages = rest_by pages.told (record_of pages)
+
+-- One more entry, if there was memory for it; else all is forgotten.
+abbrev pub Tells : Option MemoryEntry → Option RunRecord → Option RunRecord → Type 0
+Tells None before after = after ≡ None
+Tells (Some entry) before after = Becomes (with_entry (entry_of entry)) before after
+
+-- The record of a run that did nothing yet.
+abbrev pub fresh : List ℕ → Numbers → RunRecord
+fresh key range = record { under = Some (record { key = key; range = range }); entries = []; in_hand = None }

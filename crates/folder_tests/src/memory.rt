@@ -1,0 +1,135 @@
+//! The folder in memory.
+ghost use Rattle.std.specs.Prelude.{◌≡◌, [], Some};
+ghost use Rattle.folder_core.specs.Record.{IsSoundWith};
+ghost use Rattle.journal_core.specs.Range.{range_of};
+ghost use Rattle.folder_core.specs.Changes.{allowed};
+ghost use Rattle.folder_tests.specs.Memory.{fresh, record_of, rest_of};
+
+use crate::note::Naming;
+use crate::pages::{Mark, Pages, created, read, refused, unread};
+use crate::reader::MemoryReader;
+use container_core::Shape;
+use folder_core::{Folder, FolderFault, OpeningFolder, Outputs, Place, Whole};
+use io_core::Failed;
+use std::alloc::Global;
+use std::marker::Brand;
+
+/// A folder in memory.
+#[derive(Drop)]
+pub struct MemoryFolder {
+    pub(crate) pages: Pages,
+    ghost sound: { ∥ IsSoundWith (rest_of pages) (Some pages.taken.items) ∥₁ },
+}
+
+/// An output that isn't in hand.
+#[derive(Drop)]
+pub struct MemoryHandle {
+    pub(crate) place: usize,
+}
+
+impl Place for MemoryHandle {
+    ghost at = { λ h. h.place };
+}
+
+impl MemoryFolder {
+    /// An empty folder, for a run under this key and over this range.
+    pub fn new(alloc: Global, secret: [u8; 32], device: u32, lo: u32, size: u32) -> MemoryFolder
+        ensures { rest_of result.pages ≡ Some (fresh secret (range_of device lo size)) }
+    {
+        let pages = Pages::new(alloc, secret, device, lo, size);
+        MemoryFolder { pages }
+    }
+
+    /// Returns the bytes of the finished output of this name.
+    pub fn bytes(&self, name: &str) -> Option<Vec<u8>> {
+        self.pages.bytes(name)
+    }
+}
+
+impl Outputs for MemoryFolder {
+    type Handle = MemoryHandle;
+
+    ghost rest = { λ f. rest_of f.pages };
+
+    ghost taken = { λ f. Some f.pages.taken.items };
+
+    fn allow_container(&mut self, output: MemoryHandle, number: u32, shape: &Shape) {
+        allow_number::<Brand>(&mut self.pages, output.place, number, shape);
+    }
+
+    fn write(&mut self, bytes: &[u8]) -> Result<usize, Failed> {
+        self.pages.take(bytes)
+    }
+
+    fn finish(&mut self) -> Result<(), Failed> {
+        match self.pages.in_hand {
+            Some(place) => self.pages.close(place, Mark::Finished),
+            None => self.pages.clear(),
+        }
+        Ok(())
+    }
+
+    fn discard(&mut self) -> Result<(), Failed> {
+        match self.pages.in_hand {
+            Some(place) => self.pages.close(place, Mark::GivenUp),
+            None => self.pages.clear(),
+        }
+        Ok(())
+    }
+
+    ghost sound = { λ f. f.sound };
+}
+
+impl Folder for MemoryFolder {
+    type Reader = MemoryReader;
+
+    fn open(&mut self, name: &str) -> Result<MemoryReader, Failed> {
+        let alloc = self.pages.alloc;
+        match self.pages.bytes(name) {
+            Some(bytes) => {
+                let entry = read(alloc, name, bytes.as_slice());
+                self.pages.tell(entry);
+                Ok(MemoryReader { bytes, at: 0 })
+            }
+            None => {
+                let entry = unread(alloc, name);
+                self.pages.tell(entry);
+                Err(Failed)
+            }
+        }
+    }
+
+    fn create(&mut self, name: &str) -> Result<MemoryHandle, FolderFault> {
+        let alloc = self.pages.alloc;
+        let place = self.pages.entries.len();
+        if self.pages.bytes(name).is_some() {
+            let entry = refused(alloc, name, FolderFault::Exists);
+            self.pages.tell(entry);
+            return Err(FolderFault::Exists);
+        }
+        let entry = created(alloc, name);
+        self.pages.tell(entry);
+        Ok(MemoryHandle { place })
+    }
+
+    fn abandon(&mut self, output: MemoryHandle) -> Result<(), Failed> {
+        self.pages.clear();
+        self.pages.close(output.place, Mark::GivenUp);
+        Ok(())
+    }
+}
+
+impl OpeningFolder for MemoryFolder {
+    fn allow_plain<N: Whole>(&mut self, output: MemoryHandle) {
+        self.pages.allow::<Brand>(output.place);
+    }
+}
+
+// The output at this place is in hand, with the container of this number.
+fn allow_number<N: Naming>(pages: &mut Pages, place: usize, _number: u32, _shape: &Shape)
+    ensures told { pages.new.told ≡ pages.old.told }
+    ensures allowed { record_of pages.new ≡ allowed place N.content (record_of pages.old) }
+    ensures taken { pages.new.taken.items ≡ [] }
+{
+    pages.allow::<N>(place);
+}

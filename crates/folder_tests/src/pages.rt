@@ -1,0 +1,228 @@
+//! What a folder in memory holds: its entries, and what the output in hand took.
+ghost use Rattle.std.specs.Prelude.{◌≡◌, ◌⊎◌, ◌++◌, true, Some, None, [], length, IfOk, OnErr, IfSome, map, string_bytes};
+ghost use Rattle.folder_core.specs.Record.{RunRecord};
+ghost use Rattle.folder_core.specs.Record as run;
+ghost use Rattle.folder_core.specs.Changes.{allowed, change, changed, closed_at, new_output, set_closed, set_content};
+ghost use Rattle.folder_core.specs.Changes.{with_entry};
+ghost use Rattle.journal_core.specs.Range.{range_of};
+ghost use Rattle.folder_tests.specs.Memory.{Tells, entry_of, fresh, record_of, rest_of, state_of};
+
+use crate::note::{ContentNote, Naming};
+use folder_core::FolderFault;
+use io_core::Failed;
+use std::alloc::Global;
+
+/// The state of an output.
+#[derive(Clone, Copy, PartialEq, Eq)]
+pub enum Mark {
+    Open,
+    Finished,
+    GivenUp,
+}
+
+/// An output.
+#[derive(Drop)]
+pub struct File {
+    pub(crate) name: String,
+    pub(crate) bytes: Vec<u8>,
+    pub(crate) mark: Mark,
+    pub(crate) note: ContentNote,
+}
+
+/// What happened.
+#[derive(Drop)]
+pub enum MemoryEntry {
+    Read(String, Vec<u8>),
+    Unread(String),
+    Refused(String, FolderFault),
+    Created(File),
+}
+
+/// Key and range, what happened so far (unless that was forgotten), and what the output in hand took.
+#[derive(Drop)]
+pub struct Pages {
+    pub(crate) alloc: Global,
+    pub(crate) secret: [u8; 32],
+    pub(crate) device: u32,
+    pub(crate) lo: u32,
+    pub(crate) size: u32,
+    pub(crate) told: bool,
+    pub(crate) entries: Vec<MemoryEntry>,
+    pub(crate) in_hand: Option<usize>,
+    pub(crate) taken: Vec<u8>,
+}
+
+impl MemoryEntry {
+    // If it is an output, it may have the content that is named.
+    fn hold<N: Naming>(&mut self)
+        ensures { entry_of self.new ≡ changed (set_content N.content) (entry_of self.old) }
+    {
+        if let MemoryEntry::Created(file) = self {
+            file.note.set::<N>();
+        }
+    }
+
+    // If it is an output, it is closed with these bytes.
+    fn shut(&mut self, bytes: Vec<u8>, mark: Mark)
+        ensures { entry_of self.new ≡ changed (set_closed (state_of mark) bytes.items) (entry_of self.old) }
+    {
+        if let MemoryEntry::Created(file) = self {
+            file.bytes = bytes;
+            file.mark = mark;
+        }
+    }
+}
+
+impl Pages {
+    pub(crate) fn new(alloc: Global, secret: [u8; 32], device: u32, lo: u32, size: u32) -> Pages
+        ensures told { result.told ≡ true }
+        ensures empty { map entry_of result.entries.items ≡ [] }
+        ensures idle { result.in_hand ≡ None }
+        ensures taken { result.taken.items ≡ [] }
+        ensures rest { rest_of result ≡ Some (fresh secret (range_of device lo size)) }
+    {
+        Pages {
+            alloc,
+            secret,
+            device,
+            lo,
+            size,
+            told: true,
+            entries: Vec::new(alloc),
+            in_hand: None,
+            taken: Vec::new(alloc),
+        }
+    }
+
+    // One more entry, if there was memory for it. Else all is forgotten.
+    pub(crate) fn tell(&mut self, entry: Option<MemoryEntry>)
+        ensures told { Tells entry (rest_of self.old) (rest_of self.new) }
+        ensures taken { self.new.taken ≡ self.old.taken }
+    {
+        self.told = match entry {
+            Some(entry) => self.told && self.entries.push(entry).is_ok(),
+            None => false,
+        };
+    }
+
+    // The output at this place is in hand, with the content that is named.
+    pub(crate) fn allow<N: Naming>(&mut self, place: usize)
+        ensures told { self.new.told ≡ self.old.told }
+        ensures allowed { record_of self.new ≡ allowed place N.content (record_of self.old) }
+        ensures taken { self.new.taken.items ≡ [] }
+    {
+        hold::<N>(&mut self.entries, place);
+        self.in_hand = Some(place);
+        self.taken = Vec::new(self.alloc);
+    }
+
+    // More was taken, unless memory is refused.
+    pub(crate) fn take(&mut self, bytes: &[u8]) -> Result<usize, Failed>
+        ensures rest { rest_of self.new ≡ rest_of self.old }
+        ensures ok { IfOk result (λ n. (n ≡ length bytes.now)
+            × (self.new.taken.items ≡ self.old.taken.items ++ bytes.now)) }
+        ensures err { OnErr result (self.new.taken.items ≡ self.old.taken.items) }
+        ensures either { (self.new.taken.items ≡ self.old.taken.items ++ bytes.now)
+            ⊎ (self.new.taken.items ≡ self.old.taken.items) }
+    {
+        match self.taken.extend_from_slice(bytes) {
+            Ok(()) => Ok(bytes.len()),
+            Err(_) => Err(Failed),
+        }
+    }
+
+    // The output at this place is closed, with what was taken.
+    pub(crate) fn close(&mut self, place: usize, mark: Mark)
+        ensures told { self.new.told ≡ self.old.told }
+        ensures closed { record_of self.new
+            ≡ closed_at place (state_of mark) self.old.taken.items (record_of self.old) }
+        ensures taken { self.new.taken.items ≡ [] }
+    {
+        let bytes = std::mem::replace(&mut self.taken, Vec::new(self.alloc));
+        shut(&mut self.entries, place, bytes, mark);
+        self.in_hand = None;
+    }
+
+    // Nothing was taken.
+    pub(crate) fn clear(&mut self)
+        ensures rest { rest_of self.new ≡ rest_of self.old }
+        ensures told { self.new.told ≡ self.old.told }
+        ensures record { record_of self.new ≡ record_of self.old }
+        ensures taken { self.new.taken.items ≡ [] }
+    {
+        self.taken = Vec::new(self.alloc);
+    }
+
+    // The bytes of the finished output of this name.
+    pub(crate) fn bytes(&self, name: &str) -> Option<Vec<u8>> {
+        for entry in &self.entries {
+            if let MemoryEntry::Created(file) = entry {
+                if file.name.as_str() == name && file.mark == Mark::Finished {
+                    return Vec::from_slice(self.alloc, file.bytes.as_slice()).ok();
+                }
+            }
+        }
+        None
+    }
+}
+
+// The output at this place may have the content that is named.
+fn hold<N: Naming>(entries: &mut Vec<MemoryEntry>, place: usize)
+    ensures { map entry_of entries.new.items
+        ≡ change place (set_content N.content) (map entry_of entries.old.items) }
+{
+    if let Some(entry) = entries.get_mut(place) {
+        entry.hold::<N>();
+    }
+}
+
+// The output at this place is closed with these bytes.
+fn shut(entries: &mut Vec<MemoryEntry>, place: usize, bytes: Vec<u8>, mark: Mark)
+    ensures { map entry_of entries.new.items
+        ≡ change place (set_closed (state_of mark) bytes.items) (map entry_of entries.old.items) }
+{
+    if let Some(entry) = entries.get_mut(place) {
+        entry.shut(bytes, mark);
+    }
+}
+
+// A file that was read, if there is memory for the entry.
+pub(crate) fn read(alloc: Global, name: &str, bytes: &[u8]) -> Option<MemoryEntry>
+    ensures { IfSome result (λ e. entry_of e ≡ run.Read name.now bytes.now) }
+{
+    let name = String::from_str(alloc, name).ok()?;
+    let bytes = Vec::from_slice(alloc, bytes).ok()?;
+    Some(MemoryEntry::Read(name, bytes))
+}
+
+// A file that couldn't be opened, if there is memory for the entry.
+pub(crate) fn unread(alloc: Global, name: &str) -> Option<MemoryEntry>
+    ensures { IfSome result (λ e. entry_of e ≡ run.Unread name.now) }
+{
+    let name = String::from_str(alloc, name).ok()?;
+    Some(MemoryEntry::Unread(name))
+}
+
+// An output that was refused, if there is memory for the entry.
+pub(crate) fn refused(alloc: Global, name: &str, fault: FolderFault) -> Option<MemoryEntry>
+    ensures { IfSome result (λ e. entry_of e ≡ run.Refused name.now fault) }
+{
+    let name = String::from_str(alloc, name).ok()?;
+    Some(MemoryEntry::Refused(name, fault))
+}
+
+// A new output, if there is memory for it.
+pub(crate) fn created(alloc: Global, name: &str) -> Option<MemoryEntry>
+    ensures { IfSome result (λ e. entry_of e ≡ run.Created (new_output name.now)) }
+{
+    let name = String::from_str(alloc, name).ok()?;
+    let note = ContentNote::new(alloc)?;
+    let bytes = Vec::new(alloc);
+    let mark = Mark::Open;
+    Some(MemoryEntry::Created(File {
+        name,
+        bytes,
+        mark,
+        note,
+    }))
+}
