@@ -276,8 +276,16 @@ sealed files/d/a file 8 bytes 1' ''
 cp files/b files/d/b
 ln -s ../a.stm files/d/b.stm
 seals --skip-existing files/d/b
-wants kept-behind-a-link 0 'kept files/d/b' ''
+wants kept-as-a-link 0 'kept files/d/b' ''
+# a name that leads to no file isn't an output
+ln -sf nowhere files/d/b.stm
+seals --skip-existing files/d/b
+wants not-kept-for-a-dangling-link 1 'failed files/d/b: output exists' ''
 rm files/d/b.stm
+mkdir files/d/b.stm
+seals --skip-existing files/d/b
+wants not-kept-for-a-folder 1 'failed files/d/b: output exists' ''
+rmdir files/d/b.stm
 "$sealer" seal --key "$key" --ledger files/ledger --device 1 --skip-existing files/a files/d/b > /dev/full 2> err; status=$?; : > out
 wants kept-line-is-not-written 2 '' ''
 is nothing-after-it-is-sealed no test -e files/d/b.stm
@@ -288,6 +296,10 @@ failed files/numbers: name does not end in .stm' ''
 run open --key none --skip-existing files/numbers.stm
 wants open-all-kept 0 'kept files/numbers.stm' ''
 is it-stays cmp -s files/numbers numbers.plain
+run open --key "$key" --skip-existing --into files/into files/numbers.stm
+wants open-not-in-that-folder 0 'opened files/numbers.stm bytes 1492' ''
+run open --key none --skip-existing --into files/into files/numbers.stm
+wants open-kept-in-that-folder 0 'kept files/numbers.stm' ''
 run verify --key "$key" --skip-existing files/a.stm
 wants verify-keeps-nothing 2 '' "begins error: unexpected argument '--skip-existing' found"
 run pipe --key "$key" --ledger files/ledger --device 1 --skip-existing < files/a

@@ -63,7 +63,7 @@ fn is_kept<R: Files + AllocGlobal>(
     skip && is_made(rt, makes, into, name)
 }
 
-// Whether the name of this FILE's output is in use.
+// Whether this FILE's output exists.
 fn is_made<R: Files + AllocGlobal>(rt: &R, makes: Makes, into: Option<&str>, name: &str) -> bool {
     match makes {
         Makes::Container => match format!(in rt.alloc(); "{name}.stm") {
@@ -77,10 +77,10 @@ fn is_made<R: Files + AllocGlobal>(rt: &R, makes: Makes, into: Option<&str>, nam
     }
 }
 
-// Whether there is something at the path of the output of this name.
+// Whether there is a regular file at the path of the output of this name.
 fn is_there<R: Files + AllocGlobal>(rt: &R, into: Option<&str>, output: &str) -> bool {
     match path_of(rt.alloc(), into, output) {
-        Some(path) => fs::symlink_metadata(rt, path.as_str()).is_ok(),
+        Some(path) => matches!(fs::metadata(rt, path.as_str()), Ok(found) if found.is_file()),
         None => false,
     }
 }
