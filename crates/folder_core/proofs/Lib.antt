@@ -2,3 +2,4 @@ mod Taken
 pub mod Entries
 pub mod Sound
 pub mod Calls
+pub mod Spools

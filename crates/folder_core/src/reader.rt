@@ -1,5 +1,5 @@
 //! Readers of files, which may be read once more from the first byte.
-ghost use Rattle.std.specs.Prelude.{◌≡◌, ℕ, List, None, Option, OnOk, OnErr, is_err};
+ghost use Rattle.std.specs.Prelude.{◌≡◌, ℕ, List, None, Some, Option, OnOk, IfSome, is_err};
 ghost use Rattle.std.specs.Io.{ReadsAtMost};
 ghost use Rattle.io_core.specs.Streams.{ReadConsumes, counted};
 
@@ -18,10 +18,12 @@ pub trait FileReader: Source {
         ensures count { Self.failures self.new ≡ counted (is_err result) (Self.failures self.old) }
         ensures whole { whole self.new ≡ whole self.old };
 
-    /// Goes back to the file's first byte. Fails if the file can't be read again, as a pipe.
+    /// Whether the file can be read again. A pipe can't.
+    fn can_repeat(&self) -> bool;
+
+    /// Goes back to the file's first byte. Fails if the file can't be read again.
     fn again(&mut self) -> Result<(), Failed>
-        ensures again { OnOk result (Self.left self.new ≡ whole self.old) }
-        ensures kept { OnErr result (Self.left self.new ≡ Self.left self.old) }
+        ensures again { OnOk result (IfSome (whole self.old) (λ bytes. Self.left self.new ≡ Some bytes)) }
         ensures whole { whole self.new ≡ whole self.old };
 }
 
@@ -66,10 +68,17 @@ impl<R: FileReader + Drop, N: WholeFile> Reading<R, N> {
         }
     }
 
+    /// Returns the reader of the file once the engine is done.
+    pub fn file(self) -> R
+        ensures file { R.whole result ≡ N.whole }
+        ensures same { result ≡ self.reader }
+    {
+        self.reader
+    }
+
     /// Goes back to the file's first byte, whatever the engine did. Fails if the file can't be read again.
     pub fn again(&mut self) -> Result<(), Failed>
-        ensures again { OnOk result (R.left self.new.reader ≡ N.whole) }
-        ensures kept { OnErr result (R.left self.new.reader ≡ R.left self.old.reader) }
+        ensures again { OnOk result (IfSome N.whole (λ bytes. R.left self.new.reader ≡ Some bytes)) }
     {
         self.reader.again()
     }

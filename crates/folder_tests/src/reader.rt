@@ -30,6 +30,10 @@ impl FileReader for MemoryReader {
         Ok(n)
     }
 
+    fn can_repeat(&self) -> bool {
+        true
+    }
+
     fn again(&mut self) -> Result<(), Failed> {
         self.at = 0;
         Ok(())
