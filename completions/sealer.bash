@@ -25,7 +25,7 @@ _sealer() {
         case $before in
             --key | --files-from | --ledger | --journal) _sealer_files "$current"; return ;;
             --workers | --lanes) _sealer_words 'auto 1 2 4 8 16' "$current"; return ;;
-            --into) _sealer_folders "$current"; return ;;
+            --into | --spool) _sealer_folders "$current"; return ;;
             --max-bytes | --max-chunks) _sealer_words 'max' "$current"; return ;;
             --label | --device) return ;;
             --window) _sealer_words '1 2 4 8 16 32 64 128 256' "$current"; return ;;
@@ -36,17 +36,18 @@ _sealer() {
     fi
     case $command in
         # make_options.py writes from here: words
-        '') words='seal pipe open verify audit ledger help --help -h --version -V' ;;
+        '') words='seal pipe unpipe open verify audit ledger help --help -h --version -V' ;;
         seal) words='--key --workers --verbose --files-from --null --progress --ledger --no-new-ledger --device --max-bytes --lanes
                     --window --into --skip-existing --sync --private --exponent --label --journal --help -h' ;;
         pipe) words='--key --workers --verbose --ledger --no-new-ledger --device --depth --max-chunks --force-terminal --exponent
                     --label --journal --help -h' ;;
+        unpipe) words='--key --workers --verbose --max-bytes --spool --label --force-terminal --help -h' ;;
         open) words='--key --workers --verbose --files-from --null --progress --max-bytes --label --into --skip-existing --sync
                     --private --help -h' ;;
         verify) words='--key --workers --verbose --files-from --null --progress --max-bytes --label --show --help -h' ;;
         audit) words='--help -h' ;;
         ledger) words='--ledger --verbose --help -h' ;;
-        help) words='seal pipe open verify audit ledger help' ;;
+        help) words='seal pipe unpipe open verify audit ledger help' ;;
         # make_options.py writes to here
         *) return ;;
     esac
@@ -54,6 +55,7 @@ _sealer() {
         -*:* | *: | *:help) _sealer_words "$words" "$current" ;;
         # make_options.py writes from here: files
         *:seal) _sealer_files "$current" ;;
+        *:unpipe) _sealer_files "$current" ;;
         *:open) _sealer_files "$current" .stm ;;
         *:verify) _sealer_files "$current" ;;
         # make_options.py writes to here

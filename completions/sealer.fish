@@ -15,20 +15,21 @@ end
 
 complete -c sealer -f
 # make_options.py writes from here: options
-complete -c sealer -n 'not __sealer_command seal pipe open verify audit ledger help' -a seal -d 'Seals each FILE to FILE.stm, each under a number of its own'
-complete -c sealer -n 'not __sealer_command seal pipe open verify audit ledger help' -a pipe -d 'Seals standard input to standard output, a stream of any length, under a number of its own'
-complete -c sealer -n 'not __sealer_command seal pipe open verify audit ledger help' -a open -d 'Checks each FILE whole, then writes its plaintext to the name without .stm'
-complete -c sealer -n 'not __sealer_command seal pipe open verify audit ledger help' -a verify -d 'Checks each FILE whole and writes no file'
-complete -c sealer -n 'not __sealer_command seal pipe open verify audit ledger help' -a audit -d 'Audits the journal on standard input and prints the verdict'
-complete -c sealer -n 'not __sealer_command seal pipe open verify audit ledger help' -a ledger -d 'Prints what a ledger file holds, and changes nothing'
-complete -c sealer -n 'not __sealer_command seal pipe open verify audit ledger help' -a help -d 'Print this message or the help of the given subcommand(s)'
-complete -c sealer -n '__sealer_command help' -a 'seal pipe open verify audit ledger help'
+complete -c sealer -n 'not __sealer_command seal pipe unpipe open verify audit ledger help' -a seal -d 'Seals each FILE to FILE.stm, each under a number of its own'
+complete -c sealer -n 'not __sealer_command seal pipe unpipe open verify audit ledger help' -a pipe -d 'Seals standard input to standard output, a stream of any length, under a number of its own'
+complete -c sealer -n 'not __sealer_command seal pipe unpipe open verify audit ledger help' -a unpipe -d 'Checks a sealed stream or FILE whole, then writes its plaintext to standard output'
+complete -c sealer -n 'not __sealer_command seal pipe unpipe open verify audit ledger help' -a open -d 'Checks each FILE whole, then writes its plaintext to the name without .stm'
+complete -c sealer -n 'not __sealer_command seal pipe unpipe open verify audit ledger help' -a verify -d 'Checks each FILE whole and writes no file'
+complete -c sealer -n 'not __sealer_command seal pipe unpipe open verify audit ledger help' -a audit -d 'Audits the journal on standard input and prints the verdict'
+complete -c sealer -n 'not __sealer_command seal pipe unpipe open verify audit ledger help' -a ledger -d 'Prints what a ledger file holds, and changes nothing'
+complete -c sealer -n 'not __sealer_command seal pipe unpipe open verify audit ledger help' -a help -d 'Print this message or the help of the given subcommand(s)'
+complete -c sealer -n '__sealer_command help' -a 'seal pipe unpipe open verify audit ledger help'
 complete -c sealer -s h -l help -d 'Print help'
-complete -c sealer -n 'not __sealer_command seal pipe open verify audit ledger help' -s V -l version -d 'Print version'
+complete -c sealer -n 'not __sealer_command seal pipe unpipe open verify audit ledger help' -s V -l version -d 'Print version'
 
-complete -c sealer -n '__sealer_command seal pipe open verify' -l key -rF -d 'The key file: 64 hex digits, then nothing or one end of line'
-complete -c sealer -n '__sealer_command seal pipe open verify' -l workers -x -a 'auto 1 2 4 8 16' -d 'Workers on one file or stream, side by side, 1 to 16, or auto: as many as there are processors'
-complete -c sealer -n '__sealer_command seal pipe open verify' -l verbose -d 'Print the cause of a fault before the first FILE, and warn of a key file that is open to others'
+complete -c sealer -n '__sealer_command seal pipe unpipe open verify' -l key -rF -d 'The key file: 64 hex digits, then nothing or one end of line'
+complete -c sealer -n '__sealer_command seal pipe unpipe open verify' -l workers -x -a 'auto 1 2 4 8 16' -d 'Workers on one file or stream, side by side, 1 to 16, or auto: as many as there are processors'
+complete -c sealer -n '__sealer_command seal pipe unpipe open verify' -l verbose -d 'Print the cause of a fault before the first FILE, and warn of a key file that is open to others'
 
 complete -c sealer -n '__sealer_command seal open verify' -l files-from -rF -d 'Read further FILEs from a list, one a line, after those of the command line'
 complete -c sealer -n '__sealer_command seal open verify' -l null -d 'FILEs in the list of --files-from end with a NUL byte, not a line feed'
@@ -40,7 +41,11 @@ complete -c sealer -n '__sealer_command seal open' -l sync -d 'Sync each output 
 complete -c sealer -n '__sealer_command seal open' -l private -d 'Create each output with the mode 0600: for its owner only'
 
 complete -c sealer -n '__sealer_command open verify' -l max-bytes -x -a 'max' -d 'Refuse a FILE of more plaintext bytes, 0 to 4503599626321920, or max'
-complete -c sealer -n '__sealer_command open verify' -l label -x -d 'Accept only FILEs with this label, 0 to 255 bytes of UTF-8'
+
+complete -c sealer -n '__sealer_command unpipe open verify' -l label -x -d 'Accept only FILEs with this label, 0 to 255 bytes of UTF-8'
+
+complete -c sealer -n '__sealer_command unpipe' -l max-bytes -x -a 'max' -d 'Refuse more plaintext bytes, 0 to 4503599626321920, or max'
+complete -c sealer -n '__sealer_command unpipe' -l spool -xa '(__fish_complete_directories)' -d 'The folder of the temporary file for sealed bytes, if standard input has more than 16 MiB'
 
 complete -c sealer -n '__sealer_command verify' -l show -d 'After the line of a good FILE print its version, chunk size, device, number and label'
 
@@ -57,13 +62,15 @@ complete -c sealer -n '__sealer_command seal' -l window -x -a '1 2 4 8 16 32 64 
 
 complete -c sealer -n '__sealer_command pipe' -l depth -x -a '1 2 4 8 16 32 64' -d 'At most this many chunks are read and not yet written, 1 to 64'
 complete -c sealer -n '__sealer_command pipe' -l max-chunks -x -a 'max' -d 'Refuse a stream of more chunks, once the next one begins, 1 to 4294967295, or max'
-complete -c sealer -n '__sealer_command pipe' -l force-terminal -d 'Write the container even to a terminal'
+
+complete -c sealer -n '__sealer_command pipe unpipe' -l force-terminal -d 'Write to standard output even if it is a terminal'
 
 complete -c sealer -n '__sealer_command seal pipe' -l exponent -x -a '12 13 14 15 16 17 18 19 20' -d 'Version 2, with chunks of 2^N bytes, 12 to 20'
 complete -c sealer -n '__sealer_command seal pipe' -l label -x -d 'Version 2, with this label, which is not secret: 0 to 255 bytes of UTF-8'
 complete -c sealer -n '__sealer_command seal pipe' -l journal -rF -d "A new file for the run's journal"
 
 complete -c sealer -n '__sealer_command seal' -F
+complete -c sealer -n '__sealer_command unpipe' -F
 complete -c sealer -n '__sealer_command open' -k -xa '(__fish_complete_suffix .stm)'
 complete -c sealer -n '__sealer_command verify' -F
 # make_options.py writes to here

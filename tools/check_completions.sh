@@ -115,7 +115,7 @@ try:
         open(os.path.join(room, name), "w").close()
     os.mkdir(os.path.join(room, "below"))
     names, options = told()
-    if not {"seal", "pipe", "open", "verify", "audit"} <= names:
+    if not {"seal", "pipe", "unpipe", "open", "verify", "audit"} <= names:
         sys.exit(f"--help lists these commands: {names}")
     for kind, start in (("bash", bash), ("zsh", zsh), ("fish", Fish)):
         if not shutil.which(kind):
@@ -129,7 +129,9 @@ try:
             pattern = r"(?:one\.stm|words\.stm|plain)\b"
             # fish has those with the end first, and then the others
             asked += [("sealer open ", all_names if kind == "fish" else stm, pattern)]
-            asked += [("sealer verify --key ", all_names, pattern), ("sealer seal ", all_names, pattern)]
+            asked += [(f"sealer {it} ", all_names, pattern) for it in ("verify --key", "seal", "unpipe")]
+            # these options take a folder
+            asked += [(f"sealer {it} ", {"below"}, r"(?:one\.stm|words\.stm|plain|below)\b") for it in ("seal --into", "unpipe --spool")]
             # in a folder after a tilde, folders too
             asked += [("sealer open ~/", {"below"} | (all_names if kind == "fish" else stm), r"(?:one\.stm|words\.stm|plain|below)\b")]
             asked += [("sealer audit ", set(), pattern), ("sealer pipe ", set(), pattern), ("sealer seal --label ", set(), pattern)]

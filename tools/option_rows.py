@@ -21,13 +21,14 @@ FIELDS = {
     "Nothing": "",
     "NothingWithout": r'"(?P<other>[\w-]+)"',
     "FilesUnless": r'"(?P<other>[\w-]+)"',
+    "OptionalFile": "",
 }
 STRING = r'"((?:[^"\\]|\\.)*)"'
 ROW = re.compile(r'Row \{\s*name: "([\w-]+)",\s*takes: Takes::(\w+)(?:\(([^()]*)\)|\s*\{([^{}]*)\})?,\s*help: ' + STRING + r",?\s*\}", re.S)
 
-# An option, or the FILEs of a command. The word for its value is `value`. If that is a number, `numbers` are the least and the greatest, and
-# `word` is one that denotes a number. If it is one of some words, these are `words`. Without the option it is `default`; if the option is
-# given without a value, it is `absent`. The option that it needs, or that replaces FILEs, is `other`.
+# An option, or the FILEs of a command, or its only FILE. The word for its value is `value`. If that is a number, `numbers` are the least
+# and the greatest, and `word` is one that denotes a number. If it is one of some words, these are `words`. Without the option it is
+# `default`; if the option is given without a value, it is `absent`. The option that it needs, or that replaces FILEs, is `other`.
 Row = namedtuple("Row", "name kind value is_required numbers words word default absent other help")
 # A command: its lists are names of lists of rows.
 Command = namedtuple("Command", "name about after lists")

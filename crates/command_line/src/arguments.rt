@@ -1,7 +1,7 @@
 //! The commands, with the texts of their help.
 use crate::options::{
-    FILE_ROWS, HOLDINGS_ROWS, KEY_ROWS, LEDGER_ROWS, OPEN_ROWS, OUTPUT_ROWS, PIPE_ROWS, SEAL_ROWS,
-    SHAPE_ROWS, SHOW_ROWS, with_rows,
+    FILE_ROWS, HOLDINGS_ROWS, KEY_ROWS, LABEL_ROWS, LEDGER_ROWS, OPEN_ROWS, OUTPUT_ROWS, PIPE_ROWS,
+    SEAL_ROWS, SHAPE_ROWS, SHOW_ROWS, TERMINAL_ROWS, UNPIPE_ROWS, with_rows,
 };
 use crate::version::VERSION;
 use clap::{Command, Error};
@@ -15,7 +15,8 @@ fault. COMMAND --help shows its options and what it prints.";
 /// The end of the help of `open` and `verify`.
 const FILES_HELP: &str =
     "Prints a line for each FILE. Exit status: 0 if none failed, 1 if some did, 2 if nothing was done,
-or a line could not be written. open holds a FILE's plaintext in memory, verify some megabytes.";
+or a line could not be written. Takes some megabytes of memory; open reads each regular FILE twice,
+and holds the plaintext of any other in memory. To standard output: sealer unpipe";
 
 /// The end of the help of `seal`.
 const SEAL_HELP: &str =
@@ -31,10 +32,16 @@ take a new device number or a new key: else two files can get one number, and ne
 const PIPE_HELP: &str =
     "Standard input is sealed as it comes, in the memory of --depth chunks, and its container written
 to standard output. Prints one line on standard error. Exit status: 0 if the stream was sealed, 1 if
-not, and then the output is truncated, 2 if standard error says why. open opens the container, like
-a FILE.stm.
+not, and then the output is truncated, 2 if standard error says why. unpipe opens the container, and
+open too, like a FILE.stm.
 
 As for seal: never use a copy of a ledger file, nor a restored one.";
+
+/// The end of the help of `unpipe`.
+const UNPIPE_HELP: &str =
+    "Plaintext is written only after every chunk was checked. FILE is read twice, if it is a regular
+file. Prints one line on standard error. Exit status: 0 if all plaintext was written, 1 if not, 2 if
+standard error says why.";
 
 /// The end of the help of `audit`.
 const AUDIT_HELP: &str =
@@ -46,7 +53,7 @@ const LEDGER_HELP: &str =
     "Prints a line for each key, by the first bytes of its SHA-256, and device: ranges, numbers given,
 numbers left. Exit status: 0 if all were printed, 2 if standard error says why not.";
 
-/// The program's command: `seal`, `pipe`, `open`, `verify`, `audit` and `ledger`.
+/// The program's command: `seal`, `pipe`, `unpipe`, `open`, `verify`, `audit` and `ledger`.
 pub fn command<'a>(alloc: Global) -> Result<Command<'a>, Error> {
     let sealer = Command::new(alloc, "sealer")
         .version(VERSION)
@@ -55,6 +62,7 @@ pub fn command<'a>(alloc: Global) -> Result<Command<'a>, Error> {
         .subcommand_required(true);
     let sealer = with_command(Ok(sealer), seal_command(alloc));
     let sealer = with_command(sealer, pipe_command(alloc));
+    let sealer = with_command(sealer, unpipe_command(alloc));
     let sealer = with_command(sealer, opening_command(alloc));
     let sealer = with_command(sealer, verifying_command(alloc));
     let sealer = with_command(sealer, Ok(audit_command(alloc)));
@@ -105,7 +113,8 @@ fn file_command<'a>(alloc: Global, name: &'a str, about: &'a str) -> Result<Comm
 // A command over sealed files.
 fn open_command<'a>(alloc: Global, name: &'a str, about: &'a str) -> Result<Command<'a>, Error> {
     let command = file_command(alloc, name, about)?;
-    with_rows(alloc, command.after_help(FILES_HELP), &OPEN_ROWS)
+    let command = with_rows(alloc, command.after_help(FILES_HELP), &OPEN_ROWS)?;
+    with_rows(alloc, command, &LABEL_ROWS)
 }
 
 fn seal_command<'a>(alloc: Global) -> Result<Command<'a>, Error> {
@@ -129,5 +138,17 @@ fn pipe_command<'a>(alloc: Global) -> Result<Command<'a>, Error> {
     )?;
     let command = with_rows(alloc, command.after_help(PIPE_HELP), &LEDGER_ROWS)?;
     let command = with_rows(alloc, command, &PIPE_ROWS)?;
+    let command = with_rows(alloc, command, &TERMINAL_ROWS)?;
     with_rows(alloc, command, &SHAPE_ROWS)
+}
+
+fn unpipe_command<'a>(alloc: Global) -> Result<Command<'a>, Error> {
+    let command = key_command(
+        alloc,
+        "unpipe",
+        "Checks a sealed stream or FILE whole, then writes its plaintext to standard output",
+    )?;
+    let command = with_rows(alloc, command.after_help(UNPIPE_HELP), &UNPIPE_ROWS)?;
+    let command = with_rows(alloc, command, &LABEL_ROWS)?;
+    with_rows(alloc, command, &TERMINAL_ROWS)
 }

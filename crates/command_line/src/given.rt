@@ -8,7 +8,7 @@ use container_core::{MAX_EXPONENT, MAX_OPENED, MAX_PLAIN, MIN_EXPONENT};
 use gate_core::{MAX_DEPTH, MAX_LANES, MAX_WINDOW, MAX_WORKERS};
 use ledger_core::Device;
 
-/// Plaintext bytes of a file if no limit is given: 1 GiB.
+/// Plaintext bytes of a file if no limit is given, except to `unpipe`: 1 GiB.
 pub const DEFAULT_MAX_BYTES: u64 = 1 << 30;
 /// Chunks of a stream if no limit is given.
 pub const DEFAULT_MAX_CHUNKS: u32 = 1 << 14;
@@ -40,7 +40,7 @@ pub(crate) struct PipeNumbers {
     pub(crate) exponent: Option<u32>,
 }
 
-/// The numbers of `open` and `verify`.
+/// The numbers of `open`, `verify` and `unpipe`.
 #[derive(Clone, Copy)]
 pub(crate) struct OpenNumbers {
     pub(crate) workers: u32,
@@ -96,18 +96,19 @@ pub(crate) fn pipe_numbers(matches: &ArgMatches<'_>) -> Result<PipeNumbers, Usag
     })
 }
 
-/// Returns the numbers given to `open` or `verify`.
-pub(crate) fn open_numbers(matches: &ArgMatches<'_>) -> Result<OpenNumbers, UsageFault>
+/// Returns the numbers given to `open`, `verify` or `unpipe`. `usual` is the limit if none is given.
+pub(crate) fn open_numbers(matches: &ArgMatches<'_>, usual: u64) -> Result<OpenNumbers, UsageFault>
+    requires usual { usual ≤ MAX_OPENED }
     ensures workers { IfOk result (λ n. n.workers ≡ unwrap_or (number_given matches.now (codes "workers")) DEFAULT_WORKERS) }
     ensures few_workers { IfOk result (λ n. (0 < n.workers) × (n.workers ≤ MAX_WORKERS)) }
     ensures max_bytes { IfOk result (λ n. n.max_bytes
-        ≡ unwrap_or (number_given matches.now (codes "max-bytes")) DEFAULT_MAX_BYTES) }
+        ≡ unwrap_or (number_given matches.now (codes "max-bytes")) usual) }
     ensures few_bytes { IfOk result (λ n. n.max_bytes ≤ MAX_OPENED) }
     ensures fault { IfErr result (λ fault. fault ≢ UsageFault.LabelTooLong) }
 {
     Ok(OpenNumbers {
         workers: number_or(matches, "workers", 1, MAX_WORKERS, DEFAULT_WORKERS)?,
-        max_bytes: bytes_or(matches, "max-bytes", MAX_OPENED, DEFAULT_MAX_BYTES)?,
+        max_bytes: bytes_or(matches, "max-bytes", MAX_OPENED, usual)?,
     })
 }
 

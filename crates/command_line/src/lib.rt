@@ -21,8 +21,8 @@ pub use crate::given::{
 };
 pub use crate::names::{ListRequest, files_of, list_request, names_in};
 pub use crate::requests::{
-    DEFAULT_EXPONENT, OpenRequest, PipeRequest, SealRequest, Showing, open_request, pipe_request,
-    seal_request, showing_asked, verbose_asked,
+    DEFAULT_EXPONENT, OpenRequest, PipeRequest, SealRequest, Showing, UnpipeRequest, open_request,
+    pipe_request, seal_request, showing_asked, unpipe_request, verbose_asked,
 };
 pub use crate::version::VERSION;
 pub use crate::words::{asks_for_processors, write_out};

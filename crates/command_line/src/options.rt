@@ -38,6 +38,8 @@ enum Takes {
     NothingWithout(&'static str),
     // The files of a command, at least one unless this option is given. Its name is no option's.
     FilesUnless(&'static str),
+    // The only file of a command. It is optional, and its name is no option's.
+    OptionalFile,
 }
 
 // The value of a number that isn't given.
@@ -137,22 +139,47 @@ pub(crate) static OUTPUT_ROWS: [Row; 4] = [
 ];
 
 /// What `open` and `verify` take in addition.
-pub(crate) static OPEN_ROWS: [Row; 2] = [
+pub(crate) static OPEN_ROWS: [Row; 1] = [Row {
+    name: "max-bytes",
+    takes: Takes::Bytes {
+        most: MAX_OPENED as i64,
+        default: "1073741824",
+    },
+    help: "Refuse a FILE of more plaintext bytes,\n\
+        0 to 4503599626321920, or max; N may end in K, M, G or T,\n\
+        powers of 1024",
+}];
+
+/// What every command over containers takes in addition.
+pub(crate) static LABEL_ROWS: [Row; 1] = [Row {
+    name: "label",
+    takes: Takes::Text,
+    help: "Accept only FILEs with this label, 0 to 255 bytes of UTF-8;\n\
+        without it any label passes",
+}];
+
+/// What `unpipe` takes in addition.
+pub(crate) static UNPIPE_ROWS: [Row; 3] = [
+    Row {
+        name: "FILE",
+        takes: Takes::OptionalFile,
+        help: "The sealed file; if not given, or -, it is standard input",
+    },
     Row {
         name: "max-bytes",
         takes: Takes::Bytes {
             most: MAX_OPENED as i64,
-            default: "1073741824",
+            default: "4503599626321920",
         },
-        help: "Refuse a FILE of more plaintext bytes,\n\
+        help: "Refuse more plaintext bytes,\n\
             0 to 4503599626321920, or max; N may end in K, M, G or T,\n\
             powers of 1024",
     },
     Row {
-        name: "label",
-        takes: Takes::Text,
-        help: "Accept only FILEs with this label, 0 to 255 bytes of UTF-8;\n\
-            without it any label passes",
+        name: "spool",
+        takes: Takes::Folder,
+        help: "The folder of the temporary file for sealed bytes, if standard input has\n\
+            more than 16 MiB; if not given TMPDIR, else /var/tmp",
     },
 ];
 
@@ -237,7 +264,7 @@ pub(crate) static SEAL_ROWS: [Row; 3] = [
 ];
 
 /// What `pipe` takes in addition.
-pub(crate) static PIPE_ROWS: [Row; 3] = [
+pub(crate) static PIPE_ROWS: [Row; 2] = [
     Row {
         name: "depth",
         takes: Takes::Number {
@@ -258,12 +285,14 @@ pub(crate) static PIPE_ROWS: [Row; 3] = [
             1 to 4294967295, or max; N may end in K, M, G or T,\n\
             powers of 1024",
     },
-    Row {
-        name: "force-terminal",
-        takes: Takes::Nothing,
-        help: "Write the container even to a terminal",
-    },
 ];
+
+/// What every command takes in addition that writes to standard output what it makes.
+pub(crate) static TERMINAL_ROWS: [Row; 1] = [Row {
+    name: "force-terminal",
+    takes: Takes::Nothing,
+    help: "Write to standard output even if it is a terminal",
+}];
 
 /// What a command that seals takes in addition: the containers' shape, and the journal.
 pub(crate) static SHAPE_ROWS: [Row; 3] = [
@@ -338,6 +367,7 @@ fn arg_of<'a>(alloc: Global, row: &Row) -> Result<Arg<'a>, Error> {
     let arg = Arg::new(alloc, row.name).help(row.help);
     let arg = match &row.takes {
         Takes::FilesUnless(list) => files(arg, list)?,
+        Takes::OptionalFile => arg,
         Takes::Nothing => flag(arg, row.name),
         Takes::NothingWithout(other) => flag(arg, row.name).requires_arg(other)?,
         Takes::Path { is_required } => valued(arg, row.name, "F").required(*is_required),

@@ -4,7 +4,7 @@ ghost use Rattle.std.specs.Prelude.{Some, codes, length, not, option_map, unwrap
 ghost use Rattle.clap.specs.Matches.{first_value, found_of};
 ghost use Rattle.container_core.specs.Shape.{IsShape, IsShort, size_of};
 ghost use Rattle.gate_core.specs.Window.{usual};
-ghost use Rattle.command_line.specs.Asked.{shape_asked};
+ghost use Rattle.command_line.specs.Asked.{file_asked, shape_asked};
 ghost use Rattle.command_line.specs.Given.{IsFlag, number_given};
 
 use crate::fault::UsageFault;
@@ -286,7 +286,7 @@ pub fn open_request<'m, 'a>(
     if files.is_empty() {
         return Err(UsageFault::NoFiles);
     }
-    let numbers = match open_numbers(matches) {
+    let numbers = match open_numbers(matches, DEFAULT_MAX_BYTES) {
         Ok(numbers) => numbers,
         Err(fault) => return Err(fault),
     };
@@ -306,6 +306,77 @@ pub fn open_request<'m, 'a>(
         sync: matches.get_flag("sync"),
         private: matches.get_flag("private"),
     })
+}
+
+/// A request of `unpipe`.
+#[derive(Clone, Copy)]
+pub struct UnpipeRequest<'a> {
+    pub key: &'a str,
+    /// The sealed file, or `None` for standard input.
+    pub file: Option<&'a str>,
+    pub workers: u32,
+    /// The most plaintext bytes.
+    pub max_bytes: u64,
+    /// The bytes of the label that the container must have, if one was given.
+    pub label: Option<&'a [u8]>,
+    /// The folder of the temporary file for sealed bytes, if one is given.
+    pub spool: Option<&'a str>,
+    /// Whether the plaintext may be written to a terminal.
+    pub to_terminal: bool,
+}
+
+/// Returns the request of `unpipe`. Without `--max-bytes` the limit is that of the format. `LabelTooLong` if the label
+/// has more than 255 bytes: no container has it.
+pub fn unpipe_request<'a>(matches: &ArgMatches<'a>) -> Result<UnpipeRequest<'a>, UsageFault>
+    ensures key { IfOk result (λ request. Some request.key.now ≡ first_value (found_of matches.now) (codes "key")) }
+    ensures file { IfOk result (λ request. option_map (λ file. file.now) request.file
+        ≡ file_asked (first_value (found_of matches.now) (codes "FILE"))) }
+    ensures workers { IfOk result (λ request. (0 < request.workers) × (request.workers ≤ MAX_WORKERS)) }
+    ensures workers_given { IfOk result (λ request. request.workers
+        ≡ unwrap_or (number_given matches.now (codes "workers")) DEFAULT_WORKERS) }
+    ensures max_bytes { IfOk result (λ request. request.max_bytes ≤ MAX_OPENED) }
+    ensures max_bytes_given { IfOk result (λ request. request.max_bytes
+        ≡ unwrap_or (number_given matches.now (codes "max-bytes")) MAX_OPENED) }
+    ensures label { IfOk result (λ request. option_map (λ label. label.now) request.label
+        ≡ first_value (found_of matches.now) (codes "label")) }
+    ensures short { IfOk result (λ request. IfSome request.label (λ label. length label.now ≤ MAX_LABEL)) }
+    ensures spool { IfOk result (λ request. option_map (λ spool. spool.now) request.spool
+        ≡ first_value (found_of matches.now) (codes "spool")) }
+    ensures terminal { IfOk result (λ request. IsFlag matches.now (codes "force-terminal") request.to_terminal) }
+    ensures too_long { result ≡ Err UsageFault.LabelTooLong
+        → IfSome (first_value (found_of matches.now) (codes "label")) (λ label. MAX_LABEL < length label) }
+{
+    let Some(key) = matches.get_str("key") else {
+        return Err(UsageFault::Missing);
+    };
+    let numbers = match open_numbers(matches, MAX_OPENED) {
+        Ok(numbers) => numbers,
+        Err(fault) => return Err(fault),
+    };
+    let label = match label_of(matches.get_str("label")) {
+        Ok(label) => label,
+        Err(fault) => return Err(fault),
+    };
+    let to_terminal = matches.get_flag("force-terminal");
+    Ok(UnpipeRequest {
+        key,
+        file: file_of(matches.get_str("FILE")),
+        workers: numbers.workers,
+        max_bytes: numbers.max_bytes,
+        label,
+        spool: matches.get_str("spool"),
+        to_terminal,
+    })
+}
+
+// The file to open, if it isn't standard input.
+fn file_of(given: Option<&str>) -> Option<&str>
+    ensures { option_map (λ file. file.now) result ≡ file_asked (option_map (λ file. file.now) given.entry) }
+{
+    match given {
+        Some("-") => None,
+        other => other,
+    }
 }
 
 // The shape of the containers to write, from the options given.
