@@ -3,3 +3,4 @@ pub mod Labels
 pub mod Openings
 pub mod Telling
 pub mod Traces
+pub mod Unpipings

@@ -1,3 +1,4 @@
+pub mod Again
 pub mod Facts
 pub mod KeyFile
 pub mod Labels
@@ -5,4 +6,5 @@ pub mod Lines
 pub mod Printing
 pub mod Session
 pub mod Trace
+pub mod Unpiping
 pub mod Work

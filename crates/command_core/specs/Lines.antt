@@ -7,7 +7,7 @@ use Rattle.journal_core.specs.Text.{ended_lines}
 use Rattle.command_core.specs.declared.line.FileFault.{FileFault}
 use Rattle.command_core.specs.declared.line.FileFault.TheVariants.{CannotOpen, NoSuffix, OutputExists, CannotCreate}
 use Rattle.command_core.specs.declared.line.FileFault.TheVariants.{OutOfMemory, NoNumber, AnotherLabel, Unopened}
-use Rattle.command_core.specs.declared.line.FileFault.TheVariants.{Unsealed}
+use Rattle.command_core.specs.declared.line.FileFault.TheVariants.{Unsealed, Changed, SpoolFailed}
 use Rattle.command_core.specs.declared.line.FileOutcome.{FileOutcome}
 use Rattle.command_core.specs.declared.line.FileOutcome.TheVariants.{Sealed, Opened, Good, Shown, Failed}
 use Rattle.command_core.specs.Facts.{facts_text}
@@ -25,6 +25,8 @@ fault_text CannotCreate = codes "cannot create"
 fault_text OutOfMemory = codes "out of memory"
 fault_text NoNumber = codes "no file number"
 fault_text AnotherLabel = codes "another label"
+fault_text Changed = codes "changed while it was opened"
+fault_text SpoolFailed = codes "spool failed"
 fault_text (Unopened fault) = open_text fault
 fault_text (Unsealed fault) = seal_text fault
 

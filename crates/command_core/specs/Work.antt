@@ -1,7 +1,8 @@
 -- What `open_all` and `verify_all` do with a list of files.
 use Rattle.std.specs.Prelude.{◌≡◌, ◌≢◌, ◌⊎◌, ℕ, ◌-◌, ◌<◌, ◌≤◌, Bool, true, false, List, [], ◌∷◌, ◌++◌, length, take}
 use Rattle.std.specs.Prelude.{map, ⊤, All, Option, option_map, flat_map, codes, Result, Ok, Err}
-use Rattle.container_core.specs.declared.fault.OpenFault.TheVariants.{Write}
+use Rattle.container_core.specs.declared.fault.OpenFault.TheVariants.{Read, Write}
+use Rattle.container_core.specs.declared.fault.OpenFault.TheVariants as bytes
 use Rattle.container_core.specs.Container.{header_length}
 use Rattle.container_core.specs.Faults.{IsOfBytes}
 use Rattle.container_core.specs.Opening.{opening}
@@ -13,7 +14,7 @@ use Rattle.command_core.specs.declared.folder.FolderFault.TheVariants as refusal
 use Rattle.command_core.specs.declared.line.FileFault.{FileFault}
 use Rattle.command_core.specs.declared.line.FileFault.TheVariants.{CannotOpen, OutOfMemory, NoNumber, Unopened}
 use Rattle.command_core.specs.declared.line.FileFault.TheVariants.{AnotherLabel, Unsealed, NoSuffix, OutputExists}
-use Rattle.command_core.specs.declared.line.FileFault.TheVariants.{CannotCreate}
+use Rattle.command_core.specs.declared.line.FileFault.TheVariants.{CannotCreate, Changed, SpoolFailed}
 use Rattle.command_core.specs.declared.line.FileOutcome.{FileOutcome}
 use Rattle.command_core.specs.declared.line.FileOutcome.TheVariants.{Opened, Good, Shown, Failed}
 use Rattle.command_core.specs.Facts.{IsOfHeader}
@@ -46,6 +47,7 @@ IsOfOpening name (Failed NoSuffix) = ¬ IsSealedName name
 IsOfOpening name (Failed OutOfMemory) = ⊥
 IsOfOpening name (Failed NoNumber) = ⊥
 IsOfOpening name (Failed (Unsealed fault)) = ⊥
+IsOfOpening name (Failed SpoolFailed) = ⊥
 IsOfOpening name (Failed fault) = IsSealedName name
 IsOfOpening name _ = ⊥
 
@@ -78,17 +80,28 @@ abbrev pub file_read_failed : {A : Type 0} → Result A FileFault → Bool
 file_read_failed {A} (Err (Unopened fault)) = open_read_failed {A = A} (Err fault)
 file_read_failed _ = false
 
+-- The events for a file of this name that was read and opens, and whose output was given up with a prefix of the
+-- plaintext.
+abbrev pub IsGivenUp : List ℕ → ℕ → Option (List ℕ) → List ℕ → List Event → Type 0
+IsGivenUp key most label name events = (input : List ℕ) × (plain : List ℕ) × (written : List ℕ)
+    × IsGood key most label input plain × IsFront written plain
+    × (events ≡ trace.Reading name input ∷ trace.Created (output_of name)
+    ∷ trace.Discarded (output_of name) written ∷ [])
+
 -- The events for a file of this name that is to be opened. An output is asked for only after an input was read that
 -- opens and has the label. It is finished with the plaintext, once, and then the line says `opened`. Or it is given up
--- with a prefix of the plaintext; or it is refused, for the cause in the line.
+-- with a prefix of the plaintext, after a write, a read or memory failed; or it is refused, for the cause in the line.
+-- A file that is read again gives the same bytes, so none is told as changed.
 abbrev pub Opening : List ℕ → ℕ → Option (List ℕ) → List ℕ → FileOutcome → List Event → Type 0
 Opening key most label name (Opened n) events = (input : List ℕ) × (plain : List ℕ)
     × IsGood key most label input plain × (n ≡ length plain)
     × (events ≡ trace.Reading name input ∷ trace.Created (output_of name) ∷ trace.Finished (output_of name) plain ∷ [])
-Opening key most label name (Failed (Unopened Write)) events = (input : List ℕ) × (plain : List ℕ) × (written : List ℕ)
-    × IsGood key most label input plain × IsFront written plain
-    × (events ≡ trace.Reading name input ∷ trace.Created (output_of name)
-    ∷ trace.Discarded (output_of name) written ∷ [])
+Opening key most label name (Failed (Unopened Write)) events = IsGivenUp key most label name events
+Opening key most label name (Failed (Unopened Read)) events =
+    ((input : List ℕ) × (events ≡ trace.Reading name input ∷ [])) ⊎ IsGivenUp key most label name events
+Opening key most label name (Failed (Unopened bytes.OutOfMemory)) events =
+    ((input : List ℕ) × (events ≡ trace.Reading name input ∷ [])) ⊎ IsGivenUp key most label name events
+Opening key most label name (Failed Changed) events = ⊥
 Opening key most label name (Failed OutputExists) events = (input : List ℕ) × (plain : List ℕ)
     × IsGood key most label input plain
     × (events ≡ trace.Reading name input ∷ trace.Refused (output_of name) refusal.Exists ∷ [])

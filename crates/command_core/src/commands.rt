@@ -4,25 +4,26 @@
 //! still processed, and the exit status is 2.
 ghost use Rattle.std.specs.Prelude.{◌≡◌, ℕ, ◌<◌, ◌≤◌, List, [], ◌∷◌, ◌++◌, length, map, take, Option, Ok, Err, IfSome};
 ghost use Rattle.std.specs.Prelude.{Bool, if◌then◌else◌, option_map, IfOk, IfErr, MatchOption};
-ghost use Rattle.container_core.specs.Container.{header_length};
-ghost use Rattle.opening_core.specs.Engine.{OpensTo};
+ghost use Rattle.opening_core.specs.Engine.{HasHeader, OpensTo};
 ghost use Rattle.io_core.specs.Streams.{counted};
-ghost use Rattle.command_core.specs.Facts.{IsOfHeader};
+ghost use Rattle.command_core.specs.Again.{Gives};
 ghost use Rattle.command_core.specs.Labels.{IsLabelled};
 ghost use Rattle.command_core.specs.Lines.{FileLine, is_failed};
-ghost use Rattle.command_core.specs.Trace.{Does};
+ghost use Rattle.command_core.specs.Trace.{Does, Event, Opens};
 ghost use Rattle.command_core.specs.Work.{output_of, AreInRange, IsOfOpening, IsOfVerifying, IsSealedName, asked_label};
 ghost use Rattle.command_core.specs.Work.{AreTold, AreWorked, IsFaultOf, IsGood, Opening, Verifying, file_read_failed};
 
 use crate::facts::Facts;
-use crate::folder::{Folder, FolderFault, OpeningFolder, write_or_discard};
+use crate::folder::{Folder, FolderFault, OpeningFolder, write_again_or_discard, write_or_discard};
 use crate::label::is_labelled;
 use crate::line::{FileFault, FileOutcome, Line};
+use crate::reading::{check_file, read_file};
 use crate::report::Report;
-use container_core::{Key, MAX_OPENED, MAX_PLAIN, OpenFault};
+use container_core::{Header, Key, MAX_OPENED, MAX_PLAIN, OpenFault};
+use folder_core::FileReader;
 use gate_core::{Free, MAX_WORKERS};
 use ledger_core::{Failed, Source};
-use opening_core::{Plaintext, run_check, run_read};
+use opening_core::{Stopped, run_check};
 use std::alloc::Global;
 use std::thread::Threads;
 
@@ -80,44 +81,18 @@ fn output_name(name: &str) -> Option<&str>
     }
 }
 
-// Returns the plaintext of a container with the label asked for. The label is compared after everything was checked.
-fn read_labelled<T: Threads + Sync, R: Source>(
-    rt: &T,
-    alloc: Global,
-    key: &Key,
-    reader: &mut R,
-    options: &OpenOptions,
-) -> Result<Plaintext, FileFault>
-    requires { AreInRange options.now }
-    ensures plaintext { IfOk result (λ plain. IfSome (R.left reader.old) (λ input.
-        IsGood key.now options.now.max_bytes (asked_label options.now) input plain)) }
-    ensures exact { IfErr result (λ fault. IfSome (R.left reader.old) (λ input.
-        IsFaultOf key.now options.now.max_bytes (asked_label options.now) input fault)) }
-    ensures fault { IfErr result (λ fault. (name : List ℕ) → IsSealedName name
-        → IsOfOpening name (FileOutcome.Failed fault)) }
-    ensures read { R.failures reader.new ≡ counted (file_read_failed result) (R.failures reader.old) }
-{
-    let (most, workers) = (options.max_bytes, options.workers);
-    match run_read(rt, alloc, key, reader, most, workers, &Free) {
-        Ok((header, plain)) if is_labelled(&header, options.label) => Ok(plain),
-        Ok(_) => Err(FileFault::AnotherLabel),
-        Err(fault) => Err(FileFault::Unopened(fault)),
-    }
-}
-
-// Returns what the header of a good container with the label asked for says, and its number of plaintext bytes.
+// Returns the header of a good container with the label asked for, and its number of plaintext bytes.
 fn check_labelled<T: Threads + Sync, R: Source>(
     rt: &T,
     alloc: Global,
     key: &Key,
     reader: &mut R,
     options: &OpenOptions,
-) -> Result<(Facts, u64), FileFault>
+) -> Result<(Header, u64), FileFault>
     requires { AreInRange options.now }
     ensures good { IfOk result (λ checked. IfSome (R.left reader.old) (λ input.
         OpensTo key.now options.now.max_bytes input checked.1 × IsLabelled (asked_label options.now) input)) }
-    ensures facts { IfOk result (λ checked. IfSome (R.left reader.old) (λ input.
-        IsOfHeader checked.0 (take (header_length input) input))) }
+    ensures header { IfOk result (λ checked. IfSome (R.left reader.old) (HasHeader checked.0)) }
     ensures exact { IfErr result (λ fault. IfSome (R.left reader.old) (λ input.
         IsFaultOf key.now options.now.max_bytes (asked_label options.now) input fault)) }
     ensures fault { IfErr result (λ fault. (show : Bool) → IsOfVerifying show (FileOutcome.Failed fault)) }
@@ -125,9 +100,126 @@ fn check_labelled<T: Threads + Sync, R: Source>(
 {
     let (most, workers) = (options.max_bytes, options.workers);
     match run_check(rt, alloc, key, reader, most, workers, &Free) {
-        Ok((header, n)) if is_labelled(&header, options.label) => Ok((Facts::of(&header), n)),
+        Ok((header, n)) if is_labelled(&header, options.label) => Ok((header, n)),
         Ok(_) => Err(FileFault::AnotherLabel),
         Err(fault) => Err(FileFault::Unopened(fault)),
+    }
+}
+
+// What a second reading that stopped is reported as.
+pub(crate) fn fault_again(stopped: Stopped) -> FileFault
+    ensures changed { stopped ≡ Stopped.Changed → result ≡ FileFault.Changed }
+    ensures broken { (fault : OpenFault) → stopped ≡ Stopped.Broken fault → result ≡ FileFault.Unopened fault }
+    ensures refused { (fault : OpenFault) → stopped ≡ Stopped.Refused fault → result ≡ FileFault.Unopened fault }
+{
+    match stopped {
+        Stopped::Changed => FileFault::Changed,
+        Stopped::Refused(fault) | Stopped::Broken(fault) => FileFault::Unopened(fault),
+    }
+}
+
+// What an output that was refused is reported as.
+fn refusal(fault: FolderFault) -> FileFault
+    ensures exists { fault ≡ FolderFault.Exists → result ≡ FileFault.OutputExists }
+    ensures failed { fault ≡ FolderFault.Failed → result ≡ FileFault.CannotCreate }
+{
+    match fault {
+        FolderFault::Exists => FileFault::OutputExists,
+        FolderFault::Failed => FileFault::CannotCreate,
+    }
+}
+
+// Opens a file that can be read again: a first reading checks its whole container. Then the output is created, and a
+// second reading writes the plaintext.
+fn open_again<T: Threads + Sync, F: OpeningFolder>(
+    rt: &T,
+    alloc: Global,
+    key: &Key,
+    folder: &mut F,
+    reader: F::Reader,
+    name: &str,
+    output: &str,
+    options: &OpenOptions,
+) -> FileOutcome
+    requires range { AreInRange options.now }
+    requires name { IsSealedName name.now × (output.now ≡ output_of name.now) }
+    requires left { Gives (F.Reader.whole reader) (F.Reader.left reader) }
+    requires opened { (before : Option (List Event))
+        × Does (Opens name.now (F.Reader.whole reader)) before (F.told folder.old) }
+    ensures outcome { IsOfOpening name.now result }
+    ensures events { (before : Option (List Event))
+        → Does (Opens name.now (F.Reader.whole reader)) before (F.told folder.old)
+        → Does (Opening key.now options.now.max_bytes (asked_label options.now) name.now result)
+        before (F.told folder.new) }
+{
+    let (most, workers) = (options.max_bytes, options.workers);
+    let (checked, reader) = check_file(rt, alloc, key, reader, most, workers, options.label);
+    let header = match checked {
+        Ok(header) => header,
+        Err(fault) => return FileOutcome::Failed(fault),
+    };
+    let mut reader = reader;
+    match reader.again() {
+        Ok(()) => {}
+        Err(Failed) => return FileOutcome::Failed(FileFault::Unopened(OpenFault::Read)),
+    }
+    let mut writer = match folder.create(output) {
+        Ok(writer) => writer,
+        Err(fault) => return FileOutcome::Failed(refusal(fault)),
+    };
+    folder.allow_plain(&mut writer, key, name, &reader, most);
+    match write_again_or_discard(
+        rt,
+        alloc,
+        key,
+        &header,
+        &mut reader,
+        folder,
+        writer,
+        most,
+        workers,
+    ) {
+        Ok(n) => FileOutcome::Opened(n),
+        Err(stopped) => FileOutcome::Failed(fault_again(stopped)),
+    }
+}
+
+// Opens a file that can be read only once: its plaintext is in memory until its whole container was checked.
+fn open_once<T: Threads + Sync, F: OpeningFolder>(
+    rt: &T,
+    alloc: Global,
+    key: &Key,
+    folder: &mut F,
+    reader: F::Reader,
+    name: &str,
+    output: &str,
+    options: &OpenOptions,
+) -> FileOutcome
+    requires range { AreInRange options.now }
+    requires name { IsSealedName name.now × (output.now ≡ output_of name.now) }
+    requires left { Gives (F.Reader.whole reader) (F.Reader.left reader) }
+    requires opened { (before : Option (List Event))
+        × Does (Opens name.now (F.Reader.whole reader)) before (F.told folder.old) }
+    ensures outcome { IsOfOpening name.now result }
+    ensures events { (before : Option (List Event))
+        → Does (Opens name.now (F.Reader.whole reader)) before (F.told folder.old)
+        → Does (Opening key.now options.now.max_bytes (asked_label options.now) name.now result)
+        before (F.told folder.new) }
+{
+    let (most, workers) = (options.max_bytes, options.workers);
+    let (read, reader) = read_file(rt, alloc, key, reader, most, workers, options.label);
+    let plain = match read {
+        Ok(plain) => plain,
+        Err(fault) => return FileOutcome::Failed(fault),
+    };
+    let mut writer = match folder.create(output) {
+        Ok(writer) => writer,
+        Err(fault) => return FileOutcome::Failed(refusal(fault)),
+    };
+    folder.allow_plain(&mut writer, key, name, &reader, options.max_bytes);
+    match write_or_discard(folder, writer, &plain) {
+        Ok(()) => FileOutcome::Opened(plain.len()),
+        Err(Failed) => FileOutcome::Failed(FileFault::Unopened(OpenFault::Write)),
     }
 }
 
@@ -148,21 +240,13 @@ fn open_file<T: Threads + Sync, F: OpeningFolder>(
     let Some(output) = output_name(name) else {
         return FileOutcome::Failed(FileFault::NoSuffix);
     };
-    let Ok(mut reader) = folder.open(name) else {
+    let Ok(reader) = folder.open(name) else {
         return FileOutcome::Failed(FileFault::CannotOpen);
     };
-    let plain = match read_labelled(rt, alloc, key, &mut reader, options) {
-        Ok(plain) => plain,
-        Err(fault) => return FileOutcome::Failed(fault),
-    };
-    let writer = match folder.create(output) {
-        Ok(writer) => writer,
-        Err(FolderFault::Exists) => return FileOutcome::Failed(FileFault::OutputExists),
-        Err(FolderFault::Failed) => return FileOutcome::Failed(FileFault::CannotCreate),
-    };
-    match write_or_discard(folder, writer, key, name, &plain) {
-        Ok(()) => FileOutcome::Opened(plain.len()),
-        Err(Failed) => FileOutcome::Failed(FileFault::Unopened(OpenFault::Write)),
+    if reader.can_repeat() {
+        open_again(rt, alloc, key, folder, reader, name, output, options)
+    } else {
+        open_once(rt, alloc, key, folder, reader, name, output, options)
     }
 }
 
@@ -184,7 +268,10 @@ fn verify_file<T: Threads + Sync, F: Folder>(
         return FileOutcome::Failed(FileFault::CannotOpen);
     };
     match check_labelled(rt, alloc, key, &mut reader, options) {
-        Ok((facts, bytes)) if options.show => FileOutcome::Shown { bytes, facts },
+        Ok((header, bytes)) if options.show => FileOutcome::Shown {
+            bytes,
+            facts: Facts::of(&header),
+        },
         Ok((_, bytes)) => FileOutcome::Good(bytes),
         Err(fault) => FileOutcome::Failed(fault),
     }
@@ -234,8 +321,9 @@ pub fn tell<W: Report>(
 }
 
 /// Opens each file: reads its container, checks all of it, and then writes the plaintext to the name without `.stm`,
-/// which must not exist yet. If a label is asked for, a container with another one fails after it was checked, and its
-/// output isn't created. Returns the exit status: 0 if every file was opened, 1 if one failed, 2 if a line couldn't be
+/// which must not exist yet. A file that can be read again is read twice, in the memory of a verification: the second
+/// reading checks each chunk again before it writes it. If a label is asked for, a container with another one fails
+/// after it was checked, and its output isn't created. Returns the exit status: 0 if every file was opened, 1 if one failed, 2 if a line couldn't be
 /// written. An output that couldn't be written whole, or finished, is removed.
 pub fn open_all<
     T: Threads + Sync,

@@ -1,15 +1,22 @@
 //! Folders: what the commands read files from and create outputs in.
-ghost use Rattle.std.specs.Prelude.{◌≡◌, ◌≢◌, ℕ, List, ◌++◌, Option, None, Err, IfOk, IfErr, IfSome, OnOk, OnErr};
+ghost use Rattle.std.specs.Prelude.{◌≡◌, ◌≢◌, ℕ, ◌<◌, ◌≤◌, List, ◌++◌, Option, None, Some, Err, IfOk, IfErr, IfSome};
+ghost use Rattle.std.specs.Prelude.{OnOk, OnErr};
 ghost use Rattle.io_core.specs.Streams.{Appends, AppendsFront};
+ghost use Rattle.opening_core.specs.Twice.{MayWrite, WritesAll, WritesSome};
 ghost use Rattle.output_core.specs.Bounds.{Admits, Exactly};
 ghost use Rattle.command_core.specs.Session.{IsBoundTo, IsNew, IsSound, Session};
+ghost use Rattle.command_core.specs.Again.{Gives, IsAgainFault};
 ghost use Rattle.command_core.specs.Trace.{Event, Creates, Discards, Does, FailsToOpen, Finishes, Nothing, Opens};
-ghost use Rattle.command_core.specs.Trace.{IsOpenedBy, Refuses};
+ghost use Rattle.command_core.specs.Trace.{IsOpenedBy, Refuses, plain_of};
 
-use container_core::Key;
+use container_core::{Header, Key, MAX_OPENED, OpenFault};
+use folder_core::FileReader;
+use gate_core::{Free, MAX_WORKERS};
 use ledger_core::{Failed, Source};
-use opening_core::Plaintext;
+use opening_core::{Plaintext, Stopped, write_again};
 use output_core::Output;
+use std::alloc::Global;
+use std::thread::Threads;
 use thiserror::Error;
 
 /// Why a folder refused a call.
@@ -25,8 +32,8 @@ pub enum FolderFault {
 
 /// A folder of files, each of which has a name.
 pub trait Folder {
-    /// What reads a file of this folder.
-    type Reader: Source + Drop;
+    /// What reads a file of this folder, and may read it again.
+    type Reader: FileReader + Drop;
 
     /// What writes an output into this folder. If it is dropped without `finish`, a fault at closing isn't reported.
     type Writer: Output + Drop;
@@ -42,6 +49,9 @@ pub trait Folder {
         ensures fault { result ≢ Err FolderFault.Exists }
         ensures opened { IfOk result (λ reader.
             Does (Opens name.now (Self.Reader.left reader)) (told self.old) (told self.new)) }
+        ensures whole { IfOk result (λ reader. IfSome (told self.new)
+            (λ _. Self.Reader.whole reader ≡ Self.Reader.left reader)) }
+        ensures first { IfOk result (λ reader. Gives (Self.Reader.whole reader) (Self.Reader.left reader)) }
         ensures unopened { OnErr result (Does (FailsToOpen name.now) (told self.old) (told self.new)) }
         ensures session { session self.new ≡ session self.old };
 
@@ -76,49 +86,53 @@ pub trait Folder {
 
 /// A folder into whose outputs plaintexts are written, of containers that were read in it.
 pub trait OpeningFolder: Folder {
-    /// Declares, before anything is written to a new output, that it is to hold this plaintext: that of a container
-    /// which was read. A folder over real files has nothing to do here.
-    fn allow_plain(&mut self, output: &mut Self::Writer, key: &Key, name: &str, plain: &Plaintext)
+    /// Declares, before anything is written to a new output, that it is to hold a plaintext: that of a file which was
+    /// read, and opens under this key. A folder over real files has nothing to do here.
+    fn allow_plain(
+        &mut self,
+        output: &mut Self::Writer,
+        key: &Key,
+        name: &str,
+        reader: &Self::Reader,
+        max_bytes: u64,
+    )
         requires new { IsNew (Self.Writer.bound output.old) (Self.Writer.taken output.old) }
-        requires read { IfSome (Self.told self.old) (IsOpenedBy key.now name.now plain.now) }
+        requires read { IfSome (Self.told self.old)
+            (IsOpenedBy key.now name.now (plain_of key.now max_bytes (Self.Reader.whole reader.now))) }
         ensures told { Self.told self.new ≡ Self.told self.old }
         ensures session { Self.session self.new ≡ Self.session self.old }
         ensures taken { Self.Writer.taken output.new ≡ Self.Writer.taken output.old }
-        ensures bound { IfSome (Self.Writer.bound output.new)
-            (IsBoundTo (λ held. Exactly (held ++ plain.now)) (Self.Writer.taken output.old)) };
+        ensures bound { IfSome (Self.Writer.bound output.new) (IsBoundTo
+            (λ held. Exactly (held ++ plain_of key.now max_bytes (Self.Reader.whole reader.now)))
+            (Self.Writer.taken output.old)) }
+        // A folder that bounds its outputs knows what happened.
+        ensures known { IfSome (Self.Writer.bound output.new)
+            (λ _. (events : List Event) × (Self.told self.old ≡ Some events)) };
 }
 
-// Writes a plaintext to an output, and finishes it. If either fails, the output comes back, to be given up.
-fn write_output<F: Folder>(
-    folder: &mut F,
-    output: F::Writer,
-    plain: &Plaintext,
-) -> Result<(), F::Writer>
-    requires may { Admits (F.Writer.bound output) (F.Writer.taken output) plain.now }
-    ensures ok { OnOk result ((taken : Option (List ℕ)) × Appends (F.Writer.taken output) taken plain.now
-        × Does (Finishes taken) (F.told folder.old) (F.told folder.new)) }
-    ensures err { IfErr result (λ back. AppendsFront (F.Writer.taken output) (F.Writer.taken back) plain.now) }
-    ensures untold { OnErr result (Does Nothing (F.told folder.old) (F.told folder.new)) }
+// Finishes an output, or gives it up.
+fn finish_or_discard<F: Folder>(folder: &mut F, output: F::Writer) -> Result<(), Failed>
+    ensures ok { OnOk result (Does (Finishes (F.Writer.taken output)) (F.told folder.old) (F.told folder.new)) }
+    ensures err { OnErr result ((between : Option (List Event)) × Does Nothing (F.told folder.old) between
+        × Does (Discards (F.Writer.taken output)) between (F.told folder.new)) }
     ensures session { F.session folder.new ≡ F.session folder.old }
 {
-    let mut output = output;
-    match plain.put_to(&mut output) {
-        Ok(()) => folder.finish(output),
-        Err(Failed) => Err(output),
+    match folder.finish(output) {
+        Ok(()) => Ok(()),
+        Err(output) => {
+            let _ = folder.discard(output);
+            Err(Failed)
+        }
     }
 }
 
-// Writes the plaintext of a container that was read into a new output, and finishes it. On failure the output is given
-// up.
-pub(crate) fn write_or_discard<F: OpeningFolder>(
+// Writes a plaintext to an output that may hold it, and finishes the output. On failure the output is given up.
+pub(crate) fn write_or_discard<F: Folder>(
     folder: &mut F,
     output: F::Writer,
-    key: &Key,
-    name: &str,
     plain: &Plaintext,
 ) -> Result<(), Failed>
-    requires new { IsNew (F.Writer.bound output) (F.Writer.taken output) }
-    requires read { IfSome (F.told folder.old) (IsOpenedBy key.now name.now plain.now) }
+    requires may { Admits (F.Writer.bound output) (F.Writer.taken output) plain.now }
     ensures ok { OnOk result ((taken : Option (List ℕ)) × Appends (F.Writer.taken output) taken plain.now
         × Does (Finishes taken) (F.told folder.old) (F.told folder.new)) }
     ensures err { OnErr result ((taken : Option (List ℕ)) × (between : Option (List Event))
@@ -127,12 +141,51 @@ pub(crate) fn write_or_discard<F: OpeningFolder>(
     ensures session { F.session folder.new ≡ F.session folder.old }
 {
     let mut output = output;
-    folder.allow_plain(&mut output, key, name, plain);
-    match write_output(folder, output, plain) {
-        Ok(()) => Ok(()),
-        Err(output) => {
+    match plain.put_to(&mut output) {
+        Ok(()) => finish_or_discard(folder, output),
+        Err(Failed) => {
             let _ = folder.discard(output);
             Err(Failed)
+        }
+    }
+}
+
+// Writes the plaintext of a container that was checked, by reading it once more, to an output that may hold it. Then
+// finishes the output. On failure the output is given up.
+pub(crate) fn write_again_or_discard<T: Threads + Sync, F: Folder, R: Source>(
+    rt: &T,
+    alloc: Global,
+    key: &Key,
+    header: &Header,
+    reader: &mut R,
+    folder: &mut F,
+    output: F::Writer,
+    max_bytes: u64,
+    workers: u32,
+) -> Result<u64, Stopped>
+    requires max_bytes { max_bytes ≤ MAX_OPENED }
+    requires workers { (0 < workers) × (workers ≤ MAX_WORKERS) }
+    requires may { IfSome (F.Writer.bound output)
+        (MayWrite key.now max_bytes (R.left reader.old) (F.Writer.taken output)) }
+    ensures ok { IfOk result (λ n. (taken : Option (List ℕ))
+        × IfSome (R.left reader.old) (λ input. WritesAll key.now max_bytes (F.Writer.taken output) taken input n)
+        × Does (Finishes taken) (F.told folder.old) (F.told folder.new)) }
+    ensures err { OnErr result ((taken : Option (List ℕ)) × (between : Option (List Event))
+        × IfSome (R.left reader.old) (WritesSome key.now max_bytes (F.Writer.taken output) taken)
+        × Does Nothing (F.told folder.old) between × Does (Discards taken) between (F.told folder.new)) }
+    ensures fault { IfErr result (IsAgainFault key.now header.now max_bytes (R.left reader.old)) }
+    ensures session { F.session folder.new ≡ F.session folder.old }
+{
+    match write_again(
+        rt, alloc, key, header, reader, output, max_bytes, workers, &Free,
+    ) {
+        (Ok(n), output) => match finish_or_discard(folder, output) {
+            Ok(()) => Ok(n),
+            Err(Failed) => Err(Stopped::Broken(OpenFault::Write)),
+        },
+        (Err(stopped), output) => {
+            let _ = folder.discard(output);
+            Err(stopped)
         }
     }
 }

@@ -10,7 +10,9 @@ pub mod folder;
 pub mod key_file;
 pub(crate) mod label;
 pub mod line;
+pub(crate) mod reading;
 pub mod report;
+pub mod unpiping;
 
 pub use crate::commands::{
     MAX_BYTES, MAX_OPENED_BYTES, OpenOptions, Outs, open_all, tell, verify_all,
@@ -20,5 +22,7 @@ pub use crate::folder::{Folder, FolderFault, OpeningFolder};
 pub use crate::key_file::{KeyFault, read_key};
 pub use crate::line::{FileFault, FileOutcome, Line};
 pub use crate::report::Report;
+pub use crate::unpiping::{OpeningStream, UnpipeOptions, unpipe_all};
+pub use folder_core::{FileReader, Spool, Spooled};
 pub use gate_core::MAX_WORKERS;
 pub use opening_core::Plaintext;

@@ -23,6 +23,10 @@ pub enum FileFault {
     NoNumber,
     /// The container checks, but hasn't the label that was asked for.
     AnotherLabel,
+    /// The second reading gave other bytes than the first, all of which had checked.
+    Changed,
+    /// What was read couldn't be kept for the second reading.
+    SpoolFailed,
     /// The container wasn't opened, or its plaintext wasn't written.
     Unopened(OpenFault),
     /// The file wasn't sealed, or its container wasn't written.
@@ -42,6 +46,8 @@ impl fmt::Display for FileFault {
             FileFault::OutOfMemory => write!(f, "out of memory"),
             FileFault::NoNumber => write!(f, "no file number"),
             FileFault::AnotherLabel => write!(f, "another label"),
+            FileFault::Changed => write!(f, "changed while it was opened"),
+            FileFault::SpoolFailed => write!(f, "spool failed"),
             FileFault::Unopened(fault) => write!(f, "{fault}"),
             FileFault::Unsealed(fault) => write!(f, "{fault}"),
         }

@@ -64,6 +64,14 @@ name_of writer = string_bytes writer.name
 abbrev pub taken_by : MemoryWriter → Option (List ℕ)
 taken_by writer = Some (tape (name_of writer) writer.bytes.taken)
 
+-- all bytes of a file that is read, and those that are left
+pub record ReaderView : Type 0 where
+  pub whole : List ℕ
+  pub left : List ℕ
+
+abbrev pub reader_view : List ℕ → List ℕ → ReaderView
+reader_view whole left = record { whole = whole; left = left }
+
 -- its files, how many calls succeed before one fails, how readers and writers made from now on move their bytes, what
 -- happened (unless something was forgotten), and the note of the session, if there is one
 pub record MemoryView : Type 0 where

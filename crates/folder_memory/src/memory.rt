@@ -18,7 +18,7 @@ ghost use Rattle.folder_memory.specs.Memory.{with_bytes, without};
 use crate::session::{SessionNote, is_shape};
 use crate::streams::{MemoryReader, MemoryWriter, Pace, STEADY, Shown, new_writer};
 use crate::told::{Told, created, discarded, finished, reading, refused, tell, unread};
-use command_core::{Folder, FolderFault, OpeningFolder, Plaintext};
+use command_core::{Folder, FolderFault, OpeningFolder};
 use container_core::{Key, Shape};
 use front_core::SealingFolder;
 use ledger_core::{Ledger, Seat};
@@ -307,10 +307,11 @@ impl Folder for MemoryFolder {
 
     fn open(&mut self, name: &str) -> Result<MemoryReader, FolderFault>
         ensures fault { result ≢ Err FolderFault.Exists }
-        ensures opened { IfOk result (λ reader. Does (Opens name.now (Some reader)) self.old.log self.new.log) }
+        ensures opened { IfOk result (λ reader. Does (Opens name.now (Some reader.left)) self.old.log self.new.log) }
+        ensures first { IfOk result (λ reader. reader.whole ≡ reader.left) }
         ensures unopened { OnErr result (Does (FailsToOpen name.now) self.old.log self.new.log) }
         // Its reader gives the bytes of the file, if that is whole.
-        ensures held { IfOk result (λ reader. IfSome (bytes_of self.old.files name.now) (λ whole. reader ≡ whole)) }
+        ensures held { IfOk result (λ reader. IfSome (bytes_of self.old.files name.now) (λ whole. reader.left ≡ whole)) }
         // On success there is such a file and this call wasn't to fail. Otherwise there is none, the call was to fail,
         // or the folder forgot.
         ensures there { OnOk result
@@ -431,7 +432,8 @@ impl OpeningFolder for MemoryFolder {
         output: &mut MemoryWriter,
         _key: &Key,
         _name: &str,
-        _plain: &Plaintext,
+        _reader: &MemoryReader,
+        _max_bytes: u64,
     )
         ensures folder { self.new ≡ self.old }
         ensures output { output.new ≡ output.old }

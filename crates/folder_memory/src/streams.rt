@@ -1,7 +1,9 @@
 //! Readers and writers of the files of a folder in memory. They move their bytes at a pace, and contracts see the
 //! bytes.
 ghost use Rattle.std.specs.Prelude.{◌≡◌, [], IfOk, string_bytes};
+ghost use Rattle.folder_memory.specs.Memory.{reader_view};
 
+use folder_core::FileReader;
 use io_memory::{FromMemory, Schedule, ToMemory};
 use ledger_core::{Failed, Sink, Source};
 use std::alloc::{AllocError, Global};
@@ -29,17 +31,20 @@ pub const STEADY: Pace = Pace {
 pub struct MemoryReader {
     bytes: Vec<u8>,
     at: usize,
+    // How many calls it had, and how many bytes they moved, in all readings.
     calls: u64,
+    moved: u64,
     pace: Pace,
 }
 
-// Contracts see the bytes that are left.
+// Contracts see all bytes, and those that are left.
 impl Model for MemoryReader {
-    ghost use Rattle.std.specs.Prelude.{ℕ, ◌≤◌, List, drop, length};
+    ghost use Rattle.std.specs.Prelude.{◌≤◌, drop, length};
+    ghost use Rattle.folder_memory.specs.Memory.{ReaderView, reader_view};
 
-    ghost Value = { List ℕ };
+    ghost Value = { ReaderView };
 
-    ghost view = { λ r. drop r.at r.bytes.items };
+    ghost view = { λ r. reader_view r.bytes.items (drop r.at r.bytes.items) };
 
     ghost invariant = { λ r. r.at ≤ length r.bytes.items };
 }
@@ -47,12 +52,13 @@ impl Model for MemoryReader {
 impl MemoryReader {
     // A reader of all these bytes.
     pub(crate) fn new(bytes: Vec<u8>, pace: Pace) -> MemoryReader
-        ensures { result ≡ bytes.items }
+        ensures { result ≡ reader_view bytes.items bytes.items }
     {
         MemoryReader {
             bytes,
             at: 0,
             calls: 0,
+            moved: 0,
             pace,
         }
     }
@@ -61,16 +67,36 @@ impl MemoryReader {
 impl Source for MemoryReader {
     ghost use Rattle.std.specs.Prelude.{Some};
 
-    ghost left = { λ r. Some r };
+    ghost left = { λ r. Some r.left };
 
     fn read(&mut self, buffer: &mut [u8]) -> Result<usize, Failed> {
+        self.read_on(buffer)
+    }
+}
+
+impl FileReader for MemoryReader {
+    ghost use Rattle.std.specs.Prelude.{Some};
+
+    ghost whole = { λ r. Some r.whole };
+
+    fn read_on(&mut self, buffer: &mut [u8]) -> Result<usize, Failed> {
         let at = self.at;
-        let schedule = schedule_after(self.pace.schedule, self.calls, at as u64);
+        let schedule = schedule_after(self.pace.schedule, self.calls, self.moved);
         self.calls = self.calls.saturating_add(1);
         let mut rest = FromMemory::new(&self.bytes.as_slice()[at..], self.pace.most, schedule);
         let n = rest.read(buffer)?;
         self.at += n;
+        self.moved = self.moved.saturating_add(n as u64);
         Ok(n)
+    }
+
+    fn can_repeat(&self) -> bool {
+        true
+    }
+
+    fn again(&mut self) -> Result<(), Failed> {
+        self.at = 0;
+        Ok(())
     }
 }
 

@@ -1,22 +1,23 @@
 -- The status of a run is that of its lines, if all of them were written.
-use Rattle.std.proofs.Common.{◌≡◌, inl, inr, ⊎_elim, All, ℕ, Bool, true, false, if◌then◌else◌, List, [], Option, codes, map, refl, sym, subst}
+use Rattle.std.proofs.Common.{◌≡◌, inl, inr, ⊎_elim, All, ℕ, Bool, true, false, if◌then◌else◌, List, [], ◌∷◌, Option, codes, map, refl, sym, subst}
 use Rattle.std.proofs.KnownBytes.{Appends-trans}
-use Rattle.std.proofs.lemmas.List.Elements.{All-weaker}
+use Rattle.std.proofs.lemmas.List.Elements.{All-cons, All-nil, All-weaker}
 use Rattle.std.proofs.lemmas.Bool.{cases_eq}
 use Rattle.clap.specs.declared.parser.matches.ArgMatches.{ArgMatches}
 use Rattle.io_core.specs.Streams.{Appends}
 use Rattle.container_core.specs.Shape.{ShapeView}
 use Rattle.command_core.specs.declared.line.FileFault.TheVariants.{CannotOpen, NoSuffix, OutputExists, CannotCreate}
 use Rattle.command_core.specs.declared.line.FileFault.TheVariants.{OutOfMemory, NoNumber, AnotherLabel, Unopened}
-use Rattle.command_core.specs.declared.line.FileFault.TheVariants.{Unsealed}
+use Rattle.command_core.specs.declared.line.FileFault.TheVariants.{Unsealed, Changed, SpoolFailed}
 use Rattle.command_core.specs.declared.line.FileOutcome.{FileOutcome}
 use Rattle.command_core.specs.declared.line.FileOutcome.TheVariants.{Sealed, Opened, Good, Shown, Failed}
 use Rattle.sealer_core.specs.Piping.{WorksStream}
 use Rattle.command_core.specs.Lines.{FileLine, lines_text}
+use Rattle.command_core.specs.Unpiping.{Unpipes}
 use Rattle.command_core.specs.Work.{AreTold}
 use Rattle.system_files.specs.Kept.{IsSplit, kept_text}
 use Rattle.command_line.specs.Given.{IsFlag}
-use Rattle.sealer.specs.Status.{IsOfPiping, IsStatusOf, IsStatusOver}
+use Rattle.sealer.specs.Status.{IsOfPiping, IsOfUnpiping, IsStatusOf, IsStatusOver}
 
 -- lines that were reported
 pub of_lines : (fits : List ℕ → FileOutcome → Type 0) (status : ℕ) (lines : List FileLine) (old new : Option (List ℕ))
@@ -50,10 +51,39 @@ fits_stream _ _ _ _ _ _ _ _ _ _ _ _ (Failed OutputExists) _ never = never
 fits_stream _ _ _ _ _ _ _ _ _ _ _ _ (Failed CannotCreate) _ never = never
 fits_stream _ _ _ _ _ _ _ _ _ _ _ _ (Failed OutOfMemory) _ never = never
 fits_stream _ _ _ _ _ _ _ _ _ _ _ _ (Failed AnotherLabel) _ never = never
+fits_stream _ _ _ _ _ _ _ _ _ _ _ _ (Failed Changed) _ never = never
+fits_stream _ _ _ _ _ _ _ _ _ _ _ _ (Failed SpoolFailed) _ never = never
 fits_stream _ _ _ _ _ _ _ _ _ _ _ _ (Failed (Unopened fault)) _ never = never
 fits_stream _ _ _ _ _ _ _ _ _ _ _ _ (Opened bytes) _ never = never
 fits_stream _ _ _ _ _ _ _ _ _ _ _ _ (Good bytes) _ never = never
 fits_stream _ _ _ _ _ _ _ _ _ _ _ _ (Shown bytes facts) _ never = never
+
+-- what became of an input is an outcome of `unpipe`
+pub fits_input : (key : List ℕ) (most : ℕ) (label bytes taken taken' : Option (List ℕ)) (outcome : FileOutcome)
+    → Unpipes key most label bytes taken taken' outcome → IsOfUnpiping outcome
+fits_input _ _ _ _ _ _ (Opened n) _ = tt
+fits_input _ _ _ _ _ _ (Failed (Unopened fault)) _ = tt
+fits_input _ _ _ _ _ _ (Failed AnotherLabel) _ = tt
+fits_input _ _ _ _ _ _ (Failed CannotOpen) _ = tt
+fits_input _ _ _ _ _ _ (Failed Changed) _ = tt
+fits_input _ _ _ _ _ _ (Failed SpoolFailed) _ = tt
+fits_input _ _ _ _ _ _ (Failed NoSuffix) never = never
+fits_input _ _ _ _ _ _ (Failed OutputExists) never = never
+fits_input _ _ _ _ _ _ (Failed CannotCreate) never = never
+fits_input _ _ _ _ _ _ (Failed OutOfMemory) never = never
+fits_input _ _ _ _ _ _ (Failed NoNumber) never = never
+fits_input _ _ _ _ _ _ (Failed (Unsealed fault)) never = never
+fits_input _ _ _ _ _ _ (Sealed number n) never = never
+fits_input _ _ _ _ _ _ (Good n) never = never
+fits_input _ _ _ _ _ _ (Shown n facts) never = never
+
+-- one line that was reported
+pub of_line : (fits : List ℕ → FileOutcome → Type 0) (status : ℕ) (line : FileLine) (old new : Option (List ℕ))
+    (failures failures' : Option ℕ) → fits line.name line.outcome
+    → AreTold status (line ∷ []) old new failures failures' → IsStatusOf fits status (line.name ∷ []) old new
+of_line fits status line old new failures failures' fit told =
+    of_lines fits status (line ∷ []) old new failures failures'
+    (All-cons (λ line. fits line.name line.outcome) line [] fit (All-nil (λ line. fits line.name line.outcome))) told
 
 -- the same for outcomes that fit in another way too
 pub weaker : (fits others : List ℕ → FileOutcome → Type 0) (status : ℕ) (names : List (List ℕ)) (old new : Option (List ℕ))

@@ -5,9 +5,10 @@ use Rattle.clap.specs.Simple.{subcommand_rows_of}
 use Rattle.clap.specs.Walk.{rows_of}
 use Rattle.clap.specs.declared.parser.matches.ArgMatches.{ArgMatches}
 use Rattle.io_core.specs.Streams.{Appends}
-use Rattle.command_core.specs.declared.line.FileFault.TheVariants.{NoNumber, Unsealed}
+use Rattle.command_core.specs.declared.line.FileFault.TheVariants.{AnotherLabel, CannotOpen, Changed, NoNumber, SpoolFailed, Unopened}
+use Rattle.command_core.specs.declared.line.FileFault.TheVariants.{Unsealed}
 use Rattle.command_core.specs.declared.line.FileOutcome.{FileOutcome}
-use Rattle.command_core.specs.declared.line.FileOutcome.TheVariants.{Sealed, Failed}
+use Rattle.command_core.specs.declared.line.FileOutcome.TheVariants.{Sealed, Opened, Failed}
 use Rattle.command_core.specs.Lines.{FileLine, lines_text, status_of_lines}
 use Rattle.command_core.specs.Work.{IsOfOpening, IsOfVerifying}
 use Rattle.command_line.specs.Given.{IsFlag}
@@ -60,6 +61,16 @@ IsOfPiping (Sealed number bytes) = ⊤
 IsOfPiping (Failed NoNumber) = ⊤
 IsOfPiping (Failed (Unsealed fault)) = ⊤
 IsOfPiping _ = ⊥
+
+-- an outcome that `unpipe` can have
+abbrev pub IsOfUnpiping : FileOutcome → Type 0
+IsOfUnpiping (Opened bytes) = ⊤
+IsOfUnpiping (Failed CannotOpen) = ⊤
+IsOfUnpiping (Failed AnotherLabel) = ⊤
+IsOfUnpiping (Failed Changed) = ⊤
+IsOfUnpiping (Failed SpoolFailed) = ⊤
+IsOfUnpiping (Failed (Unopened fault)) = ⊤
+IsOfUnpiping _ = ⊥
 
 -- These were parsed as the subcommand's: their entries have the same rows.
 abbrev pub AreAsked : ArgMatches → ArgMatches → Type 0

@@ -164,17 +164,18 @@ pub(crate) fn clear<R: Clock + Eprint>(progress: Option<&Progress<'_, R>>) {
     }
 }
 
-/// Returns the progress line of a run over these files, if one is asked for. `terminal` says whether standard error is
-/// one.
+/// Returns the progress line of a run over these files, if one is asked for. `readings` says how often each is read.
+/// `terminal` says whether standard error is one.
 pub(crate) fn progress_of<'r, R: Files + Clock + Eprint>(
     rt: &'r R,
     matches: &ArgMatches<'_>,
     files: &[&str],
+    readings: u64,
     terminal: bool,
 ) -> Option<Progress<'r, R>> {
     match showing_asked(matches) {
-        Showing::Always => Progress::of(rt, files),
-        Showing::OnTerminal if terminal => Progress::of(rt, files),
+        Showing::Always => Progress::of(rt, files, readings),
+        Showing::OnTerminal if terminal => Progress::of(rt, files, readings),
         Showing::OnTerminal | Showing::Never => None,
     }
 }

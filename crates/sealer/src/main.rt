@@ -5,25 +5,28 @@
 //! ledger or the journal file, or of the program's own reading and writing.
 #![tactic(auto)]
 
-ghost use Rattle.std.specs.Prelude.{◌≡◌, ◌⊎◌, ◌∷◌, ◌++◌, IfSome, Some, [], codes};
-ghost use Rattle.clap.specs.Matches.{subcommand_name_of};
+ghost use Rattle.std.specs.Prelude.{◌≡◌, ◌⊎◌, ◌∷◌, ◌++◌, IfSome, Some, [], codes, unwrap_or};
+ghost use Rattle.clap.specs.Matches.{first_value, found_of, subcommand_name_of};
 ghost use Rattle.io_core.specs.Streams.{Appends};
 ghost use Rattle.journal_core.specs.declared.verdict.Verdict.{Verdict};
 ghost use Rattle.ledger_core.specs.Verdict.{IsVerdict, verdict_text};
 ghost use Rattle.engine_core.specs.Status.{status_of};
 ghost use Rattle.clap.specs.declared.parser.matches.ArgMatches.{ArgMatches};
-ghost use Rattle.sealer.specs.Status.{AreAsked, IsOfCommand, IsOfPiping, IsStatusOf, IsStatusOfRun};
+ghost use Rattle.command_line.specs.Asked.{file_asked};
+ghost use Rattle.sealer.specs.Status.{AreAsked, IsOfCommand, IsOfPiping, IsOfUnpiping, IsStatusOf, IsStatusOfRun};
 
 mod files;
 mod kept;
 mod ledger;
 mod opening;
 mod sealing;
+mod unpiping;
 
 use crate::files::{about_list, names_of, read_list};
 use crate::ledger::tell_ledger;
 use crate::opening::{Reading, open};
 use crate::sealing::{pipe, seal};
+use crate::unpiping::unpipe;
 use clap::{ArgMatches, Error};
 use command_line::{asks_for_processors, command, verbose_asked, write_out};
 use ledger_core::{FromRead, ToWrite};
@@ -177,7 +180,7 @@ pub(crate) fn explain<R: Files + AllocGlobal + Eprint, F: Display + Drop>(
 /// Runs the command that was asked for. `host` is the runtime too, and only it opens ledger files. Returns the status,
 /// with the streams.
 fn run<
-    R: Files + AllocGlobal + Clock + Eprint + Threads + Wait + Sync,
+    R: Files + AllocGlobal + Clock + Env + Eprint + Threads + Wait + Sync,
     I: Read + Drop,
     O: Write + Drop,
     E: Write + Drop,
@@ -200,6 +203,10 @@ fn run<
     ensures stream { subcommand_name_of matches.now ≡ Some (codes "pipe")
         → IsStatusOf (λ name. IsOfPiping) result.0 (codes "-" ∷ [])
         (E.contents streams.errors.0) (E.contents result.1.errors.0) }
+    ensures back { subcommand_name_of matches.now ≡ Some (codes "unpipe") → (asked : ArgMatches)
+        × AreAsked matches.now asked × IsStatusOf (λ name. IsOfUnpiping) result.0
+        (unwrap_or (file_asked (first_value (found_of asked) (codes "FILE"))) (codes "-") ∷ [])
+        (E.contents streams.errors.0) (E.contents result.1.errors.0) }
     ensures verdict { subcommand_name_of matches.now ≡ Some (codes "audit")
         → (result.0 ≡ FAULT) ⊎ ((verdict : Verdict) × (result.0 ≡ status_of verdict)
         × IfSome (I.remaining input) (λ journal. IsVerdict journal verdict)
@@ -208,6 +215,7 @@ fn run<
     match matches.subcommand() {
         Some(("seal", asked)) => over_files(rt, host, OverFiles::Seal, asked, input, streams),
         Some(("pipe", asked)) => pipe(rt, host, asked, input, streams),
+        Some(("unpipe", asked)) => unpipe(rt, asked, input, streams),
         Some(("open", asked)) => {
             let open = OverFiles::Read(Reading::Open);
             over_files(rt, host, open, asked, input, streams)

@@ -58,7 +58,12 @@ pub(crate) fn open<
         files: files.as_slice(),
         ..request
     };
-    let progress = progress_of(rt, matches, request.files, streams.terminals.errors);
+    let readings = match reading {
+        Reading::Open => 2,
+        Reading::Verify => 1,
+    };
+    let (files, terminal) = (request.files, streams.terminals.errors);
+    let progress = progress_of(rt, matches, files, readings, terminal);
     let (sync, private) = (request.sync, request.private);
     let folder = SystemFiles::new(rt, request.into, sync, private, progress.as_ref());
     open_to(rt, reading, &request, folder, streams)

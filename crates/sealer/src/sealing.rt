@@ -102,7 +102,7 @@ pub(crate) fn seal<
         files: files.as_slice(),
         ..request
     };
-    let progress = progress_of(rt, matches, request.files, streams.terminals.errors);
+    let progress = progress_of(rt, matches, request.files, 1, streams.terminals.errors);
     let (sync, private) = (request.sync, request.private);
     let folder = SystemFiles::new(rt, request.into, sync, private, progress.as_ref());
     seal_to(rt, host, &request, folder, streams)

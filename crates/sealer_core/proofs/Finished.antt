@@ -12,11 +12,11 @@ use Rattle.journal_core.specs.Range.{prefix_of}
 use Rattle.command_core.specs.declared.folder.FolderFault.{FolderFault}
 use Rattle.command_core.specs.declared.folder.FolderFault.TheVariants as refusal
 use Rattle.command_core.specs.declared.line.FileFault.{FileFault}
-use Rattle.command_core.specs.declared.line.FileFault.TheVariants.{CannotOpen, NoSuffix, OutputExists, CannotCreate, OutOfMemory, Unopened}
+use Rattle.command_core.specs.declared.line.FileFault.TheVariants.{CannotOpen, NoSuffix, OutputExists, CannotCreate, OutOfMemory, Unopened, Changed}
 use Rattle.command_core.specs.declared.line.FileOutcome.{FileOutcome}
 use Rattle.command_core.specs.declared.line.FileOutcome.TheVariants.{Sealed, Opened, Failed}
 use Rattle.command_core.specs.Trace.{Event, Reading, Unread, Created, Refused, Finished, Discarded}
-use Rattle.command_core.specs.Work.{Opening, Work, output_of}
+use Rattle.command_core.specs.Work.{IsGivenUp, Opening, Work, output_of}
 use Rattle.sealer_core.specs.Sealing.{IsDiscarded, IsUncreated, Part, Sealing, group_events, sealed_name}
 use Rattle.sealer_core.specs.Theorem.{IsAmong, WasOpened, WasSealed}
 use Rattle.sealer_core.proofs.Happened.{IsPart}
@@ -223,16 +223,34 @@ module _ (key : List ℕ) (most : ℕ) (label : Option (List ℕ)) where
   IsWork w = Opening key most label w.line.name w.line.outcome w.events
 
   -- what happens for a file doesn't begin with an output
+  up_not_created : (name : List ℕ) (events rest more : List Event) (output : List ℕ) → IsGivenUp key most label name events
+      → events ++ rest ≡ Created output ∷ more → ⊥
+  up_not_created name events rest more output (read, text, written, good, begun, did) same =
+      let all : _ ≡ _ = sym (ap (λ l. l ++ rest) did) ∙ same in cc
+
+  read_not_created : (name read : List ℕ) (events rest more : List Event) (output : List ℕ) → events ≡ Reading name read ∷ []
+      → events ++ rest ≡ Created output ∷ more → ⊥
+  read_not_created name read events rest more output did same = let all : _ ≡ _ = sym (ap (λ l. l ++ rest) did) ∙ same in cc
+
+  either_not_created : (name : List ℕ) (events rest more : List Event) (output : List ℕ)
+      → ((input : List ℕ) × (events ≡ Reading name input ∷ [])) ⊎ IsGivenUp key most label name events
+      → events ++ rest ≡ Created output ∷ more → ⊥
+  either_not_created name events rest more output (inl (read, did)) same = read_not_created name read events rest more output did same
+  either_not_created name events rest more output (inr up) same = up_not_created name events rest more output up same
+
   not_created : (name : List ℕ) (outcome : FileOutcome) (events rest more : List Event) (output : List ℕ) → Opening key most label name outcome events
       → (rest ≡ Created output ∷ more → ⊥) → events ++ rest ≡ Created output ∷ more → ⊥
   not_created name (Opened n) events rest more output (read, text, good, long, did) none same = let all : _ ≡ _ = sym (ap (λ l. l ++ rest) did) ∙ same in cc
-  not_created name (Failed (Unopened open_fault.Write)) events rest more output (read, text, written, good, begun, did) none same =
-      let all : _ ≡ _ = sym (ap (λ l. l ++ rest) did) ∙ same in cc
+  not_created name (Failed (Unopened open_fault.Write)) events rest more output up none same = up_not_created name events rest more output up same
+  not_created name (Failed (Unopened open_fault.Read)) events rest more output either none same = either_not_created name events rest more output either same
+  not_created name (Failed (Unopened open_fault.OutOfMemory)) events rest more output either none same =
+      either_not_created name events rest more output either same
+  not_created name (Failed Changed) events rest more output is none same = absurd is
   not_created name (Failed OutputExists) events rest more output (read, text, good, did) none same = let all : _ ≡ _ = sym (ap (λ l. l ++ rest) did) ∙ same in cc
   not_created name (Failed CannotCreate) events rest more output (read, text, good, did) none same = let all : _ ≡ _ = sym (ap (λ l. l ++ rest) did) ∙ same in cc
   not_created name (Failed NoSuffix) events rest more output did none same = none (sym (ap (λ l. l ++ rest) did) ∙ same)
   not_created name (Failed CannotOpen) events rest more output did none same = let all : _ ≡ _ = sym (ap (λ l. l ++ rest) did) ∙ same in cc
-  not_created name (Failed fault) events rest more output is none same = let all : _ ≡ _ = sym (ap (λ l. l ++ rest) is.2) ∙ same in cc
+  not_created name (Failed fault) events rest more output is none same = read_not_created name is.0 events rest more output is.2 same
   not_created name outcome events rest more output is none same = absurd is
 
   none_created : (works : List Work) (more : List Event) (output : List ℕ) → All IsWork works → work_events works ≡ Created output ∷ more → ⊥
@@ -246,6 +264,34 @@ module _ (key : List ℕ) (most : ℕ) (label : Option (List ℕ)) where
     asked after = Created (output_of file) ∷ Finished (output_of file) plain ∷ after
 
     -- what was opened in a list that begins with a file's events is what that file was opened to, or comes after them
+    up_of_work : (name : List ℕ) (events rest : List Event) → IsGivenUp key most label name events → WasOpened (events ++ rest) file bytes plain
+        → WasOpened rest file bytes plain
+    up_of_work name events rest (read, text, written, good, begun, did) (before, after, same) =
+        elim (behind (Reading name read) (Reading file bytes) (Created (output_of name) ∷ Discarded (output_of name) written ∷ rest) before (asked after) (sym (ap (λ l. l ++ rest) did) ∙ same)) [
+          | inl (is, ends) ↦ absurd (cc)
+          | inr (front, later) ↦ (
+              let (second, two) = skip (Created (output_of name)) (Reading file bytes) (Discarded (output_of name) written ∷ rest) front (asked after) (λ is. cc) later in
+              let (third, three) = skip (Discarded (output_of name) written) (Reading file bytes) rest second (asked after) (λ is. cc) two in
+              (third, after, three)
+              )
+        ]
+
+    read_of_work : (name read : List ℕ) (events rest : List Event) → events ≡ Reading name read ∷ []
+        → ((more : List Event) (output : List ℕ) → rest ≡ Created output ∷ more → ⊥) → WasOpened (events ++ rest) file bytes plain
+        → WasOpened rest file bytes plain
+    read_of_work name read events rest did none (before, after, same) =
+        elim (behind (Reading name read) (Reading file bytes) rest before (asked after) (sym (ap (λ l. l ++ rest) did) ∙ same)) [
+          | inl (is, ends) ↦ absurd (none (Finished (output_of file) plain ∷ after) (output_of file) ends)
+          | inr (front, later) ↦ (front, after, later)
+        ]
+
+    either_of_work : (name : List ℕ) (events rest : List Event)
+        → ((input : List ℕ) × (events ≡ Reading name input ∷ [])) ⊎ IsGivenUp key most label name events
+        → ((more : List Event) (output : List ℕ) → rest ≡ Created output ∷ more → ⊥) → WasOpened (events ++ rest) file bytes plain
+        → WasOpened rest file bytes plain
+    either_of_work name events rest (inl (read, did)) none was = read_of_work name read events rest did none was
+    either_of_work name events rest (inr up) none was = up_of_work name events rest up was
+
     of_work : (name : List ℕ) (outcome : FileOutcome) (events rest : List Event) → Opening key most label name outcome events
         → ((more : List Event) (output : List ℕ) → rest ≡ Created output ∷ more → ⊥) → WasOpened (events ++ rest) file bytes plain
         → (opening key most bytes ≡ Ok plain) ⊎ WasOpened rest file bytes plain
@@ -262,15 +308,10 @@ module _ (key : List ℕ) (most : ℕ) (label : Option (List ℕ)) where
               inr (third, after, three)
               )
         ]
-    of_work name (Failed (Unopened open_fault.Write)) events rest (read, text, written, good, begun, did) none (before, after, same) =
-        elim (behind (Reading name read) (Reading file bytes) (Created (output_of name) ∷ Discarded (output_of name) written ∷ rest) before (asked after) (sym (ap (λ l. l ++ rest) did) ∙ same)) [
-          | inl (is, ends) ↦ absurd (cc)
-          | inr (front, later) ↦ (
-              let (second, two) = skip (Created (output_of name)) (Reading file bytes) (Discarded (output_of name) written ∷ rest) front (asked after) (λ is. cc) later in
-              let (third, three) = skip (Discarded (output_of name) written) (Reading file bytes) rest second (asked after) (λ is. cc) two in
-              inr (third, after, three)
-              )
-        ]
+    of_work name (Failed (Unopened open_fault.Write)) events rest up none was = inr (up_of_work name events rest up was)
+    of_work name (Failed (Unopened open_fault.Read)) events rest either none was = inr (either_of_work name events rest either none was)
+    of_work name (Failed (Unopened open_fault.OutOfMemory)) events rest either none was = inr (either_of_work name events rest either none was)
+    of_work name (Failed Changed) events rest is none was = absurd is
     of_work name (Failed OutputExists) events rest (read, text, good, did) none (before, after, same) =
         elim (behind (Reading name read) (Reading file bytes) (Refused (output_of name) refusal.Exists ∷ rest) before (asked after) (sym (ap (λ l. l ++ rest) did) ∙ same)) [
           | inl (is, ends) ↦ absurd (cc)
@@ -291,11 +332,7 @@ module _ (key : List ℕ) (most : ℕ) (label : Option (List ℕ)) where
     of_work name (Failed CannotOpen) events rest did none (before, after, same) =
         let (front, later) = skip (Unread name) (Reading file bytes) rest before (asked after) (λ is. cc) (sym (ap (λ l. l ++ rest) did) ∙ same) in
         inr (front, after, later)
-    of_work name (Failed fault) events rest is none (before, after, same) =
-        elim (behind (Reading name is.0) (Reading file bytes) rest before (asked after) (sym (ap (λ l. l ++ rest) is.2) ∙ same)) [
-          | inl (read, ends) ↦ absurd (none (Finished (output_of file) plain ∷ after) (output_of file) ends)
-          | inr (front, later) ↦ inr (front, after, later)
-        ]
+    of_work name (Failed fault) events rest is none was = inr (read_of_work name is.0 events rest is.2 none was)
     of_work name outcome events rest is none was = absurd is
 
     -- what was opened is what its input opens to
@@ -313,6 +350,25 @@ module _ (key : List ℕ) (most : ℕ) (label : Option (List ℕ)) where
     abbrev pub IsOpened : List Event → Type 0
     IsOpened events = (file : List ℕ) × (bytes : List ℕ) × (output ≡ output_of file) × WasOpened events file bytes plain
 
+    up_unfinished : (name : List ℕ) (events : List Event) → IsGivenUp key most label name events → IsAmong (Finished output plain) events → ⊥
+    up_unfinished name events (read, text, written, good, begun, did) at =
+        elim (among_cons (Finished output plain) (Reading name read) (Created (output_of name) ∷ Discarded (output_of name) written ∷ []) (subst (IsAmong (Finished output plain)) did at)) [
+          | inl is ↦ cc
+          | inr more ↦ elim (among_cons (Finished output plain) (Created (output_of name)) (Discarded (output_of name) written ∷ []) more) [
+            | inl is ↦ cc
+            | inr last ↦ not_given_up output plain (output_of name) written last
+          ]
+        ]
+
+    read_unfinished : (name read : List ℕ) (events : List Event) → events ≡ Reading name read ∷ [] → IsAmong (Finished output plain) events → ⊥
+    read_unfinished name read events did at =
+        let same = among_one (Finished output plain) (Reading name read) (subst (IsAmong (Finished output plain)) did at) in cc
+
+    either_unfinished : (name : List ℕ) (events : List Event)
+        → ((input : List ℕ) × (events ≡ Reading name input ∷ [])) ⊎ IsGivenUp key most label name events → IsAmong (Finished output plain) events → ⊥
+    either_unfinished name events (inl (read, did)) at = read_unfinished name read events did at
+    either_unfinished name events (inr up) at = up_unfinished name events up at
+
     finished_of : (name : List ℕ) (outcome : FileOutcome) (events : List Event) → Opening key most label name outcome events → IsAmong (Finished output plain) events → IsOpened events
     finished_of name (Opened n) events (read, text, good, long, did) at =
         elim (among_cons (Finished output plain) (Reading name read) (Created (output_of name) ∷ Finished (output_of name) text ∷ []) (subst (IsAmong (Finished output plain)) did at)) [
@@ -327,22 +383,17 @@ module _ (key : List ℕ) (most : ℕ) (label : Option (List ℕ)) where
                 )
           ]
         ]
-    finished_of name (Failed (Unopened open_fault.Write)) events (read, text, written, good, begun, did) at =
-        elim (among_cons (Finished output plain) (Reading name read) (Created (output_of name) ∷ Discarded (output_of name) written ∷ []) (subst (IsAmong (Finished output plain)) did at)) [
-          | inl is ↦ absurd (cc)
-          | inr more ↦ elim (among_cons (Finished output plain) (Created (output_of name)) (Discarded (output_of name) written ∷ []) more) [
-            | inl is ↦ absurd (cc)
-            | inr last ↦ absurd (not_given_up output plain (output_of name) written last)
-          ]
-        ]
+    finished_of name (Failed (Unopened open_fault.Write)) events up at = absurd (up_unfinished name events up at)
+    finished_of name (Failed (Unopened open_fault.Read)) events either at = absurd (either_unfinished name events either at)
+    finished_of name (Failed (Unopened open_fault.OutOfMemory)) events either at = absurd (either_unfinished name events either at)
+    finished_of name (Failed Changed) events is at = absurd is
     finished_of name (Failed OutputExists) events (read, text, good, did) at =
         absurd (not_read output plain name read (Refused (output_of name) refusal.Exists) (λ is. cc) (subst (IsAmong (Finished output plain)) did at))
     finished_of name (Failed CannotCreate) events (read, text, good, did) at =
         absurd (not_read output plain name read (Refused (output_of name) refusal.Failed) (λ is. cc) (subst (IsAmong (Finished output plain)) did at))
     finished_of name (Failed NoSuffix) events did at = absurd (among_none (Finished output plain) (subst (IsAmong (Finished output plain)) did at))
     finished_of name (Failed CannotOpen) events did at = absurd (not_unread output plain name (subst (IsAmong (Finished output plain)) did at))
-    finished_of name (Failed fault) events is at =
-        let same = among_one (Finished output plain) (Reading name is.0) (subst (IsAmong (Finished output plain)) is.2 at) in absurd (cc)
+    finished_of name (Failed fault) events is at = absurd (read_unfinished name is.0 events is.2 at)
     finished_of name outcome events is at = absurd is
 
     pub some_opened : (works : List Work) → All IsWork works → IsAmong (Finished output plain) (work_events works) → IsOpened (work_events works)

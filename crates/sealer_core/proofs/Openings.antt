@@ -11,6 +11,7 @@ use Rattle.container_core.proofs.HeaderLemmas.{length-header_of, length-prefix_i
 use Rattle.command_core.specs.declared.line.FileOutcome.{FileOutcome}
 use Rattle.command_core.specs.declared.line.FileOutcome.TheVariants.{Opened, Sealed}
 use Rattle.command_core.specs.Trace.{Event, Finished}
+use Rattle.command_core.specs.Unpiping.{Unpipes}
 use Rattle.command_core.specs.Work.{Opening, output_of}
 use Rattle.journal_core.specs.declared.entry.Entry.{Entry}
 use Rattle.journal_core.specs.declared.terms.Terms.{Terms}
@@ -122,3 +123,29 @@ module _ (key : List ℕ) (opens : Opens key) (differ : Differ key) (terms : Ter
       let held = append_cancel_left run.taken run.bytes (container key run.shape (prefix_of terms.range.device number) run.input) works.1.written in
       let (most, opened) = opened_to key call file run.bytes plain was in
       opened_is key opens differ run.shape run.is_shape (prefix_of terms.range.device number) run.input plain most refl (subst (λ (b : List ℕ). opening key most b ≡ Ok plain) held opened)
+
+-- ---- what `unpipe_all` opened
+
+module _ (key : List ℕ) (opens : Opens key) (differ : Differ key) (terms : Terms) (history : List Entry) (outputs : List (List ℕ)) where
+  -- of an output that a run of `seal_all` finished
+  pub unpiped_run : (run : WroteFiles key terms history outputs) (output bytes before plain : List ℕ) (most n : ℕ) (label : Option (List ℕ))
+      → IsAmong (Finished output bytes) run.events → Unpipes key most label (Some bytes) (Some before) (Some (before ++ plain)) (Opened n)
+      → (source : List ℕ) × (output ≡ sealed_name source) × WasSealed run.events source plain bytes
+  unpiped_run run output bytes before plain most n label at (whole, good, count, grew) =
+      let (source, input, number, named, held, sealed) = held_of_run key terms history outputs run output bytes at in
+      let whole_is = opened_is key opens differ run.shape run.is_shape (prefix_of terms.range.device number) input whole most refl
+      (subst (λ (b : List ℕ). opening key most b ≡ Ok whole) held good.0) in
+      let plain_is = append_cancel_left before plain whole grew ∙ whole_is in
+      (source, named, subst (λ (p : List ℕ). WasSealed run.events source p bytes) (sym plain_is) sealed)
+
+  -- and of a stream that a run of `pipe_all` sealed
+  pub unpiped_stream_run : (run : WroteStream key terms history outputs) (number count most n : ℕ) (label : Option (List ℕ)) (before plain : List ℕ)
+      → run.outcome ≡ Sealed number count → Unpipes key most label (Some run.bytes) (Some before) (Some (before ++ plain)) (Opened n) → plain ≡ run.input
+  unpiped_stream_run run number count most n label before plain is (whole, good, length-is, grew) =
+      let (chunks, left, failures, failures', refusals, refusals', status, old, new, faults, faults', stream, says) = run.sealed in
+      let works = subst (λ (o : FileOutcome). WorksStream key run.shape chunks (Some run.input) left failures failures' (Some run.taken) (Some (run.taken ++ run.bytes)) refusals refusals'
+      terms.range.device o stream.piped.voids) (says ∙ is) stream.piped.works in
+      let held = append_cancel_left run.taken run.bytes (container key run.shape (prefix_of terms.range.device number) run.input) works.1.written in
+      append_cancel_left before plain whole grew
+      ∙ opened_is key opens differ run.shape run.is_shape (prefix_of terms.range.device number) run.input whole most refl
+      (subst (λ (b : List ℕ). opening key most b ≡ Ok whole) held good.0)

@@ -1,7 +1,7 @@
 //! The sealer as a library: what each command does, over any reader and any writer.
 //!
 //! `seal_all` and `pipe_all` are here, with the theorems over their runs (`theorem`). `engine_core` has the engines.
-//! `command_core` has `open_all`, `verify_all`, and the folders and lines of all commands. `life_core` has the laws on
+//! `command_core` has `open_all`, `verify_all`, `unpipe_all`, and the folders and lines of all commands. `life_core` has the laws on
 //! the life of a ledger file. `front_core` says what must hold before a container begins.
 #![tactic(auto)]
 
@@ -19,9 +19,9 @@ pub use crate::piping::{PipeOptions, pipe_all};
 pub use crate::sealing::{SealOptions, seal_all};
 pub use crate::theorem::{a_call_is_a_run, no_nonce_is_used_twice, what_was_opened_was_sealed};
 pub use command_core::{
-    Facts, FileFault, FileOutcome, Folder, FolderFault, KeyFault, Line, MAX_BYTES,
-    MAX_OPENED_BYTES, OpenOptions, OpeningFolder, Outs, Plaintext, Report, open_all, read_key,
-    verify_all,
+    Facts, FileFault, FileOutcome, FileReader, Folder, FolderFault, KeyFault, Line, MAX_BYTES,
+    MAX_OPENED_BYTES, OpenOptions, OpeningFolder, OpeningStream, Outs, Report, Spool, Spooled,
+    UnpipeOptions, open_all, read_key, unpipe_all, verify_all,
 };
 pub use crew_core::{MAX_DEPTH, MAX_LANES, MAX_WINDOW, MAX_WORKERS};
 pub use engine_core::{

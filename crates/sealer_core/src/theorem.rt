@@ -10,6 +10,7 @@ ghost use Rattle.container_core.specs.Shape.{IsShape, ShapeView, size_of};
 ghost use Rattle.command_core.specs.declared.line.FileOutcome.TheVariants.{Opened, Sealed};
 ghost use Rattle.command_core.specs.Session.{IsSound, Session, begun_as};
 ghost use Rattle.command_core.specs.Trace.{Event, Finished};
+ghost use Rattle.command_core.specs.Unpiping.{Unpipes};
 ghost use Rattle.command_core.specs.Work.{Opening, output_of};
 ghost use Rattle.front_core.specs.Range.{IsHeld};
 ghost use Rattle.io_core.specs.Streams.{IsFront};
@@ -161,7 +162,8 @@ pub fn a_killed_call_is_a_run<D: Disk + Drop>()
 /// What was opened was sealed. Take any run of `seal_all` or `pipe_all` under a key that ended (`IsRun` has one for
 /// each such run of the theorem above), and any call of `open_all` under that key. What the call opened of the bytes of
 /// an output that the run finished is, byte for byte, what the run had read of that output's file. What it opened of
-/// the bytes of a stream that the run sealed is the run's input. There is no premise on a ledger file or a disk.
+/// the bytes of a stream that the run sealed is the run's input. The same holds of what `unpipe_all` wrote, where its
+/// line says `opened` (`unpiped`, `back`). There is no premise on a ledger file or a disk.
 ///
 /// For each alone: what the call finished is what the bytes of a file that it had read right before open to. What the
 /// run finished is the container of what it had read of a file before.
@@ -179,6 +181,15 @@ pub fn what_was_opened_was_sealed()
         (run : WroteStream key terms history outputs) (call : OpenedFiles key) (number count : ℕ)
         (file plain : List ℕ)
         → run.outcome ≡ Sealed number count → WasOpened call.events file run.bytes plain → plain ≡ run.input }
+    ensures unpiped { (key : List ℕ) (terms : Terms) (history : List Entry) (outputs : List (List ℕ))
+        (run : WroteFiles key terms history outputs) (output bytes before plain : List ℕ) (most n : ℕ)
+        (label : Option (List ℕ)) → IsAmong (Finished output bytes) run.events
+        → Unpipes key most label (Some bytes) (Some before) (Some (before ++ plain)) (Opened n)
+        → (source : List ℕ) × (output ≡ sealed_name source) × WasSealed run.events source plain bytes }
+    ensures back { (key : List ℕ) (terms : Terms) (history : List Entry) (outputs : List (List ℕ))
+        (run : WroteStream key terms history outputs) (number count most n : ℕ) (label : Option (List ℕ))
+        (before plain : List ℕ) → run.outcome ≡ Sealed number count
+        → Unpipes key most label (Some run.bytes) (Some before) (Some (before ++ plain)) (Opened n) → plain ≡ run.input }
     ensures opened { (key : List ℕ) (call : OpenedFiles key) (output plain : List ℕ)
         → IsAmong (Finished output plain) call.events
         → (file : List ℕ) × (bytes : List ℕ) × (output ≡ output_of file) × WasOpened call.events file bytes plain

@@ -17,7 +17,8 @@ use std::thread::Threads;
 #[derive(Clone, Copy, PartialEq, Eq)]
 enum Work {
     Seal { lanes: u32 },
-    Open { workers: u32 },
+    // The files can be read again, or only once.
+    Open { workers: u32, once: bool },
     Verify { workers: u32 },
 }
 
@@ -86,8 +87,15 @@ fn status_of<R: AllocGlobal + Threads + Wait + Sync>(
                 lanes,
             )
         }
-        Work::Open { workers } => status_of_opening(rt, folder, run, out, workers, false),
+        Work::Open { workers, .. } => status_of_opening(rt, folder, run, out, workers, false),
         Work::Verify { workers } => status_of_opening(rt, folder, run, out, workers, true),
+    }
+}
+
+fn is_read_once(work: Work) -> bool {
+    match work {
+        Work::Open { once, .. } => once,
+        _ => false,
     }
 }
 
@@ -109,6 +117,7 @@ fn run_failing<R: AllocGlobal + Threads + Wait + Sync>(
     let mut failing = Failing {
         folder,
         calls: &calls,
+        once: is_read_once(run.work),
     };
     let status = status_of(rt, &mut failing, run, &mut out);
     let Failing { folder, .. } = failing;
@@ -163,7 +172,7 @@ fn is_worked(
             Some(number) => holds(alloc, folder, output, number, plain),
             None => false,
         },
-        Work::Open { workers: _ } => {
+        Work::Open { .. } => {
             is_text(line, format!(in alloc; "opened {name} bytes {bytes}"))
                 && has_bytes(folder, output, plain)
         }
@@ -363,7 +372,10 @@ fn each_call_fails_while_two_lanes_seal(rt: HostRuntime) {
 
 // Containers, one of them cut short.
 static OPENED: Run = Run {
-    work: Work::Open { workers: 1 },
+    work: Work::Open {
+        workers: 1,
+        once: false,
+    },
     folder: &[("a.stm", &EMPTY), ("b.stm", &SECRET), ("cut.stm", &CUT)],
     files: &["a.stm", "b.stm", "m.stm", "cut.stm", "b.stm"],
     results: &[
@@ -396,11 +408,29 @@ fn by_workers<'a>(run: &Run<'a>, work: Work) -> Run<'a> {
     Run { work, ..*run }
 }
 
+// Whether the run ends as expected for files that can be read again, and for files that can't. A second reading has
+// more calls.
+fn holds_for_both_files<R: AllocGlobal + Threads + Wait + Sync>(rt: &R, workers: u32) -> bool {
+    let again = Work::Open {
+        workers,
+        once: false,
+    };
+    let once = Work::Open {
+        workers,
+        once: true,
+    };
+    let again = calls_of(rt, &by_workers(&OPENED, again));
+    let once = calls_of(rt, &by_workers(&OPENED, once));
+    match (again, once) {
+        (Some(again), Some(once)) => once >= 30 && again >= once.saturating_add(20),
+        _ => false,
+    }
+}
+
 #[test]
 fn each_call_fails_while_files_are_opened(rt: HostRuntime) {
-    assert!(rt; holds_at_each_call(&rt, &OPENED, 30));
-    let run = by_workers(&OPENED, Work::Open { workers: 2 });
-    assert!(rt; holds_at_each_call(&rt, &run, 30));
+    assert!(rt; holds_for_both_files(&rt, 1));
+    assert!(rt; holds_for_both_files(&rt, 2));
 }
 
 #[test]

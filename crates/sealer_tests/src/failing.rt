@@ -1,29 +1,36 @@
 //! A folder in memory. Its calls and those of its readers and writers are counted together, and the one with a given
-//! number fails.
+//! number fails. Other inputs and outputs of the tests share the count.
 use container_core::{Key, Shape};
+use folder_core::FileReader;
 use folder_memory::{MemoryFolder, MemoryReader, MemoryWriter};
 use ledger_core::{Failed, Ledger, Seat, Sink, Source};
 use reserve_core::Fold;
-use sealer_core::{Folder, FolderFault, LedgerFile, OpeningFolder, Plaintext, SealingFolder};
+use sealer_core::{Folder, FolderFault, LedgerFile, OpeningFolder, SealingFolder};
 use std::sync::atomic::{AtomicU64, Ordering};
 
 /// What a failing call does.
 #[derive(Clone, Copy)]
-enum Act {
+pub(crate) enum Act {
     Open,
     Create,
     Read,
     // On a writer, or when finishing what was written.
     Write,
     Remove,
+    // To keep what was read, or to go back to its first byte.
+    Spool,
+    // To read once more, after all was checked.
+    ReadAgain,
 }
 
 // The acts that give a file's line a fault, and the fault.
-static FAULTS: [(Act, &str); 4] = [
+static FAULTS: [(Act, &str); 6] = [
     (Act::Open, "cannot open"),
     (Act::Create, "cannot create"),
     (Act::Read, "read failed"),
     (Act::Write, "write failed"),
+    (Act::Spool, "spool failed"),
+    (Act::ReadAgain, "read failed"),
 ];
 
 impl Act {
@@ -34,6 +41,8 @@ impl Act {
             Act::Read => 3,
             Act::Write => 4,
             Act::Remove => 5,
+            Act::Spool => 6,
+            Act::ReadAgain => 7,
         }
     }
 }
@@ -55,6 +64,11 @@ impl Calls {
             made: AtomicU64::new(0),
             act: AtomicU64::new(0),
         }
+    }
+
+    /// Returns a count in which no call fails.
+    pub(crate) fn steady() -> Calls {
+        Calls::new(u64::MAX)
     }
 
     /// Whether a call has failed.
@@ -79,8 +93,14 @@ impl Calls {
         self.act.load(Ordering::SeqCst) == Act::Remove.number()
     }
 
+    /// Whether the failed call was to write, or to read once more.
+    pub(crate) fn has_failed_late(&self) -> bool {
+        let act = self.act.load(Ordering::SeqCst);
+        act == Act::Write.number() || act == Act::ReadAgain.number()
+    }
+
     // Whether this call, which performs `act`, fails.
-    fn fails(&self, act: Act) -> bool {
+    pub(crate) fn fails(&self, act: Act) -> bool {
         if self.made.fetch_add(1, Ordering::SeqCst) != self.failing {
             return false;
         }
@@ -94,6 +114,8 @@ impl Calls {
 pub(crate) struct Failing<'a> {
     pub(crate) folder: MemoryFolder,
     pub(crate) calls: &'a Calls,
+    /// Whether its files can be read only once.
+    pub(crate) once: bool,
 }
 
 /// A reader of such a folder.
@@ -101,6 +123,7 @@ pub(crate) struct Failing<'a> {
 pub(crate) struct FailingReader<'a> {
     reader: MemoryReader,
     calls: &'a Calls,
+    once: bool,
 }
 
 /// A writer of such a folder.
@@ -121,7 +144,11 @@ impl<'a> Folder for Failing<'a> {
             return Err(FolderFault::Failed);
         }
         match self.folder.open(name) {
-            Ok(reader) => Ok(FailingReader { reader, calls }),
+            Ok(reader) => Ok(FailingReader {
+                reader,
+                calls,
+                once: self.once,
+            }),
             Err(_) => Err(FolderFault::Failed),
         }
     }
@@ -168,7 +195,8 @@ impl<'a> OpeningFolder for Failing<'a> {
         _output: &mut FailingWriter<'a>,
         _key: &Key,
         _name: &str,
-        _plain: &Plaintext,
+        _reader: &FailingReader<'a>,
+        _max_bytes: u64,
     ) {}
 }
 
@@ -188,10 +216,27 @@ impl<'a> SealingFolder for Failing<'a> {
 
 impl Source for FailingReader<'_> {
     fn read(&mut self, buffer: &mut [u8]) -> Result<usize, Failed> {
+        self.read_on(buffer)
+    }
+}
+
+impl FileReader for FailingReader<'_> {
+    fn read_on(&mut self, buffer: &mut [u8]) -> Result<usize, Failed> {
         if self.calls.fails(Act::Read) {
             return Err(Failed);
         }
         self.reader.read(buffer)
+    }
+
+    fn can_repeat(&self) -> bool {
+        !self.once
+    }
+
+    fn again(&mut self) -> Result<(), Failed> {
+        if self.calls.fails(Act::Read) {
+            return Err(Failed);
+        }
+        self.reader.again()
     }
 }
 

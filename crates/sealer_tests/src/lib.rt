@@ -6,11 +6,17 @@ mod calls;
 #[cfg(test)]
 mod cases;
 #[cfg(test)]
+mod changes;
+#[cfg(test)]
+mod damages;
+#[cfg(test)]
 mod each_call;
 #[cfg(test)]
 mod failing;
 #[cfg(test)]
 mod files;
+#[cfg(test)]
+mod inputs;
 #[cfg(test)]
 mod keys;
 #[cfg(test)]
@@ -26,8 +32,12 @@ mod runs;
 #[cfg(test)]
 mod sealing;
 #[cfg(test)]
+mod spools;
+#[cfg(test)]
 mod stops;
 #[cfg(test)]
 mod streams;
 #[cfg(test)]
 mod traces;
+#[cfg(test)]
+mod unpipes;

@@ -1,2 +1,3 @@
 pub mod Printing
 pub mod Splits
+pub mod Inputs

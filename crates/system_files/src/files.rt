@@ -1,26 +1,24 @@
 //! The file system as a folder.
-ghost use Rattle.std.specs.Prelude.{◌≡◌, true, false};
+ghost use Rattle.std.specs.Prelude.{◌≡◌, ◌≢◌, Err, true, false};
 
 use crate::cause::Cause;
+use crate::input::{FileInput, open_known};
 use crate::outputs::{self, Output, Outputs, PRIVATE, SHARED, make_new};
 use crate::own::{FileId, OwnFiles, OwnPaths, is_of_ledger};
-use crate::progress::{Counted, Progress};
-use command_core::{Folder, FolderFault, OpeningFolder, Plaintext};
+use crate::progress::Progress;
+use command_core::{Folder, FolderFault, OpeningFolder};
 use container_core::{Key, Shape};
 use front_core::SealingFolder;
-use ledger_core::{FromRead, Ledger, Seat, ToWrite};
+use ledger_core::{Ledger, Seat, ToWrite};
 use path_core::put_below;
 use reserve_core::{Fold, LedgerFile};
 use std::alloc::Global;
 use std::fs;
-use std::fs::{File, OpenFile};
-use std::io::{BufReader, ErrorKind};
+use std::fs::File;
+use std::io::ErrorKind;
 use std::rt::{Clock, Files};
 use system_ledger::is_beside;
 use thiserror::Error;
-
-/// Bytes of the buffer through which a file is read.
-const BUFFER: usize = 1 << 16;
 
 /// The files of the system, by their paths. A relative path begins at the current directory.
 #[derive(Drop)]
@@ -170,47 +168,30 @@ fn stand_in<R: Files>(rt: &R) -> Option<R::File> {
 }
 
 /// Opens a file for reading. A directory is refused.
-pub fn open_unbuffered<R: Files>(rt: &R, name: &str) -> Result<R::File, FolderFault> {
+pub fn open_unbuffered<R: Files>(rt: &R, name: &str) -> Result<R::File, FolderFault>
+    ensures fault { result ≢ Err FolderFault.Exists }
+{
     match open_known(rt, name) {
-        Ok((file, _)) => Ok(file),
+        Ok(opened) => Ok(opened.file),
         Err(fault) => Err(fault),
     }
 }
 
-// The same, with the file's ID.
-fn open_known<R: Files>(rt: &R, name: &str) -> Result<(R::File, FileId), FolderFault> {
-    let Ok(file) = File::open(rt, name) else {
-        return Err(FolderFault::Failed);
-    };
-    let Ok(metadata) = file.metadata() else {
-        return Err(FolderFault::Failed);
-    };
-    if metadata.is_dir() {
-        return Err(FolderFault::Failed);
-    }
-    Ok((file, FileId::of(&metadata)))
-}
-
 impl<'p, 'r, R: Files + AllocGlobal + Clock + Eprint> Folder for SystemFiles<'p, 'r, R> {
-    type Reader = FromRead<Counted<'p, 'r, R, BufReader<R::File>>>;
+    type Reader = FileInput<'p, 'r, R>;
 
     // Needs no buffer: each call that writes an output passes one chunk or more.
     type Writer = ToWrite<Output<R::File>>;
 
     fn open(&mut self, name: &str) -> Result<Self::Reader, FolderFault> {
-        let Ok((file, id)) = open_known(self.rt, name) else {
-            return Err(FolderFault::Failed);
+        let opened = match open_known(self.rt, name) {
+            Ok(opened) => opened,
+            Err(fault) => return Err(fault),
         };
-        if self.is_own(id) {
+        if self.is_own(opened.id) {
             return Err(FolderFault::Failed);
         }
-        match BufReader::with_capacity(self.rt.alloc(), BUFFER, file) {
-            Ok(reader) => Ok(FromRead(Counted {
-                reader,
-                progress: self.progress,
-            })),
-            Err(_) => Err(FolderFault::Failed),
-        }
+        FileInput::of(self.rt, opened, self.progress)
     }
 
     fn create(&mut self, name: &str) -> Result<Self::Writer, FolderFault> {
@@ -246,7 +227,8 @@ impl<'p, 'r, R: Files + AllocGlobal + Clock + Eprint> OpeningFolder for SystemFi
         _output: &mut Self::Writer,
         _key: &Key,
         _name: &str,
-        _plain: &Plaintext,
+        _reader: &Self::Reader,
+        _max_bytes: u64,
     ) {}
 }
 

@@ -1,16 +1,22 @@
-//! The file system as `sealer` uses it: its files as a `Folder`, the journal's file, and why a file can't be used.
+//! The file system as `sealer` uses it: its files as a `Folder`, the journal's file, a spool, and why a file can't be
+//! used.
 #![tactic(auto)]
 
+pub(crate) mod blocks;
 pub mod cause;
 pub mod files;
+pub mod input;
 pub mod kept;
 pub mod outputs;
 pub mod own;
 pub mod progress;
+pub mod spool;
 
 pub use crate::cause::{About, Cause, Step, cause_of, is_for_others};
 pub use crate::files::{JournalFault, SystemFiles, new_journal, open_unbuffered, stand_ins};
+pub use crate::input::{FileInput, open_input};
 pub use crate::kept::{Makes, Split, print_kept, split_names};
 pub use crate::own::{OwnPaths, StandardInput};
 pub use crate::progress::{Progress, Told};
+pub use crate::spool::{FileSpool, spool_folder};
 pub use path_core::{PlaceFault, are_apart, last_name};

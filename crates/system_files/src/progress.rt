@@ -1,5 +1,5 @@
-//! The progress line on standard error: files done of all, bytes done, bytes a second, and the time left if the sizes
-//! of all files are known.
+//! The progress line on standard error: files done of all, bytes read, bytes a second, and the time left if the sizes
+//! of all files are known. Of a file that is read twice, the bytes of both readings count.
 //!
 //! It is redrawn at most five times a second, as bytes are read. It is cleared before a line of the run is printed,
 //! drawn again after it, and cleared at the end. Time is counted from the first bytes, which the speed doesn't include.
@@ -34,15 +34,16 @@ struct Done {
 #[derive(Drop)]
 pub struct Progress<'r, R: Clock + Eprint> {
     rt: &'r R,
-    // The number of files, and the bytes of all of them if known.
+    // The number of files, and the bytes that all their readings give, if known.
     files: usize,
     bytes: Option<u64>,
     done: Cell<Done>,
 }
 
 impl<'r, R: Clock + Eprint> Progress<'r, R> {
-    /// Starts the progress of a run over these files. It reads their sizes. Returns `None` if the clock fails.
-    pub fn of(rt: &'r R, names: &[&str]) -> Option<Progress<'r, R>>
+    /// Starts the progress of a run over these files, each of which is read `readings` times: twice by `open`, else
+    /// once. It looks up their sizes. Returns `None` if the clock fails.
+    pub fn of(rt: &'r R, names: &[&str], readings: u64) -> Option<Progress<'r, R>>
     where
         R: Files,
     {
@@ -50,7 +51,7 @@ impl<'r, R: Clock + Eprint> Progress<'r, R> {
         Some(Progress {
             rt,
             files: names.len(),
-            bytes: bytes_of(rt, names),
+            bytes: bytes_of(rt, names, readings),
             done: Cell::new(Done {
                 files: 0,
                 bytes: 0,
@@ -152,8 +153,8 @@ fn seconds_left(all: u64, done: u64, each: u64) -> u64 {
     all.saturating_sub(done) / each.max(1)
 }
 
-// The bytes of these files, if the size of each existing one is known.
-fn bytes_of<R: Files>(rt: &R, names: &[&str]) -> Option<u64> {
+// The bytes that this many readings of each of these files give, if the size of each existing one is known.
+fn bytes_of<R: Files>(rt: &R, names: &[&str], readings: u64) -> Option<u64> {
     let mut bytes = 0u64;
     for name in names {
         if let Ok(found) = fs::metadata(rt, *name) {
@@ -163,7 +164,7 @@ fn bytes_of<R: Files>(rt: &R, names: &[&str]) -> Option<u64> {
             bytes = bytes.saturating_add(found.len());
         }
     }
-    Some(bytes)
+    Some(bytes.saturating_mul(readings))
 }
 
 /// A reader that counts its bytes in `progress`, if there is one.

@@ -1,4 +1,4 @@
-use Rattle.sealer_core.proofs.Openings.{each_opened, held_of_run, of_files, of_run, of_stream_run, of_streams, opened_to}
+use Rattle.sealer_core.proofs.Openings.{each_opened, held_of_run, of_files, of_run, of_stream_run, of_streams, opened_to, unpiped_run, unpiped_stream_run}
 use Rattle.sealer_core.proofs.theorem.what_was_opened_was_sealed.Goals as goal
 
 pub returns-clause-runs : goal.returns-clause-runs
@@ -12,6 +12,18 @@ returns-clause-piped c key terms history outputs run call number count file plai
     of_stream_run key (λ bytes plain most at. let r = (c.opens_exactly_its_container.ensures.exactly key bytes plain most).0 at in (r.1, r.2))
     (λ prefix other plain another shape form one two seven too same. (c.containers_differ.ensures.plaintext key prefix other plain another shape form one two seven too same).2)
     terms history outputs call run number count file plain is was
+
+pub returns-clause-unpiped : goal.returns-clause-unpiped
+returns-clause-unpiped c key terms history outputs run output bytes before plain most n label at done =
+    unpiped_run key (λ bytes plain most at. let r = (c.opens_exactly_its_container.ensures.exactly key bytes plain most).0 at in (r.1, r.2))
+    (λ prefix other plain another shape form one two seven too same. (c.containers_differ.ensures.plaintext key prefix other plain another shape form one two seven too same).2)
+    terms history outputs run output bytes before plain most n label at done
+
+pub returns-clause-back : goal.returns-clause-back
+returns-clause-back c key terms history outputs run number count most n label before plain is done =
+    unpiped_stream_run key (λ bytes plain most at. let r = (c.opens_exactly_its_container.ensures.exactly key bytes plain most).0 at in (r.1, r.2))
+    (λ prefix other plain another shape form one two seven too same. (c.containers_differ.ensures.plaintext key prefix other plain another shape form one two seven too same).2)
+    terms history outputs run number count most n label before plain is done
 
 pub returns-clause-opened : goal.returns-clause-opened
 returns-clause-opened c key call output plain at =

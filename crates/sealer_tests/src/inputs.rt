@@ -1,0 +1,293 @@
+//! Inputs, spools and streams in memory, and runs of `unpipe_all` over them.
+ghost use Rattle.std.specs.Prelude.{◌≡◌, IfSome, Some};
+
+use crate::failing::{Act, Calls};
+use crate::runs::counting_key;
+use folder_core::{FileReader, Spool, Spooled};
+use io_memory::{Schedule, ToMemory};
+use ledger_core::{Failed, Sink, Source};
+use sealer_core::{UnpipeOptions, unpipe_all};
+use std::alloc::Global;
+use std::marker::Brand;
+use std::thread::Threads;
+
+/// An input. Its first reading gives some bytes, and each later one others. Going back is a call of a spool.
+#[derive(Drop)]
+pub(crate) struct Input<'a> {
+    rest: &'a [u8],
+    later: &'a [u8],
+    // The most bytes of a call.
+    step: usize,
+    // What a call performs that reads.
+    act: Act,
+    calls: &'a Calls,
+}
+
+/// Returns an input with these readings, of which a call gives at most `step` bytes.
+pub(crate) fn input_of<'a>(
+    first: &'a [u8],
+    later: &'a [u8],
+    step: usize,
+    calls: &'a Calls,
+) -> Input<'a> {
+    Input {
+        rest: first,
+        later,
+        step,
+        act: Act::Read,
+        calls,
+    }
+}
+
+impl Source for Input<'_> {
+    fn read(&mut self, buffer: &mut [u8]) -> Result<usize, Failed> {
+        self.read_on(buffer)
+    }
+}
+
+impl FileReader for Input<'_> {
+    fn read_on(&mut self, buffer: &mut [u8]) -> Result<usize, Failed> {
+        if self.calls.fails(self.act) {
+            return Err(Failed);
+        }
+        let rest = self.rest;
+        let n = rest.len().min(buffer.len()).min(self.step.max(1));
+        buffer[..n].copy_from_slice(&rest[..n]);
+        self.rest = &rest[n..];
+        Ok(n)
+    }
+
+    fn can_repeat(&self) -> bool {
+        true
+    }
+
+    fn again(&mut self) -> Result<(), Failed> {
+        if self.calls.fails(Act::Spool) {
+            return Err(Failed);
+        }
+        self.rest = self.later;
+        self.act = Act::ReadAgain;
+        Ok(())
+    }
+}
+
+/// A spool in memory.
+#[derive(Drop)]
+pub(crate) struct MemorySpool<'a> {
+    bytes: Vec<u8>,
+    at: usize,
+    calls: &'a Calls,
+}
+
+impl Source for MemorySpool<'_> {
+    fn read(&mut self, buffer: &mut [u8]) -> Result<usize, Failed> {
+        self.read_on(buffer)
+    }
+}
+
+impl FileReader for MemorySpool<'_> {
+    fn read_on(&mut self, buffer: &mut [u8]) -> Result<usize, Failed> {
+        if self.calls.fails(Act::ReadAgain) {
+            return Err(Failed);
+        }
+        let rest = self.bytes.as_slice().get(self.at..).unwrap_or(&[]);
+        let n = rest.len().min(buffer.len());
+        buffer[..n].copy_from_slice(&rest[..n]);
+        self.at = self.at.saturating_add(n);
+        Ok(n)
+    }
+
+    fn can_repeat(&self) -> bool {
+        true
+    }
+
+    fn again(&mut self) -> Result<(), Failed> {
+        if self.calls.fails(Act::Spool) {
+            return Err(Failed);
+        }
+        self.at = 0;
+        Ok(())
+    }
+}
+
+impl Spool for MemorySpool<'_> {
+    fn put(&mut self, bytes: &[u8]) -> Result<(), Failed> {
+        if self.calls.fails(Act::Spool) {
+            return Err(Failed);
+        }
+        match self.bytes.extend_from_slice(bytes) {
+            Ok(()) => Ok(()),
+            Err(_) => Err(Failed),
+        }
+    }
+}
+
+/// An input that can be read only once, over a spool.
+pub(crate) type Pipe<'a> = Spooled<Input<'a>, MemorySpool<'a>, Brand>;
+
+/// Returns an input that gives these bytes once.
+pub(crate) fn pipe_of<'a>(
+    alloc: Global,
+    bytes: &'a [u8],
+    step: usize,
+    calls: &'a Calls,
+) -> Pipe<'a> {
+    let spool = MemorySpool {
+        bytes: Vec::new(alloc),
+        at: 0,
+        calls,
+    };
+    Spooled::of(input_of(bytes, &[], step, calls), spool)
+}
+
+/// A stream in memory.
+#[derive(Drop)]
+struct Stream<'a> {
+    taken: ToMemory,
+    calls: &'a Calls,
+}
+
+impl Sink for Stream<'_> {
+    fn write(&mut self, bytes: &[u8]) -> Result<usize, Failed> {
+        if self.calls.fails(Act::Write) {
+            return Err(Failed);
+        }
+        self.taken.write(bytes)
+    }
+}
+
+/// How a run is made: the workers and the label asked for, and how the writers of the stream and of the line fail.
+#[derive(Clone, Copy)]
+pub(crate) struct How<'a> {
+    pub(crate) workers: u32,
+    pub(crate) label: Option<&'a [u8]>,
+    pub(crate) writes: Schedule,
+    pub(crate) lines: Schedule,
+}
+
+/// One worker, and any label. Nothing fails.
+pub(crate) static STEADY: How = How {
+    workers: 1,
+    label: None,
+    writes: Schedule::Never,
+    lines: Schedule::Never,
+};
+
+/// The same with this many workers.
+pub(crate) fn by(workers: u32) -> How<'static> {
+    let mut how = STEADY;
+    how.workers = workers;
+    how
+}
+
+/// What a run printed and wrote.
+#[derive(Drop)]
+pub(crate) struct Ended {
+    status: u8,
+    lines: ToMemory,
+    written: ToMemory,
+}
+
+/// Opens an input by the name `a.stm`. `None` if memory is refused, or the number of workers is wrong.
+pub(crate) fn run_over<R: AllocGlobal + Threads + Sync, I: FileReader + Drop>(
+    rt: &R,
+    input: Option<I>,
+    how: &How,
+    calls: &Calls,
+) -> Option<Ended>
+    requires first { IfSome input (λ input. IfSome (I.whole input) (λ bytes. I.left input ≡ Some bytes)) }
+{
+    if how.workers == 0 || how.workers > 16 {
+        return None;
+    }
+    let options = UnpipeOptions {
+        workers: how.workers,
+        max_bytes: 1 << 30,
+        label: how.label,
+    };
+    let taken = ToMemory::new(rt.alloc(), 0, usize::MAX, how.writes).ok()?;
+    let mut lines = ToMemory::new(rt.alloc(), 64, 64, how.lines).ok()?;
+    let stream = Stream { taken, calls };
+    let key = counting_key();
+    let (status, stream) = unpipe_all(
+        rt,
+        rt.alloc(),
+        &key,
+        "a.stm",
+        input,
+        stream,
+        &options,
+        &mut lines,
+    );
+    let Stream { taken, calls: _ } = stream;
+    Some(Ended {
+        status,
+        lines,
+        written: taken,
+    })
+}
+
+/// How a run is to end: its status, its line, and how many bytes of the plaintext were written, at least and at most.
+#[derive(Clone, Copy)]
+pub(crate) struct End<'a> {
+    pub(crate) status: u8,
+    pub(crate) line: &'a [u8],
+    pub(crate) least: usize,
+    pub(crate) most: usize,
+}
+
+/// Nothing was written, and this is the line.
+pub(crate) fn refused(line: &[u8]) -> End<'_> {
+    End {
+        status: 1,
+        line,
+        least: 0,
+        most: 0,
+    }
+}
+
+/// Whether these are the first bytes of a plaintext, as many as are to be written.
+pub(crate) fn begins(written: &[u8], plain: &[u8], end: &End) -> bool {
+    end.least <= written.len() && written.len() <= end.most && plain.starts_with(written)
+}
+
+/// Whether a run of this plaintext ended so.
+pub(crate) fn is_end(ended: &Ended, plain: &[u8], end: &End) -> bool {
+    ended.status == end.status
+        && ended.lines.bytes() == end.line
+        && begins(ended.written.bytes(), plain, end)
+}
+
+/// Whether an input that gives these bytes once, `step` a call, is opened so.
+pub(crate) fn ends_once<R: AllocGlobal + Threads + Sync>(
+    rt: &R,
+    bytes: &[u8],
+    plain: &[u8],
+    step: usize,
+    how: &How,
+    calls: &Calls,
+    end: &End,
+) -> bool {
+    let pipe = pipe_of(rt.alloc(), bytes, step, calls);
+    match run_over(rt, Some(pipe), how, calls) {
+        Some(ended) => is_end(&ended, plain, end),
+        None => false,
+    }
+}
+
+/// Whether an input with these two readings is opened so.
+pub(crate) fn ends_twice<R: AllocGlobal + Threads + Sync>(
+    rt: &R,
+    (first, later): (&[u8], &[u8]),
+    plain: &[u8],
+    step: usize,
+    how: &How,
+    calls: &Calls,
+    end: &End,
+) -> bool {
+    let input = input_of(first, later, step, calls);
+    match run_over(rt, Some(input), how, calls) {
+        Some(ended) => is_end(&ended, plain, end),
+        None => false,
+    }
+}

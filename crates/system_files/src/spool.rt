@@ -1,0 +1,230 @@
+//! A spool: room for an input that can be read only once. It holds up to 16 MiB in memory, and more than that in a
+//! temporary file.
+//!
+//! The file is unlinked before a byte is written to it. So the system frees its room when the run ends, even if it is
+//! killed, and no other program finds it by name. It isn't synced. Nothing is promised of the bytes that a disk gives
+//! back: who reads them checks them.
+ghost use Rattle.std.specs.Prelude.{◌≡◌, IfSome, IfOk, IsOk, IsErr, is_err, true, false, string_bytes};
+ghost use Rattle.std.specs.Io.{ReadsAtMost};
+
+use crate::blocks::{BLOCK, Blocks};
+use crate::outputs::{PRIVATE, make_new};
+use folder_core::{FileReader, Spool};
+use io_core::{Failed, FromRead, Source};
+use std::alloc::AllocError;
+use std::env::VarError;
+use std::io::{ErrorKind, Read, Seek, SeekFrom, Write};
+use std::rt::{Clock, Env, Files};
+use std::{env, fs, mem};
+
+/// The folder of the file if none is named. `/tmp` is in memory on many systems.
+const FOLDER: &str = "/var/tmp";
+
+/// How many names are tried for the file.
+const TRIES: u64 = 8;
+
+/// Returns the folder in which a spool creates its file: the given one, else that of the environment variable `TMPDIR`,
+/// else `/var/tmp`. A `TMPDIR` that is empty or no UTF-8 is passed over. Fails if memory is refused.
+pub fn spool_folder<R: Env + AllocGlobal>(rt: &R, given: Option<&str>) -> Result<String, AllocError>
+    ensures given { IfSome given.entry (λ path. IfOk result (λ folder. string_bytes folder ≡ path.now)) }
+{
+    if let Some(given) = given {
+        return copy_of(rt, given);
+    }
+    match env::var(rt, "TMPDIR") {
+        Ok(folder) if !folder.is_empty() => Ok(folder),
+        Err(VarError::OutOfMemory) => Err(AllocError),
+        _ => copy_of(rt, FOLDER),
+    }
+}
+
+fn copy_of<R: AllocGlobal>(rt: &R, text: &str) -> Result<String, AllocError>
+    ensures { IfOk result (λ copy. string_bytes copy ≡ text.now) }
+{
+    String::from_str(rt.alloc(), text)
+}
+
+/// A spool. Reading begins at its first byte.
+#[derive(Drop)]
+pub struct FileSpool<'r, R: Files + AllocGlobal + Clock> {
+    /// Whether bytes couldn't be appended. From then on it holds nothing, and each call fails.
+    pub failed: bool,
+    rt: &'r R,
+    folder: &'r str,
+    // All bytes, until there is a file.
+    blocks: Blocks,
+    file: Option<FromRead<R::File>>,
+    // The place of the byte that is read next.
+    at: u64,
+}
+
+impl<'r, R: Files + AllocGlobal + Clock> FileSpool<'r, R> {
+    /// An empty spool. Its file is created in this folder, once it needs one.
+    pub fn new(rt: &'r R, folder: &'r str) -> FileSpool<'r, R>
+        ensures failed { result.failed ≡ false }
+    {
+        FileSpool {
+            failed: false,
+            rt,
+            folder,
+            blocks: Blocks::new(rt.alloc()),
+            file: None,
+            at: 0,
+        }
+    }
+
+    /// Appends these bytes. Fails if its file can't be created, unlinked or written.
+    pub fn append(&mut self, bytes: &[u8]) -> Result<(), Failed>
+        ensures lost { self.old.failed ≡ true → IsErr result }
+        ensures failed { self.new.failed ≡ is_err result }
+    {
+        if self.failed {
+            return Err(Failed);
+        }
+        for piece in bytes.chunks(BLOCK) {
+            if self.append_piece(piece).is_err() {
+                self.failed = true;
+                self.blocks = Blocks::new(self.rt.alloc());
+                self.file = None;
+                return Err(Failed);
+            }
+        }
+        Ok(())
+    }
+
+    // The same for at most `BLOCK` bytes.
+    fn append_piece(&mut self, piece: &[u8]) -> Result<(), Failed>
+        ensures failed { self.new.failed ≡ self.old.failed }
+    {
+        let mut rest = piece;
+        if self.file.is_none() {
+            let n = self.blocks.append(self.rt.alloc(), piece);
+            rest = &piece[n..];
+            if rest.is_empty() {
+                return Ok(());
+            }
+            self.move_to_file()?;
+        }
+        match &mut self.file {
+            Some(FromRead(file)) => write_at_end(file, rest),
+            None => Err(Failed),
+        }
+    }
+
+    // Creates the file, and moves all bytes there.
+    fn move_to_file(&mut self) -> Result<(), Failed>
+        ensures failed { self.new.failed ≡ self.old.failed }
+    {
+        let mut file = unlinked_file(self.rt, self.folder)?;
+        let blocks = mem::replace(&mut self.blocks, Blocks::new(self.rt.alloc()));
+        for block in blocks.into_iter() {
+            write_at_end(&mut file, block.as_slice())?;
+        }
+        self.file = Some(FromRead(file));
+        Ok(())
+    }
+
+    /// Goes back to the first byte. Fails only if bytes couldn't be appended.
+    pub fn rewind(&mut self) -> Result<(), Failed>
+        ensures ok { self.old.failed ≡ false → IsOk result }
+        ensures lost { self.old.failed ≡ true → IsErr result }
+        ensures failed { self.new.failed ≡ self.old.failed }
+    {
+        if self.failed {
+            return Err(Failed);
+        }
+        self.at = 0;
+        Ok(())
+    }
+
+    /// Reads on, as `FileReader::read_on` does.
+    pub fn read_next(&mut self, buffer: &mut [u8]) -> Result<usize, Failed>
+        ensures bound { ReadsAtMost result buffer.new }
+        ensures lost { self.old.failed ≡ true → IsErr result }
+        ensures failed { self.new.failed ≡ self.old.failed }
+    {
+        if self.failed {
+            return Err(Failed);
+        }
+        let n = match &mut self.file {
+            Some(file) => read_at(file, self.at, buffer)?,
+            None => self.blocks.read_at(self.at, buffer),
+        };
+        self.at = self.at.saturating_add(n as u64);
+        Ok(n)
+    }
+}
+
+fn write_at_end<F: Write + Seek>(file: &mut F, bytes: &[u8]) -> Result<(), Failed> {
+    if file.seek(SeekFrom::End(0)).is_err() || file.write_all(bytes).is_err() {
+        return Err(Failed);
+    }
+    Ok(())
+}
+
+fn read_at<F: Read + Seek + Drop>(
+    file: &mut FromRead<F>,
+    at: u64,
+    buffer: &mut [u8],
+) -> Result<usize, Failed>
+    ensures bound { ReadsAtMost result buffer.new }
+{
+    match file.0.seek(SeekFrom::Start(at)) {
+        Ok(_) => file.read(buffer),
+        Err(_) => Err(Failed),
+    }
+}
+
+// Creates a file in this folder, and unlinks it. If it can't be unlinked, it isn't used.
+fn unlinked_file<R: Files + AllocGlobal + Clock>(rt: &R, folder: &str) -> Result<R::File, Failed> {
+    if folder.is_empty() {
+        return Err(Failed);
+    }
+    let begun = match rt.since_1970() {
+        Ok(time) => u64::try_from(time.as_nanos()).unwrap_or(0),
+        Err(_) => 0,
+    };
+    for i in 0..TRIES {
+        let number = begun.wrapping_add(i);
+        let Ok(path) = format!(in rt.alloc(); "{folder}/.sealer-{number:016x}") else {
+            return Err(Failed);
+        };
+        match make_new(rt, path.as_str(), PRIVATE) {
+            Ok(file) => {
+                return match fs::remove_file(rt, path.as_str()) {
+                    Ok(()) => Ok(file),
+                    Err(_) => Err(Failed),
+                };
+            }
+            Err(error) if error.kind() == ErrorKind::AlreadyExists => {}
+            Err(_) => return Err(Failed),
+        }
+    }
+    Err(Failed)
+}
+
+impl<R: Files + AllocGlobal + Clock> Source for FileSpool<'_, R> {
+    fn read(&mut self, buffer: &mut [u8]) -> Result<usize, Failed> {
+        self.read_next(buffer)
+    }
+}
+
+impl<R: Files + AllocGlobal + Clock> FileReader for FileSpool<'_, R> {
+    fn read_on(&mut self, buffer: &mut [u8]) -> Result<usize, Failed> {
+        self.read_next(buffer)
+    }
+
+    fn can_repeat(&self) -> bool {
+        true
+    }
+
+    fn again(&mut self) -> Result<(), Failed> {
+        self.rewind()
+    }
+}
+
+impl<R: Files + AllocGlobal + Clock> Spool for FileSpool<'_, R> {
+    fn put(&mut self, bytes: &[u8]) -> Result<(), Failed> {
+        self.append(bytes)
+    }
+}
