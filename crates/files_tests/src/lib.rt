@@ -1,0 +1,9 @@
+//! Tests of `system_files` over real files: of the spool, and of files that are read again.
+#![tactic(auto)]
+
+#[cfg(test)]
+mod disk;
+#[cfg(test)]
+mod inputs;
+#[cfg(test)]
+mod spools;
