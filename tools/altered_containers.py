@@ -1,6 +1,7 @@
 #!/usr/bin/env python3
-"""Compares what `sealer verify` prints for cut and altered containers with the rules, with one worker and with several.
-Prints how many answers were right.
+"""Compares what `sealer verify` and `sealer unpipe` print for cut and altered containers with the rules, with one worker
+and with several. `unpipe` reads each from a pipe, and writes nothing of one that has a fault. Prints how many answers
+were right.
 
     altered_containers.py [--self-check]
 
@@ -13,6 +14,7 @@ all, and no program is needed.
 The program is crates/sealer/out/sealer, or $SEALER. If Python's package `cryptography` is missing it says so and exits
 with status 0; under CI it fails.
 """
+import concurrent.futures
 import os
 import subprocess
 import sys
@@ -195,8 +197,32 @@ def line_of(name, answer):
     return f"failed {name}: {answer}" if isinstance(answer, str) else f"good {name} bytes {answer}"
 
 
+def stream_differs(at, name, container, answer):
+    """Whether `unpipe` answers otherwise to a pipe that gives the container, or writes what it mustn't."""
+    workers = (1, 4, 16)[at % 3]
+    words = [sealer, "unpipe", "--key", "key", "--workers", str(workers)]
+    ran = subprocess.run(words, input=container, capture_output=True, check=False)
+    is_good = isinstance(answer, int)
+    line = f"opened - bytes {answer}\n" if is_good else f"failed -: {answer}\n"
+    found = (ran.returncode, ran.stderr.decode(errors="replace"), len(ran.stdout), any(ran.stdout))
+    wanted = (int(not is_good), line, answer if is_good else 0, False)
+    return differs(f"unpipe of {name}, {workers} workers: status, line, bytes, others than 0", found, wanted)
+
+
+def streams_differ(containers):
+    """How many answers of `unpipe` are wrong, with as many runs side by side as there are processors."""
+    folder = os.getcwd()
+    with tempfile.TemporaryDirectory() as room, concurrent.futures.ThreadPoolExecutor(len(os.sched_getaffinity(0))) as pool:
+        os.chdir(room)
+        with open("key", "w", encoding="ascii") as file:
+            file.write(key.hex())
+        bad = sum(pool.map(lambda row: stream_differs(row[0], *row[1]), enumerate(containers)))
+        os.chdir(folder)
+    return bad
+
+
 def program_differs(group):
-    """How many answers of the program are wrong."""
+    """How many answers of `verify` are wrong."""
     bad = 0
     with tempfile.TemporaryDirectory() as folder:
         with open(os.path.join(folder, "key"), "w", encoding="ascii") as file:
@@ -229,10 +255,10 @@ def main():
     if sys.argv[1:] == ["--self-check"]:
         print(f"altered_containers: {count} answers of open_container.py as they should be")
         return
-    bad = sum(program_differs(group) for kind in kinds for group in groups(kind()))
+    bad = sum(program_differs(group) + streams_differ(group) for kind in kinds for group in groups(kind()))
     if bad:
         sys.exit(1)
-    print(f"altered_containers: {3 * count} answers as they should be")
+    print(f"altered_containers: {4 * count} answers as they should be")
 
 
 if __name__ == "__main__":

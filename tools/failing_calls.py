@@ -1,10 +1,18 @@
 #!/usr/bin/env python3
-"""failing_calls.py: makes each call of `open`, `verify` and `audit` on files and memory fail once, by strace, and checks what they leave.
+"""failing_calls.py: makes each call of `open`, `verify`, `unpipe` and `audit` on files and memory fail once, by strace, and checks what they leave.
 
 With one worker and with two, each call after the opening of the key file (for `audit` after the first read of its input) fails with EIO,
 ENOSPC and EINTR, those on memory with ENOMEM, and the program is killed at each. For `open` and `seal` each write of an output fails too, or
 the file is limited to some length; its removal then fails, or doesn't. Under `--progress` each read of a FILE by `seal`, `open` and `verify`
 fails, and so does standard output.
+
+`unpipe` opens a stream, a FILE, a stream whose last chunk is changed, and one of 17 MiB that needs a spool: of that one's many calls each
+sixth is taken. What it wrote begins the plaintext, is all of it if its line says so, and is nothing if something doesn't check. No file is
+left in the spool's folder, but an empty one by a kill before it was unlinked, or where that failed.
+
+A FILE is exchanged in place between the two readings of `open` and `unpipe`, which a SIGSTOP holds at their lseek: by another container, by
+a shorter and a longer one, and with a byte changed. Then the line is `changed while it was opened`, `open` leaves no output, and what
+`unpipe` wrote begins the first plaintext.
 
 After an error the status and the text are of docs/MANUAL.md, and fit the lines. An output is whole or absent; it is absent if its line says
 that it failed, unless its removal failed. No input is altered, and no other file is left. After a kill each output with a line is whole, and
@@ -18,6 +26,7 @@ import os
 import re
 import resource
 import shutil
+import signal
 import subprocess
 import sys
 import tempfile
@@ -30,7 +39,9 @@ key = f"{top}/examples/key"
 # Seconds after which a run hangs, and faults of one way after which it ends.
 HANG, ENOUGH = 60, 10
 TEXTS = re.compile(r"usage: out of memory|error: out of memory|key: (cannot open|read failed)|audit: (read failed|write failed|out of memory)")
-FAULT = re.compile(r"failed (\S+): (cannot open|cannot create|read failed|write failed|out of memory)")
+FAULT = re.compile(r"failed (\S+): (cannot open|cannot create|read failed|write failed|out of memory|spool failed)")
+# After these faults of `unpipe` a prefix of the plaintext may be written.
+CUTS = ("read failed", "write failed", "out of memory")
 ON_FILES = (
     "openat read pread64 readv write pwrite64 writev fsync fdatasync ftruncate lseek statx newfstatat fstat close fadvise64 readlink link unlink"
     " unlinkat rename fchmod fchown fcntl poll ioctl"
@@ -42,14 +53,24 @@ FAULTS["brk"] = ("retval=0",)
 # The loader's and the threads', neither on files nor on memory: the program is only killed at these.
 OTHERS = "execve access arch_prctl set_tid_address set_robust_list rseq prlimit64 getrandom futex rt_sigaction rt_sigprocmask exit exit_group".split()
 # An error of these can't be passed over.
-MUST_SHOW = {"read": ("error=EIO", "error=ENOSPC"), "write": ("error=EIO", "error=ENOSPC")}
+MUST_SHOW = {call: ("error=EIO", "error=ENOSPC") for call in ("read", "write", "lseek")}
 PLAIN = {"small": b"".join(b"%d\n" % i for i in range(1, 401)), "long": b"".join(b"%d\n" % i for i in range(1, 50_001))}
+PLAIN["large"] = bytes(range(256)) * (17 << 12)
 NAMES = ["small.stm", "long.stm"]
 VERDICT = "legal: 2 granted, 1 sealed, 1 void, 0 open, 1 refused"
 WAYS = {
     f"{command} by {workers}": [command, "--key", key, "--workers", workers, *NAMES] for command in ("open", "verify") for workers in ("1", "2")
 }
 WAYS["audit"] = ["audit"]
+SPOOLING = "unpipe by a spool"
+UNPIPE = ["unpipe", "--key", key, "--spool", "."]
+WAYS.update({
+    "unpipe": UNPIPE, "unpipe by 2": [*UNPIPE, "--workers", "2"], "unpipe a file by 2": [*UNPIPE, "--workers", "2", "long.stm"],
+    "unpipe a damaged stream": UNPIPE, SPOOLING: UNPIPE,
+})
+# Which file is standard input, if it isn't long.stm, and how many chunk the damaged one has.
+INPUTS = {"unpipe a damaged stream": "damaged.stm", SPOOLING: "large.stm"}
+DAMAGED = "chunk 4 does not check"
 
 
 def read(name):
@@ -57,11 +78,19 @@ def read(name):
         return file.read()
 
 
+def input_of(name):
+    """Which file `unpipe` opens, or None of another command."""
+    return INPUTS.get(name, "long.stm") if WAYS[name][0] == "unpipe" else None
+
+
 class Way:
     """The runs of one command line, in a folder of its own."""
 
     def __init__(self, name, given):
         self.name, self.words, self.given = name, WAYS[name], given
+        # the file that a stream is
+        self.input = input_of(name)
+        self.written, self.empty = b"", 0
         self.count, self.bad, self.shown = 0, [], Counter()
 
     def run(self, *strace, most=resource.RLIM_INFINITY, output=subprocess.PIPE):
@@ -71,20 +100,25 @@ class Way:
         for name, data in self.given.items():
             with open(name, "wb") as file:
                 file.write(data)
-        with open(f"{top}/examples/journal.txt", "rb") as journal:
+        with open(self.input or f"{top}/examples/journal.txt", "rb") as source:
             words = ["strace", "-f", "-qq", *strace, sealer, *self.words]
             narrow = lambda: resource.setrlimit(resource.RLIMIT_FSIZE, (most, most))
             # Python ignores SIGXFSZ, and so does the program then.
             more = {"restore_signals": False, "preexec_fn": narrow} if most != resource.RLIM_INFINITY else {}
-            ran = subprocess.run(words, stdin=journal, stdout=output, stderr=subprocess.PIPE, timeout=HANG, **more)
-        return ran.returncode, (ran.stdout or b"").decode(errors="replace").splitlines(), ran.stderr.decode(errors="replace").splitlines()
+            ran = subprocess.run(words, stdin=source, stdout=output, stderr=subprocess.PIPE, timeout=HANG, **more)
+        out, texts = ran.stdout or b"", ran.stderr.decode(errors="replace").splitlines()
+        if self.words[0] != "unpipe":
+            return ran.returncode, out.decode(errors="replace").splitlines(), texts
+        self.written = out
+        lines = [text for text in texts if text.startswith(("opened ", "failed "))]
+        return ran.returncode, lines, [text for text in texts if text not in lines]
 
     def calls(self):
         """How often a thread makes each call at most, before the work begins and in all."""
         # beside the folder, which is emptied
         trace = f"../trace {self.name}"
         status, lines, _ = self.run("-o", trace)
-        if status != 0 or lines != self.done():
+        if status != int(lines[0].startswith("failed ")) or lines != self.done():
             self.bad.append(f"{self.name}: status {status}, {lines}")
         own, early, begun = Counter(), Counter(), False
         for line in read(trace).decode(errors="replace").splitlines():
@@ -107,6 +141,11 @@ class Way:
         """The lines if nothing fails."""
         if self.words == ["audit"]:
             return [VERDICT]
+        if self.input == "damaged.stm":
+            return [f"failed -: {DAMAGED}"]
+        if self.input:
+            name = self.words[-1] if self.words[-1] == self.input else "-"
+            return [f"opened {name} bytes {len(PLAIN[self.input[:-4]])}"]
         word = "opened" if self.words[0] == "open" else "good"
         return [f"{word} {name} bytes {len(PLAIN[name[:-4]])}" for name in NAMES]
 
@@ -119,8 +158,12 @@ class Way:
         except subprocess.TimeoutExpired:
             self.bad.append(f"{what}: hangs")
             return
+        # a spool whose name can't be removed is not used
+        self.keeps_name = call == "unlink"
         wrong = list(self.wrong(call, how, status, lines, texts)) if how != "signal=KILL" else []
         wrong += self.wrong_files(lines, how == "signal=KILL")
+        if self.input:
+            wrong += self.wrong_plain(lines)
         if how == "signal=KILL" and self.words[0] == "open":
             wrong += self.not_repaired()
         self.shown[call, status] += 1
@@ -135,14 +178,26 @@ class Way:
             yield "another text"
         # Each line is that of a file, in their order.
         names = [line.split(" ")[1].rstrip(":") for line in done]
-        said = [(FAULT.fullmatch(line) or [line, line.split(" ")[1:2]])[1] if line not in done else line.split(" ")[1] for line in lines]
+        said = [(FAULT.fullmatch(line) or [line, line.split(" ")[1:2]])[1] if line not in done else line.split(" ")[1].rstrip(":") for line in lines]
         if said != names[: len(said)]:
             yield "another line"
-        failed = any(line not in done for line in lines)
+        failed = any(line.startswith("failed ") for line in lines)
         if status != (2 if texts or len(lines) < len(done) else 1 if failed else 0):
             yield "another status"
-        if status == 0 and how in MUST_SHOW.get(call, ()):
+        if status == 0 and (how in MUST_SHOW.get(call, ()) or call == "unlink" and self.input):
             yield "a fault that is not reported"
+
+    def wrong_plain(self, lines):
+        """What is wrong with the plaintext that was written of a stream."""
+        whole = b"" if self.input == "damaged.stm" else PLAIN[self.input[:-4]]
+        if not whole.startswith(self.written):
+            yield f"{len(self.written)} bytes that are not the plaintext's"
+        if any(line.startswith("opened ") for line in lines) and self.written != whole:
+            yield f"{len(self.written)} bytes are not all"
+        if any(line.startswith("failed ") and not line.endswith(CUTS) for line in lines) and self.written:
+            yield f"{len(self.written)} bytes, and they were not to be written"
+        if any(line.startswith("failed ") for line in lines) and self.written == whole != b"":
+            yield "all was written"
 
     def wrong_files(self, lines, killed):
         outputs = {name[:-4]: name for name in NAMES} if self.words[0] == "open" else {}
@@ -150,6 +205,8 @@ class Way:
             if name in self.given:
                 if not os.path.exists(name) or read(name) != self.given[name]:
                     yield f"{name} is altered"
+            elif name.startswith(".sealer-") and self.input and (killed or self.keeps_name) and not os.path.getsize(name):
+                self.empty += 1
             elif name.endswith(".part") and killed:
                 # It holds a beginning of an output, or all of it, and has that one's name too.
                 held = read(name)
@@ -171,7 +228,7 @@ class Way:
     def not_repaired(self):
         """What the same command leaves undone after a kill, with --skip-existing."""
         again = subprocess.run([sealer, *self.words, "--skip-existing"], capture_output=True, timeout=HANG)
-        if again.returncode != 0 or any(not os.path.exists(name) or read(name) != PLAIN[name] for name in PLAIN):
+        if again.returncode != 0 or any(not os.path.exists(name[:-4]) or read(name[:-4]) != PLAIN[name[:-4]] for name in NAMES):
             yield f"with --skip-existing status {again.returncode}, {again.stdout.decode(errors='replace').splitlines()}"
 
 
@@ -186,12 +243,72 @@ def worked(asked):
         turn = 0
         for call, begin, end in way.calls():
             for how in ("signal=KILL", *FAULTS.get(call, ())):
-                for n in range(begin, end + 1):
+                few = 6 if name == SPOOLING and end - begin > 24 else 1
+                for n in sorted({*range(begin, end + 1, few), end}):
                     turn += 1
                     if turn % step == first and len(way.bad) < ENOUGH:
                         way.failing(call, n, how)
         os.chdir("/")
-    return way.count, way.bad, way.shown
+    return way.count, way.bad, way.shown, way.empty
+
+
+def exchanges(first, others):
+    """What a FILE becomes between its two readings, by name."""
+    changed = lambda at: first[:at] + bytes([first[at] ^ 1]) + first[at + 1:]
+    rows = {**others, "nothing": b"", "more bytes": first + bytes(20)}
+    rows.update({f"the first {n} bytes": first[:n] for n in (23, 24, 24 + 2 * 65_552, len(first) - 1)})
+    rows.update({f"byte {at} changed": changed(at) for at in (0, 8, 12, 23, 24, 24 + 65_551, 24 + 3 * 65_552, len(first) - 1)})
+    return rows
+
+
+def held(words, becomes):
+    """A run that is held at its second reading, while long.stm becomes other bytes. Returns status, output and texts."""
+    trace = "../trace of what is held"
+    open(trace, "wb").close()
+    with open("plain", "wb") as plain:
+        strace = ["strace", "-f", "-qq", "-o", trace, "-e", "trace=lseek", "-e", "inject=lseek:signal=STOP:when=1"]
+        run = subprocess.Popen([*strace, sealer, *words], stdin=subprocess.DEVNULL, stdout=plain, stderr=subprocess.PIPE, text=True)
+        until, stopped = time.monotonic() + HANG, None
+        while not stopped and run.poll() is None and time.monotonic() < until:
+            time.sleep(0.005)
+            stopped = re.search(r"^([0-9]+) +--- stopped by SIGSTOP", read(trace).decode(), re.M)
+        if stopped:
+            with open("long.stm", "r+b") as file:
+                file.write(becomes)
+                file.truncate()
+            os.kill(int(stopped[1]), signal.SIGCONT)
+        texts = run.communicate(timeout=HANG)[1].splitlines()
+    return run.returncode if stopped else "never held", read("plain"), texts
+
+
+def exchanged(first, others):
+    """FILEs that are exchanged between the two readings, also by other containers."""
+    count, bad = 0, []
+    whole = PLAIN["long"]
+    for workers in ("1", "2"):
+        for command in ("open", "unpipe"):
+            words = [command, "--key", key, "--workers", workers, "long.stm"]
+            for what, becomes in {"the same": first, **exchanges(first, others)}.items():
+                count += 1
+                for name in os.listdir("."):
+                    os.remove(name)
+                with open("long.stm", "wb") as file:
+                    file.write(first)
+                status, out, texts = held(words, becomes)
+                left = sorted(set(os.listdir(".")) - {"long.stm", "plain"})
+                if command == "open":
+                    lines, plain = out.decode().splitlines(), read("long") if left == ["long"] else b""
+                else:
+                    lines, texts, plain = texts, [], out
+                if what == "the same":
+                    right = (status, lines, plain) == (0, [f"opened long.stm bytes {len(whole)}"], whole)
+                else:
+                    right = (status, lines, left) == (1, ["failed long.stm: changed while it was opened"], [])
+                    right = right and whole.startswith(plain) and plain != whole
+                if texts or not right or read("long.stm") != becomes:
+                    told = f"status {status}, {lines} {texts}, {len(plain)} bytes, leaves {left}"
+                    bad.append(f"{command} by {workers}, {what} at the second reading: {told}")
+    return count, bad
 
 
 def left_of(output):
@@ -269,13 +386,25 @@ def under_progress(given, ledger):
     return count, bad
 
 
+def sealed(name, ledger, *options):
+    """A container of one of the plaintexts. Those of 17 MiB need large chunks, which keep the calls few."""
+    with open(name, "wb") as file:
+        file.write(PLAIN[name])
+    words = [sealer, "seal", "--key", key, "--ledger", ledger, "--device", "1", *options, name]
+    subprocess.run(words, stdout=subprocess.DEVNULL, check=True)
+    container = read(f"{name}.stm")
+    os.remove(f"{name}.stm")
+    return container
+
+
 def main():
     if not shutil.which("strace"):
         print("failing_calls: skipped, strace is not there")
         sys.exit(1 if os.environ.get("CI") else 0)
     begun = time.monotonic()
-    place = "/dev/shm" if os.access("/dev/shm", os.W_OK) and shutil.disk_usage("/dev/shm").free > 1 << 28 else None
     processors = len(os.sched_getaffinity(0))
+    # In memory if possible: each process has a container of 17 MiB there, and its spool.
+    place = "/dev/shm" if os.access("/dev/shm", os.W_OK) and shutil.disk_usage("/dev/shm").free > processors << 26 else None
     with tempfile.TemporaryDirectory(dir=place) as shared:
         os.mkdir(f"{shared}/first")
         os.chdir(f"{shared}/first")
@@ -289,21 +418,35 @@ def main():
         os.remove("long.stm")
         subprocess.run([*words, "long"], stdout=subprocess.DEVNULL, check=True)
         given_again = {**given, "long.stm": read("long.stm")}
+        # under other numbers than the first, for the runs below empty the folder
+        others = {"another container": given_again["long.stm"]}
+        others.update({f"a container of {name}": sealed(name, "ledger") for name in ("small", "large")})
         count, bad = removals(given_again, ledger)
         shown_count, shown_bad = under_progress(given_again, ledger)
         count += shown_count
         bad += shown_bad
+        exchanged_count, exchanged_bad = exchanged(given["long.stm"], others)
+        count += exchanged_count
+        bad += exchanged_bad
+        damaged = given["long.stm"][:-1] + bytes([given["long.stm"][-1] ^ 1])
+        streams = {"long.stm": given["long.stm"], "damaged.stm": damaged, "large.stm": sealed("large", "another ledger", "--exponent", "20")}
         os.chdir("/")
-        asked = [(name, given if name != "audit" else {}, shared, i, processors) for name in WAYS for i in range(processors)]
-        shown = Counter()
+        files_of = {name: {input_of(name): streams[input_of(name)]} if input_of(name) else given for name in WAYS}
+        asked = [(name, files_of[name] if name != "audit" else {}, shared, i, processors) for name in WAYS for i in range(processors)]
+        shown, empty = Counter(), 0
         with multiprocessing.Pool(processors) as pool:
-            for runs, wrong, told in pool.imap_unordered(worked, asked):
+            for runs, wrong, told, left in pool.imap_unordered(worked, asked):
                 count += runs
+                empty += left
                 bad += wrong
                 shown += told
     for line in bad[:40]:
         print(line)
-    print("failing_calls: " + ", ".join(f"{call} {sum(n for (c, _), n in shown.items() if c == call)}" for call in sorted({c for c, _ in shown})))
+    if not empty and not bad:
+        bad.append("no spool was left between its creation and its removal")
+    calls = sorted({call for call, _ in shown})
+    told = ", ".join(f"{call} {sum(n for (c, _), n in shown.items() if c == call)}" for call in calls)
+    print(f"failing_calls: {empty} empty spools were left; {told}")
     if bad:
         sys.exit(f"failing_calls: {len(bad)} faults in {count} runs")
     print(f"{count} failing calls as they should be, in {time.monotonic() - begun:.0f} s")

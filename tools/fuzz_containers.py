@@ -3,7 +3,7 @@
 
     fuzz_containers.py [--version-1-only] [CASES [SEED]]
 
-The inputs are containers of both versions, for `verify` and `open`, key files, journals for `audit`, and command lines.
+The inputs are containers of both versions, for `verify`, `open` and `unpipe`, key files, journals for `audit`, and command lines.
 Some are valid. The others are wrong in the fields and bounds of the formats, and some containers are sealed wrongly with
 good tags. The right answers are computed in tools/fuzz/ from docs/FORMATS.md and docs/MANUAL.md, independently of the
 program and the other tools.
@@ -37,7 +37,8 @@ def runs_of(rng, first, count, first_only):
     """`count` cases of one kind, numbered from `first` on, in lists of those that can be one run."""
     kind = rng.choices(("containers", "keys", "journals", "commands"), (14, 2, 4, 2))[0]
     if kind == "containers":
-        return [list(container.asks(rng, first, count, first_only))]
+        asks = list(container.asks(rng, first, count, first_only))
+        return [[ask] for ask in asks] if asks[0].words[0] == "unpipe" else [asks]
     cases = range(first, first + count)
     if kind == "keys":
         return [[key_file.ask(rng, case, first_only)] for case in cases]

@@ -1,11 +1,14 @@
 #!/bin/bash
 # Times sealing, verifying and opening of one file of 1 GiB, by workers and windows, and of many files of one size, by lanes, beside `age` and
-# `cp`: each in turn, ROUNDS times. Prints for each the best wall seconds, and the user seconds and the peak memory of that run.
-# usage: tools/measure_files.sh FOLDER [ROUNDS]    FOLDER: an empty folder, best in memory-backed storage, with 6 GiB free
+# `cp`: each in turn, ROUNDS times. `unpipe` opens a file into a pipe, and a pipe into a pipe with the spool in the folder. Prints for each the
+# best wall seconds, and the user seconds and the peak memory of that run.
+# usage: tools/measure_files.sh FOLDER [ROUNDS [open]]    FOLDER: an empty folder, best in memory-backed storage, with 6 GiB free
+# With `open` it times the opening of 1 GiB alone.
 # `age` and GNU `time` are Debian's packages of these names.
 set -eu
 sealer=$(cd "$(dirname "$0")/.." && pwd)/crates/sealer/out/sealer
 rounds=${2:-3}
+only=${3:-}
 cd "$1"
 command -v age >/dev/null && command -v age-keygen >/dev/null && [ -x /usr/bin/time ] || { echo 'age or time is missing'; exit 1; }
 
@@ -28,7 +31,32 @@ timed() {
 }
 seals() { timed "$1" "$sealer" seal --key key --ledger ledger --device 1 "${@:2}"; }
 opens() { timed "$1" "$sealer" open --key key "${@:2}"; }
+unpipes() { # NAME INPUT ARGUMENT..
+    /usr/bin/time -o figures -f '%e %U %M' "$sealer" unpipe --key key --spool . "${@:3}" < "$2" 2> errors | cat > /dev/null
+    [ "${PIPESTATUS[0]}" = 0 ] || { echo "$1 failed: $(head -1 errors)"; exit 1; }
+    echo "$(tail -1 figures) $1" >> all
+}
 verifies() { timed "$1" "$sealer" verify --key key "${@:2}"; }
+
+opened_file() {
+    [ -e big.stm ] || seals 'seal, 1 GiB' big
+    [ -e big.age ] || age -r "$to" -o big.age big
+    mv big kept
+    for workers in 1 2 4; do
+        verifies "verify --workers $workers, 1 GiB" --workers $workers big.stm
+        opens "open --workers $workers, 1 GiB" --workers $workers big.stm
+        cmp big kept
+        rm big
+        unpipes "unpipe --workers $workers, 1 GiB of a file" /dev/null --workers $workers big.stm
+    done
+    unpipes 'unpipe, 1 GiB of a pipe' <(cat big.stm)
+    timed 'age -d, 1 GiB' age -d -i age.key -o copy big.age
+    cmp copy kept
+    rm copy
+    timed 'cp, 1 GiB' cp kept copy
+    rm copy
+    mv kept big
+}
 
 one_file() {
     timed 'cp, 1 GiB' cp big copy
@@ -72,11 +100,15 @@ many_files() { # SIZE
 }
 
 for _ in $(seq "$rounds"); do
+    if [ "$only" = open ]; then
+        opened_file
+        continue
+    fi
     one_file
     for size in $sizes; do many_files $size; done
 done
 # Once, since it starts a program for each file.
-timed 'age -e, 10000 of 4KiB' bash -c 'for f in 4KiB/f*; do age -r "$to" -o "$f.age" "$f" || exit 1; done'
+[ "$only" = open ] || timed 'age -e, 10000 of 4KiB' bash -c 'for f in 4KiB/f*; do age -r "$to" -o "$f.age" "$f" || exit 1; done'
 echo '| what | wall s | user s | peak MiB |'
 echo '|---|---|---|---|'
 cut -d ' ' -f 4- all | awk '!seen[$0]++' | while read -r name; do

@@ -14,6 +14,7 @@ RUN = {"key": ["KeyFault"], "ledger": ["LedgerFault"], "journal": ["JournalFault
 FAULTS = {
     "seal": {**RUN, "failed": ["FileFault"], "usage": ["UsageFault", "PlaceFault"]},
     "pipe": {**RUN, "failed": ["FileFault"], "usage": ["UsageFault"]},
+    "unpipe": {"failed": ["FileFault"], "key": ["KeyFault"], "usage": ["UsageFault"], **CAUSE},
     "open": {"failed": ["FileFault"], "key": ["KeyFault"], "usage": ["UsageFault", "PlaceFault"], **CAUSE},
     "verify": {"failed": ["FileFault"], "key": ["KeyFault"], "usage": ["UsageFault"], **CAUSE},
     "audit": {"audit": ["AuditFault"]},
@@ -24,26 +25,27 @@ OF_LEDGER = "NoPath LostLedger EmptyLedger AnotherLog UnusableLog HardLink LeftJ
 OF_JOURNAL = "Exists OfLedger"
 # The faults that can't come at these commands, and why.
 NEVER = (
-    ("seal", "FileFault", "NoSuffix AnotherLabel Unopened", "IsOfSealing leaves them out"),
+    ("seal", "FileFault", "NoSuffix AnotherLabel Changed SpoolFailed Unopened", "IsOfSealing leaves them out"),
     ("seal", "SealFault", "TooManyChunks", "IsOfSealing leaves it out"),
-    ("pipe", "FileFault", "CannotOpen NoSuffix OutputExists CannotCreate OutOfMemory AnotherLabel Unopened", "WorksStream leaves them out"),
+    ("pipe", "FileFault", "CannotOpen NoSuffix OutputExists CannotCreate OutOfMemory AnotherLabel Changed SpoolFailed Unopened", "IsOfPiping leaves them out"),
     ("pipe", "SealFault", "TooLong", "the length of a stream is bounded by chunks: answer_of_stream"),
-    ("open", "FileFault", "OutOfMemory NoNumber Unsealed", "IsOfOpening leaves them out"),
-    ("verify", "FileFault", "NoSuffix OutputExists CannotCreate OutOfMemory NoNumber Unsealed", "IsOfVerifying leaves them out"),
+    ("unpipe", "FileFault", "NoSuffix OutputExists CannotCreate OutOfMemory NoNumber Unsealed", "IsOfUnpiping leaves them out"),
+    ("open", "FileFault", "OutOfMemory NoNumber SpoolFailed Unsealed", "IsOfOpening leaves them out"),
+    ("verify", "FileFault", "NoSuffix OutputExists CannotCreate OutOfMemory NoNumber Changed SpoolFailed Unsealed", "IsOfVerifying leaves them out"),
     ("verify", "OpenFault", "Write", "IsOfVerifying leaves it out"),
-    ("seal pipe open verify", "UsageFault", "Missing OutOfRange", "the parser takes no words without these arguments, and no other numbers"),
-    ("pipe open verify", "UsageFault", "LanesAndWorkers", "there is no --lanes"),
-    ("seal open verify", "UsageFault", "Terminal", "no container goes to standard output"),
-    ("pipe", "UsageFault", "NoFiles EmptyName ListNoText CannotReadList", "there are no FILEs"),
+    ("seal pipe unpipe open verify", "UsageFault", "Missing OutOfRange", "the parser takes no words without these arguments, and no other numbers"),
+    ("pipe unpipe open verify", "UsageFault", "LanesAndWorkers", "there is no --lanes"),
+    ("seal open verify", "UsageFault", "Terminal", "nothing but lines goes to standard output"),
+    ("pipe unpipe", "UsageFault", "NoFiles EmptyName ListNoText CannotReadList", "there is no list of FILEs"),
     ("seal pipe", "ReserveFault", "ZeroCount", "a run without FILEs ended before"),
     ("pipe", "ReserveFault", "TooMany", "it reserves one number"),
-    ("open verify", "Cause", f"{OF_LEDGER} {OF_JOURNAL}", "there is no ledger, and no journal"),
+    ("unpipe open verify", "Cause", f"{OF_LEDGER} {OF_JOURNAL}", "there is no ledger, and no journal"),
     ("ledger", "Cause", f"NoDigits Passed Input CannotMake {OF_JOURNAL}", "there is no key, no list and no journal, and nothing is made"),
-    ("pipe", "Cause", "Input", "there is no list"),
+    ("pipe unpipe", "Cause", "Input", "there is no list"),
 )
 # The line about a key file that others can read, and its commands.
 WARNING = r'eprintln!\(rt; "(warning: \{path\} can be read by others)"\)'
-WARNED = ("seal", "pipe", "open", "verify")
+WARNED = ("seal", "pipe", "unpipe", "open", "verify")
 # The types of faults that are never printed themselves, and what becomes of them.
 UNPRINTED = {
     "Failed": "a stream's: read failed, or write failed",
@@ -56,10 +58,11 @@ UNPRINTED = {
     "PutFault": "a Shelf's, which the program doesn't have",
     "ShelfFault": "the same",
 }
-# For each command its lines on standard output, or of pipe on standard error.
+# For each command its lines on standard output, or of pipe and unpipe on standard error. To unpipe standard input is a FILE that is '-'.
 LINES = {
     "seal": ["FileOutcome::Sealed", "FileOutcome::Failed"],
     "pipe": ["FileOutcome::Sealed", "FileOutcome::Failed"],
+    "unpipe": ["FileOutcome::Opened", "FileOutcome::Failed"],
     "open": ["FileOutcome::Opened", "FileOutcome::Failed"],
     "verify": ["FileOutcome::Good", "FileOutcome::Shown", "FileOutcome::Failed"],
     "audit": ["Verdict::Legal", "Verdict::Malformed", "Verdict::Illegal"],

@@ -1665,6 +1665,292 @@ if has sqlite3; then
     is stream-spent-writes-nothing test ! -s life/stream/out
 fi
 
+# Streams that are opened: the plaintext goes to standard output, here to files/plain, and the line to standard error. More of them are in
+# tools/altered_containers.py.
+fresh
+mkdir files/spool
+unpiped() { # ARGS.., standard input as given
+    "$sealer" unpipe --key "$key" "$@" > files/plain 2> err
+    status=$?
+    : > out
+}
+unpipes() { # NAME LINE FILE: the last run wrote all of FILE
+    wants "$1" 0 '' "$2"
+    is "$1-plaintext" cmp -s files/plain "$3"
+}
+refuses() { # NAME LINE: the last run wrote nothing
+    wants "$1" 1 '' "$2"
+    is "$1-writes-nothing" test ! -s files/plain
+}
+unpiped < <(cat files/numbers.stm)
+unpipes unpipe 'opened - bytes 1492' numbers.plain
+unpiped < files/numbers.stm
+unpipes unpipe-a-file-as-input 'opened - bytes 1492' numbers.plain
+unpiped - < <(cat files/numbers.stm)
+unpipes unpipe-a-dash 'opened - bytes 1492' numbers.plain
+unpiped files/numbers.stm < /dev/null
+unpipes unpipe-a-file 'opened files/numbers.stm bytes 1492' numbers.plain
+cp files/numbers.stm files/any-name
+unpiped files/any-name
+unpipes unpipe-any-name 'opened files/any-name bytes 1492' numbers.plain
+cp files/numbers.stm ./-
+unpiped ./- < /dev/null
+unpipes unpipe-a-file-of-that-name 'opened ./- bytes 1492' numbers.plain
+rm ./-
+mkfifo files/fifo
+timeout 60 cp files/numbers.stm files/fifo & unpiped files/fifo
+wait
+unpipes unpipe-a-fifo 'opened files/fifo bytes 1492' numbers.plain
+run open --key "$key" files/numbers.stm
+is unpipe-agrees-with-open cmp -s files/numbers files/plain
+# Longer ones, with labels: one of many chunks, and one of large chunks.
+cp life/more files/more
+run seal --key "$key" --ledger files/ledger --device 1 --exponent 12 --label 'a stream' files/more
+wants unpipe-sealed 0 'sealed files/more file 0 bytes 348894' ''
+for words in '--workers 1' '--workers 4' '--workers auto' '--max-bytes 348894' '--force-terminal'; do
+    for label in '' '--label=a stream'; do
+        # shellcheck disable=SC2086
+        unpiped $words ${label:+"$label"} < <(cat files/more.stm)
+        unpipes "unpipe $words $label" 'opened - bytes 348894' files/more
+        # shellcheck disable=SC2086
+        unpiped $words ${label:+"$label"} files/more.stm
+        unpipes "unpipe-a-file $words $label" 'opened files/more.stm bytes 348894' files/more
+    done
+done
+for label in '' 'a strea' 'a stream ' 'A stream'; do
+    unpiped "--label=$label" < <(cat files/more.stm)
+    refuses "unpipe-another-label '$label'" 'failed -: another label'
+    unpiped "--label=$label" files/more.stm
+    refuses "unpipe-a-file-of-another-label '$label'" 'failed files/more.stm: another label'
+done
+unpiped --label '' < <(cat files/numbers.stm)
+refuses unpipe-label-of-version-1 'failed -: another label'
+for most in 0 348893; do
+    unpiped --max-bytes $most < <(cat files/more.stm)
+    refuses "unpipe-max-bytes $most" 'failed -: too long'
+    unpiped --max-bytes $most files/more.stm
+    refuses "unpipe-max-bytes-of-a-file $most" 'failed files/more.stm: too long'
+done
+unpiped --max-bytes 0 /dev/zero
+refuses unpipe-without-end 'failed /dev/zero: too long'
+# Streams that are cut, and a byte that is changed in the first chunk, a later one and the last: from a pipe, and from a file.
+wrong() { # NAME FAULT: files/wrong isn't opened
+    unpiped --workers 2 < <(cat files/wrong)
+    refuses "unpipe $1" "failed -: $2"
+    unpiped --workers 2 files/wrong
+    refuses "unpipe-a-file $1" "failed files/wrong: $2"
+}
+# 33 bytes of header, and 86 chunks
+for at in 0 23 32; do head -c $at files/more.stm > files/wrong; wrong "cut-to-$at" 'header cut short'; done
+for at in 33 48; do head -c $at files/more.stm > files/wrong; wrong "cut-to-$at" 'wrong length'; done
+head -c $((33 + 40 * 4112)) files/more.stm > files/wrong
+wrong cut-to-40-chunks 'chunk 39 does not check'
+head -c -1 files/more.stm > files/wrong
+wrong cut-by-a-byte 'chunk 85 does not check'
+cat files/more.stm files/more.stm > files/wrong
+wrong twice 'chunk 85 does not check'
+for at in 33 $((33 + 40 * 4112)) $(($(wc -c < files/more.stm) - 1)); do
+    cp files/more.stm files/wrong
+    # no byte that is there
+    tail -c +$((at + 1)) files/more.stm | head -c 1 | tr '\000-\377' '\001-\377\000' | dd of=files/wrong bs=1 seek=$at conv=notrunc status=none
+    wrong "changed-at-$at" "chunk $(((at - 33) / 4112)) does not check"
+done
+printf '00%.0s' $(seq 32) > files/other-key
+"$sealer" unpipe --key files/other-key < files/more.stm > files/plain 2> err; status=$?; : > out
+refuses unpipe-another-key 'failed -: sealed under another key'
+# What can't be read, and a key that can't.
+unpiped files/none
+refuses unpipe-none 'failed files/none: cannot open'
+unpiped files
+refuses unpipe-a-folder 'failed files: cannot open'
+unpiped ''
+refuses unpipe-no-name 'failed : cannot open'
+unpiped /proc/self/mem
+refuses unpipe-unreadable 'failed /proc/self/mem: read failed'
+unpiped < files
+refuses unpipe-a-folder-as-input 'failed -: read failed'
+unpiped <&-
+refuses unpipe-closed-input 'failed -: read failed'
+run unpipe --key none < files/more.stm
+wants unpipe-no-key 2 '' 'key: cannot open'
+run unpipe --key files/more.stm < files/more.stm
+wants unpipe-bad-key 2 '' 'key: not a key file'
+run unpipe < files/more.stm
+wants unpipe-without-a-key 2 '' 'begins error: the following required arguments were not provided:
+  --key <F>'
+run unpipe --key "$key" files/more.stm files/numbers.stm
+wants unpipe-two 2 '' "begins error: unexpected argument 'files/numbers.stm' found"
+run unpipe --key none --label "$(printf 'x%.0s' $(seq 256))" files/more.stm
+wants unpipe-label-too-long 2 '' 'usage: label too long'
+for option in --into=files --sync --private --skip-existing --files-from=none --progress --show --ledger=none; do
+    run unpipe --key "$key" $option files/more.stm
+    wants "unpipe $option" 2 '' "begins error: unexpected argument '${option%=*}' found"
+done
+# What can't be written: the plaintext, and its line.
+for input in - files/more.stm; do
+    "$sealer" unpipe --key "$key" $input < files/more.stm > /dev/full 2> err; status=$?; : > out
+    wants "unpipe-to-a-full-disk $input" 1 '' "failed $input: write failed"
+    "$sealer" unpipe --key "$key" $input < files/more.stm 2> err >&-; status=$?; : > out
+    wants "unpipe-to-nothing $input" 1 '' "failed $input: write failed"
+    { "$sealer" unpipe --key "$key" $input < files/more.stm 2> err; echo $? > status; } | head -c 10 > files/plain
+    status=$(cat status)
+    wants "unpipe-to-a-reader-that-ends $input" 1 '' "failed $input: write failed"
+    is "unpipe-to-a-reader-that-ends-begins $input" cmp -s files/plain <(head -c 10 files/more)
+    (trap '' XFSZ; ulimit -f 100; exec "$sealer" unpipe --key "$key" $input < files/more.stm > files/plain) 2> err; status=$?; : > out
+    wants "unpipe-to-a-file-that-ends $input" 1 '' "failed $input: write failed"
+    is "unpipe-to-a-file-that-ends-begins $input" cmp -s files/plain <(head -c 102400 files/more)
+    for untold in '>&-' '> /dev/full'; do
+        eval "\"\$sealer\" unpipe --key \"\$key\" $input < files/more.stm > files/plain 2$untold"
+        status=$?
+        : > out
+        : > err
+        wants "unpipe-untold $input $untold" 2 '' ''
+        is "unpipe-untold-is-whole $input $untold" cmp -s files/plain files/more
+    done
+    "$sealer" unpipe --key "$key" --label none $input < files/more.stm > files/plain 2> /dev/full; status=$?; : > out
+    : > err
+    wants "unpipe-untold-refusal $input" 2 '' ''
+    is "unpipe-untold-writes-nothing $input" test ! -s files/plain
+done
+# A terminal gets no plaintext that it wasn't asked for.
+cat > to_terminal.py <<'END'
+import os, pty, subprocess, sys, threading
+main, other = pty.openpty()
+run = subprocess.Popen(sys.argv[1:], stdin=open("files/numbers.stm"), stdout=other, stderr=subprocess.PIPE)
+text = []
+def read():
+    try:
+        while more := os.read(main, 65536):
+            text.append(more)
+    except OSError:
+        pass
+reader = threading.Thread(target=read)
+reader.start()
+told = run.communicate()[1]
+os.close(other)
+reader.join()
+shown = b"".join(text).replace(b"\r\n", b"\n")
+print(run.returncode, told.decode().strip(), shown == open("numbers.plain", "rb").read() or len(shown), sep=";")
+END
+is unpipe-to-a-terminal test "$(python3 to_terminal.py "$sealer" unpipe --key own-key)" = '2;usage: standard output is a terminal;0'
+is unpipe-a-file-to-a-terminal test "$(python3 to_terminal.py "$sealer" unpipe --key none files/numbers.stm)" = '2;usage: standard output is a terminal;0'
+is unpipe-to-a-terminal-if-asked test "$(python3 to_terminal.py "$sealer" unpipe --key own-key --force-terminal)" = '0;opened - bytes 1492;True'
+is unpipe-help-on-a-terminal test "$(python3 to_terminal.py "$sealer" unpipe --help | cut -c 1-2)" = '0;'
+
+# A stream of 16 MiB is kept in memory. Of a longer one the sealed bytes are in a file without a name, in the folder of --spool, else TMPDIR,
+# else /var/tmp; where that can't be made or written nothing is opened. A file is read again instead.
+yes plaintext | head -c 16773096 > files/fits
+{ cat files/fits; printf x; } > files/long
+run seal --key "$key" --ledger files/ledger --device 1 files/fits files/long
+wants spool-sealed 0 'sealed files/fits file 1 bytes 16773096
+sealed files/long file 2 bytes 16773097' ''
+is spool-sealed-lengths test "$(stat -c %s files/fits.stm files/long.stm | tr '\n' ' ')" = '16777216 16777217 '
+unpiped --spool none < <(cat files/fits.stm)
+unpipes spool-is-not-needed 'opened - bytes 16773096' files/fits
+for folder in none '' files/long; do
+    unpiped "--spool=$folder" < <(cat files/long.stm)
+    refuses "spool '$folder'" 'failed -: spool failed'
+    unpiped "--spool=$folder" files/long.stm
+    unpipes "spool-of-a-file '$folder'" 'opened files/long.stm bytes 16773097' files/long
+    timeout 60 cp files/long.stm files/fifo & unpiped "--spool=$folder" files/fifo
+    wait
+    refuses "spool-of-a-fifo '$folder'" 'failed files/fifo: spool failed'
+done
+for words in '--workers 1' '--workers 4'; do
+    # shellcheck disable=SC2086
+    unpiped $words --spool files/spool < <(cat files/long.stm)
+    unpipes "spool $words" 'opened - bytes 16773097' files/long
+done
+timeout 60 cp files/long.stm files/fifo & unpiped --spool files/spool files/fifo
+wait
+unpipes spool-of-a-fifo 'opened files/fifo bytes 16773097' files/long
+head -c -1 files/long.stm > files/wrong
+unpiped --spool files/spool < <(cat files/wrong)
+refuses spool-of-a-cut-stream 'failed -: chunk 255 does not check'
+unpiped --spool files/spool --label x < <(cat files/long.stm)
+refuses spool-of-another-label 'failed -: another label'
+TMPDIR=none unpiped < <(cat files/long.stm)
+refuses spool-of-the-environment 'failed -: spool failed'
+TMPDIR=none unpiped --spool files/spool < <(cat files/long.stm)
+unpipes spool-comes-before-the-environment 'opened - bytes 16773097' files/long
+(trap '' XFSZ; ulimit -f 8192; exec "$sealer" unpipe --key "$key" --spool files/spool < <(cat files/long.stm) 2> err | cat > files/plain; exit "${PIPESTATUS[0]}"); status=$?; : > out
+refuses spool-that-ends 'failed -: spool failed'
+is nothing-is-left-of-a-spool test -z "$(ls -A files/spool)"
+if mount -t tmpfs -o size=300k none small 2>/dev/null; then
+    unpiped --spool small < <(cat files/long.stm)
+    refuses spool-on-a-full-disk 'failed -: spool failed'
+    is nothing-is-left-of-a-full-disk test "$(ls -A small | wc -l) $(df --output=used small | tail -n 1 | tr -d ' ')" = '0 0'
+    umount small
+fi
+chmod 755 locked
+cp "$sealer" locked/sealer
+cp "$key" locked/key
+[ "$(id -u)" != 0 ] || chown 65534 locked/key
+chmod 555 locked
+(cd locked && as_user ./sealer unpipe --key key --spool . > ../files/plain 2> ../err) < <(cat files/long.stm); status=$?; : > out
+refuses spool-in-a-locked-folder 'failed -: spool failed'
+if command -v strace >/dev/null; then
+    # spooled: what the last traced run did for its file: created for its owner alone, unlinked, and only then written
+    spooled() {
+        sed -n 's#.*openat([^,]*, "[^"]*/\.sealer-[0-9a-f]\{16\}", [A-Z_|]*O_CREAT|O_EXCL[A-Z_|]*, 0600) = .*#created#p
+            s#.*unlink("[^"]*/\.sealer-[0-9a-f]\{16\}") *= 0#unlinked#p; s#.*write([0-9]*<.*/\.sealer-[0-9a-f]\{16\}>(deleted), .*#written#p
+            s#.*write([0-9]*<.*/\.sealer-[0-9a-f]\{16\}>, .*#named#p; s#.*chmod.*#another mode#p' calls | uniq | tr '\n' ' '
+    }
+    # folders: those in which it was created
+    folders() { sed -n 's|.*openat([^,]*, "\([^"]*\)/\.sealer-[0-9a-f]\{16\}", .*O_CREAT.*|\1|p' calls | tr '\n' ' '; }
+    traced_stream() { strace -f -y -e trace=openat,write,unlink,unlinkat,lseek,chmod,fchmod,fchmodat -o calls "$@" > files/plain 2> err; status=$?; : > out; }
+    traced_stream "$sealer" unpipe --key "$key" --spool files/spool < <(cat files/long.stm)
+    unpipes spool-traced 'opened - bytes 16773097' files/long
+    is spool-has-no-name-when-it-is-written test "$(spooled)" = 'created unlinked written '
+    is spool-is-in-its-folder test "$(folders)" = 'files/spool '
+    TMPDIR=files/spool traced_stream "$sealer" unpipe --key "$key" < <(cat files/long.stm)
+    is spool-is-where-the-environment-says test "$status $(folders)" = '0 files/spool '
+    (unset TMPDIR; traced_stream "$sealer" unpipe --key "$key" < <(cat files/long.stm))
+    is spool-is-in-var-tmp test "$(folders)" = '/var/tmp '
+    TMPDIR='' traced_stream "$sealer" unpipe --key "$key" < <(cat files/long.stm)
+    is spool-is-in-var-tmp-if-none-is-said test "$status $(folders)" = '0 /var/tmp '
+    traced_stream "$sealer" unpipe --key "$key" --spool files/spool < <(cat files/fits.stm)
+    is no-spool-unneeded test "$status $(folders)" = '0 '
+    traced_stream "$sealer" unpipe --key "$key" --spool files/spool files/long.stm
+    is no-spool-of-a-file test "$status $(folders)$(grep -c 'lseek([0-9]*<[^>]*/files/long.stm>, 0, SEEK_SET) *= 0' calls)" = '0 1'
+    # `open` reads a FIFO once, and keeps its plaintext in memory, without a spool
+    mkfifo files/once.stm
+    timeout 60 cp files/long.stm files/once.stm & TMPDIR=none traced_stream "$sealer" open --key "$key" files/once.stm
+    wait
+    is open-a-fifo cmp -s files/once files/long
+    is open-a-fifo-once test "$status $(cat files/plain)$(folders)$(grep -c 'lseek([0-9]*<[^>]*/once.stm>' calls)" = '0 opened files/once.stm bytes 167730970'
+    rm files/once
+    # up to seven names may be taken; a name that can't be removed again makes no spool
+    traced_stream "$sealer" unpipe --key "$key" --spool files/spool < <(cat files/long.stm)
+    first=$(grep 'openat(' calls | grep -n '/\.sealer-' | cut -d : -f 1)
+    injected() { strace -f -o calls -e trace=openat,unlink -e "inject=$1" "$sealer" unpipe --key "$key" --spool files/spool > files/plain 2> err; status=$?; : > out; }
+    injected "openat:error=EEXIST:when=$first..$((first + 6))" < <(cat files/long.stm)
+    unpipes spool-of-the-last-name 'opened - bytes 16773097' files/long
+    is spool-has-eight-names test "$(grep -c 'openat(.*/\.sealer-' calls) $(sed -n 's|.*openat.*/\.sealer-\([0-9a-f]*\)".*|\1|p' calls | sort -u | wc -l)" = '8 8'
+    injected "openat:error=EEXIST:when=$first..$((first + 7))" < <(cat files/long.stm)
+    refuses spool-has-no-ninth-name 'failed -: spool failed'
+    is nothing-is-left-of-taken-names test -z "$(ls -A files/spool)"
+    injected unlink:error=EPERM < <(cat files/long.stm)
+    refuses spool-that-keeps-its-name 'failed -: spool failed'
+    is what-keeps-its-name-is-empty test "$(stat -c %s files/spool/.sealer-*)" = 0
+    rm files/spool/.sealer-*
+fi
+# Killed in the middle nothing is left, and nothing was written: it waits for its input, with its file in use.
+mkfifo files/waits
+exec 8<> files/waits
+"$sealer" unpipe --key "$key" --spool files/spool < files/waits > files/plain 2> err &
+held=$!
+cat files/long.stm >&8
+for _ in $(seq 200); do ls -l "/proc/$held/fd" 2>/dev/null | grep -q '/files/spool/\.sealer-[0-9a-f]* (deleted)' && break; sleep 0.05; done
+is spool-is-in-use test "$(ls -l "/proc/$held/fd" | grep -c '/files/spool/\.sealer-[0-9a-f]* (deleted)')" = 1
+is spool-in-use-is-private test "$(stat -L -c %a "$(ls -d "/proc/$held/fd"/* | while read -r fd; do case $(readlink "$fd") in *.sealer-*) echo "$fd" ;; esac; done)")" = 600
+kill -9 "$held"
+wait "$held" 2>/dev/null
+exec 8>&-
+is spool-of-the-killed test -z "$(ls -A files/spool)"
+is killed-wrote-nothing test ! -s files/plain -a ! -s err
+rm -f files/fits* files/long* files/wrong files/plain files/waits files/fifo
+
 # Two runs on one ledger at once: the second is refused. The first waits for its input, a pipe, with its range reserved; it is then
 # killed, and the next run goes on after that range.
 mkfifo life/pipe
@@ -1825,44 +2111,6 @@ for window in 1 16 none; do
     exec 8>&-
     rm "$(parts life/windows)"
 done
-
-# A file of 4 GiB (with no block on the disk) is sealed and verified in 256 MiB of addresses, where there is room for its container: on
-# the disk, or in memory that is free.
-large=
-free=$(sed -n 's/^MemAvailable: *\([0-9]*\) kB$/\1/p' /proc/meminfo)
-for place in "$room" /dev/shm; do
-    [ "$place" = /dev/shm ] && [ "${free:-0}" -lt 8000000 ] && continue
-    [ "$(df --output=avail -B 1M "$place" 2>/dev/null | tail -n 1)" -gt 6000 ] 2>/dev/null && { large=$place; break; }
-done
-if [ -n "$large" ]; then
-    large=$(mktemp -d "$large/sealer.XXXXXX")
-    trap 'umount "$room/small" 2>/dev/null; rm -rf "$room" "$large"' EXIT
-    truncate -s 4G "$large/zeros"
-    narrow() { (ulimit -v 262144; exec "$sealer" "$@") > "$room/out" 2> "$room/err"; status=$?; }
-    narrow seal --key "$key" --ledger "$large/ledger" --device 1 --workers 2 --max-bytes 4294967296 "$large/zeros"
-    wants four-gigabytes 0 "sealed $large/zeros file 0 bytes 4294967296" ''
-    narrow verify --key "$key" --workers 2 --max-bytes 4294967296 "$large/zeros.stm"
-    wants four-gigabytes-good 0 "good $large/zeros.stm bytes 4294967296" ''
-    rm -rf "$large"
-else
-    echo 'left out: a file of 4 GiB, since neither the folder of temporary files nor free memory has room for its container'
-    [ -z "${CI:-}" ] || bad=1
-fi
-
-# A file of 1 GiB is opened, whose plaintext is in memory until all of it was checked.
-if [ "${free:-0}" -gt 4000000 ] && [ "$(df --output=avail -B 1M . | tail -n 1)" -gt 3000 ]; then
-    fresh
-    truncate -s 1G files/zeros
-    run seal --key "$key" --ledger files/ledger --device 1 --max-bytes 1073741824 files/zeros
-    wants gigabyte 0 'sealed files/zeros file 0 bytes 1073741824' ''
-    mv files/zeros zeros.plain
-    run open --key "$key" --max-bytes 1073741824 files/zeros.stm
-    wants gigabyte-opened 0 'opened files/zeros.stm bytes 1073741824' ''
-    is plaintext-of-a-gigabyte cmp -s files/zeros zeros.plain
-    rm -f files/zeros files/zeros.stm zeros.plain
-else
-    echo 'left out: the opening of a file of 1 GiB, since there are no 4 GB of free memory, or no 3 GB of room'
-fi
 
 # Files of more than 64 MiB with two lanes: each is a job of its own, whole in memory.
 fresh

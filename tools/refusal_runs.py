@@ -8,7 +8,8 @@ only the last ones are refused, after the ledger's; for a stream also each fourt
 every allocation is refused. Each read and write is also limited to 1, 2, 4, 8, .. bytes. The kinds run side by side over the processors.
 
 Whatever is refused, the run ends by itself with a status and a text of docs/MANUAL.md, and both fit its lines. An output is whole or absent,
-and absent if its line says that it failed; what was written of a stream begins its container. A journal that was written is legal, and no
+and absent if its line says that it failed; what was written of a stream begins its container, or the plaintext of `unpipe`, which writes
+nothing of a container that doesn't check. A journal that was written is legal, and no
 other file is left. The next run on the ledger succeeds, under a number that no output and no journal has.
 
 Prints what each kind had and 'N refusals as they should be', or what differs. Without a C compiler it says so and exits with status 0, and
@@ -39,12 +40,12 @@ TEXTS = re.compile(
     r"|ledger: (cannot open|store failed|out of memory)|audit: out of memory"
 )
 # If memory is refused while the run's own files are looked up, a stream's input isn't read.
-FAULT = re.compile(r"failed (\S+): (out of memory|cannot open|cannot create)|failed -: read failed")
+FAULT = re.compile(r"failed (\S+): (out of memory|cannot open|cannot create)|failed -: (read failed|spool failed)|failed -: chunk 6 does not check")
 DONE = re.compile(r"sealed (\S+) file ([0-9]+) bytes ([0-9]+)|(?:opened|good) (\S+) bytes ([0-9]+)|legal: .*|key [0-9a-f]{14} device .*")
 # Texts that some run must print.
 WANTED = (
     "failed a: out of memory", "failed -: out of memory", "failed long.stm: out of memory", "ledger: out of memory", "journal: out of memory", "audit: out of memory",
-    "error: out of memory", "usage: an argument is no text", "ledger: store failed", "ledger: cannot open",
+    "failed -: spool failed", "error: out of memory", "usage: an argument is no text", "ledger: store failed", "ledger: cannot open",
 )
 
 
@@ -55,6 +56,8 @@ def text(lines):
 # The long one has seven chunks. The last three are long enough for the second lane to begin before the first has sealed all.
 FILES = {"small": text(400), "long": text(70_000), "a": text(8_000), "b": text(9_000)[::-1], "c": text(10_000), "next": b"next\n"}
 FILES.update({"x": text(90_000), "y": text(80_000)[::-1], "z": text(85_000)})
+# It needs a spool.
+HUGE = bytes(range(256)) * (17 << 12)
 THREE, LANES = ["a", "b", "c"], ["x", "y", "z"]
 
 
@@ -74,7 +77,13 @@ class Kind:
     each: dict = dataclasses.field(default_factory=dict)  # the distance of the refused allocations, if it isn't 1
     refused: bool = False  # the ledger is always refused
     threads: bool = False  # some allocation is another thread's; workers make none
+    whole: bytes = b""  # what `unpipe` writes if nothing is refused
     last: int = 0  # if not 0, only this many of the last allocations are refused
+
+    @property
+    def status(self):
+        """That of a run that nothing is refused."""
+        return int(self.line.startswith("failed "))
 
 
 def read(name):
@@ -127,7 +136,7 @@ class Checker:
             return True
         told = ran.stderr.decode(errors="replace").splitlines()
         self.err = [line for line in told if not line.startswith("refused ")]
-        if kind.words[0] == "pipe":
+        if kind.words[0] in ("pipe", "unpipe"):
             # The line of a stream is on standard error.
             self.out = [line for line in self.err if FAULT.fullmatch(line) or DONE.fullmatch(line)]
             self.err = [line for line in self.err if line not in self.out]
@@ -141,6 +150,8 @@ class Checker:
             self.sealed(kind)
         elif kind.words[0] == "pipe":
             self.streamed(kind, ran.stdout)
+        elif kind.words[0] == "unpipe":
+            self.unpiped(kind, ran.stdout)
         else:
             self.opened(kind)
         self.count += bool(met)
@@ -162,7 +173,7 @@ class Checker:
                 self.differs("no cause")
         elif len(self.out) != wanted or self.status != bool(faults):
             self.differs("another status")
-        if not met and self.status != 0 and not kind.refused:
+        if not met and self.status != kind.status and not kind.refused:
             self.differs("no refusal, and fails")
         return None
 
@@ -227,6 +238,17 @@ class Checker:
         elif not whole.startswith(written) or self.out and written == whole:
             self.differs(f"{len(written)} bytes that aren't the container's")
         self.followed(kind, {"-"} if written else set())
+
+    def unpiped(self, kind, written):
+        """What was written is the plaintext if its line says so, else a beginning of it; nothing if the container doesn't check."""
+        self.outputs(kind, lambda name: None, None)
+        is_all = self.out == [kind.line]
+        if not is_all and any(not line.startswith("failed ") for line in self.out):
+            self.differs("another line")
+        if is_all and written != kind.whole or not kind.whole.startswith(written) or self.out and not is_all and written == kind.whole != b"":
+            self.differs(f"{len(written)} bytes that aren't the plaintext's")
+        if written and self.out == ["failed -: spool failed"]:
+            self.differs(f"{len(written)} bytes before the whole check")
 
     def followed(self, kind, there):
         """The journal, if one was written, and the next run; `there` is what was written."""
@@ -294,7 +316,15 @@ def ledgers():
     return used, None, None
 
 
+def huge_container():
+    """A container that needs a spool."""
+    put({"huge": HUGE})
+    assert started(sealing("--exponent", "20", "huge")).returncode == 0
+    return read("huge.stm")
+
+
 def kinds(made):
+    huge_stm = huge_container()
     ledger, cut, back = ledgers()
     some = lambda *names, **more: {**{name: FILES[name] for name in (*names, "next")}, **more}
     numbers, long_stm = read(f"{top}/examples/numbers.stm"), made["long", 0]
@@ -322,6 +352,14 @@ def kinds(made):
     yield Kind("pipe by two workers", piping("--workers", "2", "--depth", "3"), ["-"], some(**ledger), input=stream, first=1, last=150)
     both, wide = ("REFUSE", "REFUSE_FROM"), {"REFUSE": 4, "REFUSE_FROM": 8}
     yield Kind("pipe, all of it", piping(), ["-"], some(), which=both, input=stream, each=wide)
+    unpiping, line = ["unpipe", "--key", key, "--spool", "."], f"opened - bytes {len(stream)}"
+    for workers in ("1", "2"):
+        yield Kind(f"unpipe by {workers}", [*unpiping, "--workers", workers], ["-"], input=long_stm, least=50, line=line, whole=stream, each=half)
+    damaged = long_stm[:-1] + bytes([long_stm[-1] ^ 1])
+    yield Kind("unpipe what does not check", unpiping, ["-"], input=damaged, least=40, line="failed -: chunk 6 does not check", each=half)
+    # The last allocations make its spool.
+    spooled = f"opened - bytes {len(HUGE)}"
+    yield Kind("unpipe by a spool", unpiping, ["-"], input=huge_stm, least=100, which=both, line=spooled, whole=HUGE, last=24)
     opened, good = (f"{word} long.stm bytes {len(FILES['long'])}" for word in ("opened", "good"))
     for workers in ("1", "2"):
         by = ["--key", key, "--workers", workers]
@@ -363,7 +401,7 @@ def part(asked):
         if kind.last and every and which not in HARMLESS:
             n += max(0, allocations(checker, kind) - kind.last)
         while checker.refused(kind, which, n) and len(checker.bad) < ENOUGH:
-            if which in HARMLESS and checker.status != (2 if kind.refused else 0):
+            if which in HARMLESS and checker.status != (2 if kind.refused else kind.status):
                 checker.differs("another answer")
             n += n if which == "REFUSE_BEYOND" else step
         # It isn't fixed in which run another thread makes some.
@@ -380,7 +418,7 @@ def main():
     begun = time.monotonic()
     # In memory if possible: the disk's speed doesn't matter here.
     processors = len(os.sched_getaffinity(0))
-    place = "/dev/shm" if os.access("/dev/shm", os.W_OK) and shutil.disk_usage("/dev/shm").free > processors << 24 else None
+    place = "/dev/shm" if os.access("/dev/shm", os.W_OK) and shutil.disk_usage("/dev/shm").free > processors << 25 else None
     with tempfile.TemporaryDirectory(dir=place) as shared:
         subprocess.run(["cc", "-O2", "-shared", "-fPIC", "-o", f"{shared}/refuse.so", f"{top}/tools/refuse.c", "-ldl"], check=True)
         os.mkdir(f"{shared}/first")

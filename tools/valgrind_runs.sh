@@ -24,6 +24,11 @@ head -c 524289 /dev/zero > long
 "$sealer" seal --key "$key" --ledger "$room/ledger" --device 1 long > "$room/lines" && mv long plain || exit 1
 cp long.stm damaged.stm && printf x | dd of=damaged.stm bs=1 seek=70000 conv=notrunc 2>/dev/null
 
+# A stream of more than 16 MiB needs a spool.
+mkdir "$room/spooled"
+truncate -s 16M "$room/spooled/zeros"
+"$sealer" seal --key "$key" --ledger "$room/ledger" --device 1 --exponent 20 "$room/spooled/zeros" > "$room/lines" || exit 1
+
 # under NAME TOOL STATUS ARGS..: a run under the tool, and one without it, each in a folder that has the given files, with the journal as its
 # input, or what $input names
 under() {
@@ -71,6 +76,10 @@ piping=(pipe --key "$key" --ledger ledger --device 1 --journal journal --exponen
 input=$room/given/a limited pipe memcheck 0 "${piping[@]}"
 input=$room/given/a limited pipe-of-too-many-chunks memcheck 1 "${piping[@]}" --depth 2 --max-chunks 9
 input=$room/given limited pipe-of-a-folder memcheck 1 "${piping[@]}" --workers 2
+input=$room/given/long.stm limited unpipe memcheck 0 unpipe --key "$key"
+input=$room/given/damaged.stm limited unpipe-what-does-not-check memcheck 1 unpipe --key "$key" --workers 2
+limited unpipe-a-file memcheck 0 unpipe --key "$key" --workers 2 long.stm
+input=$room/spooled/zeros.stm limited unpipe-by-a-spool memcheck 0 unpipe --key "$key" --spool .
 # The workers that seal a stream or a file share jobs and pieces through two queues without locks. Helgrind and drd don't see the order in
 # their plain loads and stores, and report each job and piece as a race. So these run under memcheck alone.
 for depth in 1 3; do
@@ -83,6 +92,7 @@ for tool in memcheck helgrind drd; do
     limited seal-by-lanes-$tool $tool 1 "${sealing[@]}" --lanes 2 a none b c
     limited open-by-workers-$tool $tool 1 open --key "$key" --workers 2 long.stm damaged.stm
     limited verify-by-workers-$tool $tool 1 verify --key "$key" --workers 2 damaged.stm long.stm
+    input=$room/given/long.stm limited unpipe-by-workers-$tool $tool 0 unpipe --key "$key" --workers 2
 done
 wait
 bad=0

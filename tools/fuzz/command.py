@@ -3,7 +3,7 @@ from fuzz.container import MOST, USUAL, Parts, shown
 from fuzz.run import Ask
 
 KEY, PLAIN = bytes(range(32)), bytes(range(200)) * 100
-# The least and the greatest value of the options that take a number: of `open` and `verify`, of `seal`, of `pipe`, and for version 2.
+# The least and the greatest value of the options that take a number: of `unpipe`, `open` and `verify`, of `seal`, of `pipe`, and for version 2.
 BOUNDS = {"--workers": (1, 16), "--max-bytes": (0, 2**52 - 2**20)}
 SEAL_BOUNDS = {"--workers": (1, 16), "--max-bytes": (0, MOST), "--device": (0, 2**24 - 1), "--lanes": (1, 16), "--window": (1, 256)}
 PIPE_BOUNDS = {"--workers": (1, 16), "--device": (0, 2**24 - 1), "--depth": (1, 64), "--max-chunks": (1, 2**32 - 1)}
@@ -12,8 +12,9 @@ LABELS = ("", "a", "two words", "\u00e4" * 127 + "b", "x" * 255, "\n")
 NO_NUMBERS = ("", " ", "x", "1x", "1.0", "0x1", "1e1", "1,0", "--", "99999999999999999999", "\uff11", "one", "1 1")
 # Options of other commands.
 NOT_OF_PIPE = ("--lanes=2", "--window=2", "--max-bytes=1", "--show", "--max-chunk=1", "--private")
+NOT_OF_UNPIPE = ("--lanes=2", "--window=2", "--depth=2", "--max-chunks=1", "--show", "--private", "--into=.", "--skip-existing", "--files-from=key")
 UNKNOWN = ("--worker", "--Workers", "--keys", "--key-file=key", "-k", "-w1", "--dry-run", "--max_bytes=1", "-1")
-# The commands that seal; `pipe` takes no file.
+# The commands that seal; `pipe` takes no file, and `unpipe` at most one.
 SEALS = ("seal", "pipe")
 # No command at all, or more than `audit` takes.
 NO_COMMANDS = ([], ["--key", "key"], ["audit", "a"], ["audit", "--key", "key"], ["audit", "audit"], ["audit", "-1"])
@@ -42,9 +43,12 @@ def lawful_options(rng, command, first_only):
         given["--label"] = rng.choice(LABELS)
     if command == "pipe" and rng.random() < 0.3:
         given["--max-chunks"] = max(1, chunks(given) + rng.choice((-1, 0, 1)))
-    if command == "pipe" and rng.random() < 0.1:
+    if command in ("pipe", "unpipe") and rng.random() < 0.1:
         # It is no terminal.
         given["--force-terminal"] = None
+    if command == "unpipe" and rng.random() < 0.3:
+        # What is given fits into memory.
+        given["--spool"] = rng.choice((".", "none", ""))
     if not first_only and command == "verify" and rng.random() < 0.2:
         given["--show"] = None
     if command in ("seal", "open") and rng.random() < 0.1:
@@ -99,12 +103,12 @@ def option_twice(rng, command, given, names, _):
 
 def unknown_option(rng, command, given, names, _):
     words = words_of(rng, list(given.items()))
-    words.insert(rng.randrange(len(words) + 1), rng.choice(UNKNOWN + NOT_OF_PIPE * (command == "pipe")))
+    words.insert(rng.randrange(len(words) + 1), rng.choice(UNKNOWN + {"pipe": NOT_OF_PIPE, "unpipe": NOT_OF_UNPIPE}.get(command, ())))
     return [command, *words], names
 
 
 def something_left_out(rng, command, given, names, _):
-    required = rng.choice(["name"] * len(names) + ["--key"] + ["--ledger", "--device"] * (command in SEALS))
+    required = rng.choice(["name"] * len(names) * (command != "unpipe") + ["--key"] + ["--ledger", "--device"] * (command in SEALS))
     given.pop(required, None)
     return [command, *words_of(rng, list(given.items()))], [] if required == "name" else names
 
@@ -122,6 +126,8 @@ def another_command(rng, command, given, names, _):
 
 def value_of_a_flag(rng, command, given, names, _):
     flags = ("--no-new-ledger", "--force-terminal")[: 1 + (command == "pipe")] if command in SEALS else ("--show",)
+    if command == "unpipe":
+        flags = ("--force-terminal",)
     flag = rng.choice(("--verbose", *flags))
     given.pop(flag, None)
     return [command, *words_of(rng, list(given.items())), f"{flag}=yes"], names
@@ -140,6 +146,10 @@ def file_of_a_pipe(rng, command, given, names, _):
     return [command, *words_of(rng, list(given.items()))], ["a"]
 
 
+def second_file(rng, command, given, names, _):
+    return [command, *words_of(rng, list(given.items()))], rng.choice((["a.stm", "-"], ["-", "-"], ["a.stm", "a.stm"]))
+
+
 WRONGS = [
     number_past_a_bound, number_past_a_bound, no_number, option_twice, option_twice, unknown_option, something_left_out,
     value_left_out, another_command, no_text, value_of_a_flag,
@@ -147,7 +157,7 @@ WRONGS = [
 # Not wrong where there are no labels.
 LABEL_WRONGS = [label_too_long]
 # Not wrong of the other commands.
-PIPE_WRONGS = [file_of_a_pipe]
+PIPE_WRONGS = {"pipe": [file_of_a_pipe], "unpipe": [second_file]}
 
 
 # --- The cases ---
@@ -159,6 +169,12 @@ def wanted_of(ask, command, given):
         ask.status, ask.faults = 2, "usage: lanes and workers cannot both be above 1\n"
     elif "--no-new-ledger" in given:
         ask.status, ask.faults = 2, "ledger: not there\n"
+    elif command == "unpipe":
+        name = ask.names[-1] if ask.names[-1:] == ["a.stm"] else "-"
+        ask.input = b"" if name == "a.stm" else ask.files["a.stm"]
+        fault = "too long" if len(PLAIN) > given.get("--max-bytes", USUAL) else "another label" if "--label" in given else None
+        ask.status, ask.container = int(fault is not None), b"" if fault else PLAIN
+        ask.faults = f"failed {name}: {fault}\n" if fault else f"opened {name} bytes {len(PLAIN)}\n"
     elif len(PLAIN) > given.get("--max-bytes", USUAL):
         ask.status, ask.out = 1, [f"failed {ask.names[-1]}: too long"]
     elif command not in SEALS and "--label" in given:
@@ -182,14 +198,16 @@ def ask(rng, case, first_only):
     """One command line."""
     if rng.random() < 0.05:
         return Ask(case, rng.choice(NO_COMMANDS), [], {}, 2, [], None)
-    command = rng.choice(("verify", "open", "seal", "seal", "pipe", "pipe"))
+    command = rng.choice(("verify", "open", "seal", "seal", "pipe", "pipe", "unpipe"))
     given = lawful_options(rng, command, first_only)
     files, names = {"key": KEY.hex().encode()}, []
     if command != "pipe":
         names = ["a" if command == "seal" else "a.stm"]
         files[names[0]] = PLAIN if command == "seal" else Parts(KEY, bytes(7), PLAIN).data()
+    if command == "unpipe":
+        names = rng.choice((["a.stm"], ["-"], []))
     if rng.random() < 0.75:
-        wrong = rng.choice(WRONGS + LABEL_WRONGS * (not first_only) + PIPE_WRONGS * (command == "pipe"))
+        wrong = rng.choice(WRONGS + LABEL_WRONGS * (not first_only) + PIPE_WRONGS.get(command, []))
         words, names = wrong(rng, command, given, names, first_only)
         return Ask(case, words, names, files, 2, [], None, PLAIN)
     asked = Ask(case, [command, *words_of(rng, list(given.items()))], ["--"] * rng.randrange(2) + names, files, 0, [], input=PLAIN)

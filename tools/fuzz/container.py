@@ -329,9 +329,9 @@ def as_words(label):
 
 
 def asks(rng, first, count, first_only):
-    """`count` containers, numbered from `first` on, for one run."""
+    """`count` containers, numbered from `first` on, for one run, but of `unpipe` for a run each."""
     key = rng.randbytes(32)
-    command = rng.choice(("verify", "verify", "open"))
+    command = rng.choice(("verify", "verify", "open", "unpipe"))
     words = [command, "--key", "key", "--workers", str(rng.choice((1, 1, 2, 3, 16)))]
     limits = (0, 1, 4095, 4096, 8192, 65536, rng.randrange(1 << 14), rng.randrange(1 << 17))
     most = rng.choice((USUAL, USUAL, MOST, rng.choice(limits)))
@@ -352,6 +352,9 @@ def asks(rng, first, count, first_only):
     if label is not None:
         words.append(f"--label={label}")
     for case, data in made.items():
+        if command == "unpipe":
+            yield ask_of_stream(case, words, key, data, most, label)
+            continue
         name = f"{case}.stm"
         ask = Ask(case, words, [name], {"key": key.hex().encode(), name: data}, 0, [])
         try:
@@ -363,3 +366,17 @@ def asks(rng, first, count, first_only):
         except Fault as fault:
             ask.status, ask.out = 1, [f"failed {name}: {fault}"]
         yield ask
+
+
+def ask_of_stream(case, words, key, data, most, label):
+    """A container that `unpipe` gets, as standard input or, of each third case, as a FILE."""
+    name = f"{case}.stm" if case % 3 == 0 else "-"
+    files = {"key": key.hex().encode(), **({name: data} if name != "-" else {})}
+    ask = Ask(case, words, [name] if case % 3 < 2 else [], files, 0, [], input=b"" if name in files else data)
+    try:
+        ask.container = plaintext(key, data, most)
+        refuse(label is not None and label_in(data) != label.encode(), "another label")
+        ask.faults = f"opened {name} bytes {len(ask.container)}\n"
+    except Fault as fault:
+        ask.status, ask.container, ask.faults = 1, b"", f"failed {name}: {fault}\n"
+    return ask
