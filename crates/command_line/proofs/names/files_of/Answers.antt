@@ -1,4 +1,4 @@
-use Rattle.std.proofs.Common.{ℕ, List, Option, Bor, rules, ◌≡◌, ◌∙◌, ◌++◌, ap, sym, subst, map, option_map}
+use Rattle.std.proofs.Common.{ℕ, List, Option, Bor, rules, ◌≡◌, ◌∙◌, ◌++◌, ap, sym, subst, option_map}
 use Rattle.std.proofs.lemmas.List.{map-append}
 use Rattle.command_line.specs.Names.{IsListOf, IsListed}
 use Rattle.command_line.proofs.Ended.{texts}
