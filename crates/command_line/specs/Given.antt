@@ -1,7 +1,7 @@
 -- What was given on the command line: what a parse found under the name of an option.
-use Rattle.std.specs.Prelude.{◌≡◌, ℕ, Bool, List, [], Option, Some, None, codes, true, false, option_map, unwrap_or}
+use Rattle.std.specs.Prelude.{◌≡◌, ◌≢◌, ◌⊎◌, ℕ, Bool, List, [], Option, Some, None, codes, true, false, option_map, unwrap_or}
 use Rattle.std.specs.Str.Parse.{digits_value, without_leading_plus}
-use Rattle.clap.specs.Matches.{found_of, matched_of, one_text, raw_values}
+use Rattle.clap.specs.Matches.{first_value, found_of, matched_of, one_text, raw_values}
 use Rattle.clap.specs.declared.parser.matches.ArgMatches.{ArgMatches}
 
 -- the number that a text writes in base ten, perhaps after a plus
@@ -21,3 +21,8 @@ pub record IsFlag (matches : ArgMatches) (flag : List ℕ) (value : Bool) : Type
 -- the files that were given
 abbrev pub files_given : ArgMatches → List (List ℕ)
 files_given matches = unwrap_or (option_map raw_values (matched_of (found_of matches) (codes "FILE"))) []
+
+-- an option for several files was given: a folder for the outputs, a list, or that existing outputs are kept
+abbrev pub IsForMany : ArgMatches → Type 0
+IsForMany matches = (first_value (found_of matches) (codes "into") ≢ None) ⊎ (first_value (found_of matches) (codes "files-from") ≢ None)
+    ⊎ IsFlag matches (codes "skip-existing") true

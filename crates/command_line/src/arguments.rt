@@ -1,7 +1,8 @@
 //! The commands, with the texts of their help.
 use crate::options::{
     FILE_ROWS, HOLDINGS_ROWS, KEY_ROWS, LABEL_ROWS, LEDGER_ROWS, OPEN_ROWS, OUTPUT_ROWS, PIPE_ROWS,
-    SEAL_ROWS, SHAPE_ROWS, SHOW_ROWS, TERMINAL_ROWS, UNPIPE_ROWS, with_rows,
+    PROGRESS_ROWS, SEAL_ROWS, SHAPE_ROWS, SHOW_ROWS, TERMINAL_ROWS, TO_ROWS, UNPIPE_ROWS,
+    with_rows,
 };
 use crate::version::VERSION;
 use clap::{Command, Error};
@@ -78,8 +79,10 @@ fn with_command<'a>(
 }
 
 fn opening_command<'a>(alloc: Global) -> Result<Command<'a>, Error> {
-    let about = "Checks each FILE whole, then writes its plaintext to the name without .stm";
-    with_rows(alloc, open_command(alloc, "open", about)?, &OUTPUT_ROWS)
+    let about = "Checks each FILE whole, then writes its plaintext to the name without .stm \
+        or that of --to";
+    let command = with_rows(alloc, open_command(alloc, "open", about)?, &TO_ROWS)?;
+    with_rows(alloc, command, &OUTPUT_ROWS)
 }
 
 fn verifying_command<'a>(alloc: Global) -> Result<Command<'a>, Error> {
@@ -107,7 +110,8 @@ fn key_command<'a>(alloc: Global, name: &'a str, about: &'a str) -> Result<Comma
 
 // A command over files.
 fn file_command<'a>(alloc: Global, name: &'a str, about: &'a str) -> Result<Command<'a>, Error> {
-    with_rows(alloc, key_command(alloc, name, about)?, &FILE_ROWS)
+    let command = with_rows(alloc, key_command(alloc, name, about)?, &FILE_ROWS)?;
+    with_rows(alloc, command, &PROGRESS_ROWS)
 }
 
 // A command over sealed files.
@@ -148,7 +152,8 @@ fn unpipe_command<'a>(alloc: Global) -> Result<Command<'a>, Error> {
         "unpipe",
         "Checks a sealed stream or FILE whole, then writes its plaintext to standard output",
     )?;
-    let command = with_rows(alloc, command.after_help(UNPIPE_HELP), &UNPIPE_ROWS)?;
+    let command = with_rows(alloc, command.after_help(UNPIPE_HELP), &PROGRESS_ROWS)?;
+    let command = with_rows(alloc, command, &UNPIPE_ROWS)?;
     let command = with_rows(alloc, command, &LABEL_ROWS)?;
     with_rows(alloc, command, &TERMINAL_ROWS)
 }

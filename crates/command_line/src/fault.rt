@@ -13,6 +13,24 @@ pub enum UsageFault {
     /// More than one lane, and more than one worker.
     #[error("lanes and workers cannot both be above 1")]
     LanesAndWorkers,
+    /// A name for the output, and several files.
+    #[error("--to takes one file")]
+    ToForMany,
+    /// A name for the output, and an option for several files.
+    #[error("--to excludes --into, --skip-existing and --files-from")]
+    ToAndOthers,
+    /// The name for the output is empty, or `-`, which elsewhere is a stream.
+    #[error("--to names no file")]
+    ToNoFile,
+    /// Standard input is to be opened, and its output has no name. The program reports it; no request does.
+    #[error("- needs --to")]
+    InputNeedsName,
+    /// Standard input is to be the list, and a file too. The program reports it; no request does.
+    #[error("standard input can be read only once")]
+    InputTwice,
+    /// The folder for the spool of standard input isn't there. The program reports it; no request does.
+    #[error("the folder of the spool is missing")]
+    NoSpoolFolder,
     /// A label of more than 255 bytes.
     #[error("label too long")]
     LabelTooLong,

@@ -104,7 +104,7 @@ pub(crate) fn open_numbers(matches: &ArgMatches<'_>, usual: u64) -> Result<OpenN
     ensures max_bytes { IfOk result (λ n. n.max_bytes
         ≡ unwrap_or (number_given matches.now (codes "max-bytes")) usual) }
     ensures few_bytes { IfOk result (λ n. n.max_bytes ≤ MAX_OPENED) }
-    ensures fault { IfErr result (λ fault. fault ≢ UsageFault.LabelTooLong) }
+    ensures fault { IfErr result (λ fault. fault ≡ UsageFault.OutOfRange) }
 {
     Ok(OpenNumbers {
         workers: number_or(matches, "workers", 1, MAX_WORKERS, DEFAULT_WORKERS)?,

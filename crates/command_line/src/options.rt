@@ -12,6 +12,8 @@ enum Takes {
     Path {
         is_required: bool,
     },
+    // The path of an output. It is optional.
+    Name,
     // The path of a folder. It is optional.
     Folder,
     // A text. It is optional.
@@ -84,13 +86,8 @@ pub(crate) static KEY_ROWS: [Row; 3] = [
     },
 ];
 
-/// What every command over files takes in addition.
-pub(crate) static FILE_ROWS: [Row; 4] = [
-    Row {
-        name: "FILE",
-        takes: Takes::FilesUnless("files-from"),
-        help: "The files; their lines are printed in this order",
-    },
+/// What every command over files takes in addition, besides the FILEs.
+pub(crate) static FILE_ROWS: [Row; 2] = [
     Row {
         name: "files-from",
         takes: Takes::Path { is_required: false },
@@ -102,16 +99,18 @@ pub(crate) static FILE_ROWS: [Row; 4] = [
         takes: Takes::NothingWithout("files-from"),
         help: "FILEs in the list of --files-from end with a NUL byte, not a line feed",
     },
-    Row {
-        name: "progress",
-        takes: Takes::Words {
-            words: &["terminal", "always"],
-            absent: "terminal",
-        },
-        help: "Show progress on standard error if that is a terminal,\n\
-            or always",
-    },
 ];
+
+/// What every command takes in addition that can show its progress.
+pub(crate) static PROGRESS_ROWS: [Row; 1] = [Row {
+    name: "progress",
+    takes: Takes::Words {
+        words: &["terminal", "always"],
+        absent: "terminal",
+    },
+    help: "Show progress on standard error if that is a terminal,\n\
+        or always",
+}];
 
 /// What `seal` and `open` take in addition, for their outputs.
 pub(crate) static OUTPUT_ROWS: [Row; 4] = [
@@ -183,13 +182,35 @@ pub(crate) static UNPIPE_ROWS: [Row; 3] = [
     },
 ];
 
-/// What `verify` takes in addition to these.
-pub(crate) static SHOW_ROWS: [Row; 1] = [Row {
-    name: "show",
-    takes: Takes::Nothing,
-    help: "After the line of a good FILE print its version, chunk size, device,\n\
-        number and label",
-}];
+/// What only `open` takes in addition to these.
+pub(crate) static TO_ROWS: [Row; 2] = [
+    Row {
+        name: "FILE",
+        takes: Takes::FilesUnless("files-from"),
+        help: "The files; their lines are printed in this order; - is standard input, and needs --to",
+    },
+    Row {
+        name: "to",
+        takes: Takes::Name,
+        help: "Write the plaintext to NAME; only with one FILE, and without --into,\n\
+            --skip-existing and --files-from",
+    },
+];
+
+/// What only `verify` takes in addition to these.
+pub(crate) static SHOW_ROWS: [Row; 2] = [
+    Row {
+        name: "FILE",
+        takes: Takes::FilesUnless("files-from"),
+        help: "The files; their lines are printed in this order; - is standard input",
+    },
+    Row {
+        name: "show",
+        takes: Takes::Nothing,
+        help: "After the line of a good FILE print its version, chunk size, device,\n\
+            number and label",
+    },
+];
 
 /// What the command takes that prints the contents of a ledger file.
 pub(crate) static HOLDINGS_ROWS: [Row; 2] = [
@@ -230,7 +251,12 @@ pub(crate) static LEDGER_ROWS: [Row; 3] = [
 ];
 
 /// What `seal` takes in addition.
-pub(crate) static SEAL_ROWS: [Row; 3] = [
+pub(crate) static SEAL_ROWS: [Row; 4] = [
+    Row {
+        name: "FILE",
+        takes: Takes::FilesUnless("files-from"),
+        help: "The files; their lines are printed in this order",
+    },
     Row {
         name: "max-bytes",
         takes: Takes::Bytes {
@@ -371,6 +397,7 @@ fn arg_of<'a>(alloc: Global, row: &Row) -> Result<Arg<'a>, Error> {
         Takes::Nothing => flag(arg, row.name),
         Takes::NothingWithout(other) => flag(arg, row.name).requires_arg(other)?,
         Takes::Path { is_required } => valued(arg, row.name, "F").required(*is_required),
+        Takes::Name => valued(arg, row.name, "NAME"),
         Takes::Words { words, absent } => words_of(valued(arg, row.name, "WHEN"), words, absent),
         Takes::Folder => valued(arg, row.name, "DIR"),
         Takes::Text => valued(arg, row.name, "TEXT"),

@@ -1,11 +1,11 @@
 //! The requests of the commands, from words that their parser accepted.
-ghost use Rattle.std.specs.Prelude.{◌<◌, ◌≤◌, ◌≡◌, ◌⊎◌, IfErr, IfOk, IfSome, None, OnErr};
+ghost use Rattle.std.specs.Prelude.{[], ◌<◌, ◌≤◌, ◌≡◌, ◌≢◌, ◌⊎◌, IfErr, IfOk, IfSome, None, OnErr, false};
 ghost use Rattle.std.specs.Prelude.{Some, codes, length, not, option_map, unwrap_or};
 ghost use Rattle.clap.specs.Matches.{first_value, found_of};
 ghost use Rattle.container_core.specs.Shape.{IsShape, IsShort, size_of};
 ghost use Rattle.gate_core.specs.Window.{usual};
 ghost use Rattle.command_line.specs.Asked.{file_asked, shape_asked};
-ghost use Rattle.command_line.specs.Given.{IsFlag, number_given};
+ghost use Rattle.command_line.specs.Given.{IsFlag, IsForMany, number_given};
 
 use crate::fault::UsageFault;
 use crate::given::{
@@ -31,7 +31,7 @@ pub enum Showing {
     Always,
 }
 
-/// Returns when a run over files shows its progress.
+/// Returns when a run shows its progress.
 pub fn showing_asked(matches: &ArgMatches<'_>) -> Showing
     ensures never { first_value (found_of matches.now) (codes "progress") ≡ None → result ≡ Showing.Never }
     ensures always { first_value (found_of matches.now) (codes "progress") ≡ Some (codes "always")
@@ -244,6 +244,8 @@ pub struct OpenRequest<'m, 'a> {
     pub label: Option<&'a [u8]>,
     /// Whether the facts of each good container are printed. `open` has no such option.
     pub show: bool,
+    /// The name of the output, if one is given. `verify` has no such option.
+    pub to: Option<&'a str>,
     /// The folder into which the outputs go, if one is given. `verify` has no such option.
     pub into: Option<&'a str>,
     /// Whether files whose outputs exist are kept. `verify` has no such option.
@@ -254,8 +256,9 @@ pub struct OpenRequest<'m, 'a> {
     pub private: bool,
 }
 
-/// Returns the request of `open` or `verify` for these files. `NoFiles` if there are none, then `LabelTooLong` if the
-/// label has more than 255 bytes: no container has it.
+/// Returns the request of `open` or `verify` for these files. Errors, in this order: `NoFiles` if there are none,
+/// `ToAndOthers` if the output's name and an option for several files are given, `ToForMany` if the output's name and
+/// several files are, `ToNoFile` if that name is empty or `-`, `LabelTooLong` if the label has more than 255 bytes: no container has it.
 pub fn open_request<'m, 'a>(
     matches: &ArgMatches<'a>,
     files: &'m [&'m str],
@@ -272,6 +275,13 @@ pub fn open_request<'m, 'a>(
         ≡ first_value (found_of matches.now) (codes "label")) }
     ensures short { IfOk result (λ request. IfSome request.label (λ label. length label.now ≤ MAX_LABEL)) }
     ensures show { IfOk result (λ request. IsFlag matches.now (codes "show") request.show) }
+    ensures to { IfOk result (λ request. option_map (λ to. to.now) request.to
+        ≡ first_value (found_of matches.now) (codes "to")) }
+    ensures one { IfOk result (λ request. IfSome request.to (λ _. length request.files.now ≡ 1)) }
+    ensures alone { IfOk result (λ request. IfSome request.to (λ _. (request.into ≡ None) × (request.skip ≡ false))) }
+    ensures named { IfOk result (λ request. IfSome request.to (λ to. (to.now ≢ []) × (to.now ≢ codes "-"))) }
+    ensures no_list { IfOk result (λ request. IfSome request.to (λ _.
+        first_value (found_of matches.now) (codes "files-from") ≡ None)) }
     ensures into { IfOk result (λ request. option_map (λ into. into.now) request.into
         ≡ first_value (found_of matches.now) (codes "into")) }
     ensures skip { IfOk result (λ request. IsFlag matches.now (codes "skip-existing") request.skip) }
@@ -279,12 +289,32 @@ pub fn open_request<'m, 'a>(
     ensures private { IfOk result (λ request. IsFlag matches.now (codes "private") request.private) }
     ensures too_long { result ≡ Err UsageFault.LabelTooLong
         → IfSome (first_value (found_of matches.now) (codes "label")) (λ label. MAX_LABEL < length label) }
+    ensures many { result ≡ Err UsageFault.ToForMany → 1 < length files.now }
+    ensures many_to { result ≡ Err UsageFault.ToForMany → first_value (found_of matches.now) (codes "to") ≢ None }
+    ensures unnamed { result ≡ Err UsageFault.ToNoFile
+        → IfSome (first_value (found_of matches.now) (codes "to")) (λ to. (to ≡ []) ⊎ (to ≡ codes "-")) }
+    ensures others { result ≡ Err UsageFault.ToAndOthers → IsForMany matches.now }
+    ensures others_to { result ≡ Err UsageFault.ToAndOthers → first_value (found_of matches.now) (codes "to") ≢ None }
 {
     let Some(key) = matches.get_str("key") else {
         return Err(UsageFault::Missing);
     };
     if files.is_empty() {
         return Err(UsageFault::NoFiles);
+    }
+    let to = matches.get_str("to");
+    let into = matches.get_str("into");
+    let skip = matches.get_flag("skip-existing");
+    let has_list = matches.get_str("files-from").is_some();
+    if to.is_some() && (into.is_some() || skip || has_list) {
+        return Err(UsageFault::ToAndOthers);
+    }
+    if to.is_some() && files.len() > 1 {
+        return Err(UsageFault::ToForMany);
+    }
+    match to {
+        Some("") | Some("-") => return Err(UsageFault::ToNoFile),
+        _ => {}
     }
     let numbers = match open_numbers(matches, DEFAULT_MAX_BYTES) {
         Ok(numbers) => numbers,
@@ -301,8 +331,9 @@ pub fn open_request<'m, 'a>(
         max_bytes: numbers.max_bytes,
         label,
         show: matches.get_flag("show"),
-        into: matches.get_str("into"),
-        skip: matches.get_flag("skip-existing"),
+        to,
+        into,
+        skip,
         sync: matches.get_flag("sync"),
         private: matches.get_flag("private"),
     })
