@@ -1,4 +1,4 @@
-//! Files that are read twice: `reader`, and `spool` for what can be read only once. `command_core` reads through them.
+//! Files that are read twice: `reader`, and `spool` for what can be read only once.
 //!
 //! The record of a run: which files were read, and what its outputs hold, at every moment. This part is proof only, and
 //! no command uses it yet. Begin with `folder`. An engine writes to the output in hand of a folder through `hand`.
@@ -14,5 +14,5 @@ pub mod spool;
 pub use crate::fault::FolderFault;
 pub use crate::folder::{Folder, OpeningFolder, Outputs, Place, Whole};
 pub use crate::hand::{InHand, Rest, lent_of, taken_in_hand};
-pub use crate::reader::{FileReader, Reading, WholeFile};
+pub use crate::reader::{FileReader, WholeFile};
 pub use crate::spool::{Spool, Spooled};

@@ -4,7 +4,7 @@ ghost use Rattle.std.specs.Io.{ReadsAtMost};
 ghost use Rattle.io_core.specs.Streams.{ReadConsumes, counted};
 
 use io_core::{Failed, Source};
-use std::marker::{Brand, PhantomData};
+use std::marker::Brand;
 
 /// A reader of a file.
 pub trait FileReader: Source {
@@ -17,9 +17,6 @@ pub trait FileReader: Source {
         ensures bytes { ReadConsumes (Self.left self.old) (Self.left self.new) result buffer.new }
         ensures count { Self.failures self.new ≡ counted (is_err result) (Self.failures self.old) }
         ensures whole { whole self.new ≡ whole self.old };
-
-    /// Whether the file can be read again. A pipe can't.
-    fn can_repeat(&self) -> bool;
 
     /// Goes back to the file's first byte. Fails if the file can't be read again.
     fn again(&mut self) -> Result<(), Failed>
@@ -35,51 +32,4 @@ pub trait WholeFile {
 // A call that passes `Brand` picks the bytes.
 impl WholeFile for Brand {
     ghost whole = { None };
-}
-
-/// A reader that an engine reads from: whatever the engine does, it remains a reader of the same file.
-#[derive(Drop)]
-pub struct Reading<R: FileReader + Drop, N: WholeFile> {
-    /// The reader.
-    pub reader: R,
-    of: PhantomData<N>,
-    ghost same: { R.whole reader ≡ N.whole },
-}
-
-impl<R: FileReader + Drop, N: WholeFile> Source for Reading<R, N> {
-    ghost left = { λ r. R.left r.reader };
-
-    ghost failures = { λ r. R.failures r.reader };
-
-    fn read(&mut self, buffer: &mut [u8]) -> Result<usize, Failed> {
-        self.reader.read_on(buffer)
-    }
-}
-
-impl<R: FileReader + Drop, N: WholeFile> Reading<R, N> {
-    /// Returns the reader, of the file that `N` names.
-    pub fn of(reader: R) -> Reading<R, N>
-        requires file { R.whole reader ≡ N.whole }
-        ensures { result.reader ≡ reader }
-    {
-        Reading {
-            reader,
-            of: PhantomData,
-        }
-    }
-
-    /// Returns the reader of the file once the engine is done.
-    pub fn file(self) -> R
-        ensures file { R.whole result ≡ N.whole }
-        ensures same { result ≡ self.reader }
-    {
-        self.reader
-    }
-
-    /// Goes back to the file's first byte, whatever the engine did. Fails if the file can't be read again.
-    pub fn again(&mut self) -> Result<(), Failed>
-        ensures again { OnOk result (IfSome N.whole (λ bytes. R.left self.new.reader ≡ Some bytes)) }
-    {
-        self.reader.again()
-    }
 }

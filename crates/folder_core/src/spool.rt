@@ -97,10 +97,6 @@ impl<R: Source + Drop, S: Spool + Drop, N: WholeFile> FileReader for Spooled<R, 
         }
     }
 
-    fn can_repeat(&self) -> bool {
-        true
-    }
-
     fn again(&mut self) -> Result<(), Failed> {
         match self.stage {
             Stage::Lost => Err(Failed),

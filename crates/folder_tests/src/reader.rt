@@ -30,10 +30,6 @@ impl FileReader for MemoryReader {
         Ok(n)
     }
 
-    fn can_repeat(&self) -> bool {
-        true
-    }
-
     fn again(&mut self) -> Result<(), Failed> {
         self.at = 0;
         Ok(())
