@@ -1,28 +1,31 @@
 -- What happened for a file whose output was created: it was finished, or given up.
-use Rattle.std.proofs.Common.{◌≡◌, inr, ℕ, refl, sym, ap, subst, ◌∙◌, List, [], ◌∷◌, ◌++◌, length, append-nil, append_assoc}
+use Rattle.std.specs.Prelude.{⊤}
+use Rattle.std.proofs.Common.{◌≡◌, ◌≢◌, ◌⊎◌, inl, inr, ℕ, refl, sym, ap, subst, ◌∙◌, List, [], ◌∷◌, ◌++◌, length, append-nil}
 use Rattle.std.proofs.Common.{Option, None, Some, IfSome, Result, Ok, Err, IfErr, IfOk, OnOk}
 use Rattle.container_core.specs.declared.fault.OpenFault.{OpenFault}
 use Rattle.container_core.specs.declared.fault.OpenFault.TheVariants as bytes
 use Rattle.container_core.specs.Faults.{IsOfBytes}
 use Rattle.container_core.specs.Opening.{opening}
-use Rattle.io_core.specs.Streams.{Appends, AppendsFront}
+use Rattle.io_core.specs.Streams.{Appends, AppendsFront, Keeps}
 use Rattle.opening_core.specs.declared.twice.Stopped.{Stopped}
 use Rattle.opening_core.specs.declared.twice.Stopped.TheVariants as stop
 use Rattle.opening_core.specs.Engine.{HasHeader, OpensTo}
 use Rattle.opening_core.specs.Twice.{MayWrite, WritesAll, WritesSome}
+use Rattle.opening_core.specs.Windows.{HasSent}
 use Rattle.output_core.specs.Bounds.{Admits, Allows, Bound, Exactly}
 use Rattle.command_core.specs.declared.folder.FolderFault.{FolderFault}
 use Rattle.command_core.specs.declared.folder.FolderFault.TheVariants as refusal
 use Rattle.command_core.specs.declared.line.FileFault.{FileFault}
 use Rattle.command_core.specs.declared.line.FileFault.TheVariants.{Unopened, OutputExists, CannotCreate, Changed}
 use Rattle.command_core.specs.declared.line.FileOutcome.TheVariants.{Opened, Failed}
-use Rattle.command_core.specs.Again.{Gives, IsAgainFault}
+use Rattle.command_core.specs.Again.{IsAgainFault, IsBegun, IsGood}
 use Rattle.command_core.specs.Labels.{IsLabelled}
-use Rattle.command_core.specs.Session.{IsBoundTo}
+use Rattle.command_core.specs.Session.{IsBoundAgain, IsBoundTo}
 use Rattle.command_core.specs.Trace.{Event, Created, Finished, Discarded, Reading, Does, Nothing, Opens, Creates, Finishes}
-use Rattle.command_core.specs.Trace.{Discards, IsOpenedBy, Refuses, plain_in, plain_of}
-use Rattle.command_core.specs.Work.{IsGivenUp, IsGood, Opening, output_of}
-use Rattle.command_core.proofs.Traces.{chain, known, finished_as, discarded_as}
+use Rattle.command_core.specs.Trace.{Discards, IsOpenedBy, IsReadAgain, Refuses, tape}
+use Rattle.command_core.specs.Trace as trace
+use Rattle.command_core.specs.Work.{IsBrokenOff, IsRefused, Opening}
+use Rattle.command_core.proofs.Traces.{chain, known, finished_as, discarded_as, tape_as, weaken}
 
 -- ---- what a file had
 
@@ -38,314 +41,341 @@ pub if_err : {A B : Type 0} (P : B → Type 0) (r : Result A B) (x : B) → r �
 if_err P (Ok y) x is p = absurd (cc)
 if_err P (Err e) x is p = let same : e ≡ x = cc in subst P same p
 
-pub opens_whole : (name : List ℕ) (left whole whole' : Option (List ℕ)) (before told : Option (List Event))
-    → Does (Opens name left) before told → IfSome told (λ _. whole ≡ left) → whole' ≡ whole
-    → Does (Opens name whole') before told
-opens_whole name left whole whole' before None opens knows same = tt
-opens_whole name left whole whole' None (Some now) opens knows same = absurd opens
-opens_whole name left whole whole' (Some first) (Some now) (events, (bytes, is, one), all) knows same =
-    (events, (bytes, same ∙ knows ∙ is, one), all)
+-- a reading is good, if its bytes are known
+abbrev pub IsGoodIf : List ℕ → ℕ → Option (List ℕ) → Option (List ℕ) → Type 0
+IsGoodIf key most label left = IfSome left (λ input. (plain : List ℕ) × IsGood key most label input plain)
 
-pub given : (P : List ℕ → Type 0) (whole left : Option (List ℕ)) → Gives whole left → IfSome left P → IfSome whole P
-given P None left gives p = tt
-given P (Some bytes) None gives p = absurd (cc)
-given P (Some bytes) (Some other) gives p = let same : other ≡ bytes = cc in subst P same p
+pub good_of : (key : List ℕ) (most n : ℕ) (label left : Option (List ℕ))
+    → IfSome left (λ input. OpensTo key most input n × IsLabelled label input) → IsGoodIf key most label left
+good_of key most n label None good = tt
+good_of key most n label (Some input) ((plain, ok, count), labelled) = (plain, (ok, labelled))
 
-pub gives_whole : (whole whole' left : Option (List ℕ)) → whole' ≡ whole → Gives whole' left → Gives whole left
-gives_whole whole whole' left same gives = subst (λ w. Gives w left) same gives
+pub good_by : (key : List ℕ) (most : ℕ) (label left : Option (List ℕ)) (plain : List ℕ)
+    → IfSome left (λ input. IsGood key most label input plain) → IsGoodIf key most label left
+good_by key most label None plain good = tt
+good_by key most label (Some input) plain good = (plain, good)
 
--- a file whose whole container was checked
-pub good_of : (key : List ℕ) (most n : ℕ) (label whole left : Option (List ℕ)) → Gives whole left
-    → IfSome left (λ input. OpensTo key most input n × IsLabelled label input)
-    → IfSome whole (λ input. (plain : List ℕ) × IsGood key most label input plain)
-good_of key most n label None left gives good = tt
-good_of key most n label (Some input) left gives good =
-    let ((plain, ok, count), labelled) =
-    known (λ input. OpensTo key most input n × IsLabelled label input) left input gives good in (plain, (ok, labelled))
+-- what came is of this kind, where it is known
+came : {p : List Event → Type 0} (q : List Event → Type 0) (one told : Option (List Event))
+    → ((before events : List Event) → p events → q (before ++ events)) → Does p one told → IfSome told q
+came q one None f does = tt
+came q None (Some now) f does = absurd does
+came q (Some before) (Some now) f (events, is, all) = subst q (sym all) (f before events is)
 
-pub opens_of : (key : List ℕ) (most : ℕ) (label whole : Option (List ℕ))
-    → IfSome whole (λ input. (plain : List ℕ) × IsGood key most label input plain)
-    → IfSome whole (λ input. (plain : List ℕ) × (opening key most input ≡ Ok plain))
-opens_of key most label None good = tt
-opens_of key most label (Some input) (plain, is) = (plain, is.0)
-
-pub labelled_of : (key : List ℕ) (most : ℕ) (label whole : Option (List ℕ))
-    → IfSome whole (λ input. (plain : List ℕ) × IsGood key most label input plain) → IfSome whole (IsLabelled label)
-labelled_of key most label None good = tt
-labelled_of key most label (Some input) (plain, is) = is.1
-
-pub ok_of : (key : List ℕ) (most : ℕ) (label whole : Option (List ℕ)) (plain : List ℕ)
-    → IfSome whole (λ input. IsGood key most label input plain) → IfSome whole (λ input. opening key most input ≡ Ok plain)
-ok_of key most label None plain good = tt
-ok_of key most label (Some input) plain good = good.0
-
-pub opens_good : (key : List ℕ) (most : ℕ) (label whole : Option (List ℕ)) (plain : List ℕ)
-    → IfSome whole (λ input. IsGood key most label input plain)
-    → IfSome whole (λ input. (plain : List ℕ) × IsGood key most label input plain)
-opens_good key most label None plain good = tt
-opens_good key most label (Some input) plain good = (plain, good)
-
-pub opens_by : (key : List ℕ) (most : ℕ) (label whole : Option (List ℕ)) (plain : List ℕ)
-    → IfSome whole (λ input. IsGood key most label input plain)
-    → IfSome whole (λ input. (plain : List ℕ) × (opening key most input ≡ Ok plain))
-opens_by key most label None plain good = tt
-opens_by key most label (Some input) plain good = (plain, good.0)
-
--- the bytes of a file that was opened, where it is known what happened since
-pub read_bytes : (k : List Event → Type 0) (name : List ℕ) (whole : Option (List ℕ)) (before told told' : Option (List Event))
-    (events : List Event) → Does (Opens name whole) before told → Does k told told' → told' ≡ Some events
-    → (input : List ℕ) × (whole ≡ Some input)
-read_bytes k name whole None None None events opens does is = absurd (cc)
-read_bytes k name whole before told None events opens does is = absurd (cc)
-read_bytes k name whole before None (Some now) events opens does is = absurd does
-read_bytes k name whole None (Some then) (Some now) events opens does is = absurd opens
-read_bytes k name whole (Some first) (Some then) (Some now) events (more, (input, had, one), all) does is = (input, had)
-
-opened_of : (key : List ℕ) (most : ℕ) (whole whole' : Option (List ℕ)) (input plain : List ℕ) → whole' ≡ whole
-    → whole ≡ Some input → opening key most input ≡ Ok plain → plain_of key most whole' ≡ plain
-opened_of key most whole whole' input plain same is opens = ap (plain_of key most) (same ∙ is) ∙ ap plain_in opens
-
--- an output may be asked to hold the plaintext
-pub may_hold : (k : List Event → Type 0) (key : List ℕ) (most : ℕ) (name : List ℕ) (whole whole' : Option (List ℕ))
-    (before told told' : Option (List Event)) → Does (Opens name whole) before told → Does k told told' → whole' ≡ whole
-    → IfSome whole (λ input. (plain : List ℕ) × (opening key most input ≡ Ok plain))
-    → IfSome told' (IsOpenedBy key name (plain_of key most whole'))
-may_hold k key most name whole whole' before told None opens does same good = tt
-may_hold k key most name whole whole' before None (Some now) opens does same good = absurd does
-may_hold k key most name whole whole' None (Some then) (Some now) opens does same good = absurd opens
-may_hold k key most name whole whole' (Some first) (Some then) (Some now) (one, (input, had, is), all) (more, kind, grown) same good =
-    let (plain, ok) = known (λ input. (plain : List ℕ) × (opening key most input ≡ Ok plain)) whole input had good in (
-      input,
-      most,
-      first,
-      more,
-      grown ∙ ap (λ l. l ++ more) (all ∙ ap (λ l. first ++ l) is) ∙ append_assoc first (Reading name input ∷ []) more,
-      ok ∙ ap (λ p. Ok p) (sym (opened_of key most whole whole' input plain same had ok)),
-    )
+-- ---- what an output may hold
 
 -- a bound that was declared so allows it
 allows_all : (b : Bound) (held plain : List ℕ) → b ≡ Exactly (held ++ plain) → Allows b (held ++ plain)
 allows_all b held plain is = subst (λ x. Allows x (held ++ plain)) (sym is) ([], sym (append-nil (held ++ plain)))
 
-pub may_again : (k : List Event → Type 0) (key : List ℕ) (most : ℕ) (name : List ℕ)
-    (whole whole' left taken taken' : Option (List ℕ)) (bound : Option Bound) (before told told' : Option (List Event))
-    → Does (Opens name whole) before told → Does k told told' → whole' ≡ whole
-    → IfSome whole (λ input. (plain : List ℕ) × (opening key most input ≡ Ok plain)) → Gives whole left → taken' ≡ taken
-    → IfSome bound (IsBoundTo (λ held. Exactly (held ++ plain_of key most whole')) taken)
-    → IfSome bound (λ _. (events : List Event) × (told' ≡ Some events)) → IfSome bound (MayWrite key most left taken')
-may_again k key most name whole whole' left taken taken' None before told told' opens does same good gives kept bounds knows = tt
-may_again k key most name whole whole' left taken taken' (Some b) before told told' opens does same good gives kept
-    (held, had, is) (events, now) =
-    let (input, was) = read_bytes k name whole before told told' events opens does now in
-    let (plain, ok) = known (λ input. (plain : List ℕ) × (opening key most input ≡ Ok plain)) whole input was good in (
-      input,
-      plain,
-      held,
-      known (λ bytes. left ≡ Some bytes) whole input was gives,
-      ok,
-      kept ∙ had,
-      allows_all b held plain (is ∙ ap (λ p. Exactly (held ++ p)) (opened_of key most whole whole' input plain same was ok)),
-    )
+pub read_once : (k : List Event → Type 0) (key : List ℕ) (most : ℕ) (label : Option (List ℕ)) (name plain : List ℕ)
+    (left : Option (List ℕ)) (one two three : Option (List Event)) → Does k two three
+    → IfSome left (λ input. IsGood key most label input plain) → Does (Opens name left) one two
+    → IfSome three (IsOpenedBy key name plain)
+read_once k key most label name plain left one two three does good opens =
+    came (IsOpenedBy key name plain) one three (λ before events is. (is.0, most, before, is.1, (λ i. before ++ is.2 i), is.3))
+    (chain (λ events. (input : List ℕ) × (after : List Event) × (events ≡ Reading name input ∷ after) × (opening key most input ≡ Ok plain))
+    (λ x y o e. (o.0, y, (λ i. o.2 i ++ y), (known (λ input. IsGood key most label input plain) left o.0 o.1 good).0))
+    one two three opens does)
 
-pub may_once : (k : List Event → Type 0) (key : List ℕ) (most : ℕ) (name plain : List ℕ)
-    (whole whole' taken taken' : Option (List ℕ)) (bound : Option Bound) (before told told' : Option (List Event))
-    → Does (Opens name whole) before told → Does k told told' → whole' ≡ whole
-    → IfSome whole (λ input. opening key most input ≡ Ok plain) → taken' ≡ taken
-    → IfSome bound (IsBoundTo (λ held. Exactly (held ++ plain_of key most whole')) taken)
-    → IfSome bound (λ _. (events : List Event) × (told' ≡ Some events)) → Admits bound taken' plain
-may_once k key most name plain whole whole' taken taken' None before told told' opens does same good kept bounds knows = tt
-may_once k key most name plain whole whole' taken taken' (Some b) before told told' opens does same good kept
-    (held, had, is) (events, now) =
-    let (input, was) = read_bytes k name whole before told told' events opens does now in
-    let ok = known (λ input. opening key most input ≡ Ok plain) whole input was good in (
-      held,
-      kept ∙ had,
-      allows_all b held plain (is ∙ ap (λ p. Exactly (held ++ p)) (opened_of key most whole whole' input plain same was ok)),
-    )
+pub read_again : (k : List Event → Type 0) (key : List ℕ) (most : ℕ) (label : Option (List ℕ)) (name : List ℕ)
+    (left left' : Option (List ℕ)) (one two three four : Option (List Event)) → Does k three four
+    → IsGoodIf key most label left → Does (Opens name left') two three → Does (Opens name left) one two
+    → IfSome four (IsReadAgain key most name left')
+read_again k key most label name left left' one two three four does good again opens =
+    came (IsReadAgain key most name left') one four
+    (λ before events is. (is.0, is.1, is.2, before, is.3, is.4, is.5, (λ i. before ++ is.6 i)))
+    (chain (λ events. (first : List ℕ) × (last : List ℕ) × (plain : List ℕ) × (after : List Event) × (left' ≡ Some last)
+    × (opening key most first ≡ Ok plain) × (events ≡ Reading name first ∷ Reading name last ∷ after))
+    (λ x y o e.
+    let (plain, is) = known (λ input. (plain : List ℕ) × IsGood key most label input plain) left o.0 o.1 good in
+    (o.0, e.0, plain, e.1, e.2, is.0, (λ i. o.2 i ++ e.3 i)))
+    one two four opens
+    (chain (λ events. (last : List ℕ) × (after : List Event) × (left' ≡ Some last) × (events ≡ Reading name last ∷ after))
+    (λ x y a e. (a.0, y, a.1, (λ i. a.2 i ++ y))) two three four again does))
+
+pub may_again : (key : List ℕ) (most : ℕ) (left taken taken' : Option (List ℕ)) (bound : Option Bound) → taken' ≡ taken
+    → IfSome bound (IsBoundAgain key most left taken) → IfSome bound (MayWrite key most left taken')
+may_again key most left taken taken' None kept bounds = tt
+may_again key most left taken taken' (Some b) kept (input, plain, had, ok, (held, took, is)) =
+    (input, plain, held, had, ok, kept ∙ took, allows_all b held plain is)
+
+pub may_once : (plain : List ℕ) (taken taken' : Option (List ℕ)) (bound : Option Bound) → taken' ≡ taken
+    → IfSome bound (IsBoundTo (λ held. Exactly (held ++ plain)) taken) → Admits bound taken' plain
+may_once plain taken taken' None kept bounds = tt
+may_once plain taken taken' (Some b) kept (held, took, is) = (held, kept ∙ took, allows_all b held plain is)
 
 -- ---- an output that was refused
 
-refused_exists : (key : List ℕ) (most : ℕ) (label : Option (List ℕ)) (name output : List ℕ) (whole : Option (List ℕ))
-    (one two three : Option (List Event)) → output ≡ output_of name
-    → IfSome whole (λ input. (plain : List ℕ) × IsGood key most label input plain)
-    → Does (Refuses output refusal.Exists) two three → Does (Opens name whole) one two
-    → Does (Opening key most label name (Failed OutputExists)) one three
-refused_exists key most label name output whole one two three named good refuses opens =
-    chain (Opening key most label name (Failed OutputExists)) (λ x y o e.
-    let (plain, is) = known (λ input. (plain : List ℕ) × IsGood key most label input plain) whole o.0 o.1 good in
-    let last = e ∙ ap (λ n. Rattle.command_core.specs.Trace.Refused n refusal.Exists ∷ []) named in
-    (o.0, plain, is, (λ i. o.2 i ++ last i))) one two three opens refuses
+told_as : (key : List ℕ) (most : ℕ) (label : Option (List ℕ)) (output name : List ℕ) (refused : FolderFault) (fault : FileFault)
+    (events : List Event) → (refused ≡ refusal.Exists → fault ≡ OutputExists) × (refused ≡ refusal.Failed → fault ≡ CannotCreate)
+    → IsRefused key most label output name refused events → Opening key most label output name (Failed fault) events
+told_as key most label output name refusal.Exists fault events told is =
+    subst (λ f. Opening key most label output name (Failed f) events) (sym (told.0 refl)) is
+told_as key most label output name refusal.Failed fault events told is =
+    subst (λ f. Opening key most label output name (Failed f) events) (sym (told.1 refl)) is
 
-refused_failed : (key : List ℕ) (most : ℕ) (label : Option (List ℕ)) (name output : List ℕ) (whole : Option (List ℕ))
-    (one two three : Option (List Event)) → output ≡ output_of name
-    → IfSome whole (λ input. (plain : List ℕ) × IsGood key most label input plain)
-    → Does (Refuses output refusal.Failed) two three → Does (Opens name whole) one two
-    → Does (Opening key most label name (Failed CannotCreate)) one three
-refused_failed key most label name output whole one two three named good refuses opens =
-    chain (Opening key most label name (Failed CannotCreate)) (λ x y o e.
-    let (plain, is) = known (λ input. (plain : List ℕ) × IsGood key most label input plain) whole o.0 o.1 good in
-    let last = e ∙ ap (λ n. Rattle.command_core.specs.Trace.Refused n refusal.Failed ∷ []) named in
-    (o.0, plain, is, (λ i. o.2 i ++ last i))) one two three opens refuses
-
-pub refused_as : (key : List ℕ) (most : ℕ) (label : Option (List ℕ)) (name output : List ℕ) (whole : Option (List ℕ))
-    (refused : FolderFault) (fault : FileFault) (one two three : Option (List Event)) → output ≡ output_of name
-    → IfSome whole (λ input. (plain : List ℕ) × IsGood key most label input plain)
+pub refused_twice : (key : List ℕ) (most : ℕ) (label : Option (List ℕ)) (name output : List ℕ) (left left' : Option (List ℕ))
+    (refused : FolderFault) (fault : FileFault) (one two three four : Option (List Event)) → IsGoodIf key most label left
     → (refused ≡ refusal.Exists → fault ≡ OutputExists) × (refused ≡ refusal.Failed → fault ≡ CannotCreate)
-    → Does (Refuses output refused) two three → Does (Opens name whole) one two
-    → Does (Opening key most label name (Failed fault)) one three
-refused_as key most label name output whole refusal.Exists fault one two three named good told refuses opens =
-    subst (λ f. Does (Opening key most label name (Failed f)) one three) (sym (told.0 refl))
-    (refused_exists key most label name output whole one two three named good refuses opens)
-refused_as key most label name output whole refusal.Failed fault one two three named good told refuses opens =
-    subst (λ f. Does (Opening key most label name (Failed f)) one three) (sym (told.1 refl))
-    (refused_failed key most label name output whole one two three named good refuses opens)
+    → Does (Refuses output refused) three four → Does (Opens name left') two three → Does (Opens name left) one two
+    → Does (Opening key most label output name (Failed fault)) one four
+refused_twice key most label name output left left' refused fault one two three four good told refuses again opens =
+    chain (Opening key most label output name (Failed fault)) (λ x y o e.
+    let (plain, is) = known (λ input. (plain : List ℕ) × IsGood key most label input plain) left o.0 o.1 good in
+    told_as key most label output name refused fault (x ++ y) told (
+      o.0,
+      plain,
+      Reading name o.0 ∷ Reading name e.0 ∷ [],
+      is,
+      inr (e.0, refl),
+      (λ i. o.2 i ++ e.1 i),
+    )) one two four opens
+    (chain (λ events. (last : List ℕ) × (events ≡ Reading name last ∷ trace.Refused output refused ∷ []))
+    (λ x y a r. (a.0, (λ i. a.2 i ++ r i))) two three four again refuses)
+
+pub refused_once : (key : List ℕ) (most : ℕ) (label : Option (List ℕ)) (name output : List ℕ) (left : Option (List ℕ))
+    (refused : FolderFault) (fault : FileFault) (one two three : Option (List Event)) → IsGoodIf key most label left
+    → (refused ≡ refusal.Exists → fault ≡ OutputExists) × (refused ≡ refusal.Failed → fault ≡ CannotCreate)
+    → Does (Refuses output refused) two three → Does (Opens name left) one two
+    → Does (Opening key most label output name (Failed fault)) one three
+refused_once key most label name output left refused fault one two three good told refuses opens =
+    chain (Opening key most label output name (Failed fault)) (λ x y o r.
+    let (plain, is) = known (λ input. (plain : List ℕ) × IsGood key most label input plain) left o.0 o.1 good in
+    told_as key most label output name refused fault (x ++ y) told (
+      o.0,
+      plain,
+      Reading name o.0 ∷ [],
+      is,
+      inl refl,
+      (λ i. o.2 i ++ r i),
+    )) one two three opens refuses
 
 -- ---- by two readings
 
 -- the output was finished
-pub written_again : (key : List ℕ) (most n : ℕ) (label : Option (List ℕ)) (name output : List ℕ)
-    (whole left taken : Option (List ℕ)) (one two three four : Option (List Event)) → output ≡ output_of name
-    → IfSome whole (IsLabelled label) → Gives whole left → Does (Creates output taken) two three
-    → (taken' : Option (List ℕ)) × IfSome left (λ input. WritesAll key most taken taken' input n)
-    × Does (Finishes taken') three four → Does (Opens name whole) one two
-    → Does (Opening key most label name (Opened n)) one four
-written_again key most n label name output whole left taken one two three four named labelled gives creates
-    (taken', wrote, finishes) opens = chain (Opening key most label name (Opened n)) (λ x y o e.
-    let here = known (λ bytes. left ≡ Some bytes) whole o.0 o.1 gives in
-    let (plain, ok, grew, count, last) = e o.0 here in (
-      o.0,
-      plain,
-      (ok, known (IsLabelled label) whole o.0 o.1 labelled),
+pub opened_twice : (key header : List ℕ) (most n : ℕ) (label : Option (List ℕ)) (name output : List ℕ)
+    (left left' taken : Option (List ℕ)) (one two three four five : Option (List Event)) → IsGoodIf key most label left
+    → IfSome left (HasHeader header) → ((input : List ℕ) → HasHeader header input → IsLabelled label input)
+    → (taken' : Option (List ℕ)) × IfSome left' (λ input. HasHeader header input × WritesAll key most taken taken' input n)
+    × Does (Finishes taken') four five → Does (Creates output taken) three four → Does (Opens name left') two three
+    → Does (Opens name left) one two → Does (Opening key most label output name (Opened n)) one five
+opened_twice key header most n label name output left left' taken one two three four five good headed labelled
+    (taken', wrote, finishes) creates again opens =
+    chain (Opening key most label output name (Opened n)) (λ x y o e.
+    let (plain, is) = known (λ input. (plain : List ℕ) × IsGood key most label input plain) left o.0 o.1 good in
+    let (last, whole, same, ok, count, rest) = e in (
+      last,
+      whole,
+      Reading name o.0 ∷ [],
+      (ok, labelled last same),
       count,
-      (λ i. o.2 i ++ last i),
-    )) one two four opens
-    (chain (λ events. (input : List ℕ) → left ≡ Some input → (plain : List ℕ) × (opening key most input ≡ Ok plain)
-    × Appends taken taken' plain × (n ≡ length plain) × (events ≡ Created (output_of name) ∷ Finished (output_of name) plain ∷ []))
+      inr (header, o.0, plain, is, known (HasHeader header) left o.0 o.1 headed, same, refl),
+      (λ i. o.2 i ++ rest i),
+    )) one two five opens
+    (chain (λ events. (last : List ℕ) × (whole : List ℕ) × HasHeader header last × (opening key most last ≡ Ok whole)
+    × (n ≡ length whole) × (events ≡ Reading name last ∷ Created output ∷ Finished output whole ∷ []))
+    (λ x y a e.
+    let (whole, same, ok, count, rest) = e a.0 a.1 in
+    (a.0, whole, same, ok, count, (λ i. a.2 i ++ rest i)))
+    two three five again
+    (chain (λ events. (input : List ℕ) → left' ≡ Some input → (whole : List ℕ) × HasHeader header input
+    × (opening key most input ≡ Ok whole) × (n ≡ length whole) × (events ≡ Created output ∷ Finished output whole ∷ []))
     (λ x y c f. λ input had.
-    let (plain, ok, grew, count) = known (λ input. WritesAll key most taken taken' input n) left input had wrote in
-    let last : y ≡ Finished output plain ∷ [] = finished_as output [] plain taken taken' y c.0 grew f in
-    let both : x ++ y ≡ Created output ∷ Finished output plain ∷ [] = (λ i. c.1 i ++ last i) in
-    (plain, ok, grew, count, both ∙ ap (λ o. Created o ∷ Finished o plain ∷ []) named)) two three four creates finishes)
+    let (same, (whole, ok, grew, count)) = known (λ input. HasHeader header input × WritesAll key most taken taken' input n) left' input had wrote in
+    let last : y ≡ Finished output whole ∷ [] = finished_as output [] whole taken taken' y c.0 grew f in
+    (whole, same, ok, count, (λ i. c.1 i ++ last i))) three four five creates finishes))
+
+-- what an output was given up with is what was written after its name
+front_as : (output other bytes plain : List ℕ) (taken taken' : Option (List ℕ)) → taken ≡ Some (tape output [])
+    → taken' ≡ Some (tape other bytes) → AppendsFront taken taken' plain
+    → (other ≡ output) × AppendsFront (Some []) (Some bytes) plain
+front_as output other bytes plain taken taken' had has (front, begins, grew) =
+    let same = tape_as output other [] front bytes taken taken' had grew has in (same.0, (front, begins, same.1))
+
+kept_appends : (old new : Option (List ℕ)) → Keeps old new → Appends old new []
+kept_appends None new keeps = tt
+kept_appends (Some xs) None keeps = absurd keeps
+kept_appends (Some xs) (Some ys) keeps = keeps ∙ sym (append-nil xs)
+
+begun_as : (key : List ℕ) (most : ℕ) (header last output other bytes : List ℕ) (taken taken' : Option (List ℕ))
+    → taken ≡ Some (tape output []) → taken' ≡ Some (tape other bytes) → IsBegun key most header last taken taken'
+    → (other ≡ output) × IsBegun key most header last (Some []) (Some bytes)
+begun_as key most header last output other bytes taken taken' had has (writes, inl keeps) =
+    let same = tape_as output other [] [] bytes taken taken' had (kept_appends taken taken' keeps) has in
+    (same.0, ((λ plain ok. (front_as output other bytes plain taken taken' had has (writes plain ok)).1), inl same.1))
+begun_as key most header last output other bytes taken taken' had has (writes, inr (inl sent)) =
+    let same = front_as output other bytes sent.plain taken taken' had has sent.sent in (
+      same.0,
+      (
+        (λ plain ok. (front_as output other bytes plain taken taken' had has (writes plain ok)).1),
+        inr (inl (record {
+          body = sent.body;
+          plain = sent.plain;
+          last = sent.last;
+          read = sent.read;
+          checked = sent.checked;
+          sent = same.1;
+        })),
+      ),
+    )
+begun_as key most header last output other bytes taken taken' had has (writes, inr (inr (headed, (whole, ok, front)))) =
+    let same = front_as output other bytes whole taken taken' had has front in
+    (same.0, ((λ plain is. (front_as output other bytes plain taken taken' had has (writes plain is)).1), inr (inr (headed, (whole, ok, same.1)))))
+
+-- all of it was written, or what HasWrittenAgain says of a stop
+all_appends : (plain : List ℕ) (old new : Option (List ℕ)) → Appends old new plain → AppendsFront old new plain
+all_appends plain old new grew = (plain, ([], sym (append-nil plain)), grew)
+
+pub begun_whole : (key : List ℕ) (most n : ℕ) (header : List ℕ) (left taken taken' : Option (List ℕ))
+    → IfSome left (λ input. WritesAll key most taken taken' input n) → IfSome left (HasHeader header)
+    → IfSome left (λ input. IsBegun key most header input taken taken')
+begun_whole key most n header None taken taken' wrote headed = tt
+begun_whole key most n header (Some input) taken taken' (plain, ok, grew, count) headed = (
+  (λ other is. let same : plain ≡ other = cc in subst (AppendsFront taken taken') same (all_appends plain taken taken' grew)),
+  inr (inr (headed, (plain, ok, all_appends plain taken taken' grew))),
+)
+
+pub begun_part : (key : List ℕ) (most : ℕ) (header : List ℕ) (left taken taken' : Option (List ℕ))
+    → IfSome left (WritesSome key most taken taken') → Keeps taken taken' ⊎ HasSent key header header left taken taken'
+    → IfSome left (λ input. IsBegun key most header input taken taken')
+begun_part key most header None taken taken' wrote sent = tt
+begun_part key most header (Some input) taken taken' wrote (inl keeps) = (wrote, inl keeps)
+begun_part key most header (Some input) taken taken' wrote (inr sent) = (wrote, inr (inl sent))
+
+pub headed_whole : (key : List ℕ) (most n : ℕ) (header : List ℕ) (left taken taken' : Option (List ℕ))
+    → IfSome left (λ input. WritesAll key most taken taken' input n) → IfSome left (HasHeader header)
+    → IfSome left (λ input. HasHeader header input × WritesAll key most taken taken' input n)
+headed_whole key most n header None taken taken' wrote headed = tt
+headed_whole key most n header (Some input) taken taken' wrote headed = (headed, wrote)
 
 -- it was given up
-pub given_up : (key : List ℕ) (most : ℕ) (label : Option (List ℕ)) (name output : List ℕ)
-    (whole left taken : Option (List ℕ)) (one two three five : Option (List Event)) → output ≡ output_of name
-    → IfSome whole (λ input. (plain : List ℕ) × IsGood key most label input plain) → Gives whole left
-    → Does (Creates output taken) two three
-    → (taken' : Option (List ℕ)) × (four : Option (List Event)) × IfSome left (WritesSome key most taken taken')
-    × Does Nothing three four × Does (Discards taken') four five → Does (Opens name whole) one two
-    → Does (IsGivenUp key most label name) one five
-given_up key most label name output whole left taken one two three five named good gives creates
-    (taken', four, wrote, none, discards) opens = chain (IsGivenUp key most label name) (λ x y o e.
-    let here = known (λ bytes. left ≡ Some bytes) whole o.0 o.1 gives in
-    let (plain, is) = known (λ input. (plain : List ℕ) × IsGood key most label input plain) whole o.0 o.1 good in
-    let (front, begins, last) = e o.0 plain here is.0 in (
+broken : (are : List ℕ → List ℕ → Type 0) (key header : List ℕ) (most : ℕ) (label : Option (List ℕ)) (name output : List ℕ)
+    (left left' taken : Option (List ℕ)) (one two three four five : Option (List Event)) → IsGoodIf key most label left
+    → IfSome left (HasHeader header) → ((first last : List ℕ) → left ≡ Some first → left' ≡ Some last → are first last)
+    → (taken' : Option (List ℕ)) × (between : Option (List Event))
+    × IfSome left' (λ input. IsBegun key most header input taken taken') × Does Nothing four between
+    × Does (Discards taken') between five → Does (Creates output taken) three four → Does (Opens name left') two three
+    → Does (Opens name left) one two → Does (IsBrokenOff are key most label output name) one five
+broken are key header most label name output left left' taken one two three four five good headed so
+    (taken', between, wrote, none, discards) creates again opens =
+    chain (IsBrokenOff are key most label output name) (λ x y o e.
+    let good_first = known (λ input. (plain : List ℕ) × IsGood key most label input plain) left o.0 o.1 good in
+    let (last, had, written, begun, rest) = e in (
+      header,
       o.0,
-      plain,
-      front,
-      is,
-      begins,
-      (λ i. o.2 i ++ last i),
+      last,
+      written,
+      Reading name o.0 ∷ Reading name last ∷ [],
+      so o.0 last o.1 had,
+      (known (HasHeader header) left o.0 o.1 headed, good_first, refl),
+      begun,
+      (λ i. o.2 i ++ rest i),
     )) one two five opens
-    (chain (λ events. (input plain : List ℕ) → left ≡ Some input → opening key most input ≡ Ok plain
-    → (front : List ℕ) × Rattle.io_core.specs.Streams.IsFront front plain
-    × (events ≡ Created (output_of name) ∷ Discarded (output_of name) front ∷ []))
-    (λ x y c d. λ input plain had ok.
-    let (front, begins, grew) = known (WritesSome key most taken taken') left input had wrote plain ok in
-    let last : y ≡ Discarded output front ∷ [] = discarded_as output [] front taken taken' y c.0 grew d in
-    let both : x ++ y ≡ Created output ∷ Discarded output front ∷ [] = (λ i. c.1 i ++ last i) in
-    (front, begins, both ∙ ap (λ o. Created o ∷ Discarded o front ∷ []) named)) two three five creates
-    (chain (Discards taken') (λ x y n d. (d.0, d.1, d.2, (λ i. n i ++ d.3 i))) three four five none discards))
+    (chain (λ events. (last : List ℕ) × (left' ≡ Some last) × (written : List ℕ)
+    × IsBegun key most header last (Some []) (Some written)
+    × (events ≡ Reading name last ∷ Created output ∷ Discarded output written ∷ []))
+    (λ x y a e.
+    let (written, begun, rest) = e a.0 a.1 in
+    (a.0, a.1, written, begun, (λ i. a.2 i ++ rest i)))
+    two three five again
+    (chain (λ events. (input : List ℕ) → left' ≡ Some input → (written : List ℕ)
+    × IsBegun key most header input (Some []) (Some written) × (events ≡ Created output ∷ Discarded output written ∷ []))
+    (λ x y c d. λ input had.
+    let (same, begun) = begun_as key most header input output d.0 d.1 taken taken' c.0 d.2
+    (known (λ input. IsBegun key most header input taken taken') left' input had wrote) in
+    let last : y ≡ Discarded output d.1 ∷ [] = d.3 ∙ ap (λ o. Discarded o d.1 ∷ []) same in
+    (d.1, begun, (λ i. c.1 i ++ last i))) three four five creates
+    (chain (Discards taken') (λ x y n d. (d.0, d.1, d.2, (λ i. n i ++ d.3 i))) four between five none discards)))
 
 -- and the line says why
-broken_off : (key : List ℕ) (most : ℕ) (label : Option (List ℕ)) (name : List ℕ) (fault : OpenFault) (events : List Event)
-    → ¬ IsOfBytes fault → IsGivenUp key most label name events
-    → Opening key most label name (Failed (Unopened fault)) events
-broken_off key most label name bytes.TooLong events other up = absurd (other tt)
-broken_off key most label name bytes.ShortHeader events other up = absurd (other tt)
-broken_off key most label name bytes.BadMagic events other up = absurd (other tt)
-broken_off key most label name bytes.BadVersion events other up = absurd (other tt)
-broken_off key most label name bytes.BadExponent events other up = absurd (other tt)
-broken_off key most label name bytes.KeyMismatch events other up = absurd (other tt)
-broken_off key most label name bytes.BadLength events other up = absurd (other tt)
-broken_off key most label name (bytes.Forged chunk) events other up = absurd (other tt)
-broken_off key most label name bytes.OutOfMemory events other up = inr up
-broken_off key most label name bytes.Read events other up = inr up
-broken_off key most label name bytes.Write events other up = up
+broken_off : (key : List ℕ) (most : ℕ) (label : Option (List ℕ)) (output name : List ℕ) (fault : OpenFault) (events : List Event)
+    → ¬ IsOfBytes fault → IsBrokenOff (λ _ _. ⊤) key most label output name events
+    → Opening key most label output name (Failed (Unopened fault)) events
+broken_off key most label output name bytes.TooLong events other up = absurd (other tt)
+broken_off key most label output name bytes.ShortHeader events other up = absurd (other tt)
+broken_off key most label output name bytes.BadMagic events other up = absurd (other tt)
+broken_off key most label output name bytes.BadVersion events other up = absurd (other tt)
+broken_off key most label output name bytes.BadExponent events other up = absurd (other tt)
+broken_off key most label output name bytes.KeyMismatch events other up = absurd (other tt)
+broken_off key most label output name bytes.BadLength events other up = absurd (other tt)
+broken_off key most label output name (bytes.Forged chunk) events other up = absurd (other tt)
+broken_off key most label output name bytes.OutOfMemory events other up = inr up
+broken_off key most label output name bytes.Read events other up = inr up
+broken_off key most label output name bytes.Write events other up = inr up
 
--- the second reading gave the same bytes
-pub unchanged : (key header : List ℕ) (most : ℕ) (label : Option (List ℕ)) (name : List ℕ) (whole left : Option (List ℕ))
-    → IfSome whole (λ input. (plain : List ℕ) × IsGood key most label input plain) → IfSome whole (HasHeader header)
-    → Gives whole left
-    → IfSome left (λ input. (plain : List ℕ) → HasHeader header input → opening key most input ≡ Ok plain → ⊥)
-    → (input : List ℕ) → whole ≡ Some input → ⊥
-unchanged key header most label name whole left good headed gives differs input had =
-    let (plain, is) = known (λ input. (plain : List ℕ) × IsGood key most label input plain) whole input had good in
-    known (λ input. (plain : List ℕ) → HasHeader header input → opening key most input ≡ Ok plain → ⊥) left input
-    (known (λ bytes. left ≡ Some bytes) whole input had gives) differs plain (known (HasHeader header) whole input had headed)
-    is.0
+-- readings of which the first opens and the second doesn't, or has another header, differ
+pub differ : (key header : List ℕ) (most : ℕ) (label left left' : Option (List ℕ)) → IsGoodIf key most label left
+    → IfSome left (HasHeader header)
+    → IfSome left' (λ input. (plain : List ℕ) → HasHeader header input → opening key most input ≡ Ok plain → ⊥)
+    → (first last : List ℕ) → left ≡ Some first → left' ≡ Some last → first ≢ last
+differ key header most label left left' good headed why first last had has same =
+    let (plain, is) = known (λ input. (plain : List ℕ) × IsGood key most label input plain) left first had good in
+    known (λ input. (plain : List ℕ) → HasHeader header input → opening key most input ≡ Ok plain → ⊥) left' last has why plain
+    (subst (HasHeader header) same (known (HasHeader header) left first had headed))
+    (subst (λ (i : List ℕ). opening key most i ≡ Ok plain) same is.0)
 
-pub stopped_again : (key header : List ℕ) (most : ℕ) (label : Option (List ℕ)) (name output : List ℕ)
-    (whole left taken : Option (List ℕ)) (stopped : Stopped) (fault : FileFault) (one two three five : Option (List Event))
-    → output ≡ output_of name → IfSome whole (λ input. (plain : List ℕ) × IsGood key most label input plain)
-    → IfSome whole (HasHeader header) → Gives whole left → IsAgainFault key header most left stopped
+pub stopped_twice : (key header : List ℕ) (most : ℕ) (label : Option (List ℕ)) (name output : List ℕ)
+    (left left' taken : Option (List ℕ)) (stopped : Stopped) (fault : FileFault) (one two three four five : Option (List Event))
+    → IsGoodIf key most label left → IfSome left (HasHeader header) → IsAgainFault key header most left' stopped
     → (stopped ≡ stop.Changed → fault ≡ Changed) × ((f : OpenFault) → stopped ≡ stop.Broken f → fault ≡ Unopened f)
-    → Does (Creates output taken) two three
-    → (taken' : Option (List ℕ)) × (four : Option (List Event)) × IfSome left (WritesSome key most taken taken')
-    × Does Nothing three four × Does (Discards taken') four five → Does (Opens name whole) one two
-    → Does (Opening key most label name (Failed fault)) one five
-stopped_again key header most label name output whole left taken (stop.Refused f) fault one two three five named good headed gives
-    why told creates wrote opens = absurd why
-stopped_again key header most label name output whole left taken stop.Changed fault one two three five named good headed gives
-    why told creates (taken', four, wrote, none, discards) opens =
-    chain (Opening key most label name (Failed fault))
-    (λ x y o e. absurd (unchanged key header most label name whole left good headed gives why o.0 o.1)) one two five opens
-    (chain (λ _. Unit {0}) (λ x y c d. tt) two three five creates
-    (chain (λ _. Unit {0}) (λ x y n d. tt) three four five none discards))
-stopped_again key header most label name output whole left taken (stop.Broken f) fault one two three five named good headed gives
-    why told creates wrote opens =
-    subst (λ x. Does (Opening key most label name (Failed x)) one five) (sym (told.1 f refl))
-    (Rattle.command_core.proofs.Traces.weaken (λ events. broken_off key most label name f events why) one five
-    (given_up key most label name output whole left taken one two three five named good gives creates wrote opens))
+    → (taken' : Option (List ℕ)) × (between : Option (List Event))
+    × IfSome left' (λ input. IsBegun key most header input taken taken') × Does Nothing four between
+    × Does (Discards taken') between five → Does (Creates output taken) three four → Does (Opens name left') two three
+    → Does (Opens name left) one two → Does (Opening key most label output name (Failed fault)) one five
+stopped_twice key header most label name output left left' taken (stop.Refused f) fault one two three four five good headed why told
+    wrote creates again opens = absurd why
+stopped_twice key header most label name output left left' taken stop.Changed fault one two three four five good headed why told
+    wrote creates again opens =
+    subst (λ x. Does (Opening key most label output name (Failed x)) one five) (sym (told.0 refl))
+    (broken (λ first last. first ≢ last) key header most label name output left left' taken one two three four five good headed
+    (differ key header most label left left' good headed why) wrote creates again opens)
+stopped_twice key header most label name output left left' taken (stop.Broken f) fault one two three four five good headed why told
+    wrote creates again opens =
+    subst (λ x. Does (Opening key most label output name (Failed x)) one five) (sym (told.1 f refl))
+    (weaken (λ events. broken_off key most label output name f events why) one five
+    (broken (λ _ _. ⊤) key header most label name output left left' taken one two three four five good headed
+    (λ first last had has. tt) wrote creates again opens))
 
 -- ---- by one reading
 
 -- the output was finished
-pub all_written : (key : List ℕ) (most n : ℕ) (label : Option (List ℕ)) (name output plain : List ℕ)
-    (left taken : Option (List ℕ)) (one two three four : Option (List Event)) → output ≡ output_of name
-    → Does (Opens name left) one two → IfSome left (λ input. IsGood key most label input plain)
-    → Does (Creates output taken) two three
-    → (taken' : Option (List ℕ)) × Appends taken taken' plain × Does (Finishes taken') three four → n ≡ length plain
-    → Does (Opening key most label name (Opened n)) one four
-all_written key most n label name output plain left taken one two three four named opens good creates
-    (taken', grew, finishes) count = chain (Opening key most label name (Opened n))
+pub opened_once : (key : List ℕ) (most n : ℕ) (label : Option (List ℕ)) (name output plain : List ℕ)
+    (left taken : Option (List ℕ)) (one two three four : Option (List Event))
+    → IfSome left (λ input. IsGood key most label input plain) → n ≡ length plain
+    → (taken' : Option (List ℕ)) × Appends taken taken' plain × Does (Finishes taken') three four
+    → Does (Creates output taken) two three → Does (Opens name left) one two
+    → Does (Opening key most label output name (Opened n)) one four
+opened_once key most n label name output plain left taken one two three four good count (taken', grew, finishes) creates opens =
+    chain (Opening key most label output name (Opened n))
     (λ x y o e. (
       o.0,
       plain,
+      [],
       known (λ input. IsGood key most label input plain) left o.0 o.1 good,
       count,
+      inl refl,
       (λ i. o.2 i ++ e i),
     ))
     one two four opens
-    (chain (λ events. events ≡ Created (output_of name) ∷ Finished (output_of name) plain ∷ [])
+    (chain (λ events. events ≡ Created output ∷ Finished output plain ∷ [])
     (λ x y c f.
     let last : y ≡ Finished output plain ∷ [] = finished_as output [] plain taken taken' y c.0 grew f in
-    let both : x ++ y ≡ Created output ∷ Finished output plain ∷ [] = (λ i. c.1 i ++ last i) in
-    both ∙ ap (λ o. Created o ∷ Finished o plain ∷ []) named)
+    (λ i. c.1 i ++ last i))
     two three four creates finishes)
 
 -- writing or finishing it failed, and it was given up with what was written
 pub not_written : (key : List ℕ) (most : ℕ) (label : Option (List ℕ)) (name output plain : List ℕ)
-    (left taken : Option (List ℕ)) (one two three five : Option (List Event)) → output ≡ output_of name
-    → Does (Opens name left) one two → IfSome left (λ input. IsGood key most label input plain)
-    → Does (Creates output taken) two three
+    (left taken : Option (List ℕ)) (one two three five : Option (List Event))
+    → IfSome left (λ input. IsGood key most label input plain)
     → (taken' : Option (List ℕ)) × (four : Option (List Event)) × AppendsFront taken taken' plain
     × Does Nothing three four × Does (Discards taken') four five
-    → Does (Opening key most label name (Failed (Unopened bytes.Write))) one five
-not_written key most label name output plain left taken one two three five named opens good creates
-    (taken', four, (front, begins, grew), none, discards) =
-    chain (Opening key most label name (Failed (Unopened bytes.Write)))
-    (λ x y o e. (
+    → Does (Creates output taken) two three → Does (Opens name left) one two
+    → Does (Opening key most label output name (Failed (Unopened bytes.Write))) one five
+not_written key most label name output plain left taken one two three five good
+    (taken', four, (front, begins, grew), none, discards) creates opens =
+    chain (Opening key most label output name (Failed (Unopened bytes.Write)))
+    (λ x y o e. inl (
       o.0,
       plain,
       front,
@@ -354,10 +384,9 @@ not_written key most label name output plain left taken one two three five named
       (λ i. o.2 i ++ e i),
     ))
     one two five opens
-    (chain (λ events. events ≡ Created (output_of name) ∷ Discarded (output_of name) front ∷ [])
+    (chain (λ events. events ≡ Created output ∷ Discarded output front ∷ [])
     (λ x y c d.
     let last : y ≡ Discarded output front ∷ [] = discarded_as output [] front taken taken' y c.0 grew d in
-    let both : x ++ y ≡ Created output ∷ Discarded output front ∷ [] = (λ i. c.1 i ++ last i) in
-    both ∙ ap (λ o. Created o ∷ Discarded o front ∷ []) named)
+    (λ i. c.1 i ++ last i))
     two three five creates (chain (Discards taken') (λ x y n d. (d.0, d.1, d.2, (λ i. n i ++ d.3 i))) three four five
     none discards))

@@ -43,7 +43,7 @@ tape_same name other bytes more is =
     )
 
 -- what a writer reports after these bytes, once more were written
-tape_as : (name other bytes more all : List ℕ) (taken taken' : Option (List ℕ)) → taken ≡ Some (tape name bytes)
+pub tape_as : (name other bytes more all : List ℕ) (taken taken' : Option (List ℕ)) → taken ≡ Some (tape name bytes)
     → Appends taken taken' more → taken' ≡ Some (tape other all)
     → (other ≡ name) × (all ≡ bytes ++ more)
 tape_as name other bytes more all None taken' is grew tells = absurd (cc)

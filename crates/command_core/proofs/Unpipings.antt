@@ -1,50 +1,68 @@
--- What an input that was opened to a stream did, by its outcome.
-use Rattle.std.proofs.Common.{◌≡◌, inl, inr, ℕ, true, false, refl, sym, ap, subst, ◌∙◌, List, [], Option, None, Some, IfSome}
-use Rattle.std.proofs.Common.{Result, Err, OnErr}
+-- What a file that was opened to a stream did, by its outcome.
+use Rattle.std.specs.Prelude.{⊤}
+use Rattle.std.proofs.Common.{◌≡◌, ◌≢◌, ◌⊎◌, inl, inr, ℕ, true, false, refl, sym, ap, subst, ◌∙◌, List, [], ◌∷◌, ◌++◌, Option, Some, IfSome}
+use Rattle.std.proofs.Common.{Result, Ok, Err, OnOk, OnErr, IfOk}
 use Rattle.std.proofs.KnownBytes.{Keeps-refl}
 use Rattle.container_core.specs.declared.fault.OpenFault.{OpenFault}
 use Rattle.container_core.specs.declared.fault.OpenFault.TheVariants as bytes
 use Rattle.container_core.specs.Faults.{IsOfBytes}
-use Rattle.io_core.specs.Streams.{counted}
+use Rattle.io_core.specs.Streams.{Keeps, counted}
 use Rattle.opening_core.specs.declared.twice.Stopped.{Stopped}
 use Rattle.opening_core.specs.declared.twice.Stopped.TheVariants as stop
 use Rattle.opening_core.specs.Engine.{HasHeader}
-use Rattle.opening_core.specs.Twice.{HasWrittenAgain, WritesSome, broken_by_write}
+use Rattle.opening_core.specs.Twice.{HasWrittenAgain, WritesAll, WritesSome, broken_by_write}
+use Rattle.opening_core.specs.Windows.{HasSent}
 use Rattle.command_core.specs.declared.line.FileFault.{FileFault}
 use Rattle.command_core.specs.declared.line.FileFault.TheVariants as fault
 use Rattle.command_core.specs.declared.line.FileOutcome.{FileOutcome}
-use Rattle.command_core.specs.declared.line.FileOutcome.TheVariants.{Failed}
-use Rattle.command_core.specs.Again.{Gives}
-use Rattle.command_core.specs.Unpiping.{HasUnpiped, IsCutShort, Unpipes, whole_of, write_failed}
-use Rattle.command_core.specs.Work.{IsFaultOf, IsGood, IsOfVerifying}
-use Rattle.command_core.proofs.Openings.{unchanged}
+use Rattle.command_core.specs.declared.line.FileOutcome.TheVariants.{Failed, Opened}
+use Rattle.command_core.specs.Again.{IsBegun, IsGood}
+use Rattle.command_core.specs.Labels.{IsLabelled}
+use Rattle.command_core.specs.Trace.{Does, Event, Nothing, Opens, Reading}
+use Rattle.command_core.specs.Unpiping.{HasUnpiped, IsCutShort, IsOfUnpiping, Unpipes, write_failed}
+use Rattle.command_core.specs.Work.{IsFaultOf, IsOfVerifying}
+use Rattle.command_core.proofs.Openings.{IsGoodIf, begun_part, differ}
+use Rattle.command_core.proofs.Traces.{chain, known, weaken}
 
 -- ---- nothing was written
 
-refused_works : (key : List ℕ) (most : ℕ) (label whole taken : Option (List ℕ)) (f : FileFault)
-    → IsOfVerifying true (Failed f) → IfSome whole (λ input. IsFaultOf key most label input f)
-    → Unpipes key most label whole taken taken (Failed f)
-refused_works key most label whole taken fault.CannotOpen of why = Keeps-refl taken
-refused_works key most label whole taken fault.NoSuffix of why = absurd of
-refused_works key most label whole taken fault.OutputExists of why = absurd of
-refused_works key most label whole taken fault.CannotCreate of why = absurd of
-refused_works key most label whole taken fault.OutOfMemory of why = absurd of
-refused_works key most label whole taken fault.NoNumber of why = absurd of
-refused_works key most label whole taken fault.AnotherLabel of why = (Keeps-refl taken, why)
-refused_works key most label whole taken fault.Changed of why = absurd of
-refused_works key most label whole taken fault.SpoolFailed of why = absurd of
-refused_works key most label whole taken (fault.Unsealed f) of why = absurd of
-refused_works key most label whole taken (fault.Unopened bytes.TooLong) of why = (Keeps-refl taken, why)
-refused_works key most label whole taken (fault.Unopened bytes.ShortHeader) of why = (Keeps-refl taken, why)
-refused_works key most label whole taken (fault.Unopened bytes.BadMagic) of why = (Keeps-refl taken, why)
-refused_works key most label whole taken (fault.Unopened bytes.BadVersion) of why = (Keeps-refl taken, why)
-refused_works key most label whole taken (fault.Unopened bytes.BadExponent) of why = (Keeps-refl taken, why)
-refused_works key most label whole taken (fault.Unopened bytes.KeyMismatch) of why = (Keeps-refl taken, why)
-refused_works key most label whole taken (fault.Unopened bytes.BadLength) of why = (Keeps-refl taken, why)
-refused_works key most label whole taken (fault.Unopened (bytes.Forged chunk)) of why = (Keeps-refl taken, why)
-refused_works key most label whole taken (fault.Unopened bytes.OutOfMemory) of why = inl (Keeps-refl taken)
-refused_works key most label whole taken (fault.Unopened bytes.Read) of why = inl (Keeps-refl taken)
-refused_works key most label whole taken (fault.Unopened bytes.Write) of why = absurd of
+refused_works : (key : List ℕ) (most : ℕ) (label : Option (List ℕ)) (name : List ℕ) (taken : Option (List ℕ)) (f : FileFault)
+    (input : List ℕ) (events : List Event) → IsFaultOf key most label input f → events ≡ Reading name input ∷ []
+    → Unpipes key most label name taken taken (Failed f) events
+refused_works key most label name taken fault.CannotOpen input events why is = absurd why
+refused_works key most label name taken fault.NoSuffix input events why is = absurd why
+refused_works key most label name taken fault.OutputExists input events why is = absurd why
+refused_works key most label name taken fault.CannotCreate input events why is = absurd why
+refused_works key most label name taken fault.OutOfMemory input events why is = absurd why
+refused_works key most label name taken fault.NoNumber input events why is = absurd why
+refused_works key most label name taken fault.AnotherLabel input events why is = (input, why, is)
+refused_works key most label name taken fault.Changed input events why is = absurd why
+refused_works key most label name taken fault.SpoolFailed input events why is = absurd why
+refused_works key most label name taken (fault.Unsealed f) input events why is = absurd why
+refused_works key most label name taken (fault.Unopened bytes.TooLong) input events why is = (input, why, is)
+refused_works key most label name taken (fault.Unopened bytes.ShortHeader) input events why is = (input, why, is)
+refused_works key most label name taken (fault.Unopened bytes.BadMagic) input events why is = (input, why, is)
+refused_works key most label name taken (fault.Unopened bytes.BadVersion) input events why is = (input, why, is)
+refused_works key most label name taken (fault.Unopened bytes.BadExponent) input events why is = (input, why, is)
+refused_works key most label name taken (fault.Unopened bytes.KeyMismatch) input events why is = (input, why, is)
+refused_works key most label name taken (fault.Unopened bytes.BadLength) input events why is = (input, why, is)
+refused_works key most label name taken (fault.Unopened (bytes.Forged chunk)) input events why is = (input, why, is)
+refused_works key most label name taken (fault.Unopened bytes.OutOfMemory) input events why is = inl (Keeps-refl taken, input, is)
+refused_works key most label name taken (fault.Unopened bytes.Read) input events why is = inl (Keeps-refl taken, input, is)
+refused_works key most label name taken (fault.Unopened bytes.Write) input events why is = absurd why
+
+refused_kept : (taken : Option (List ℕ)) (f : FileFault) → IsOfVerifying true (Failed f) → IsOfUnpiping taken taken (Failed f)
+refused_kept taken fault.CannotOpen of = Keeps-refl taken
+refused_kept taken fault.NoSuffix of = absurd of
+refused_kept taken fault.OutputExists of = absurd of
+refused_kept taken fault.CannotCreate of = absurd of
+refused_kept taken fault.OutOfMemory of = absurd of
+refused_kept taken fault.NoNumber of = absurd of
+refused_kept taken fault.AnotherLabel of = Keeps-refl taken
+refused_kept taken fault.Changed of = absurd of
+refused_kept taken fault.SpoolFailed of = absurd of
+refused_kept taken (fault.Unsealed f) of = absurd of
+refused_kept taken (fault.Unopened f) of = λ _. Keeps-refl taken
 
 no_write : (f : FileFault) → IsOfVerifying true (Failed f) → write_failed (Failed f) ≡ false
 no_write fault.CannotOpen of = refl
@@ -69,83 +87,141 @@ no_write (fault.Unopened bytes.OutOfMemory) of = refl
 no_write (fault.Unopened bytes.Read) of = refl
 no_write (fault.Unopened bytes.Write) of = absurd of
 
-pub refused_unpipes : (key : List ℕ) (most : ℕ) (label whole taken : Option (List ℕ)) (failures : Option ℕ) (f : FileFault)
-    → IsOfVerifying true (Failed f) → IfSome whole (λ input. IsFaultOf key most label input f)
-    → HasUnpiped key most label whole taken taken failures failures (Failed f)
-refused_unpipes key most label whole taken failures f of why = record {
-  works = refused_works key most label whole taken f of why;
+pub refused_unpipes : (key : List ℕ) (most : ℕ) (label : Option (List ℕ)) (name : List ℕ) (left taken : Option (List ℕ))
+    (failures : Option ℕ) (one two : Option (List Event)) (f : FileFault) → IsOfVerifying true (Failed f)
+    → IfSome left (λ input. IsFaultOf key most label input f) → Does (Opens name left) one two
+    → HasUnpiped key most label name taken taken failures failures one two (Failed f)
+refused_unpipes key most label name left taken failures one two f of why opens = record {
+  works = weaken (λ events o. refused_works key most label name taken f o.0 events
+      (known (λ input. IsFaultOf key most label input f) left o.0 o.1 why) o.2) one two opens;
+  kept = refused_kept taken f of;
   write = sym (ap (λ b. counted b failures) (no_write f of));
 }
 
--- ---- the second reading stopped
+pub lost_unpipes : (key : List ℕ) (most : ℕ) (label : Option (List ℕ)) (name : List ℕ) (left taken : Option (List ℕ))
+    (failures : Option ℕ) (one two three : Option (List Event)) → IsGoodIf key most label left → Does Nothing two three
+    → Does (Opens name left) one two
+    → HasUnpiped key most label name taken taken failures failures one three (Failed fault.SpoolFailed)
+lost_unpipes key most label name left taken failures one two three good none opens = record {
+  works = chain (Unpipes key most label name taken taken (Failed fault.SpoolFailed)) (λ x y o n.
+      let (plain, is) = known (λ input. (plain : List ℕ) × IsGood key most label input plain) left o.0 o.1 good in
+      (o.0, plain, is, (λ i. o.2 i ++ n i))) one two three opens none;
+  kept = Keeps-refl taken;
+  write = refl;
+}
 
-cut_short : (key : List ℕ) (most : ℕ) (label whole left taken taken' : Option (List ℕ))
-    → IfSome whole (λ input. (plain : List ℕ) × IsGood key most label input plain) → Gives whole left
-    → IfSome left (WritesSome key most taken taken') → IsCutShort key most label whole taken taken'
-cut_short key most label None left taken taken' good gives wrote = tt
-cut_short key most label (Some input) None taken taken' good gives wrote = absurd (cc)
-cut_short key most label (Some input) (Some other) taken taken' (plain, good) gives wrote =
-    let same : other ≡ input = cc in
-    (plain, good, subst (WritesSome key most taken taken') same wrote plain good.0)
+-- ---- it was read again
 
-broken_unpipes : (key : List ℕ) (most : ℕ) (label whole taken taken' : Option (List ℕ)) (failures failures' : Option ℕ)
-    (f : OpenFault) → ¬ IsOfBytes f → IsCutShort key most label whole taken taken'
+pub opened_unpipes : (key header : List ℕ) (most n : ℕ) (label : Option (List ℕ)) (name : List ℕ)
+    (left left' taken taken' : Option (List ℕ)) (reads reads' failures failures' : Option ℕ) (result : Result ℕ Stopped)
+    (one two three : Option (List Event)) → IsGoodIf key most label left → IfSome left (HasHeader header)
+    → ((input : List ℕ) → HasHeader header input → IsLabelled label input)
+    → HasWrittenAgain key header most left' taken taken' reads reads' failures failures' result → result ≡ Ok n
+    → Does (Opens name left') two three → Does (Opens name left) one two
+    → HasUnpiped key most label name taken taken' failures failures' one three (Opened n)
+opened_unpipes key header most n label name left left' taken taken' reads reads' failures failures' result one two three good headed
+    labelled wrote is again opens = record {
+      works = chain (Unpipes key most label name taken taken' (Opened n)) (λ x y o a.
+          let first = known (λ input. (plain : List ℕ) × IsGood key most label input plain) left o.0 o.1 good in
+          let same = known (HasHeader header) left' a.0 a.1 (subst (λ r. OnOk r (IfSome left' (HasHeader header))) is wrote.headed) in
+          let (whole, ok, grew, count) = known (λ input. WritesAll key most taken taken' input n) left' a.0 a.1
+          (subst (λ r. IfOk r (λ n. IfSome left' (λ input. WritesAll key most taken taken' input n))) is wrote.written) in (
+            header,
+            o.0,
+            a.0,
+            whole,
+            (known (HasHeader header) left o.0 o.1 headed, first, (λ i. o.2 i ++ a.2 i)),
+            same,
+            (ok, labelled a.0 same),
+            count,
+            grew,
+          )) one two three opens again;
+      kept = tt;
+      write = wrote.write ∙ ap (λ r. counted (broken_by_write r) failures) is;
+    }
+
+begun_of : (key header : List ℕ) (most : ℕ) (left taken taken' : Option (List ℕ)) (reads reads' failures failures' : Option ℕ)
+    (result : Result ℕ Stopped) (stopped : Stopped)
+    → HasWrittenAgain key header most left taken taken' reads reads' failures failures' result → result ≡ Err stopped
+    → (input : List ℕ) → left ≡ Some input → IsBegun key most header input taken taken'
+begun_of key header most left taken taken' reads reads' failures failures' result stopped wrote is input had =
+    known (λ input. IsBegun key most header input taken taken') left input had (begun_part key most header left taken taken'
+    (subst (λ r. OnErr r (IfSome left (WritesSome key most taken taken'))) is wrote.begun)
+    (subst (λ r. OnErr r (Keeps taken taken' ⊎ HasSent key header header left taken taken')) is wrote.checked))
+
+cut_short : (are : List ℕ → List ℕ → Type 0) (key header : List ℕ) (most : ℕ) (label : Option (List ℕ)) (name : List ℕ)
+    (left left' taken taken' : Option (List ℕ)) (one two three : Option (List Event)) → IsGoodIf key most label left
+    → IfSome left (HasHeader header) → ((first last : List ℕ) → left ≡ Some first → left' ≡ Some last → are first last)
+    → ((input : List ℕ) → left' ≡ Some input → IsBegun key most header input taken taken')
+    → Does (Opens name left') two three → Does (Opens name left) one two
+    → Does (IsCutShort key most label name taken taken' are) one three
+cut_short are key header most label name left left' taken taken' one two three good headed so begun again opens =
+    chain (IsCutShort key most label name taken taken' are) (λ x y o a. (
+      header,
+      o.0,
+      a.0,
+      so o.0 a.0 o.1 a.1,
+      (
+        known (HasHeader header) left o.0 o.1 headed,
+        known (λ input. (plain : List ℕ) × IsGood key most label input plain) left o.0 o.1 good,
+        (λ i. o.2 i ++ a.2 i),
+      ),
+      begun a.0 a.1,
+    )) one two three opens again
+
+broken_unpipes : (key : List ℕ) (most : ℕ) (label : Option (List ℕ)) (name : List ℕ) (taken taken' : Option (List ℕ))
+    (failures failures' : Option ℕ) (one three : Option (List Event)) (f : OpenFault) → ¬ IsOfBytes f
+    → Does (IsCutShort key most label name taken taken' (λ _ _. ⊤)) one three
     → failures' ≡ counted (broken_by_write (Err (stop.Broken f))) failures
-    → HasUnpiped key most label whole taken taken' failures failures' (Failed (fault.Unopened f))
-broken_unpipes key most label whole taken taken' failures failures' bytes.TooLong other cut count = absurd (other tt)
-broken_unpipes key most label whole taken taken' failures failures' bytes.ShortHeader other cut count = absurd (other tt)
-broken_unpipes key most label whole taken taken' failures failures' bytes.BadMagic other cut count = absurd (other tt)
-broken_unpipes key most label whole taken taken' failures failures' bytes.BadVersion other cut count = absurd (other tt)
-broken_unpipes key most label whole taken taken' failures failures' bytes.BadExponent other cut count = absurd (other tt)
-broken_unpipes key most label whole taken taken' failures failures' bytes.KeyMismatch other cut count = absurd (other tt)
-broken_unpipes key most label whole taken taken' failures failures' bytes.BadLength other cut count = absurd (other tt)
-broken_unpipes key most label whole taken taken' failures failures' (bytes.Forged chunk) other cut count = absurd (other tt)
-broken_unpipes key most label whole taken taken' failures failures' bytes.OutOfMemory other cut count =
-    record { works = inr cut; write = count }
-broken_unpipes key most label whole taken taken' failures failures' bytes.Read other cut count =
-    record { works = inr cut; write = count }
-broken_unpipes key most label whole taken taken' failures failures' bytes.Write other cut count =
-    record { works = cut; write = count }
+    → HasUnpiped key most label name taken taken' failures failures' one three (Failed (fault.Unopened f))
+broken_unpipes key most label name taken taken' failures failures' one three bytes.TooLong other cut count = absurd (other tt)
+broken_unpipes key most label name taken taken' failures failures' one three bytes.ShortHeader other cut count = absurd (other tt)
+broken_unpipes key most label name taken taken' failures failures' one three bytes.BadMagic other cut count = absurd (other tt)
+broken_unpipes key most label name taken taken' failures failures' one three bytes.BadVersion other cut count = absurd (other tt)
+broken_unpipes key most label name taken taken' failures failures' one three bytes.BadExponent other cut count = absurd (other tt)
+broken_unpipes key most label name taken taken' failures failures' one three bytes.KeyMismatch other cut count = absurd (other tt)
+broken_unpipes key most label name taken taken' failures failures' one three bytes.BadLength other cut count = absurd (other tt)
+broken_unpipes key most label name taken taken' failures failures' one three (bytes.Forged chunk) other cut count = absurd (other tt)
+broken_unpipes key most label name taken taken' failures failures' one three bytes.OutOfMemory other cut count =
+    record { works = weaken (λ events c. inr c) one three cut; kept = (λ of. absurd of); write = count }
+broken_unpipes key most label name taken taken' failures failures' one three bytes.Read other cut count =
+    record { works = weaken (λ events c. inr c) one three cut; kept = (λ of. absurd of); write = count }
+broken_unpipes key most label name taken taken' failures failures' one three bytes.Write other cut count =
+    record { works = cut; kept = (λ of. absurd of); write = count }
 
-pub stopped_unpipes : (key header : List ℕ) (most : ℕ) (label whole left taken taken' : Option (List ℕ))
-    (reads reads' failures failures' : Option ℕ) (result : Result ℕ Stopped) (stopped : Stopped) (f : FileFault)
-    → IfSome whole (λ input. (plain : List ℕ) × IsGood key most label input plain) → IfSome whole (HasHeader header)
-    → Gives whole left → HasWrittenAgain key header most left taken taken' reads reads' failures failures' result
-    → result ≡ Err stopped
+pub stopped_unpipes : (key header : List ℕ) (most : ℕ) (label : Option (List ℕ)) (name : List ℕ)
+    (left left' taken taken' : Option (List ℕ)) (reads reads' failures failures' : Option ℕ) (result : Result ℕ Stopped)
+    (stopped : Stopped) (f : FileFault) (one two three : Option (List Event)) → IsGoodIf key most label left
+    → IfSome left (HasHeader header)
+    → HasWrittenAgain key header most left' taken taken' reads reads' failures failures' result → result ≡ Err stopped
     → (stopped ≡ stop.Changed → f ≡ fault.Changed) × ((g : OpenFault) → stopped ≡ stop.Broken g → f ≡ fault.Unopened g)
-    → HasUnpiped key most label whole taken taken' failures failures' (Failed f)
-stopped_unpipes key header most label whole left taken taken' reads reads' failures failures' result (stop.Refused g) f good headed
-    gives wrote is told = absurd (wrote.checked_before g is)
-stopped_unpipes key header most label whole left taken taken' reads reads' failures failures' result stop.Changed f good headed
-    gives wrote is told =
-    subst (λ x. HasUnpiped key most label whole taken taken' failures failures' (Failed x)) (sym (told.0 refl)) (record {
-      works = never whole (unchanged key header most label [] whole left good headed gives (wrote.changed is));
+    → Does (Opens name left') two three → Does (Opens name left) one two
+    → HasUnpiped key most label name taken taken' failures failures' one three (Failed f)
+stopped_unpipes key header most label name left left' taken taken' reads reads' failures failures' result (stop.Refused g) f one two three
+    good headed wrote is told again opens = absurd (wrote.checked_before g is)
+stopped_unpipes key header most label name left left' taken taken' reads reads' failures failures' result stop.Changed f one two three
+    good headed wrote is told again opens =
+    subst (λ x. HasUnpiped key most label name taken taken' failures failures' one three (Failed x)) (sym (told.0 refl)) (record {
+      works = cut_short (λ first last. first ≢ last) key header most label name left left' taken taken' one two three good headed
+          (differ key header most label left left' good headed (wrote.changed is))
+          (begun_of key header most left' taken taken' reads reads' failures failures' result stop.Changed wrote is) again opens;
+      kept = tt;
       write = wrote.write ∙ ap (λ r. counted (broken_by_write r) failures) is;
     })
-  where
-    never : (whole : Option (List ℕ)) → ((input : List ℕ) → whole ≡ Some input → ⊥) → IfSome whole (λ _. ⊥)
-    never None differs = tt
-    never (Some input) differs = differs input refl
-stopped_unpipes key header most label whole left taken taken' reads reads' failures failures' result (stop.Broken g) f good headed
-    gives wrote is told =
-    subst (λ x. HasUnpiped key most label whole taken taken' failures failures' (Failed x)) (sym (told.1 g refl))
-    (broken_unpipes key most label whole taken taken' failures failures' g (wrote.broken g is)
-    (cut_short key most label whole left taken taken' good gives
-    (subst (λ r. OnErr r (IfSome left (WritesSome key most taken taken'))) is wrote.begun))
+stopped_unpipes key header most label name left left' taken taken' reads reads' failures failures' result (stop.Broken g) f one two three
+    good headed wrote is told again opens =
+    subst (λ x. HasUnpiped key most label name taken taken' failures failures' one three (Failed x)) (sym (told.1 g refl))
+    (broken_unpipes key most label name taken taken' failures failures' one three g (wrote.broken g is)
+    (cut_short (λ _ _. ⊤) key header most label name left left' taken taken' one two three good headed
+    (λ first last had has. tt)
+    (begun_of key header most left' taken taken' reads reads' failures failures' result (stop.Broken g) wrote is) again opens)
     (wrote.write ∙ ap (λ r. counted (broken_by_write r) failures) is))
 
 -- of an output that was only declared what it is to hold
-pub same_unpipes : (key : List ℕ) (most : ℕ) (label whole before taken taken' : Option (List ℕ))
-    (earlier failures failures' : Option ℕ) (outcome : FileOutcome) → taken ≡ before → failures ≡ earlier
-    → HasUnpiped key most label whole taken taken' failures failures' outcome
-    → HasUnpiped key most label whole before taken' earlier failures' outcome
-same_unpipes key most label whole before taken taken' earlier failures failures' outcome same count done =
-    subst (λ t. HasUnpiped key most label whole t taken' earlier failures' outcome) same
-    (subst (λ n. HasUnpiped key most label whole taken taken' n failures' outcome) count done)
-
-pub unpiped_some : {R : Type 0} (bytes : R → Option (List ℕ)) (input : Option R) (one : R) (key : List ℕ) (most : ℕ)
-    (label taken taken' : Option (List ℕ)) (failures failures' : Option ℕ) (outcome : FileOutcome) → input ≡ Some one
-    → HasUnpiped key most label (bytes one) taken taken' failures failures' outcome
-    → HasUnpiped key most label (whole_of bytes input) taken taken' failures failures' outcome
-unpiped_some bytes input one key most label taken taken' failures failures' outcome is done =
-    subst (λ i. HasUnpiped key most label (whole_of bytes i) taken taken' failures failures' outcome) (sym is) done
+pub same_unpipes : (key : List ℕ) (most : ℕ) (label : Option (List ℕ)) (name : List ℕ) (before taken taken' : Option (List ℕ))
+    (earlier failures failures' : Option ℕ) (one three : Option (List Event)) (outcome : FileOutcome) → taken ≡ before
+    → failures ≡ earlier → HasUnpiped key most label name taken taken' failures failures' one three outcome
+    → HasUnpiped key most label name before taken' earlier failures' one three outcome
+same_unpipes key most label name before taken taken' earlier failures failures' one three outcome same count done =
+    subst (λ t. HasUnpiped key most label name t taken' earlier failures' one three outcome) same
+    (subst (λ n. HasUnpiped key most label name taken taken' n failures' one three outcome) count done)

@@ -1,6 +1,5 @@
 -- What a folder reports of a run: which files were read, and what became of its outputs.
-use Rattle.std.specs.Prelude.{⊤, ◌≡◌, ℕ, List, [], ◌∷◌, ◌++◌, length, Option, None, Some, Result, Ok, Err}
-use Rattle.container_core.specs.declared.fault.OpenFault.{OpenFault}
+use Rattle.std.specs.Prelude.{⊤, ◌≡◌, ℕ, List, [], ◌∷◌, ◌++◌, length, Option, None, Some, Ok}
 use Rattle.container_core.specs.Opening.{opening}
 use Rattle.command_core.specs.declared.folder.FolderFault.{FolderFault}
 
@@ -57,16 +56,13 @@ abbrev pub Discards : Option (List ℕ) → List Event → Type 0
 Discards taken events =
     (name : List ℕ) × (bytes : List ℕ) × (taken ≡ Some (tape name bytes)) × (events ≡ Discarded name bytes ∷ [])
 
--- The plaintext of an opening, or of an input that is known: no byte where there is none.
-abbrev pub plain_in : Result (List ℕ) OpenFault → List ℕ
-plain_in (Ok plain) = plain
-plain_in (Err fault) = []
-
-abbrev pub plain_of : List ℕ → ℕ → Option (List ℕ) → List ℕ
-plain_of key most None = []
-plain_of key most (Some input) = plain_in (opening key most input)
-
 -- a file of this name was read, and its bytes open to this plaintext
 abbrev pub IsOpenedBy : List ℕ → List ℕ → List ℕ → List Event → Type 0
 IsOpenedBy key name plain events = (bytes : List ℕ) × (most : ℕ) × (before : List Event) × (after : List Event)
     × (events ≡ before ++ Reading name bytes ∷ after) × (opening key most bytes ≡ Ok plain)
+
+-- a file of this name was read, and opens under the key; then it was read again, and gave these bytes
+abbrev pub IsReadAgain : List ℕ → ℕ → List ℕ → Option (List ℕ) → List Event → Type 0
+IsReadAgain key most name left events = (first : List ℕ) × (last : List ℕ) × (plain : List ℕ) × (before : List Event)
+    × (after : List Event) × (left ≡ Some last) × (opening key most first ≡ Ok plain)
+    × (events ≡ before ++ Reading name first ∷ Reading name last ∷ after)

@@ -1,55 +1,64 @@
--- What `unpipe_all` does with an input.
-use Rattle.std.specs.Prelude.{◌≡◌, ◌⊎◌, ℕ, Bool, true, false, List, length, Option, None, Some, IfSome, Ok}
+-- What `unpipe_all` does with a file or a stream that is read.
+use Rattle.std.specs.Prelude.{◌≡◌, ◌≢◌, ⊤, ◌⊎◌, ℕ, Bool, true, false, List, [], ◌∷◌, length, Option}
 use Rattle.container_core.specs.declared.fault.OpenFault.TheVariants.{OutOfMemory, Read, Write}
-use Rattle.container_core.specs.Opening.{opening}
-use Rattle.io_core.specs.Streams.{Appends, AppendsFront, Keeps, counted}
+use Rattle.container_core.specs.Faults.{IsOfBytes}
+use Rattle.opening_core.specs.Engine.{HasHeader}
+use Rattle.io_core.specs.Streams.{Appends, Keeps, counted}
 use Rattle.command_core.specs.declared.line.FileFault.TheVariants.{AnotherLabel, CannotOpen, Changed, SpoolFailed, Unopened}
 use Rattle.command_core.specs.declared.line.FileOutcome.{FileOutcome}
 use Rattle.command_core.specs.declared.line.FileOutcome.TheVariants.{Opened, Failed}
-use Rattle.command_core.specs.Work.{IsFaultOf, IsGood}
+use Rattle.command_core.specs.Again.{IsBegun, IsGood, IsReadTwice}
+use Rattle.command_core.specs.Trace.{Does, Event, Reading, Unread}
+use Rattle.command_core.specs.Work.{IsFaultOf}
 
 -- whether the outcome is that a write failed
 abbrev pub write_failed : FileOutcome → Bool
 write_failed (Failed (Unopened Write)) = true
 write_failed _ = false
 
--- An input of these bytes, where they are known, was opened to an output that had taken `taken`, and has taken `taken'`
--- now. It was opened under the key, with at most `most` plaintext bytes, and has the label if one was asked for.
-module _ (key : List ℕ) (most : ℕ) (label bytes taken taken' : Option (List ℕ)) where
-  -- it opens, and a prefix of its plaintext was written
-  abbrev pub IsCutShort : Type 0
-  IsCutShort = IfSome bytes (λ input. (plain : List ℕ) × IsGood key most label input plain
-      × AppendsFront taken taken' plain)
+-- An outcome that `unpipe_all` can have, and what is always so: nothing was written at a fault of the bytes, or at
+-- another label, or before the second reading.
+abbrev pub IsOfUnpiping : Option (List ℕ) → Option (List ℕ) → FileOutcome → Type 0
+IsOfUnpiping taken taken' (Opened n) = ⊤
+IsOfUnpiping taken taken' (Failed (Unopened fault)) = IsOfBytes fault → Keeps taken taken'
+IsOfUnpiping taken taken' (Failed AnotherLabel) = Keeps taken taken'
+IsOfUnpiping taken taken' (Failed CannotOpen) = Keeps taken taken'
+IsOfUnpiping taken taken' (Failed SpoolFailed) = Keeps taken taken'
+IsOfUnpiping taken taken' (Failed Changed) = ⊤
+IsOfUnpiping taken taken' _ = ⊥
 
-  -- `opened`: all of its plaintext was written. A fault of the bytes, or another label: nothing was. Where memory or a
-  -- call failed, nothing was, or a prefix of the plaintext. What is read again gives the same bytes, so none is told as
-  -- changed.
-  abbrev pub Unpipes : FileOutcome → Type 0
-  Unpipes (Opened n) = IfSome bytes (λ input. (plain : List ℕ) × IsGood key most label input plain
-      × (n ≡ length plain) × Appends taken taken' plain)
-  Unpipes (Failed (Unopened Write)) = IsCutShort
-  Unpipes (Failed (Unopened Read)) = Keeps taken taken' ⊎ IsCutShort
-  Unpipes (Failed (Unopened OutOfMemory)) = Keeps taken taken' ⊎ IsCutShort
-  Unpipes (Failed (Unopened fault)) = Keeps taken taken'
-      × IfSome bytes (λ input. IsFaultOf key most label input (Unopened fault))
-  Unpipes (Failed AnotherLabel) = Keeps taken taken'
-      × IfSome bytes (λ input. IsFaultOf key most label input AnotherLabel)
-  Unpipes (Failed CannotOpen) = Keeps taken taken'
-  Unpipes (Failed SpoolFailed) = Keeps taken taken'
-  Unpipes (Failed Changed) = IfSome bytes (λ _. ⊥)
-  Unpipes _ = ⊥
+-- What happened: a file of this name was opened under the key, with at most `most` plaintext bytes and the label if one
+-- was asked for, to an output that had taken `taken`, and has taken `taken'` now.
+module _ (key : List ℕ) (most : ℕ) (label : Option (List ℕ)) (name : List ℕ) (taken taken' : Option (List ℕ)) where
+  -- It is good. The second reading stopped, and this was written of it. The two readings are so.
+  abbrev pub IsCutShort : (List ℕ → List ℕ → Type 0) → List Event → Type 0
+  IsCutShort are events = (header : List ℕ) × (first : List ℕ) × (last : List ℕ) × are first last
+      × IsReadTwice key most label name header first last events × IsBegun key most header last taken taken'
 
-  -- The same, and failed writes were `failures` before and are `failures'` now: the outcome is a failed write exactly
-  -- where one more failed.
-  pub record HasUnpiped (failures failures' : Option ℕ) (outcome : FileOutcome) : Type 0 where
-    pub works : Unpipes outcome
+  -- `opened`: both readings are good and have the same header, and all of the plaintext of the second was written. A
+  -- fault of the bytes, or another label: of the first reading, and there is no other. Where memory or a call failed,
+  -- nothing was written, or what was checked of the second reading. `changed`: the second gave other bytes.
+  abbrev pub Unpipes : FileOutcome → List Event → Type 0
+  Unpipes (Opened n) events = (header : List ℕ) × (first : List ℕ) × (last : List ℕ) × (plain : List ℕ)
+      × IsReadTwice key most label name header first last events × HasHeader header last
+      × IsGood key most label last plain × (n ≡ length plain) × Appends taken taken' plain
+  Unpipes (Failed (Unopened Write)) events = IsCutShort (λ _ _. ⊤) events
+  Unpipes (Failed (Unopened Read)) events =
+      (Keeps taken taken' × (first : List ℕ) × (events ≡ Reading name first ∷ [])) ⊎ IsCutShort (λ _ _. ⊤) events
+  Unpipes (Failed (Unopened OutOfMemory)) events =
+      (Keeps taken taken' × (first : List ℕ) × (events ≡ Reading name first ∷ [])) ⊎ IsCutShort (λ _ _. ⊤) events
+  Unpipes (Failed Changed) events = IsCutShort (λ first last. first ≢ last) events
+  Unpipes (Failed CannotOpen) events = events ≡ Unread name ∷ []
+  Unpipes (Failed SpoolFailed) events = (first : List ℕ) × (plain : List ℕ) × IsGood key most label first plain
+      × (events ≡ Reading name first ∷ [])
+  Unpipes (Failed fault) events = (first : List ℕ) × IsFaultOf key most label first fault
+      × (events ≡ Reading name first ∷ [])
+  Unpipes _ events = ⊥
+
+  -- The same, where it is known what happened. Failed writes were `failures` before and are `failures'` now: the outcome
+  -- is a failed write exactly where one more failed.
+  pub record HasUnpiped (failures failures' : Option ℕ) (events events' : Option (List Event)) (outcome : FileOutcome)
+      : Type 0 where
+    pub works : Does (Unpipes outcome) events events'
+    pub kept : IsOfUnpiping taken taken' outcome
     pub write : failures' ≡ counted (write_failed outcome) failures
-
--- The bytes of an input, if there is one and they are known.
-abbrev pub whole_of : {R : Type 0} → (R → Option (List ℕ)) → Option R → Option (List ℕ)
-whole_of whole None = None
-whole_of whole (Some input) = whole input
-
--- An input opens, where its bytes are known.
-abbrev pub OpensKnown : List ℕ → ℕ → Option (List ℕ) → Type 0
-OpensKnown key most bytes = IfSome bytes (λ input. (plain : List ℕ) × (opening key most input ≡ Ok plain))

@@ -1,15 +1,16 @@
 -- What `open_all` and `verify_all` do with a list of files.
 use Rattle.std.specs.Prelude.{◌≡◌, ◌≢◌, ◌⊎◌, ℕ, ◌-◌, ◌<◌, ◌≤◌, Bool, true, false, List, [], ◌∷◌, ◌++◌, length, take}
-use Rattle.std.specs.Prelude.{map, ⊤, All, Option, option_map, flat_map, codes, Result, Ok, Err}
+use Rattle.std.specs.Prelude.{map, ⊤, All, Option, None, Some, option_map, flat_map, codes, Result, Ok, Err}
 use Rattle.container_core.specs.declared.fault.OpenFault.TheVariants.{Read, Write}
 use Rattle.container_core.specs.declared.fault.OpenFault.TheVariants as bytes
 use Rattle.container_core.specs.Container.{header_length}
 use Rattle.container_core.specs.Faults.{IsOfBytes}
 use Rattle.container_core.specs.Opening.{opening}
-use Rattle.opening_core.specs.Engine.{OpensTo, open_read_failed}
+use Rattle.opening_core.specs.Engine.{HasHeader, OpensTo, open_read_failed}
 use Rattle.io_core.specs.Streams.{Appends, AppendsFront, IsFront, counted, LacksSome}
 use Rattle.command_core.specs.declared.commands.OpenOptions.{OpenOptions}
 use Rattle.command_core.specs.declared.commands.TheConstants.{MAX_OPENED_BYTES}
+use Rattle.command_core.specs.declared.folder.FolderFault.{FolderFault}
 use Rattle.command_core.specs.declared.folder.FolderFault.TheVariants as refusal
 use Rattle.command_core.specs.declared.line.FileFault.{FileFault}
 use Rattle.command_core.specs.declared.line.FileFault.TheVariants.{CannotOpen, OutOfMemory, NoNumber, Unopened}
@@ -18,6 +19,7 @@ use Rattle.command_core.specs.declared.line.FileFault.TheVariants.{CannotCreate,
 use Rattle.command_core.specs.declared.line.FileOutcome.{FileOutcome}
 use Rattle.command_core.specs.declared.line.FileOutcome.TheVariants.{Opened, Good, Shown, Failed}
 use Rattle.command_core.specs.Facts.{IsOfHeader}
+use Rattle.command_core.specs.Again.{IsBegun, IsGood, IsReadTwice}
 use Rattle.command_core.specs.Labels.{IsLabelled}
 use Rattle.command_core.specs.Trace.{Event, Does}
 use Rattle.command_core.specs.Trace as trace
@@ -27,9 +29,19 @@ use Rattle.command_core.specs.Lines.{FileLine, lines_text, status_of_lines}
 abbrev pub output_of : List ℕ → List ℕ
 output_of name = take (length name - 4) name
 
+-- the name of the output of a file: the one that is given, or else the file's without `.stm`
+abbrev pub output_for : Option (List ℕ) → List ℕ → List ℕ
+output_for None name = output_of name
+output_for (Some to) name = to
+
 -- the name of a sealed file: at least one byte, and then `.stm`
 abbrev pub IsSealedName : List ℕ → Type 0
 IsSealedName name = (output_of name ≢ []) × (name ≡ output_of name ++ codes ".stm")
+
+-- the name says what the output is called, or a name of the output is given
+abbrev pub IsOpenable : Option (List ℕ) → List ℕ → Type 0
+IsOpenable None name = IsSealedName name
+IsOpenable (Some to) name = ⊤
 
 -- 1 to 16 workers, and no more plaintext bytes than a file to be opened can have
 abbrev pub AreInRange : OpenOptions → Type 0
@@ -39,17 +51,21 @@ AreInRange options = (options.max_bytes ≤ MAX_OPENED_BYTES) × (0 < options.wo
 abbrev pub asked_label : OpenOptions → Option (List ℕ)
 asked_label options = option_map (λ label. label.now) options.label
 
+-- the name of the output that is given, if one is
+abbrev pub asked_output : OpenOptions → Option (List ℕ)
+asked_output options = option_map (λ to. to.now) options.to
+
 -- An outcome that `open_all` can have for a file of this name: the file was opened, or failed with a fault that opening
--- can have. It fails by its name exactly if that isn't the name of a sealed file.
-abbrev pub IsOfOpening : List ℕ → FileOutcome → Type 0
-IsOfOpening name (Opened bytes) = IsSealedName name
-IsOfOpening name (Failed NoSuffix) = ¬ IsSealedName name
-IsOfOpening name (Failed OutOfMemory) = ⊥
-IsOfOpening name (Failed NoNumber) = ⊥
-IsOfOpening name (Failed (Unsealed fault)) = ⊥
-IsOfOpening name (Failed SpoolFailed) = ⊥
-IsOfOpening name (Failed fault) = IsSealedName name
-IsOfOpening name _ = ⊥
+-- can have. It fails by its name exactly if no output is given, and that isn't the name of a sealed file.
+abbrev pub IsOfOpening : Option (List ℕ) → List ℕ → FileOutcome → Type 0
+IsOfOpening to name (Opened bytes) = IsOpenable to name
+IsOfOpening to name (Failed NoSuffix) = ¬ IsOpenable to name
+IsOfOpening to name (Failed OutOfMemory) = ⊥
+IsOfOpening to name (Failed NoNumber) = ⊥
+IsOfOpening to name (Failed (Unsealed fault)) = ⊥
+IsOfOpening to name (Failed SpoolFailed) = ⊥
+IsOfOpening to name (Failed fault) = IsOpenable to name
+IsOfOpening to name _ = ⊥
 
 -- an outcome that `verify_all` can have: the file is good (and shown, if asked for), it can't be opened, its container
 -- has a fault, or it has another label
@@ -61,10 +77,6 @@ IsOfVerifying show (Failed AnotherLabel) = ⊤
 IsOfVerifying show (Failed (Unopened Write)) = ⊥
 IsOfVerifying show (Failed (Unopened fault)) = ⊤
 IsOfVerifying show _ = ⊥
-
--- the input opens to this plaintext, and has the label
-abbrev pub IsGood : List ℕ → ℕ → Option (List ℕ) → List ℕ → List ℕ → Type 0
-IsGood key most label input plain = (opening key most input ≡ Ok plain) × IsLabelled label input
 
 -- An input that was read has this fault: it is the first by the definition, or the input opens and has another label.
 -- Nothing is said of a reader that failed, or of memory.
@@ -80,39 +92,61 @@ abbrev pub file_read_failed : {A : Type 0} → Result A FileFault → Bool
 file_read_failed {A} (Err (Unopened fault)) = open_read_failed {A = A} (Err fault)
 file_read_failed _ = false
 
--- The events for a file of this name that was read and opens, and whose output was given up with a prefix of the
--- plaintext.
-abbrev pub IsGivenUp : List ℕ → ℕ → Option (List ℕ) → List ℕ → List Event → Type 0
-IsGivenUp key most label name events = (input : List ℕ) × (plain : List ℕ) × (written : List ℕ)
-    × IsGood key most label input plain × IsFront written plain
-    × (events ≡ trace.Reading name input ∷ trace.Created (output_of name)
-    ∷ trace.Discarded (output_of name) written ∷ [])
+-- What came before the last reading of a file, which has this label: nothing, or a first reading that is good and has
+-- the same header.
+abbrev pub AreBefore : List ℕ → ℕ → Option (List ℕ) → List ℕ → List ℕ → List Event → Type 0
+AreBefore key most label name last before = (before ≡ []) ⊎ ((header : List ℕ) × (first : List ℕ) × (plain : List ℕ)
+    × IsGood key most label first plain × HasHeader header first × HasHeader header last
+    × (before ≡ trace.Reading name first ∷ []))
 
--- The events for a file of this name that is to be opened. An output is asked for only after an input was read that
--- opens and has the label. It is finished with the plaintext, once, and then the line says `opened`. Or it is given up
--- with a prefix of the plaintext, after a write, a read or memory failed; or it is refused, for the cause in the line.
--- A file that is read again gives the same bytes, so none is told as changed.
-abbrev pub Opening : List ℕ → ℕ → Option (List ℕ) → List ℕ → FileOutcome → List Event → Type 0
-Opening key most label name (Opened n) events = (input : List ℕ) × (plain : List ℕ)
-    × IsGood key most label input plain × (n ≡ length plain)
-    × (events ≡ trace.Reading name input ∷ trace.Created (output_of name) ∷ trace.Finished (output_of name) plain ∷ [])
-Opening key most label name (Failed (Unopened Write)) events = IsGivenUp key most label name events
-Opening key most label name (Failed (Unopened Read)) events =
-    ((input : List ℕ) × (events ≡ trace.Reading name input ∷ [])) ⊎ IsGivenUp key most label name events
-Opening key most label name (Failed (Unopened bytes.OutOfMemory)) events =
-    ((input : List ℕ) × (events ≡ trace.Reading name input ∷ [])) ⊎ IsGivenUp key most label name events
-Opening key most label name (Failed Changed) events = ⊥
-Opening key most label name (Failed OutputExists) events = (input : List ℕ) × (plain : List ℕ)
-    × IsGood key most label input plain
-    × (events ≡ trace.Reading name input ∷ trace.Refused (output_of name) refusal.Exists ∷ [])
-Opening key most label name (Failed CannotCreate) events = (input : List ℕ) × (plain : List ℕ)
-    × IsGood key most label input plain
-    × (events ≡ trace.Reading name input ∷ trace.Refused (output_of name) refusal.Failed ∷ [])
-Opening key most label name (Failed NoSuffix) events = events ≡ []
-Opening key most label name (Failed CannotOpen) events = events ≡ trace.Unread name ∷ []
-Opening key most label name (Failed fault) events =
+-- The readings of a file of this name: one, or two.
+abbrev pub AreReadings : List ℕ → List ℕ → List Event → Type 0
+AreReadings name first readings = (readings ≡ trace.Reading name first ∷ [])
+    ⊎ ((last : List ℕ) × (readings ≡ trace.Reading name first ∷ trace.Reading name last ∷ []))
+
+-- The events for a file that is good, whose output was refused for this cause.
+abbrev pub IsRefused : List ℕ → ℕ → Option (List ℕ) → List ℕ → List ℕ → FolderFault → List Event → Type 0
+IsRefused key most label output name cause events = (first : List ℕ) × (plain : List ℕ) × (readings : List Event)
+    × IsGood key most label first plain × AreReadings name first readings
+    × (events ≡ readings ++ trace.Refused output cause ∷ [])
+
+-- The events for a file that was read once and is good, and whose output was given up with a prefix of the plaintext.
+abbrev pub IsGivenUp : List ℕ → ℕ → Option (List ℕ) → List ℕ → List ℕ → List Event → Type 0
+IsGivenUp key most label output name events = (input : List ℕ) × (plain : List ℕ) × (written : List ℕ)
+    × IsGood key most label input plain × IsFront written plain
+    × (events ≡ trace.Reading name input ∷ trace.Created output ∷ trace.Discarded output written ∷ [])
+
+-- The events for a file that was read twice, and whose output was given up with what was written of the second reading.
+-- The two readings are so.
+abbrev pub IsBrokenOff : (List ℕ → List ℕ → Type 0) → List ℕ → ℕ → Option (List ℕ) → List ℕ → List ℕ → List Event → Type 0
+IsBrokenOff are key most label output name events = (header : List ℕ) × (first : List ℕ) × (last : List ℕ)
+    × (written : List ℕ) × (readings : List Event) × are first last
+    × IsReadTwice key most label name header first last readings
+    × IsBegun key most header last (Some []) (Some written)
+    × (events ≡ readings ++ trace.Created output ∷ trace.Discarded output written ∷ [])
+
+-- The events for a file of this name that is to be opened to this output. An output is asked for only after an input
+-- was read that opens and has the label. It is finished with the plaintext of the last reading, once, and then the line
+-- says `opened`. Or it is given up, after a write, a read or memory failed, or because the second reading gave other
+-- bytes; or it is refused, for the cause in the line.
+abbrev pub Opening : List ℕ → ℕ → Option (List ℕ) → List ℕ → List ℕ → FileOutcome → List Event → Type 0
+Opening key most label output name (Opened n) events = (last : List ℕ) × (plain : List ℕ) × (before : List Event)
+    × IsGood key most label last plain × (n ≡ length plain) × AreBefore key most label name last before
+    × (events ≡ before ++ trace.Reading name last ∷ trace.Created output ∷ trace.Finished output plain ∷ [])
+Opening key most label output name (Failed (Unopened Write)) events =
+    IsGivenUp key most label output name events ⊎ IsBrokenOff (λ _ _. ⊤) key most label output name events
+Opening key most label output name (Failed (Unopened Read)) events =
+    ((input : List ℕ) × (events ≡ trace.Reading name input ∷ [])) ⊎ IsBrokenOff (λ _ _. ⊤) key most label output name events
+Opening key most label output name (Failed (Unopened bytes.OutOfMemory)) events =
+    ((input : List ℕ) × (events ≡ trace.Reading name input ∷ [])) ⊎ IsBrokenOff (λ _ _. ⊤) key most label output name events
+Opening key most label output name (Failed Changed) events = IsBrokenOff (λ first last. first ≢ last) key most label output name events
+Opening key most label output name (Failed OutputExists) events = IsRefused key most label output name refusal.Exists events
+Opening key most label output name (Failed CannotCreate) events = IsRefused key most label output name refusal.Failed events
+Opening key most label output name (Failed NoSuffix) events = events ≡ []
+Opening key most label output name (Failed CannotOpen) events = events ≡ trace.Unread name ∷ []
+Opening key most label output name (Failed fault) events =
     (input : List ℕ) × IsFaultOf key most label input fault × (events ≡ trace.Reading name input ∷ [])
-Opening key most label name _ events = ⊥
+Opening key most label output name _ events = ⊥
 
 -- The events for a file of this name that is to be verified: its input was read, and is as the line says, or it could
 -- not be opened. No output is asked for.

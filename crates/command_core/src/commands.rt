@@ -4,26 +4,20 @@
 //! still processed, and the exit status is 2.
 ghost use Rattle.std.specs.Prelude.{◌≡◌, ℕ, ◌<◌, ◌≤◌, List, [], ◌∷◌, ◌++◌, length, map, take, Option, Ok, Err, IfSome};
 ghost use Rattle.std.specs.Prelude.{Bool, if◌then◌else◌, option_map, IfOk, IfErr, MatchOption};
-ghost use Rattle.opening_core.specs.Engine.{HasHeader, OpensTo};
-ghost use Rattle.io_core.specs.Streams.{counted};
-ghost use Rattle.command_core.specs.Again.{Gives};
-ghost use Rattle.command_core.specs.Labels.{IsLabelled};
 ghost use Rattle.command_core.specs.Lines.{FileLine, is_failed};
 ghost use Rattle.command_core.specs.Trace.{Does, Event, Opens};
-ghost use Rattle.command_core.specs.Work.{output_of, AreInRange, IsOfOpening, IsOfVerifying, IsSealedName, asked_label};
-ghost use Rattle.command_core.specs.Work.{AreTold, AreWorked, IsFaultOf, IsGood, Opening, Verifying, file_read_failed};
+ghost use Rattle.command_core.specs.Work.{AreInRange, AreTold, AreWorked, IsOfOpening, IsOfVerifying, IsOpenable, Opening};
+ghost use Rattle.command_core.specs.Work.{Verifying, asked_label, asked_output, output_for};
 
 use crate::facts::Facts;
 use crate::folder::{Folder, FolderFault, OpeningFolder, write_again_or_discard, write_or_discard};
-use crate::label::is_labelled;
 use crate::line::{FileFault, FileOutcome, Line};
-use crate::reading::{check_file, read_file};
+use crate::reading::{check_labelled, read_labelled};
 use crate::report::Report;
-use container_core::{Header, Key, MAX_OPENED, MAX_PLAIN, OpenFault};
-use folder_core::FileReader;
-use gate_core::{Free, MAX_WORKERS};
-use ledger_core::{Failed, Source};
-use opening_core::{Stopped, run_check};
+use container_core::{Key, MAX_OPENED, MAX_PLAIN, OpenFault};
+use gate_core::MAX_WORKERS;
+use ledger_core::Failed;
+use opening_core::Stopped;
 use std::alloc::Global;
 use std::thread::Threads;
 
@@ -53,6 +47,8 @@ pub struct OpenOptions<'a> {
     pub max_bytes: u64,
     /// The label that each container must have, if one is asked for. Version 1 has none, which is not the empty label.
     pub label: Option<&'a [u8]>,
+    /// The name of the output, if it isn't that of the file without `.stm`. `verify_all` ignores it.
+    pub to: Option<&'a str>,
     /// Whether the line of a good file is followed by what its header says. `open_all` ignores it.
     pub show: bool,
 }
@@ -68,41 +64,21 @@ pub struct Outs<L: Report + Drop, E: Report + Drop, J: Report + Drop> {
     pub journal: Option<J>,
 }
 
-// The name of the output of a sealed file: at least one byte, before `.stm`.
-fn output_name(name: &str) -> Option<&str>
-    ensures name { IfSome result (λ output. output.now ≡ output_of name.now) }
-    ensures sealed { MatchOption result (¬ IsSealedName name.now) (λ output. IsSealedName name.now) }
+// The name of the output of a file: the one that is given, or else that of a sealed file, at least one byte before
+// `.stm`.
+fn output_name<'n>(name: &'n str, to: Option<&'n str>) -> Option<&'n str>
+    ensures name { IfSome result (λ output. output.now ≡ output_for (option_map (λ to. to.now) to.entry) name.now) }
+    ensures openable { MatchOption result (¬ IsOpenable (option_map (λ to. to.now) to.entry) name.now)
+        (λ output. IsOpenable (option_map (λ to. to.now) to.entry) name.now) }
 {
+    if let Some(to) = to {
+        return Some(to);
+    }
     let output = name.strip_suffix(SUFFIX)?;
     if output.is_empty() {
         None
     } else {
         Some(output)
-    }
-}
-
-// Returns the header of a good container with the label asked for, and its number of plaintext bytes.
-fn check_labelled<T: Threads + Sync, R: Source>(
-    rt: &T,
-    alloc: Global,
-    key: &Key,
-    reader: &mut R,
-    options: &OpenOptions,
-) -> Result<(Header, u64), FileFault>
-    requires { AreInRange options.now }
-    ensures good { IfOk result (λ checked. IfSome (R.left reader.old) (λ input.
-        OpensTo key.now options.now.max_bytes input checked.1 × IsLabelled (asked_label options.now) input)) }
-    ensures header { IfOk result (λ checked. IfSome (R.left reader.old) (HasHeader checked.0)) }
-    ensures exact { IfErr result (λ fault. IfSome (R.left reader.old) (λ input.
-        IsFaultOf key.now options.now.max_bytes (asked_label options.now) input fault)) }
-    ensures fault { IfErr result (λ fault. (show : Bool) → IsOfVerifying show (FileOutcome.Failed fault)) }
-    ensures read { R.failures reader.new ≡ counted (file_read_failed result) (R.failures reader.old) }
-{
-    let (most, workers) = (options.max_bytes, options.workers);
-    match run_check(rt, alloc, key, reader, most, workers, &Free) {
-        Ok((header, n)) if is_labelled(&header, options.label) => Ok((header, n)),
-        Ok(_) => Err(FileFault::AnotherLabel),
-        Err(fault) => Err(FileFault::Unopened(fault)),
     }
 }
 
@@ -142,24 +118,22 @@ fn open_again<T: Threads + Sync, F: OpeningFolder>(
     options: &OpenOptions,
 ) -> FileOutcome
     requires range { AreInRange options.now }
-    requires name { IsSealedName name.now × (output.now ≡ output_of name.now) }
-    requires left { Gives (F.Reader.whole reader) (F.Reader.left reader) }
+    requires name { IsOpenable (asked_output options.now) name.now }
     requires opened { (before : Option (List Event))
-        × Does (Opens name.now (F.Reader.whole reader)) before (F.told folder.old) }
-    ensures outcome { IsOfOpening name.now result }
+        × Does (Opens name.now (F.Reader.left reader)) before (F.told folder.old) }
+    ensures outcome { IsOfOpening (asked_output options.now) name.now result }
     ensures events { (before : Option (List Event))
-        → Does (Opens name.now (F.Reader.whole reader)) before (F.told folder.old)
-        → Does (Opening key.now options.now.max_bytes (asked_label options.now) name.now result)
+        → Does (Opens name.now (F.Reader.left reader)) before (F.told folder.old)
+        → Does (Opening key.now options.now.max_bytes (asked_label options.now) output.now name.now result)
         before (F.told folder.new) }
 {
     let (most, workers) = (options.max_bytes, options.workers);
-    let (checked, reader) = check_file(rt, alloc, key, reader, most, workers, options.label);
-    let header = match checked {
-        Ok(header) => header,
+    let mut reader = reader;
+    let header = match check_labelled(rt, alloc, key, &mut reader, most, workers, options.label) {
+        Ok((header, _)) => header,
         Err(fault) => return FileOutcome::Failed(fault),
     };
-    let mut reader = reader;
-    match reader.again() {
+    match folder.again(name, &mut reader) {
         Ok(()) => {}
         Err(Failed) => return FileOutcome::Failed(FileFault::Unopened(OpenFault::Read)),
     }
@@ -167,7 +141,7 @@ fn open_again<T: Threads + Sync, F: OpeningFolder>(
         Ok(writer) => writer,
         Err(fault) => return FileOutcome::Failed(refusal(fault)),
     };
-    folder.allow_plain(&mut writer, key, name, &reader, most);
+    folder.allow_again(&mut writer, key, name, &reader, most);
     match write_again_or_discard(
         rt,
         alloc,
@@ -196,19 +170,18 @@ fn open_once<T: Threads + Sync, F: OpeningFolder>(
     options: &OpenOptions,
 ) -> FileOutcome
     requires range { AreInRange options.now }
-    requires name { IsSealedName name.now × (output.now ≡ output_of name.now) }
-    requires left { Gives (F.Reader.whole reader) (F.Reader.left reader) }
+    requires name { IsOpenable (asked_output options.now) name.now }
     requires opened { (before : Option (List Event))
-        × Does (Opens name.now (F.Reader.whole reader)) before (F.told folder.old) }
-    ensures outcome { IsOfOpening name.now result }
+        × Does (Opens name.now (F.Reader.left reader)) before (F.told folder.old) }
+    ensures outcome { IsOfOpening (asked_output options.now) name.now result }
     ensures events { (before : Option (List Event))
-        → Does (Opens name.now (F.Reader.whole reader)) before (F.told folder.old)
-        → Does (Opening key.now options.now.max_bytes (asked_label options.now) name.now result)
+        → Does (Opens name.now (F.Reader.left reader)) before (F.told folder.old)
+        → Does (Opening key.now options.now.max_bytes (asked_label options.now) output.now name.now result)
         before (F.told folder.new) }
 {
     let (most, workers) = (options.max_bytes, options.workers);
-    let (read, reader) = read_file(rt, alloc, key, reader, most, workers, options.label);
-    let plain = match read {
+    let mut reader = reader;
+    let plain = match read_labelled(rt, alloc, key, &mut reader, most, workers, options.label) {
         Ok(plain) => plain,
         Err(fault) => return FileOutcome::Failed(fault),
     };
@@ -216,7 +189,7 @@ fn open_once<T: Threads + Sync, F: OpeningFolder>(
         Ok(writer) => writer,
         Err(fault) => return FileOutcome::Failed(refusal(fault)),
     };
-    folder.allow_plain(&mut writer, key, name, &reader, options.max_bytes);
+    folder.allow_plain(&mut writer, key, name, &plain);
     match write_or_discard(folder, writer, &plain) {
         Ok(()) => FileOutcome::Opened(plain.len()),
         Err(Failed) => FileOutcome::Failed(FileFault::Unopened(OpenFault::Write)),
@@ -233,17 +206,17 @@ fn open_file<T: Threads + Sync, F: OpeningFolder>(
     options: &OpenOptions,
 ) -> FileOutcome
     requires { AreInRange options.now }
-    ensures outcome { IsOfOpening name.now result }
-    ensures events { Does (Opening key.now options.now.max_bytes (asked_label options.now) name.now result)
-        (F.told folder.old) (F.told folder.new) }
+    ensures outcome { IsOfOpening (asked_output options.now) name.now result }
+    ensures events { Does (Opening key.now options.now.max_bytes (asked_label options.now)
+        (output_for (asked_output options.now) name.now) name.now result) (F.told folder.old) (F.told folder.new) }
 {
-    let Some(output) = output_name(name) else {
+    let Some(output) = output_name(name, options.to) else {
         return FileOutcome::Failed(FileFault::NoSuffix);
     };
     let Ok(reader) = folder.open(name) else {
         return FileOutcome::Failed(FileFault::CannotOpen);
     };
-    if reader.can_repeat() {
+    if folder.can_repeat(&reader) {
         open_again(rt, alloc, key, folder, reader, name, output, options)
     } else {
         open_once(rt, alloc, key, folder, reader, name, output, options)
@@ -267,7 +240,8 @@ fn verify_file<T: Threads + Sync, F: Folder>(
     let Ok(mut reader) = folder.open(name) else {
         return FileOutcome::Failed(FileFault::CannotOpen);
     };
-    match check_labelled(rt, alloc, key, &mut reader, options) {
+    let (most, workers) = (options.max_bytes, options.workers);
+    match check_labelled(rt, alloc, key, &mut reader, most, workers, options.label) {
         Ok((header, bytes)) if options.show => FileOutcome::Shown {
             bytes,
             facts: Facts::of(&header),
@@ -320,11 +294,11 @@ pub fn tell<W: Report>(
     }
 }
 
-/// Opens each file: reads its container, checks all of it, and then writes the plaintext to the name without `.stm`,
-/// which must not exist yet. A file that can be read again is read twice, in the memory of a verification: the second
-/// reading checks each chunk again before it writes it. If a label is asked for, a container with another one fails
-/// after it was checked, and its output isn't created. Returns the exit status: 0 if every file was opened, 1 if one failed, 2 if a line couldn't be
-/// written. An output that couldn't be written whole, or finished, is removed.
+/// Opens each file: reads its container, checks all of it, and then writes the plaintext to the output, which must not
+/// exist yet. A file that can be read again is read twice, in the memory of a verification: the second reading checks
+/// each chunk again before it writes it. If a label is asked for, a container with another one fails after it was
+/// checked, and its output isn't created. Returns the exit status: 0 if every file was opened, 1 if one failed, 2 if a
+/// line couldn't be written. An output that couldn't be written whole, or finished, is removed.
 pub fn open_all<
     T: Threads + Sync,
     F: OpeningFolder,
@@ -343,8 +317,9 @@ pub fn open_all<
     requires workers { (0 < options.now.workers) × (options.now.workers ≤ MAX_WORKERS) }
     requires max_bytes { options.now.max_bytes ≤ MAX_OPENED_BYTES }
     ensures status { result ≤ 2 }
-    ensures files { AreWorked IsOfOpening
-        (Opening key.now options.now.max_bytes (option_map (λ b. b.now) options.now.label))
+    ensures files { AreWorked (IsOfOpening (option_map (λ to. to.now) options.now.to))
+        (λ name. Opening key.now options.now.max_bytes (option_map (λ b. b.now) options.now.label)
+        (output_for (option_map (λ to. to.now) options.now.to) name) name)
         (map (λ name. name.now) options.now.files.now) result
         (L.taken out.old.lines) (L.taken out.new.lines) (L.failures out.old.lines) (L.failures out.new.lines)
         (F.told folder.old) (F.told folder.new) }

@@ -2,15 +2,15 @@
 ghost use Rattle.std.specs.Prelude.{◌≡◌, ◌≢◌, ℕ, ◌<◌, ◌≤◌, List, ◌++◌, Option, None, Some, Err, IfOk, IfErr, IfSome};
 ghost use Rattle.std.specs.Prelude.{OnOk, OnErr};
 ghost use Rattle.io_core.specs.Streams.{Appends, AppendsFront};
-ghost use Rattle.opening_core.specs.Twice.{MayWrite, WritesAll, WritesSome};
+ghost use Rattle.opening_core.specs.Engine.{HasHeader};
+ghost use Rattle.opening_core.specs.Twice.{MayWrite, WritesAll};
 ghost use Rattle.output_core.specs.Bounds.{Admits, Exactly};
-ghost use Rattle.command_core.specs.Session.{IsBoundTo, IsNew, IsSound, Session};
-ghost use Rattle.command_core.specs.Again.{Gives, IsAgainFault};
+ghost use Rattle.command_core.specs.Again.{IsAgainFault, IsBegun};
+ghost use Rattle.command_core.specs.Session.{IsBoundAgain, IsBoundTo, IsNew, IsSound, Session};
 ghost use Rattle.command_core.specs.Trace.{Event, Creates, Discards, Does, FailsToOpen, Finishes, Nothing, Opens};
-ghost use Rattle.command_core.specs.Trace.{IsOpenedBy, Refuses, plain_of};
+ghost use Rattle.command_core.specs.Trace.{IsOpenedBy, IsReadAgain, Refuses};
 
 use container_core::{Header, Key, MAX_OPENED, OpenFault};
-use folder_core::FileReader;
 use gate_core::{Free, MAX_WORKERS};
 use ledger_core::{Failed, Source};
 use opening_core::{Plaintext, Stopped, write_again};
@@ -32,8 +32,8 @@ pub enum FolderFault {
 
 /// A folder of files, each of which has a name.
 pub trait Folder {
-    /// What reads a file of this folder, and may read it again.
-    type Reader: FileReader + Drop;
+    /// What reads a file of this folder.
+    type Reader: Source + Drop;
 
     /// What writes an output into this folder. If it is dropped without `finish`, a fault at closing isn't reported.
     type Writer: Output + Drop;
@@ -49,10 +49,18 @@ pub trait Folder {
         ensures fault { result ≢ Err FolderFault.Exists }
         ensures opened { IfOk result (λ reader.
             Does (Opens name.now (Self.Reader.left reader)) (told self.old) (told self.new)) }
-        ensures whole { IfOk result (λ reader. IfSome (told self.new)
-            (λ _. Self.Reader.whole reader ≡ Self.Reader.left reader)) }
-        ensures first { IfOk result (λ reader. Gives (Self.Reader.whole reader) (Self.Reader.left reader)) }
         ensures unopened { OnErr result (Does (FailsToOpen name.now) (told self.old) (told self.new)) }
+        ensures session { session self.new ≡ session self.old };
+
+    /// Whether the file of a reader can be read again. A pipe can't.
+    fn can_repeat(&self, reader: &Self::Reader) -> bool;
+
+    /// Goes back to the first byte of a file that was opened by this name: of the same open file, whatever has the name
+    /// by now. Fails if the file can't be read again.
+    fn again(&mut self, name: &str, reader: &mut Self::Reader) -> Result<(), Failed>
+        ensures again { OnOk result
+            (Does (Opens name.now (Self.Reader.left reader.new)) (told self.old) (told self.new)) }
+        ensures refused { OnErr result (Does Nothing (told self.old) (told self.new)) }
         ensures session { session self.new ≡ session self.old };
 
     /// Creates an empty output. It never replaces a file: `Exists` if the name exists, `Failed` for any other cause.
@@ -84,11 +92,22 @@ pub trait Folder {
     ghost sound: { (folder : Self) → ∥ IfSome (session folder) IsSound ∥₁ };
 }
 
-/// A folder into whose outputs plaintexts are written, of containers that were read in it.
+/// A folder into whose outputs plaintexts are written, of containers that were read in it. Each output is declared, while
+/// it is new, to hold one. A folder over real files has nothing to do for that.
 pub trait OpeningFolder: Folder {
-    /// Declares, before anything is written to a new output, that it is to hold a plaintext: that of a file which was
-    /// read, and opens under this key. A folder over real files has nothing to do here.
-    fn allow_plain(
+    /// Declares that an output is to hold the plaintext of a file that was read, and opens under this key.
+    fn allow_plain(&mut self, output: &mut Self::Writer, key: &Key, name: &str, plain: &Plaintext)
+        requires new { IsNew (Self.Writer.bound output.old) (Self.Writer.taken output.old) }
+        requires read { IfSome (Self.told self.old) (IsOpenedBy key.now name.now plain.now) }
+        ensures told { Self.told self.new ≡ Self.told self.old }
+        ensures session { Self.session self.new ≡ Self.session self.old }
+        ensures taken { Self.Writer.taken output.new ≡ Self.Writer.taken output.old }
+        ensures bound { IfSome (Self.Writer.bound output.new)
+            (IsBoundTo (λ held. Exactly (held ++ plain.now)) (Self.Writer.taken output.old)) };
+
+    /// Declares that an output is to hold the plaintext of a second reading of a file, of which a first one opens under
+    /// this key.
+    fn allow_again(
         &mut self,
         output: &mut Self::Writer,
         key: &Key,
@@ -98,16 +117,13 @@ pub trait OpeningFolder: Folder {
     )
         requires new { IsNew (Self.Writer.bound output.old) (Self.Writer.taken output.old) }
         requires read { IfSome (Self.told self.old)
-            (IsOpenedBy key.now name.now (plain_of key.now max_bytes (Self.Reader.whole reader.now))) }
+            (IsReadAgain key.now max_bytes name.now (Self.Reader.left reader.now)) }
         ensures told { Self.told self.new ≡ Self.told self.old }
         ensures session { Self.session self.new ≡ Self.session self.old }
         ensures taken { Self.Writer.taken output.new ≡ Self.Writer.taken output.old }
-        ensures bound { IfSome (Self.Writer.bound output.new) (IsBoundTo
-            (λ held. Exactly (held ++ plain_of key.now max_bytes (Self.Reader.whole reader.now)))
-            (Self.Writer.taken output.old)) }
-        // A folder that bounds its outputs knows what happened.
-        ensures known { IfSome (Self.Writer.bound output.new)
-            (λ _. (events : List Event) × (Self.told self.old ≡ Some events)) };
+        // A folder that bounds its outputs knows that the second reading opens.
+        ensures bound { IfSome (Self.Writer.bound output.new)
+            (IsBoundAgain key.now max_bytes (Self.Reader.left reader.now) (Self.Writer.taken output.old)) };
 }
 
 // Finishes an output, or gives it up.
@@ -168,10 +184,11 @@ pub(crate) fn write_again_or_discard<T: Threads + Sync, F: Folder, R: Source>(
     requires may { IfSome (F.Writer.bound output)
         (MayWrite key.now max_bytes (R.left reader.old) (F.Writer.taken output)) }
     ensures ok { IfOk result (λ n. (taken : Option (List ℕ))
-        × IfSome (R.left reader.old) (λ input. WritesAll key.now max_bytes (F.Writer.taken output) taken input n)
+        × IfSome (R.left reader.old) (λ input. HasHeader header.now input
+        × WritesAll key.now max_bytes (F.Writer.taken output) taken input n)
         × Does (Finishes taken) (F.told folder.old) (F.told folder.new)) }
     ensures err { OnErr result ((taken : Option (List ℕ)) × (between : Option (List Event))
-        × IfSome (R.left reader.old) (WritesSome key.now max_bytes (F.Writer.taken output) taken)
+        × IfSome (R.left reader.old) (λ input. IsBegun key.now max_bytes header.now input (F.Writer.taken output) taken)
         × Does Nothing (F.told folder.old) between × Does (Discards taken) between (F.told folder.new)) }
     ensures fault { IfErr result (IsAgainFault key.now header.now max_bytes (R.left reader.old)) }
     ensures session { F.session folder.new ≡ F.session folder.old }

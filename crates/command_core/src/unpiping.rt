@@ -1,18 +1,16 @@
-//! Opening one input to one output: `unpipe`.
-ghost use Rattle.std.specs.Prelude.{◌≡◌, ℕ, ◌<◌, ◌≤◌, List, [], ◌∷◌, ◌++◌, Option, Some, IfSome, option_map};
-ghost use Rattle.output_core.specs.Bounds.{Exactly};
-ghost use Rattle.command_core.specs.Again.{Gives};
-ghost use Rattle.command_core.specs.Session.{IsBoundTo, IsShut};
-ghost use Rattle.command_core.specs.Trace.{plain_of};
-ghost use Rattle.command_core.specs.Unpiping.{HasUnpiped, OpensKnown, whole_of};
+//! Opening one file or stream to a stream: `unpipe`.
+ghost use Rattle.std.specs.Prelude.{◌≡◌, ℕ, ◌<◌, ◌≤◌, List, [], ◌∷◌, Option, IfSome, option_map};
+ghost use Rattle.command_core.specs.Session.{IsBoundAgain, IsShut};
+ghost use Rattle.command_core.specs.Trace.{Event, IsReadAgain};
+ghost use Rattle.command_core.specs.Unpiping.{HasUnpiped};
 ghost use Rattle.command_core.specs.Work.{AreTold};
 
 use crate::commands::{MAX_OPENED_BYTES, fault_again, tell};
+use crate::folder::Folder;
 use crate::line::{FileFault, FileOutcome};
-use crate::reading::check_file;
+use crate::reading::check_labelled;
 use crate::report::Report;
 use container_core::Key;
-use folder_core::FileReader;
 use gate_core::{Free, MAX_WORKERS};
 use io_core::Sink;
 use ledger_core::Failed;
@@ -34,95 +32,113 @@ pub struct UnpipeOptions<'a> {
 
 /// What a plaintext is written to that isn't an output of a folder.
 pub trait OpeningStream: Output {
-    /// Declares that the stream is to hold, after what it took, the plaintext that this input opens to under this key.
-    /// All of the input was checked.
-    fn allow_stream<R: FileReader>(&mut self, input: &R, key: &Key, max_bytes: u64)
+    /// Declares that the stream is to hold, after what it took, the plaintext of the second reading of a file of this
+    /// folder, of which a first one opens under this key.
+    fn allow_stream<F: Folder>(
+        &mut self,
+        folder: &F,
+        key: &Key,
+        name: &str,
+        reader: &F::Reader,
+        max_bytes: u64,
+    )
         requires shut { IsShut (Self.bound self.old) (Self.taken self.old) }
-        requires opens { OpensKnown key.now max_bytes (R.whole input.now) }
+        requires read { IfSome (F.told folder.now)
+            (IsReadAgain key.now max_bytes name.now (F.Reader.left reader.now)) }
         ensures taken { Self.taken self.new ≡ Self.taken self.old }
         ensures failures { Self.failures self.new ≡ Self.failures self.old }
-        ensures bound { IfSome (Self.bound self.new) (IsBoundTo
-            (λ held. Exactly (held ++ plain_of key.now max_bytes (R.whole input.now))) (Self.taken self.old)) }
-        // A stream that is bounded is only of an input whose bytes are known.
-        ensures known { IfSome (Self.bound self.new)
-            (λ _. (bytes : List ℕ) × (R.whole input.now ≡ Some bytes)) };
+        // A stream that is bounded knows that the second reading opens.
+        ensures bound { IfSome (Self.bound self.new)
+            (IsBoundAgain key.now max_bytes (F.Reader.left reader.now) (Self.taken self.old)) };
 }
 
 /// A writer may take anything.
 impl<W: Sink> OpeningStream for W {
-    fn allow_stream<R: FileReader>(&mut self, _input: &R, _key: &Key, _max_bytes: u64) {}
+    fn allow_stream<F: Folder>(
+        &mut self,
+        _folder: &F,
+        _key: &Key,
+        _name: &str,
+        _reader: &F::Reader,
+        _max_bytes: u64,
+    ) {}
 }
 
-// Checks the whole container that an input gives, and writes its plaintext by reading it again. Returns the stream too.
-fn unpipe<T: Threads + Sync, R: FileReader + Drop, W: OpeningStream + Drop>(
+// Opens a file, checks its whole container, and writes its plaintext by reading it again. Returns the stream too.
+fn unpipe<T: Threads + Sync, F: Folder, W: OpeningStream + Drop>(
     rt: &T,
     alloc: Global,
     key: &Key,
-    input: R,
+    folder: &mut F,
+    name: &str,
     stream: W,
     options: &UnpipeOptions,
 ) -> (FileOutcome, W)
     requires workers { (0 < options.now.workers) × (options.now.workers ≤ MAX_WORKERS) }
     requires max_bytes { options.now.max_bytes ≤ MAX_OPENED_BYTES }
-    requires first { Gives (R.whole input) (R.left input) }
     requires shut { IsShut (W.bound stream) (W.taken stream) }
-    ensures { HasUnpiped key.now options.now.max_bytes (option_map (λ b. b.now) options.now.label) (R.whole input)
-        (W.taken stream) (W.taken result.1) (W.failures stream) (W.failures result.1) result.0 }
+    ensures { HasUnpiped key.now options.now.max_bytes (option_map (λ b. b.now) options.now.label) name.now
+        (W.taken stream) (W.taken result.1) (W.failures stream) (W.failures result.1)
+        (F.told folder.old) (F.told folder.new) result.0 }
 {
     let (most, workers) = (options.max_bytes, options.workers);
-    let (checked, input) = check_file(rt, alloc, key, input, most, workers, options.label);
-    let header = match checked {
-        Ok(header) => header,
+    let Ok(mut reader) = folder.open(name) else {
+        return (FileOutcome::Failed(FileFault::CannotOpen), stream);
+    };
+    let header = match check_labelled(rt, alloc, key, &mut reader, most, workers, options.label) {
+        Ok((header, _)) => header,
         Err(fault) => return (FileOutcome::Failed(fault), stream),
     };
-    let mut input = input;
-    match input.again() {
+    match folder.again(name, &mut reader) {
         Ok(()) => {}
         Err(Failed) => return (FileOutcome::Failed(FileFault::SpoolFailed), stream),
     }
     let mut stream = stream;
-    stream.allow_stream(&input, key, most);
+    stream.allow_stream(folder, key, name, &reader, most);
     match write_again(
-        rt, alloc, key, &header, &mut input, stream, most, workers, &Free,
+        rt,
+        alloc,
+        key,
+        &header,
+        &mut reader,
+        stream,
+        most,
+        workers,
+        &Free,
     ) {
         (Ok(n), stream) => (FileOutcome::Opened(n), stream),
         (Err(stopped), stream) => (FileOutcome::Failed(fault_again(stopped)), stream),
     }
 }
 
-/// Opens the container that an input gives, to its end, and writes the plaintext to a stream. The input is `None` if it
-/// couldn't be opened. It is read twice. The first reading checks every chunk and the label. Only then the second
-/// writes, each chunk once it was checked again. The line, `opened NAME bytes N` or `failed NAME: FAULT`, is printed to
-/// `lines`. Returns the exit status and the stream. The status is 0 if the input was opened, 1 if that failed, 2 if the
-/// line couldn't be written.
+/// Opens the container in a file of a folder, to its end, and writes the plaintext to a stream. The file is read twice.
+/// The first reading checks every chunk and the label. Only then the second writes, each chunk once it was checked
+/// again. The line, `opened NAME bytes N` or `failed NAME: FAULT`, is printed to `lines`. Returns the exit status and the
+/// stream. The status is 0 if the file was opened, 1 if that failed, 2 if the line couldn't be written.
 ///
-/// At a fault of the bytes nothing was written. If memory, a read or a write failed after the whole check, a prefix of
-/// the plaintext was written.
-pub fn unpipe_all<T: Threads + Sync, R: FileReader + Drop, W: OpeningStream + Drop, E: Report>(
+/// At a fault of the bytes nothing was written. If memory, a read or a write failed after the whole check, or if the
+/// second reading gave other bytes (`changed while it was opened`), what was written had passed both checks.
+pub fn unpipe_all<T: Threads + Sync, F: Folder, W: OpeningStream + Drop, E: Report>(
     rt: &T,
     alloc: Global,
     key: &Key,
+    folder: &mut F,
     name: &str,
-    input: Option<R>,
     stream: W,
     options: &UnpipeOptions,
     lines: &mut E,
 ) -> (u8, W)
     requires workers { (0 < options.now.workers) × (options.now.workers ≤ MAX_WORKERS) }
     requires max_bytes { options.now.max_bytes ≤ MAX_OPENED_BYTES }
-    requires first { IfSome input (λ input. Gives (R.whole input) (R.left input)) }
     requires shut { IsShut (W.bound stream) (W.taken stream) }
     ensures status { result.0 ≤ 2 }
     ensures run { (outcome : FileOutcome)
-        × HasUnpiped key.now options.now.max_bytes (option_map (λ b. b.now) options.now.label) (whole_of R.whole input)
-        (W.taken stream) (W.taken result.1) (W.failures stream) (W.failures result.1) outcome
+        × HasUnpiped key.now options.now.max_bytes (option_map (λ b. b.now) options.now.label) name.now
+        (W.taken stream) (W.taken result.1) (W.failures stream) (W.failures result.1)
+        (F.told folder.old) (F.told folder.new) outcome
         × AreTold result.0 (record { name = name.now; outcome = outcome } ∷ [])
         (E.taken lines.old) (E.taken lines.new) (E.failures lines.old) (E.failures lines.new) }
 {
-    let Some(input) = input else {
-        let outcome = FileOutcome::Failed(FileFault::CannotOpen);
-        return (tell(alloc, lines, 0, name, outcome), stream);
-    };
-    let (outcome, stream) = unpipe(rt, alloc, key, input, stream, options);
+    let (outcome, stream) = unpipe(rt, alloc, key, folder, name, stream, options);
     (tell(alloc, lines, 0, name, outcome), stream)
 }
