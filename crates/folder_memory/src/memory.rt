@@ -10,7 +10,7 @@ ghost use Rattle.command_core.specs.Session.{IsFree, Session, started, with_begu
 ghost use Rattle.container_core.specs.Shape.{IsShape};
 ghost use Rattle.front_core.specs.Range.{IsHeld};
 ghost use Rattle.sha2.specs.Sha256.{sha256};
-ghost use Rattle.folder_memory.specs.Memory.{KeepsOrForgets, bytes_of, event_of, file_view, memory_view};
+ghost use Rattle.folder_memory.specs.Memory.{KeepsOrForgets, bytes_of, event_of, file_view, memory_view, reader_view};
 ghost use Rattle.folder_memory.specs.Memory.{is_sound, session_told};
 ghost use Rattle.folder_memory.specs.Memory.{after_call, fails_now, is_there, name_of, taken_by, told_of, whole_of};
 ghost use Rattle.folder_memory.specs.Memory.{with_bytes, without};
@@ -18,10 +18,10 @@ ghost use Rattle.folder_memory.specs.Memory.{with_bytes, without};
 use crate::session::{SessionNote, is_shape};
 use crate::streams::{MemoryReader, MemoryWriter, Pace, STEADY, Shown, new_writer};
 use crate::told::{Told, created, discarded, finished, reading, refused, tell, unread};
-use command_core::{Folder, FolderFault, OpeningFolder};
+use command_core::{Folder, FolderFault, OpeningFolder, Plaintext};
 use container_core::{Key, Shape};
 use front_core::SealingFolder;
-use ledger_core::{Ledger, Seat};
+use ledger_core::{Failed, Ledger, Seat};
 use reserve_core::{Fold, LedgerFile};
 use std::alloc::{AllocError, Global};
 use std::marker::Model;
@@ -332,6 +332,35 @@ impl Folder for MemoryFolder {
         Ok(MemoryReader::new(bytes, self.readers))
     }
 
+    fn can_repeat(&self, _reader: &MemoryReader) -> bool
+        ensures { result ≡ true }
+    {
+        true
+    }
+
+    fn again(&mut self, name: &str, reader: &mut MemoryReader) -> Result<(), Failed>
+        ensures again { OnOk result (Does (Opens name.now (Some reader.new.left)) self.old.log self.new.log) }
+        ensures refused { OnErr result (Does Nothing self.old.log self.new.log) }
+        // On success its reader gives all bytes that it had when it was opened, whatever the file has by now. On failure
+        // it goes on where it was.
+        ensures whole { OnOk result (reader.new ≡ reader_view reader.old.whole reader.old.whole) }
+        ensures same { OnErr result (reader.new ≡ reader.old) }
+        // It fails exactly if this call was to fail.
+        ensures there { OnOk result (fails_now self.old.refused ≡ false) }
+        ensures cause { OnErr result (fails_now self.old.refused ≡ true) }
+        ensures kept { self.new.files ≡ self.old.files }
+        ensures counted { self.new.refused ≡ after_call self.old.refused }
+        ensures session { self.new.session ≡ self.old.session }
+    {
+        if self.is_refused() {
+            return Err(Failed);
+        }
+        reader.rewind();
+        let event = reading(self.alloc, name, reader.whole());
+        tell(&mut self.told, event);
+        Ok(())
+    }
+
     fn create(&mut self, name: &str) -> Result<MemoryWriter, FolderFault>
         ensures created { IfOk result (λ output. Does (Creates name.now (taken_by output)) self.old.log self.new.log) }
         ensures uncreated { IfErr result (λ fault. Does (Refuses name.now fault) self.old.log self.new.log) }
@@ -425,9 +454,20 @@ impl Folder for MemoryFolder {
     ghost sound = { λ f. is_sound f.session };
 }
 
+// It gives no bound for an output.
 impl OpeningFolder for MemoryFolder {
-    // It gives no bound for an output.
     fn allow_plain(
+        &mut self,
+        output: &mut MemoryWriter,
+        _key: &Key,
+        _name: &str,
+        _plain: &Plaintext,
+    )
+        ensures folder { self.new ≡ self.old }
+        ensures output { output.new ≡ output.old }
+    {}
+
+    fn allow_again(
         &mut self,
         output: &mut MemoryWriter,
         _key: &Key,

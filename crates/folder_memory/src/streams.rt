@@ -3,7 +3,6 @@
 ghost use Rattle.std.specs.Prelude.{◌≡◌, [], IfOk, string_bytes};
 ghost use Rattle.folder_memory.specs.Memory.{reader_view};
 
-use folder_core::FileReader;
 use io_memory::{FromMemory, Schedule, ToMemory};
 use ledger_core::{Failed, Sink, Source};
 use std::alloc::{AllocError, Global};
@@ -62,6 +61,20 @@ impl MemoryReader {
             pace,
         }
     }
+
+    // All bytes of the file.
+    pub(crate) fn whole(&self) -> &[u8]
+        ensures { result.now ≡ self.now.whole }
+    {
+        self.bytes.as_slice()
+    }
+
+    // Goes back to the first byte.
+    pub(crate) fn rewind(&mut self)
+        ensures { self.new ≡ reader_view self.old.whole self.old.whole }
+    {
+        self.at = 0;
+    }
 }
 
 impl Source for MemoryReader {
@@ -70,16 +83,6 @@ impl Source for MemoryReader {
     ghost left = { λ r. Some r.left };
 
     fn read(&mut self, buffer: &mut [u8]) -> Result<usize, Failed> {
-        self.read_on(buffer)
-    }
-}
-
-impl FileReader for MemoryReader {
-    ghost use Rattle.std.specs.Prelude.{Some};
-
-    ghost whole = { λ r. Some r.whole };
-
-    fn read_on(&mut self, buffer: &mut [u8]) -> Result<usize, Failed> {
         let at = self.at;
         let schedule = schedule_after(self.pace.schedule, self.calls, self.moved);
         self.calls = self.calls.saturating_add(1);
@@ -88,15 +91,6 @@ impl FileReader for MemoryReader {
         self.at += n;
         self.moved = self.moved.saturating_add(n as u64);
         Ok(n)
-    }
-
-    fn can_repeat(&self) -> bool {
-        true
-    }
-
-    fn again(&mut self) -> Result<(), Failed> {
-        self.at = 0;
-        Ok(())
     }
 }
 

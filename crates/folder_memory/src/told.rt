@@ -9,7 +9,7 @@ use std::alloc::Global;
 /// What happened in a folder.
 #[derive(Drop)]
 pub enum Told {
-    /// A file of this name was opened for reading, and these were its bytes.
+    /// A file of this name was opened for reading, or read again, and these were its bytes.
     Reading(String, Vec<u8>),
     /// A file could not be opened.
     Unread(String),
@@ -41,7 +41,7 @@ pub(crate) fn tell(told: &mut Option<Vec<Told>>, event: Option<Told>)
     }
 }
 
-/// The event that a file was opened for reading.
+/// The event that a file was opened for reading, or read again.
 pub(crate) fn reading(alloc: Global, name: &str, bytes: &[u8]) -> Option<Told>
     ensures { IfSome result (λ told. event_of told ≡ Reading name.now bytes.now) }
 {

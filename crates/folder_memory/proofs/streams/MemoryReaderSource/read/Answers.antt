@@ -1,7 +1,7 @@
 use Rattle.std.proofs.Common.{rules, ap, ◌∙◌}
 use Rattle.io_memory.specs.Memory.{Reading}
 use Rattle.folder_memory.proofs.Files.{read_on, rest_of}
-use Rattle.folder_memory.proofs.streams.MemoryReaderFileReader.read_on.Goals as goal
+use Rattle.folder_memory.proofs.streams.MemoryReaderSource.read.Goals as goal
 
 pub returns-clause-bytes : goal.returns-clause-bytes
 returns-clause-bytes c =
