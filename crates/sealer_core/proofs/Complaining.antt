@@ -1,5 +1,5 @@
 -- The texts of the faults are complaints, and what is printed of one is a prefix of it.
-use Rattle.std.proofs.Common.{◌≡◌, List, [], ◌++◌, Option, ℕ, refl, sym, inl, inr, append-nil}
+use Rattle.std.proofs.Common.{List, [], Option, ℕ, refl, sym, inl, inr, append-nil}
 use Rattle.std.proofs.KnownBytes.{Appends-nil}
 use Rattle.io_core.specs.Streams.{Appends, AppendsFront}
 use Rattle.command_core.specs.Printing.{IsComplaint}

@@ -1,8 +1,8 @@
 -- What was finished, among the events of a call. An output that a run of `seal_all` finished has the container of an
--- input that was read of its file before. One that `open_all` finished was opened of a file that was read right before.
--- Both go file by file: what is among the events of all files is among those of one.
+-- input that was read of its file before. One that `open_all` finished was opened of the last reading of a file, right
+-- before. Both go file by file: what is among the events of all files is among those of one.
 use Rattle.std.proofs.Common.{◌≡◌, ◌≢◌, ◌⊎◌, inl, inr, ℕ, sym, ap, ◌∙◌, subst, List, [], ◌∷◌, ◌++◌, All, Option, Ok, append_assoc}
-use Rattle.std.specs.Prelude.{flat_map}
+use Rattle.std.specs.Prelude.{⊤, flat_map}
 use Rattle.std.proofs.lemmas.List.Elements.{All-head, All-tail}
 use Rattle.container_core.specs.Container.{container}
 use Rattle.container_core.specs.Opening.{opening}
@@ -16,7 +16,7 @@ use Rattle.command_core.specs.declared.line.FileFault.TheVariants.{CannotOpen, N
 use Rattle.command_core.specs.declared.line.FileOutcome.{FileOutcome}
 use Rattle.command_core.specs.declared.line.FileOutcome.TheVariants.{Sealed, Opened, Failed}
 use Rattle.command_core.specs.Trace.{Event, Reading, Unread, Created, Refused, Finished, Discarded}
-use Rattle.command_core.specs.Work.{IsGivenUp, Opening, Work, output_of}
+use Rattle.command_core.specs.Work.{AreBefore, IsBrokenOff, IsGivenUp, IsRefused, Opening, Work, output_for}
 use Rattle.sealer_core.specs.Sealing.{IsDiscarded, IsUncreated, Part, Sealing, group_events, sealed_name}
 use Rattle.sealer_core.specs.Theorem.{IsAmong, WasOpened, WasSealed}
 use Rattle.sealer_core.proofs.Happened.{IsPart}
@@ -207,204 +207,216 @@ module _ (key : List ℕ) (shape : ShapeView) (most device : ℕ) (output bytes 
 
 -- ---- what was opened
 
-opened_left : (file bytes plain : List ℕ) (one two : List Event) → WasOpened one file bytes plain → WasOpened (one ++ two) file bytes plain
-opened_left file bytes plain one two (before, after, same) =
-    (before, after ++ two, ap (λ l. l ++ two) same ∙ append_assoc before (Reading file bytes ∷ Created (output_of file) ∷ Finished (output_of file) plain ∷ after) two)
+module _ (to : Option (List ℕ)) (file plain : List ℕ) where
+  -- a file's output was created, and right after that finished
+  abbrev gives : List Event → List Event
+  gives after = Created (output_for to file) ∷ Finished (output_for to file) plain ∷ after
 
-opened_right : (file bytes plain : List ℕ) (one two : List Event) → WasOpened two file bytes plain → WasOpened (one ++ two) file bytes plain
-opened_right file bytes plain one two (before, after, same) =
-    (one ++ before, after, ap (λ l. one ++ l) same ∙ sym (append_assoc one before (Reading file bytes ∷ Created (output_of file) ∷ Finished (output_of file) plain ∷ after)))
+  opened_left : (bytes : List ℕ) (one two : List Event) → WasOpened to one file bytes plain → WasOpened to (one ++ two) file bytes plain
+  opened_left bytes one two (before, after, same) =
+      (before, after ++ two, ap (λ l. l ++ two) same ∙ append_assoc before (Reading file bytes ∷ gives after) two)
+
+  opened_right : (bytes : List ℕ) (one two : List Event) → WasOpened to two file bytes plain → WasOpened to (one ++ two) file bytes plain
+  opened_right bytes one two (before, after, same) =
+      (one ++ before, after, ap (λ l. one ++ l) same ∙ sym (append_assoc one before (Reading file bytes ∷ gives after)))
 
 abbrev pub work_events : List Work → List Event
 work_events works = flat_map (λ (w : Work). w.events) works
 
-module _ (key : List ℕ) (most : ℕ) (label : Option (List ℕ)) where
+-- a file was read or couldn't be, or an output was refused
+abbrev IsQuiet : Event → Type 0
+IsQuiet (Reading name bytes) = ⊤
+IsQuiet (Unread name) = ⊤
+IsQuiet (Refused name fault) = ⊤
+IsQuiet (Created name) = ⊥
+IsQuiet (Finished name bytes) = ⊥
+IsQuiet (Discarded name bytes) = ⊥
+
+abbrev AreQuiet : List Event → Type 0
+AreQuiet [] = ⊤
+AreQuiet (event ∷ events) = IsQuiet event × AreQuiet events
+
+module _ (key : List ℕ) (most : ℕ) where
+  -- after such events a last reading, and an output that was given up
+  abbrev IsLeft : List ℕ → List ℕ → List Event → Type 0
+  IsLeft output name events = (before : List Event) × (last : List ℕ) × (held : List ℕ) × AreQuiet before
+      × (events ≡ before ++ Reading name last ∷ Created output ∷ Discarded output held ∷ [])
+
+  -- or one that was finished, with what that reading opens to
+  abbrev IsWhole : List ℕ → List ℕ → List Event → Type 0
+  IsWhole output name events = (before : List Event) × (last : List ℕ) × (text : List ℕ) × AreQuiet before × (opening key most last ≡ Ok text)
+      × (events ≡ before ++ Reading name last ∷ Created output ∷ Finished output text ∷ [])
+
+  -- the three ways in which a file can end
+  abbrev IsEnded : List ℕ → List ℕ → List Event → Type 0
+  IsEnded output name events = AreQuiet events ⊎ IsLeft output name events ⊎ IsWhole output name events
+
+module _ (key : List ℕ) (most : ℕ) (label : Option (List ℕ)) (output name : List ℕ) where
+  before_quiet : (last : List ℕ) (before : List Event) → AreBefore key most label name last before → AreQuiet before
+  before_quiet last before (inl none) = subst AreQuiet (sym none) tt
+  before_quiet last before (inr (header, first, plain, good, has, same, one)) = subst AreQuiet (sym one) (tt, tt)
+
+  refused_quiet : (cause : FolderFault) (events : List Event) → IsRefused key most label output name cause events → AreQuiet events
+  refused_quiet cause events (first, plain, readings, good, inl one, did) =
+      subst AreQuiet (sym (did ∙ ap (λ l. l ++ Refused output cause ∷ []) one)) (tt, (tt, tt))
+  refused_quiet cause events (first, plain, readings, good, inr (last, two), did) =
+      subst AreQuiet (sym (did ∙ ap (λ l. l ++ Refused output cause ∷ []) two)) (tt, (tt, (tt, tt)))
+
+  up_left : (events : List Event) → IsGivenUp key most label output name events → IsLeft key most output name events
+  up_left events (input, plain, written, good, begun, did) = ([], input, written, tt, did)
+
+  broken_left : (are : List ℕ → List ℕ → Type 0) (events : List Event) → IsBrokenOff are key most label output name events → IsLeft key most output name events
+  broken_left are events (header, first, last, written, readings, related, twice, begun, did) =
+      (Reading name first ∷ [], last, written, (tt, tt), did ∙ ap (λ l. l ++ Created output ∷ Discarded output written ∷ []) twice.2)
+
+  read_quiet : (read : List ℕ) (events : List Event) → events ≡ Reading name read ∷ [] → AreQuiet events
+  read_quiet read events did = subst AreQuiet (sym did) (tt, tt)
+
+  either_ended : (events : List Event)
+      → ((input : List ℕ) × (events ≡ Reading name input ∷ [])) ⊎ IsBrokenOff (λ _ _. ⊤) key most label output name events
+      → IsEnded key most output name events
+  either_ended events (inl (read, did)) = inl (read_quiet read events did)
+  either_ended events (inr broken) = inr (inl (broken_left (λ _ _. ⊤) events broken))
+
+  ended : (outcome : FileOutcome) (events : List Event) → Opening key most label output name outcome events → IsEnded key most output name events
+  ended (Opened n) events (last, text, before, good, long, first, did) = inr (inr (before, last, text, before_quiet last before first, good.0, did))
+  ended (Failed (Unopened open_fault.Write)) events (inl up) = inr (inl (up_left events up))
+  ended (Failed (Unopened open_fault.Write)) events (inr broken) = inr (inl (broken_left (λ _ _. ⊤) events broken))
+  ended (Failed (Unopened open_fault.Read)) events either = either_ended events either
+  ended (Failed (Unopened open_fault.OutOfMemory)) events either = either_ended events either
+  ended (Failed Changed) events broken = inr (inl (broken_left (λ first last. first ≢ last) events broken))
+  ended (Failed OutputExists) events refused = inl (refused_quiet refusal.Exists events refused)
+  ended (Failed CannotCreate) events refused = inl (refused_quiet refusal.Failed events refused)
+  ended (Failed NoSuffix) events did = inl (subst AreQuiet (sym did) tt)
+  ended (Failed CannotOpen) events did = inl (subst AreQuiet (sym did) (tt, tt))
+  ended (Failed fault) events is = inl (read_quiet is.0 events is.2)
+  ended outcome events is = absurd is
+
+module _ (key : List ℕ) (most : ℕ) (label to : Option (List ℕ)) where
   abbrev pub IsWork : Work → Type 0
-  IsWork w = Opening key most label w.line.name w.line.outcome w.events
-
-  -- what happens for a file doesn't begin with an output
-  up_not_created : (name : List ℕ) (events rest more : List Event) (output : List ℕ) → IsGivenUp key most label name events
-      → events ++ rest ≡ Created output ∷ more → ⊥
-  up_not_created name events rest more output (read, text, written, good, begun, did) same =
-      let all : _ ≡ _ = sym (ap (λ l. l ++ rest) did) ∙ same in cc
-
-  read_not_created : (name read : List ℕ) (events rest more : List Event) (output : List ℕ) → events ≡ Reading name read ∷ []
-      → events ++ rest ≡ Created output ∷ more → ⊥
-  read_not_created name read events rest more output did same = let all : _ ≡ _ = sym (ap (λ l. l ++ rest) did) ∙ same in cc
-
-  either_not_created : (name : List ℕ) (events rest more : List Event) (output : List ℕ)
-      → ((input : List ℕ) × (events ≡ Reading name input ∷ [])) ⊎ IsGivenUp key most label name events
-      → events ++ rest ≡ Created output ∷ more → ⊥
-  either_not_created name events rest more output (inl (read, did)) same = read_not_created name read events rest more output did same
-  either_not_created name events rest more output (inr up) same = up_not_created name events rest more output up same
-
-  not_created : (name : List ℕ) (outcome : FileOutcome) (events rest more : List Event) (output : List ℕ) → Opening key most label name outcome events
-      → (rest ≡ Created output ∷ more → ⊥) → events ++ rest ≡ Created output ∷ more → ⊥
-  not_created name (Opened n) events rest more output (read, text, good, long, did) none same = let all : _ ≡ _ = sym (ap (λ l. l ++ rest) did) ∙ same in cc
-  not_created name (Failed (Unopened open_fault.Write)) events rest more output up none same = up_not_created name events rest more output up same
-  not_created name (Failed (Unopened open_fault.Read)) events rest more output either none same = either_not_created name events rest more output either same
-  not_created name (Failed (Unopened open_fault.OutOfMemory)) events rest more output either none same =
-      either_not_created name events rest more output either same
-  not_created name (Failed Changed) events rest more output is none same = absurd is
-  not_created name (Failed OutputExists) events rest more output (read, text, good, did) none same = let all : _ ≡ _ = sym (ap (λ l. l ++ rest) did) ∙ same in cc
-  not_created name (Failed CannotCreate) events rest more output (read, text, good, did) none same = let all : _ ≡ _ = sym (ap (λ l. l ++ rest) did) ∙ same in cc
-  not_created name (Failed NoSuffix) events rest more output did none same = none (sym (ap (λ l. l ++ rest) did) ∙ same)
-  not_created name (Failed CannotOpen) events rest more output did none same = let all : _ ≡ _ = sym (ap (λ l. l ++ rest) did) ∙ same in cc
-  not_created name (Failed fault) events rest more output is none same = read_not_created name is.0 events rest more output is.2 same
-  not_created name outcome events rest more output is none same = absurd is
-
-  none_created : (works : List Work) (more : List Event) (output : List ℕ) → All IsWork works → work_events works ≡ Created output ∷ more → ⊥
-  none_created [] more output all same = cc
-  none_created (w ∷ works) more output all same =
-      not_created w.line.name w.line.outcome w.events (work_events works) more output (All-head IsWork w works all)
-      (none_created works more output (All-tail IsWork w works all)) same
+  IsWork w = Opening key most label (output_for to w.line.name) w.line.name w.line.outcome w.events
 
   module _ (file bytes plain : List ℕ) where
-    abbrev asked : List Event → List Event
-    asked after = Created (output_of file) ∷ Finished (output_of file) plain ∷ after
+    -- what was opened among these events is what its input opens to
+    abbrev IsFine : List Event → Type 0
+    IsFine events = WasOpened to events file bytes plain → opening key most bytes ≡ Ok plain
 
-    -- what was opened in a list that begins with a file's events is what that file was opened to, or comes after them
-    up_of_work : (name : List ℕ) (events rest : List Event) → IsGivenUp key most label name events → WasOpened (events ++ rest) file bytes plain
-        → WasOpened rest file bytes plain
-    up_of_work name events rest (read, text, written, good, begun, did) (before, after, same) =
-        elim (behind (Reading name read) (Reading file bytes) (Created (output_of name) ∷ Discarded (output_of name) written ∷ rest) before (asked after) (sym (ap (λ l. l ++ rest) did) ∙ same)) [
-          | inl (is, ends) ↦ absurd (cc)
-          | inr (front, later) ↦ (
-              let (second, two) = skip (Created (output_of name)) (Reading file bytes) (Discarded (output_of name) written ∷ rest) front (asked after) (λ is. cc) later in
-              let (third, three) = skip (Discarded (output_of name) written) (Reading file bytes) rest second (asked after) (λ is. cc) two in
-              (third, after, three)
-              )
-        ]
+    -- and they don't begin with an output, so no reading before them was its last
+    abbrev IsClear : List Event → Type 0
+    IsClear events = IsFine events × ((name : List ℕ) (more : List Event) → events ≡ Created name ∷ more → ⊥)
 
-    read_of_work : (name read : List ℕ) (events rest : List Event) → events ≡ Reading name read ∷ []
-        → ((more : List Event) (output : List ℕ) → rest ≡ Created output ∷ more → ⊥) → WasOpened (events ++ rest) file bytes plain
-        → WasOpened rest file bytes plain
-    read_of_work name read events rest did none (before, after, same) =
-        elim (behind (Reading name read) (Reading file bytes) rest before (asked after) (sym (ap (λ l. l ++ rest) did) ∙ same)) [
-          | inl (is, ends) ↦ absurd (none (Finished (output_of file) plain ∷ after) (output_of file) ends)
-          | inr (front, later) ↦ (front, after, later)
-        ]
+    fine_first : (first : Event) (rest : List Event)
+        → ((after : List Event) → first ≡ Reading file bytes → rest ≡ gives to file plain after → opening key most bytes ≡ Ok plain)
+        → IsFine rest → IsFine (first ∷ rest)
+    fine_first first rest own others (before, after, same) = elim (behind first (Reading file bytes) rest before (gives to file plain after) same) [
+      | inl (is, ends) ↦ own after is ends
+      | inr (front, later) ↦ others (front, after, later)
+    ]
 
-    either_of_work : (name : List ℕ) (events rest : List Event)
-        → ((input : List ℕ) × (events ≡ Reading name input ∷ [])) ⊎ IsGivenUp key most label name events
-        → ((more : List Event) (output : List ℕ) → rest ≡ Created output ∷ more → ⊥) → WasOpened (events ++ rest) file bytes plain
-        → WasOpened rest file bytes plain
-    either_of_work name events rest (inl (read, did)) none was = read_of_work name read events rest did none was
-    either_of_work name events rest (inr up) none was = up_of_work name events rest up was
+    fine_none : IsFine []
+    fine_none ([], after, same) = absurd (cc)
+    fine_none (other ∷ before, after, same) = absurd (cc)
 
-    of_work : (name : List ℕ) (outcome : FileOutcome) (events rest : List Event) → Opening key most label name outcome events
-        → ((more : List Event) (output : List ℕ) → rest ≡ Created output ∷ more → ⊥) → WasOpened (events ++ rest) file bytes plain
-        → (opening key most bytes ≡ Ok plain) ⊎ WasOpened rest file bytes plain
-    of_work name (Opened n) events rest (read, text, good, long, did) none (before, after, same) =
-        elim (behind (Reading name read) (Reading file bytes) (Created (output_of name) ∷ Finished (output_of name) text ∷ rest) before (asked after) (sym (ap (λ l. l ++ rest) did) ∙ same)) [
-          | inl (is, ends) ↦ (
-              let read_is : read ≡ bytes = cc in
-              let text_is : text ≡ plain = cc in
-              inl (subst (λ (p : List ℕ). opening key most bytes ≡ Ok p) text_is (subst (λ (b : List ℕ). opening key most b ≡ Ok text) read_is good.0))
-              )
-          | inr (front, later) ↦ (
-              let (second, two) = skip (Created (output_of name)) (Reading file bytes) (Finished (output_of name) text ∷ rest) front (asked after) (λ is. cc) later in
-              let (third, three) = skip (Finished (output_of name) text) (Reading file bytes) rest second (asked after) (λ is. cc) two in
-              inr (third, after, three)
-              )
-        ]
-    of_work name (Failed (Unopened open_fault.Write)) events rest up none was = inr (up_of_work name events rest up was)
-    of_work name (Failed (Unopened open_fault.Read)) events rest either none was = inr (either_of_work name events rest either none was)
-    of_work name (Failed (Unopened open_fault.OutOfMemory)) events rest either none was = inr (either_of_work name events rest either none was)
-    of_work name (Failed Changed) events rest is none was = absurd is
-    of_work name (Failed OutputExists) events rest (read, text, good, did) none (before, after, same) =
-        elim (behind (Reading name read) (Reading file bytes) (Refused (output_of name) refusal.Exists ∷ rest) before (asked after) (sym (ap (λ l. l ++ rest) did) ∙ same)) [
-          | inl (is, ends) ↦ absurd (cc)
-          | inr (front, later) ↦ (
-              let (second, two) = skip (Refused (output_of name) refusal.Exists) (Reading file bytes) rest front (asked after) (λ is. cc) later in
-              inr (second, after, two)
-              )
-        ]
-    of_work name (Failed CannotCreate) events rest (read, text, good, did) none (before, after, same) =
-        elim (behind (Reading name read) (Reading file bytes) (Refused (output_of name) refusal.Failed ∷ rest) before (asked after) (sym (ap (λ l. l ++ rest) did) ∙ same)) [
-          | inl (is, ends) ↦ absurd (cc)
-          | inr (front, later) ↦ (
-              let (second, two) = skip (Refused (output_of name) refusal.Failed) (Reading file bytes) rest front (asked after) (λ is. cc) later in
-              inr (second, after, two)
-              )
-        ]
-    of_work name (Failed NoSuffix) events rest did none was = inr (subst (λ (l : List Event). WasOpened (l ++ rest) file bytes plain) did was)
-    of_work name (Failed CannotOpen) events rest did none (before, after, same) =
-        let (front, later) = skip (Unread name) (Reading file bytes) rest before (asked after) (λ is. cc) (sym (ap (λ l. l ++ rest) did) ∙ same) in
-        inr (front, after, later)
-    of_work name (Failed fault) events rest is none was = inr (read_of_work name is.0 events rest is.2 none was)
-    of_work name outcome events rest is none was = absurd is
+    clear_first : (first : Event) (rest : List Event) → IsQuiet first → IsClear rest → IsClear (first ∷ rest)
+    clear_first first rest quiet (fine, none) = (
+      fine_first first rest (λ after is ends. absurd (none (output_for to file) (Finished (output_for to file) plain ∷ after) ends)) fine,
+      λ name more same. let is : first ≡ Created name = cc in subst IsQuiet is quiet,
+    )
 
-    -- what was opened is what its input opens to
-    pub of_works : (works : List Work) → All IsWork works → WasOpened (work_events works) file bytes plain → opening key most bytes ≡ Ok plain
-    of_works [] all ([], after, same) = absurd (cc)
-    of_works [] all (other ∷ before, after, same) = absurd (cc)
-    of_works (w ∷ works) all was = elim (of_work w.line.name w.line.outcome w.events (work_events works) (All-head IsWork w works all)
-        (λ more output. none_created works more output (All-tail IsWork w works all)) was) [
-          | inl good ↦ good
-          | inr later ↦ of_works works (All-tail IsWork w works all) later
-        ]
+    clear_quiet : (events rest : List Event) → AreQuiet events → IsClear rest → IsClear (events ++ rest)
+    clear_quiet [] rest quiet clear = clear
+    clear_quiet (event ∷ events) rest (first, others) clear = clear_first event (events ++ rest) first (clear_quiet events rest others clear)
+
+    clear_left : (output name last held : List ℕ) (rest : List Event) → IsClear rest → IsClear (Reading name last ∷ Created output ∷ Discarded output held ∷ rest)
+    clear_left output name last held rest (fine, none) = (
+      fine_first (Reading name last) (Created output ∷ Discarded output held ∷ rest) (λ after is ends. absurd (cc))
+          (fine_first (Created output) (Discarded output held ∷ rest) (λ after is ends. absurd (cc))
+          (fine_first (Discarded output held) rest (λ after is ends. absurd (cc)) fine)),
+      λ other more same. cc,
+    )
+
+    clear_whole : (output name last text : List ℕ) (rest : List Event) → opening key most last ≡ Ok text → IsClear rest
+        → IsClear (Reading name last ∷ Created output ∷ Finished output text ∷ rest)
+    clear_whole output name last text rest good (fine, none) = (
+      fine_first (Reading name last) (Created output ∷ Finished output text ∷ rest)
+          (λ after is ends.
+          let last_is : last ≡ bytes = cc in
+          let text_is : text ≡ plain = cc in
+          subst (λ (p : List ℕ). opening key most bytes ≡ Ok p) text_is (subst (λ (b : List ℕ). opening key most b ≡ Ok text) last_is good))
+          (fine_first (Created output) (Finished output text ∷ rest) (λ after is ends. absurd (cc))
+          (fine_first (Finished output text) rest (λ after is ends. absurd (cc)) fine)),
+      λ other more same. cc,
+    )
+
+    clear_ended : (output name : List ℕ) (events rest : List Event) → IsEnded key most output name events → IsClear rest → IsClear (events ++ rest)
+    clear_ended output name events rest (inl quiet) clear = clear_quiet events rest quiet clear
+    clear_ended output name events rest (inr (inl (before, last, held, quiet, did))) clear =
+        subst IsClear (sym (ap (λ l. l ++ rest) did ∙ append_assoc before (Reading name last ∷ Created output ∷ Discarded output held ∷ []) rest))
+        (clear_quiet before (Reading name last ∷ Created output ∷ Discarded output held ∷ rest) quiet (clear_left output name last held rest clear))
+    clear_ended output name events rest (inr (inr (before, last, text, quiet, good, did))) clear =
+        subst IsClear (sym (ap (λ l. l ++ rest) did ∙ append_assoc before (Reading name last ∷ Created output ∷ Finished output text ∷ []) rest))
+        (clear_quiet before (Reading name last ∷ Created output ∷ Finished output text ∷ rest) quiet (clear_whole output name last text rest good clear))
+
+    clear_works : (works : List Work) → All IsWork works → IsClear (work_events works)
+    clear_works [] all = (fine_none, λ name more same. cc)
+    clear_works (w ∷ works) all =
+        clear_ended (output_for to w.line.name) w.line.name w.events (work_events works)
+        (ended key most label (output_for to w.line.name) w.line.name w.line.outcome w.events (All-head IsWork w works all))
+        (clear_works works (All-tail IsWork w works all))
+
+    pub of_works : (works : List Work) → All IsWork works → WasOpened to (work_events works) file bytes plain → opening key most bytes ≡ Ok plain
+    of_works works all was = (clear_works works all).0 was
 
   module _ (output plain : List ℕ) where
+    abbrev Ended : List Event → Type 0
+    Ended events = IsAmong (Finished output plain) events
+
     -- an output that was finished was opened of a file
     abbrev pub IsOpened : List Event → Type 0
-    IsOpened events = (file : List ℕ) × (bytes : List ℕ) × (output ≡ output_of file) × WasOpened events file bytes plain
+    IsOpened events = (file : List ℕ) × (bytes : List ℕ) × (output ≡ output_for to file) × WasOpened to events file bytes plain
 
-    up_unfinished : (name : List ℕ) (events : List Event) → IsGivenUp key most label name events → IsAmong (Finished output plain) events → ⊥
-    up_unfinished name events (read, text, written, good, begun, did) at =
-        elim (among_cons (Finished output plain) (Reading name read) (Created (output_of name) ∷ Discarded (output_of name) written ∷ []) (subst (IsAmong (Finished output plain)) did at)) [
-          | inl is ↦ cc
-          | inr more ↦ elim (among_cons (Finished output plain) (Created (output_of name)) (Discarded (output_of name) written ∷ []) more) [
-            | inl is ↦ cc
-            | inr last ↦ not_given_up output plain (output_of name) written last
-          ]
-        ]
+    quiet_unfinished : (events : List Event) → AreQuiet events → Ended events → ⊥
+    quiet_unfinished [] quiet at = among_none (Finished output plain) at
+    quiet_unfinished (event ∷ events) (first, others) at = elim (among_cons (Finished output plain) event events at) [
+      | inl is ↦ subst IsQuiet is first
+      | inr more ↦ quiet_unfinished events others more
+    ]
 
-    read_unfinished : (name read : List ℕ) (events : List Event) → events ≡ Reading name read ∷ [] → IsAmong (Finished output plain) events → ⊥
-    read_unfinished name read events did at =
-        let same = among_one (Finished output plain) (Reading name read) (subst (IsAmong (Finished output plain)) did at) in cc
-
-    either_unfinished : (name : List ℕ) (events : List Event)
-        → ((input : List ℕ) × (events ≡ Reading name input ∷ [])) ⊎ IsGivenUp key most label name events → IsAmong (Finished output plain) events → ⊥
-    either_unfinished name events (inl (read, did)) at = read_unfinished name read events did at
-    either_unfinished name events (inr up) at = up_unfinished name events up at
-
-    finished_of : (name : List ℕ) (outcome : FileOutcome) (events : List Event) → Opening key most label name outcome events → IsAmong (Finished output plain) events → IsOpened events
-    finished_of name (Opened n) events (read, text, good, long, did) at =
-        elim (among_cons (Finished output plain) (Reading name read) (Created (output_of name) ∷ Finished (output_of name) text ∷ []) (subst (IsAmong (Finished output plain)) did at)) [
+    -- what is finished right after these events is this last one
+    ends_with : (before : List Event) (name last target : List ℕ) (final : Event) → AreQuiet before
+        → Ended (before ++ Reading name last ∷ Created target ∷ final ∷ []) → final ≡ Finished output plain
+    ends_with before name last target final quiet at = elim (among_append (Finished output plain) before (Reading name last ∷ Created target ∷ final ∷ []) at) [
+      | inl early ↦ absurd (quiet_unfinished before quiet early)
+      | inr late ↦ elim (among_cons (Finished output plain) (Reading name last) (Created target ∷ final ∷ []) late) [
+        | inl is ↦ absurd (cc)
+        | inr more ↦ elim (among_cons (Finished output plain) (Created target) (final ∷ []) more) [
           | inl is ↦ absurd (cc)
-          | inr more ↦ elim (among_cons (Finished output plain) (Created (output_of name)) (Finished (output_of name) text ∷ []) more) [
-            | inl is ↦ absurd (cc)
-            | inr last ↦ (
-                let is = among_one (Finished output plain) (Finished (output_of name) text) last in
-                let named : output ≡ output_of name = cc in
-                let same : text ≡ plain = cc in
-                (name, read, named, ([], [], did ∙ ap (λ p. Reading name read ∷ Created (output_of name) ∷ Finished (output_of name) p ∷ []) same))
-                )
-          ]
+          | inr one ↦ among_one (Finished output plain) final one
         ]
-    finished_of name (Failed (Unopened open_fault.Write)) events up at = absurd (up_unfinished name events up at)
-    finished_of name (Failed (Unopened open_fault.Read)) events either at = absurd (either_unfinished name events either at)
-    finished_of name (Failed (Unopened open_fault.OutOfMemory)) events either at = absurd (either_unfinished name events either at)
-    finished_of name (Failed Changed) events is at = absurd is
-    finished_of name (Failed OutputExists) events (read, text, good, did) at =
-        absurd (not_read output plain name read (Refused (output_of name) refusal.Exists) (λ is. cc) (subst (IsAmong (Finished output plain)) did at))
-    finished_of name (Failed CannotCreate) events (read, text, good, did) at =
-        absurd (not_read output plain name read (Refused (output_of name) refusal.Failed) (λ is. cc) (subst (IsAmong (Finished output plain)) did at))
-    finished_of name (Failed NoSuffix) events did at = absurd (among_none (Finished output plain) (subst (IsAmong (Finished output plain)) did at))
-    finished_of name (Failed CannotOpen) events did at = absurd (not_unread output plain name (subst (IsAmong (Finished output plain)) did at))
-    finished_of name (Failed fault) events is at = absurd (read_unfinished name is.0 events is.2 at)
-    finished_of name outcome events is at = absurd is
+      ]
+    ]
 
-    pub some_opened : (works : List Work) → All IsWork works → IsAmong (Finished output plain) (work_events works) → IsOpened (work_events works)
+    finished_of : (name : List ℕ) (events : List Event) → IsEnded key most (output_for to name) name events → Ended events → IsOpened events
+    finished_of name events (inl quiet) at = absurd (quiet_unfinished events quiet at)
+    finished_of name events (inr (inl (before, last, held, quiet, did))) at =
+        let is = ends_with before name last (output_for to name) (Discarded (output_for to name) held) quiet (subst Ended did at) in
+        absurd (cc)
+    finished_of name events (inr (inr (before, last, text, quiet, good, did))) at =
+        let is = ends_with before name last (output_for to name) (Finished (output_for to name) text) quiet (subst Ended did at) in
+        let named : output ≡ output_for to name = cc in
+        let same : text ≡ plain = cc in
+        (name, last, named, (before, [], did ∙ ap (λ p. before ++ Reading name last ∷ gives to name p []) same))
+
+    pub some_opened : (works : List Work) → All IsWork works → Ended (work_events works) → IsOpened (work_events works)
     some_opened [] all at = absurd (among_none (Finished output plain) at)
     some_opened (w ∷ works) all at = elim (among_append (Finished output plain) w.events (work_events works) at) [
       | inl own ↦ (
-          let (file, bytes, named, was) = finished_of w.line.name w.line.outcome w.events (All-head IsWork w works all) own in
-          (file, bytes, named, opened_left file bytes plain w.events (work_events works) was)
+          let (file, bytes, named, was) = finished_of w.line.name w.events
+          (ended key most label (output_for to w.line.name) w.line.name w.line.outcome w.events (All-head IsWork w works all)) own in
+          (file, bytes, named, opened_left to file plain bytes w.events (work_events works) was)
           )
       | inr others ↦ (
           let (file, bytes, named, was) = some_opened works (All-tail IsWork w works all) others in
-          (file, bytes, named, opened_right file bytes plain w.events (work_events works) was)
+          (file, bytes, named, opened_right to file plain bytes w.events (work_events works) was)
           )
     ]

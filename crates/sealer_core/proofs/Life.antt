@@ -1,12 +1,9 @@
 -- The theorem on nonces. What a run wrote are outputs as the laws of `life_core` require. The ranges of a device's runs
 -- rise, since each one is after the one before. Bytes that begin two containers have one prefix, which is in them.
-use Rattle.std.proofs.Common.{◌≡◌, ℕ, zero, suc, ◌+◌, ◌<◌, ◌≤◌, Bool, cond, nat_eq, List, [], ◌∷◌, ◌++◌, count_by, length, take, drop, map, Some, refl, sym, ap, ◌∙◌, subst, arith, eq-eqb, ne_eqb, length-drop}
-use mathlib.Core.Logic.{dite}
-use native.Mathlib.Decide.{ℕ_discrete}
+use Rattle.std.proofs.Common.{◌≡◌, ℕ, zero, suc, ◌+◌, ◌<◌, ◌≤◌, Bool, List, [], ◌∷◌, ◌++◌, length, take, drop, map, Some, refl, sym, ap, ◌∙◌, subst, arith, length-drop}
 use Rattle.std.specs.Prelude.{slice_get}
 use Rattle.std.specs.List.{AllByRecursion}
 use Rattle.std.proofs.lemmas.List.{take-append-le, drop-append-le}
-use Rattle.std.proofs.lemmas.List.Sums.{sum_by-cons}
 use Rattle.io_core.specs.Streams.{IsFront}
 use Rattle.container_core.specs.Chunks.{chunks}
 use Rattle.container_core.specs.Container.{container, header_of}
@@ -16,11 +13,7 @@ use Rattle.container_core.proofs.HeaderLemmas.{length-header_of, prefix_in-heade
 use Rattle.container_core.proofs.LawLemmas.{nonce_of-injective}
 use Rattle.journal_core.specs.declared.entry.Entry.{Entry}
 use Rattle.journal_core.specs.declared.terms.Terms.{Terms}
-use Rattle.journal_core.specs.Range.{IsLawfulRange, Numbers, prefix_of}
-use Rattle.journal_core.specs.declared.entry.Event.{Event}
-use Rattle.journal_core.specs.declared.entry.Event.TheVariants.{Granted, Exhausted, Settled}
-use Rattle.journal_core.specs.History.{entry, grants, times_granted}
-use Rattle.journal_core.proofs.Prefixes.{numbers_once}
+use Rattle.journal_core.specs.Range.{IsLawfulRange, prefix_of}
 use Rattle.life_core.specs.Outputs.{AreRuns, HasWritten, IsInside, IsOutput, Output, Place, StandsAt, Written}
 use Rattle.life_core.proofs.Lives.{nonce_at, header_prefix}
 use Rattle.reserve_core.proofs.NextRun.{passed}

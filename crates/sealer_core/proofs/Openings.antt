@@ -1,5 +1,5 @@
 -- A container opens to the plaintext that was sealed: for two lines, and for two runs.
-use Rattle.std.proofs.Common.{◌≡◌, ℕ, ◌≤◌, ◌++◌, List, [], ◌∷◌, length, Option, Some, Ok, refl, sym, ap, ◌∙◌, subst, arith, length-append}
+use Rattle.std.proofs.Common.{◌≡◌, ◌⊎◌, inl, inr, ℕ, ◌≤◌, ◌++◌, List, [], ◌∷◌, length, Option, Some, Ok, refl, sym, ap, ◌∙◌, subst, arith, length-append}
 use Rattle.std.proofs.lemmas.List.{append_cancel_left}
 use Rattle.std.specs.Prelude.{flat_map}
 use Rattle.container_core.specs.Chunks.{chunks}
@@ -10,9 +10,9 @@ use Rattle.container_core.specs.Stream.{prefix_in, stream}
 use Rattle.container_core.proofs.HeaderLemmas.{length-header_of, length-prefix_in}
 use Rattle.command_core.specs.declared.line.FileOutcome.{FileOutcome}
 use Rattle.command_core.specs.declared.line.FileOutcome.TheVariants.{Opened, Sealed}
-use Rattle.command_core.specs.Trace.{Event, Finished}
+use Rattle.command_core.specs.Trace.{Created, Event, Finished, Reading}
 use Rattle.command_core.specs.Unpiping.{Unpipes}
-use Rattle.command_core.specs.Work.{Opening, output_of}
+use Rattle.command_core.specs.Work.{AreBefore, Opening, output_for}
 use Rattle.journal_core.specs.declared.entry.Entry.{Entry}
 use Rattle.journal_core.specs.declared.terms.Terms.{Terms}
 use Rattle.journal_core.specs.Range.{prefix_of}
@@ -27,8 +27,27 @@ long_enough key shape prefix plain seven =
     let header = length-header_of key prefix shape seven in
     let all = length-append (header_of key shape prefix) (stream key (header_of key shape prefix) 0 (chunks (size_of shape) plain)) in omega arith
 
-one_of : {A : Type 0} (x y : A) → x ∷ [] ≡ y ∷ [] → x ≡ y
-one_of x y same = cc
+-- a list has one last element
+last_of : {A : Type 0} (x y z : A) (earlier : List A) → (x ∷ [] ≡ earlier ++ z ∷ []) ⊎ (y ∷ x ∷ [] ≡ earlier ++ z ∷ []) → x ≡ z
+last_of x y z [] (inl same) = cc
+last_of x y z (e ∷ []) (inl same) = absurd (cc)
+last_of x y z (e ∷ f ∷ earlier) (inl same) = absurd (cc)
+last_of x y z [] (inr same) = absurd (cc)
+last_of x y z (e ∷ []) (inr same) = cc
+last_of x y z (e ∷ f ∷ []) (inr same) = absurd (cc)
+last_of x y z (e ∷ f ∷ g ∷ earlier) (inr same) = absurd (cc)
+
+-- the last of one or two readings, and what was finished after them
+last_read : (key : List ℕ) (most : ℕ) (label : Option (List ℕ)) (target other last plain written : List ℕ) (before events : List Event) (earlier : List (List ℕ))
+    → AreBefore key most label other last before
+    → events ≡ before ++ Reading other last ∷ Created target ∷ Finished target plain ∷ [] → read_in events ≡ earlier ++ written ∷ []
+    → (last ≡ written) × (finished_in events ≡ plain ∷ [])
+last_read key most label target other last plain written before events earlier (inl none) did same =
+    let all = did ∙ ap (λ l. l ++ Reading other last ∷ Created target ∷ Finished target plain ∷ []) none in
+    (last_of last last written earlier (inl (sym (ap read_in all) ∙ same)), ap finished_in all)
+last_read key most label target other last plain written before events earlier (inr (header, first, text, good, has, too, one)) did same =
+    let all = did ∙ ap (λ l. l ++ Reading other last ∷ Created target ∷ Finished target plain ∷ []) one in
+    (last_of last first written earlier (inr (sym (ap read_in all) ∙ same)), ap finished_in all)
 
 -- what the two laws of containers say of a key
 abbrev pub Opens : List ℕ → Type 0
@@ -48,50 +67,53 @@ module _ (key : List ℕ) (opens : Opens key) (differ : Differ key) (shape : Sha
       (length-prefix_in whole (long_enough key shape prefix input seven)) same)
 
   -- what was opened of these bytes
-  opened_of : (prefix input : List ℕ) (most n : ℕ) (label : Option (List ℕ)) (other : List ℕ) (events : List Event) → length prefix ≡ 7
-      → Opening key most label other (Opened n) events → read_in events ≡ container key shape prefix input ∷ []
+  opened_of : (prefix input : List ℕ) (most n : ℕ) (label : Option (List ℕ)) (target other : List ℕ) (events : List Event) (earlier : List (List ℕ)) → length prefix ≡ 7
+      → Opening key most label target other (Opened n) events → read_in events ≡ earlier ++ container key shape prefix input ∷ []
       → (finished_in events ≡ input ∷ []) × (n ≡ length input)
-  opened_of prefix input most n label other events seven (read, plain, good, long, did) same =
-      let read_is : read ≡ container key shape prefix input = one_of read (container key shape prefix input) (sym (ap read_in did) ∙ same) in
-      let plain_is = opened_is prefix input plain most seven (subst (λ (b : List ℕ). opening key most b ≡ Ok plain) read_is good.0) in
-      (ap finished_in did ∙ ap (λ (b : List ℕ). b ∷ []) plain_is, long ∙ ap length plain_is)
+  opened_of prefix input most n label target other events earlier seven (last, plain, before, good, long, first, did) same =
+      let (last_is, finished) = last_read key most label target other last plain (container key shape prefix input) before events earlier first did same in
+      let plain_is = opened_is prefix input plain most seven (subst (λ (b : List ℕ). opening key most b ≡ Ok plain) last_is good.0) in
+      (finished ∙ ap (λ (b : List ℕ). b ∷ []) plain_is, long ∙ ap length plain_is)
 
-  pub of_files : (device number bytes limit most n : ℕ) (label : Option (List ℕ)) (name other void : List ℕ) (before after events : List Event)
-      → Sealing key shape limit device name (Sealed number bytes) void before after → Opening key most label other (Opened n) events
-      → read_in events ≡ finished_in after → (finished_in events ≡ read_in before) × (n ≡ bytes)
-  of_files device number bytes limit most n label name other void before after events (input, none, long, within, begun, ended) opened same =
-      let (finished, count) = opened_of (prefix_of device number) input most n label other events refl opened (same ∙ ap finished_in ended) in
+  pub of_files : (device number bytes limit most n : ℕ) (label : Option (List ℕ)) (name other target void : List ℕ) (before after events : List Event)
+      (earlier : List (List ℕ))
+      → Sealing key shape limit device name (Sealed number bytes) void before after → Opening key most label target other (Opened n) events
+      → read_in events ≡ earlier ++ finished_in after → (finished_in events ≡ read_in before) × (n ≡ bytes)
+  of_files device number bytes limit most n label name other target void before after events earlier (input, none, long, within, begun, ended) opened same =
+      let (finished, count) = opened_of (prefix_of device number) input most n label target other events earlier refl opened
+      (same ∙ ap (λ l. earlier ++ finished_in l) ended) in
       (finished ∙ sym (ap read_in begun), count ∙ sym long)
 
   pub of_streams : (device number bytes chunks most n : ℕ) (label left : Option (List ℕ)) (failures later refusals more : Option ℕ)
-      (input taken written other void : List ℕ) (events : List Event)
+      (input taken written other target void : List ℕ) (events : List Event) (earlier : List (List ℕ))
       → WorksStream key shape chunks (Some input) left failures later (Some taken) (Some (taken ++ written)) refusals more device (Sealed number bytes) void
-      → Opening key most label other (Opened n) events → read_in events ≡ written ∷ [] → (finished_in events ≡ input ∷ []) × (n ≡ bytes)
-  of_streams device number bytes chunks most n label left failures later refusals more input taken written other void events (none, works) opened same =
+      → Opening key most label target other (Opened n) events → read_in events ≡ earlier ++ written ∷ [] → (finished_in events ≡ input ∷ []) × (n ≡ bytes)
+  of_streams device number bytes chunks most n label left failures later refusals more input taken written other target void events earlier (none, works) opened same =
       let whole = container key shape (prefix_of device number) input in
       let written_is : written ≡ whole = append_cancel_left taken written whole works.written in
-      let (finished, count) = opened_of (prefix_of device number) input most n label other events refl opened (same ∙ ap (λ (b : List ℕ). b ∷ []) written_is) in
+      let (finished, count) = opened_of (prefix_of device number) input most n label target other events earlier refl opened
+      (same ∙ ap (λ (b : List ℕ). earlier ++ b ∷ []) written_is) in
       (finished, count ∙ sym works.answer)
 
 -- ---- runs
 
 -- what a call of `open_all` opened is what its input opens to
-pub opened_to : (key : List ℕ) (call : OpenedFiles key) (file bytes plain : List ℕ) → WasOpened call.events file bytes plain → (most : ℕ) × (opening key most bytes ≡ Ok plain)
+pub opened_to : (key : List ℕ) (call : OpenedFiles key) (file bytes plain : List ℕ) → WasOpened call.to call.events file bytes plain → (most : ℕ) × (opening key most bytes ≡ Ok plain)
 opened_to key call file bytes plain was =
     let (most, label, status, old, new, failures, later, worked) = call.opened in
     let (events, done, joined) = worked.done in
     let all : call.events ≡ work_events done.works = append_cancel_left call.before call.events events joined ∙ done.joined in
-    (most, of_works key most label file bytes plain done.works done.each (subst (λ (l : List Event). WasOpened l file bytes plain) all was))
+    (most, of_works key most label call.to file bytes plain done.works done.each (subst (λ (l : List Event). WasOpened call.to l file bytes plain) all was))
 
 -- each output that it finished was opened of a file
 pub each_opened : (key : List ℕ) (call : OpenedFiles key) (output plain : List ℕ) → IsAmong (Finished output plain) call.events
-    → (file : List ℕ) × (bytes : List ℕ) × (output ≡ output_of file) × WasOpened call.events file bytes plain
+    → (file : List ℕ) × (bytes : List ℕ) × (output ≡ output_for call.to file) × WasOpened call.to call.events file bytes plain
 each_opened key call output plain at =
     let (most, label, status, old, new, failures, later, worked) = call.opened in
     let (events, done, joined) = worked.done in
     let all : call.events ≡ work_events done.works = append_cancel_left call.before call.events events joined ∙ done.joined in
-    subst (IsOpened key most label output plain) (sym all)
-    (some_opened key most label output plain done.works done.each (subst (IsAmong (Finished output plain)) all at))
+    subst (IsOpened key most label call.to output plain) (sym all)
+    (some_opened key most label call.to output plain done.works done.each (subst (IsAmong (Finished output plain)) all at))
 
 -- what the output of a run of `seal_all` is finished with is the container of an input
 pub held_of_run : (key : List ℕ) (terms : Terms) (history : List Entry) (outputs : List (List ℕ)) (run : WroteFiles key terms history outputs) (output bytes : List ℕ)
@@ -105,7 +127,7 @@ held_of_run key terms history outputs run output bytes at =
 
 module _ (key : List ℕ) (opens : Opens key) (differ : Differ key) (terms : Terms) (history : List Entry) (outputs : List (List ℕ)) (call : OpenedFiles key) where
   -- what was opened of an output that a run of `seal_all` finished is what the run had read
-  pub of_run : (run : WroteFiles key terms history outputs) (output file bytes plain : List ℕ) → IsAmong (Finished output bytes) run.events → WasOpened call.events file bytes plain
+  pub of_run : (run : WroteFiles key terms history outputs) (output file bytes plain : List ℕ) → IsAmong (Finished output bytes) run.events → WasOpened call.to call.events file bytes plain
       → (source : List ℕ) × (output ≡ sealed_name source) × WasSealed run.events source plain bytes
   of_run run output file bytes plain at was =
       let (source, input, number, named, held, sealed) = held_of_run key terms history outputs run output bytes at in
@@ -114,7 +136,7 @@ module _ (key : List ℕ) (opens : Opens key) (differ : Differ key) (terms : Ter
       (source, named, subst (λ (p : List ℕ). WasSealed run.events source p bytes) (sym plain_is) sealed)
 
   -- and of one of `pipe_all`
-  pub of_stream_run : (run : WroteStream key terms history outputs) (number count : ℕ) (file plain : List ℕ) → run.outcome ≡ Sealed number count → WasOpened call.events file run.bytes plain
+  pub of_stream_run : (run : WroteStream key terms history outputs) (number count : ℕ) (file plain : List ℕ) → run.outcome ≡ Sealed number count → WasOpened call.to call.events file run.bytes plain
       → plain ≡ run.input
   of_stream_run run number count file plain is was =
       let (chunks, left, failures, failures', refusals, refusals', status, old, new, faults, faults', stream, says) = run.sealed in
@@ -126,26 +148,37 @@ module _ (key : List ℕ) (opens : Opens key) (differ : Differ key) (terms : Ter
 
 -- ---- what `unpipe_all` opened
 
+-- the last reading opens to what was written
+unpiped_of : (key : List ℕ) (most n : ℕ) (label : Option (List ℕ)) (name first bytes before plain : List ℕ) (events : List Event)
+    → Unpipes key most label name (Some before) (Some (before ++ plain)) (Opened n) events → events ≡ Reading name first ∷ Reading name bytes ∷ []
+    → (whole : List ℕ) × (opening key most bytes ≡ Ok whole) × (plain ≡ whole)
+unpiped_of key most n label name first bytes before plain events (header, one, last, whole, (has, good, did), too, opened, count, grew) same =
+    let all : _ ≡ _ = sym did ∙ same in
+    let last_is : last ≡ bytes = cc in
+    (whole, subst (λ (b : List ℕ). opening key most b ≡ Ok whole) last_is opened.0, append_cancel_left before plain whole grew)
+
 module _ (key : List ℕ) (opens : Opens key) (differ : Differ key) (terms : Terms) (history : List Entry) (outputs : List (List ℕ)) where
   -- of an output that a run of `seal_all` finished
-  pub unpiped_run : (run : WroteFiles key terms history outputs) (output bytes before plain : List ℕ) (most n : ℕ) (label : Option (List ℕ))
-      → IsAmong (Finished output bytes) run.events → Unpipes key most label (Some bytes) (Some before) (Some (before ++ plain)) (Opened n)
+  pub unpiped_run : (run : WroteFiles key terms history outputs) (output bytes name first before plain : List ℕ) (most n : ℕ) (label : Option (List ℕ))
+      (events : List Event) → IsAmong (Finished output bytes) run.events
+      → Unpipes key most label name (Some before) (Some (before ++ plain)) (Opened n) events → events ≡ Reading name first ∷ Reading name bytes ∷ []
       → (source : List ℕ) × (output ≡ sealed_name source) × WasSealed run.events source plain bytes
-  unpiped_run run output bytes before plain most n label at (whole, good, count, grew) =
+  unpiped_run run output bytes name first before plain most n label events at unpiped same =
       let (source, input, number, named, held, sealed) = held_of_run key terms history outputs run output bytes at in
+      let (whole, opened, grew) = unpiped_of key most n label name first bytes before plain events unpiped same in
       let whole_is = opened_is key opens differ run.shape run.is_shape (prefix_of terms.range.device number) input whole most refl
-      (subst (λ (b : List ℕ). opening key most b ≡ Ok whole) held good.0) in
-      let plain_is = append_cancel_left before plain whole grew ∙ whole_is in
-      (source, named, subst (λ (p : List ℕ). WasSealed run.events source p bytes) (sym plain_is) sealed)
+      (subst (λ (b : List ℕ). opening key most b ≡ Ok whole) held opened) in
+      (source, named, subst (λ (p : List ℕ). WasSealed run.events source p bytes) (sym (grew ∙ whole_is)) sealed)
 
   -- and of a stream that a run of `pipe_all` sealed
-  pub unpiped_stream_run : (run : WroteStream key terms history outputs) (number count most n : ℕ) (label : Option (List ℕ)) (before plain : List ℕ)
-      → run.outcome ≡ Sealed number count → Unpipes key most label (Some run.bytes) (Some before) (Some (before ++ plain)) (Opened n) → plain ≡ run.input
-  unpiped_stream_run run number count most n label before plain is (whole, good, length-is, grew) =
+  pub unpiped_stream_run : (run : WroteStream key terms history outputs) (number count most n : ℕ) (label : Option (List ℕ)) (name first before plain : List ℕ)
+      (events : List Event) → run.outcome ≡ Sealed number count → Unpipes key most label name (Some before) (Some (before ++ plain)) (Opened n) events
+      → events ≡ Reading name first ∷ Reading name run.bytes ∷ [] → plain ≡ run.input
+  unpiped_stream_run run number count most n label name first before plain events is unpiped same =
       let (chunks, left, failures, failures', refusals, refusals', status, old, new, faults, faults', stream, says) = run.sealed in
       let works = subst (λ (o : FileOutcome). WorksStream key run.shape chunks (Some run.input) left failures failures' (Some run.taken) (Some (run.taken ++ run.bytes)) refusals refusals'
       terms.range.device o stream.piped.voids) (says ∙ is) stream.piped.works in
       let held = append_cancel_left run.taken run.bytes (container key run.shape (prefix_of terms.range.device number) run.input) works.1.written in
-      append_cancel_left before plain whole grew
-      ∙ opened_is key opens differ run.shape run.is_shape (prefix_of terms.range.device number) run.input whole most refl
-      (subst (λ (b : List ℕ). opening key most b ≡ Ok whole) held good.0)
+      let (whole, opened, grew) = unpiped_of key most n label name first run.bytes before plain events unpiped same in
+      grew ∙ opened_is key opens differ run.shape run.is_shape (prefix_of terms.range.device number) run.input whole most refl
+      (subst (λ (b : List ℕ). opening key most b ≡ Ok whole) held opened)

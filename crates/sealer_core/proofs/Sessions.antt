@@ -1,7 +1,7 @@
 -- Containers that began. A number that is held was granted and settled by no seat, so no container began under it.
 -- After it is settled, the folder's session holds what it held before.
 use Rattle.std.proofs.Common.{◌≡◌, ◌⊎◌, ℕ, zero, suc, ◌+◌, ◌<◌, ◌≤◌, Bool, cond, nat_eq, eq-eqb, ne_eqb, List, [], ◌∷◌, ◌++◌, length, map, count_by, refl, sym, ap, ◌∙◌, subst, ⊎_elim, arith, get_or, set, All, Vec, Global, Result, Option, None, Some, append-nil}
-use Rattle.std.specs.Prelude.{slice_get, IfSome, option_map}
+use Rattle.std.specs.Prelude.{slice_get, IfSome}
 use mathlib.Core.Logic.{dite}
 use native.Mathlib.Decide.{ℕ_discrete}
 use Rattle.std.proofs.lemmas.Option.{slice_get-get_or}

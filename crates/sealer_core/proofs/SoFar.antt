@@ -1,5 +1,5 @@
 -- What a run had written when it was killed.
-use Rattle.std.proofs.Common.{◌≡◌, ℕ, zero, suc, ◌+◌, ◌<◌, ◌≤◌, refl, sym, ap, subst, ◌∙◌, Bool, true, false, cond, nat_eq, List, [], ◌∷◌, ◌++◌, append_assoc, map, Option, None, Some, arith}
+use Rattle.std.proofs.Common.{◌≡◌, ℕ, ◌+◌, ◌<◌, ◌≤◌, refl, sym, ap, subst, ◌∙◌, Bool, true, false, cond, nat_eq, List, [], ◌∷◌, ◌++◌, append_assoc, map, Option, Some, arith}
 use Rattle.std.proofs.Math.Logic.{∥∥₁_elim, ∥∥₁_map}
 use Rattle.std.proofs.lemmas.List.{append_cancel_left}
 use Rattle.std.specs.List.{AllByRecursion}
@@ -11,10 +11,10 @@ use Rattle.container_core.specs.Shape.{IsShape, ShapeView}
 use Rattle.front_core.specs.Range.{IsHeld}
 use Rattle.io_core.specs.Streams.{IsFront}
 use Rattle.journal_core.specs.declared.terms.Terms.{Terms}
-use Rattle.journal_core.specs.History.{calls_of, grants, times_granted}
+use Rattle.journal_core.specs.History.{grants, times_granted}
 use Rattle.journal_core.specs.Range.{IsLawfulRange, Numbers, prefix_of}
 use Rattle.ledger_core.specs.Shared.{LedgerView, SeatView}
-use Rattle.output_core.specs.Bounds.{Allows, Bound, Container, IsWithin}
+use Rattle.output_core.specs.Bounds.{Bound, Container, IsWithin}
 use Rattle.life_core.specs.Outputs.{HasWritten, IsInside, IsOutput, Output, times_used}
 use Rattle.life_core.proofs.Outputs.{granted_inside}
 use Rattle.sealer_core.specs.Theorem.{EachBegins, EachHolds, WroteSoFar}

@@ -36,7 +36,7 @@ use Rattle.reserve_core.specs.NextRun.{AreIn, PassInTurn}
 use Rattle.command_core.specs.declared.line.FileOutcome.{FileOutcome}
 use Rattle.command_core.specs.Session.{Begun, IsSound, Session}
 use Rattle.command_core.specs.Trace.{Event, Reading, Unread, Created, Refused, Finished, Discarded}
-use Rattle.command_core.specs.Work.{AreWorked, IsOfOpening, Opening, output_of}
+use Rattle.command_core.specs.Work.{AreWorked, IsOfOpening, Opening, output_for}
 use Rattle.sealer_core.specs.Piping.{HasSealedStream}
 use Rattle.sealer_core.specs.Sealing.{Happened, HasSealed, held_in, sealed_name, written_in}
 
@@ -212,15 +212,17 @@ finished_in (Discarded name bytes ∷ events) = finished_in events
 
 -- ---- and by a call
 
--- A call of `open_all` (its clause `files`), over a folder that reported these events.
+-- A call of `open_all` (its clause `files`), over a folder that reported these events. The name of the output may be
+-- given.
 pub record OpenedFiles (key : List ℕ) : Type 0 where
   pub names : List (List ℕ)
+  pub to : Option (List ℕ)
   pub before : List Event
   pub events : List Event
   pub opened : (most : ℕ) × (label : Option (List ℕ)) × (status : ℕ) × (old : Option (List ℕ))
       × (new : Option (List ℕ)) × (failures : Option ℕ) × (later : Option ℕ)
-      × AreWorked IsOfOpening (Opening key most label) names status old new failures later (Some before)
-      (Some (before ++ events))
+      × AreWorked (IsOfOpening to) (λ name. Opening key most label (output_for to name) name) names status old new
+      failures later (Some before) (Some (before ++ events))
 
 -- one of these events
 abbrev pub IsAmong : Event → List Event → Type 0
@@ -232,7 +234,9 @@ WasSealed events file input bytes = (before : List Event) × (between : List Eve
     × (events ≡ before ++ Reading file input ∷ Created (sealed_name file) ∷ between
     ++ Finished (sealed_name file) bytes ∷ after)
 
--- A file was read as `bytes`, and right after that its output was created, and finished with `plain`.
-abbrev pub WasOpened : List Event → List ℕ → List ℕ → List ℕ → Type 0
-WasOpened events file bytes plain = (before : List Event) × (after : List Event)
-    × (events ≡ before ++ Reading file bytes ∷ Created (output_of file) ∷ Finished (output_of file) plain ∷ after)
+-- The last reading of a file gave `bytes`, and right after that its output was created, and finished with `plain`. The
+-- name of the output may be given.
+abbrev pub WasOpened : Option (List ℕ) → List Event → List ℕ → List ℕ → List ℕ → Type 0
+WasOpened to events file bytes plain = (before : List Event) × (after : List Event)
+    × (events
+    ≡ before ++ Reading file bytes ∷ Created (output_for to file) ∷ Finished (output_for to file) plain ∷ after)

@@ -19,8 +19,8 @@ pub use crate::piping::{PipeOptions, pipe_all};
 pub use crate::sealing::{SealOptions, seal_all};
 pub use crate::theorem::{a_call_is_a_run, no_nonce_is_used_twice, what_was_opened_was_sealed};
 pub use command_core::{
-    Facts, FileFault, FileOutcome, FileReader, Folder, FolderFault, KeyFault, Line, MAX_BYTES,
-    MAX_OPENED_BYTES, OpenOptions, OpeningFolder, OpeningStream, Outs, Report, Spool, Spooled,
+    Facts, FileFault, FileOutcome, Folder, FolderFault, KeyFault, Line, MAX_BYTES,
+    MAX_OPENED_BYTES, OpenOptions, OpeningFolder, OpeningStream, Outs, Plaintext, Report,
     UnpipeOptions, open_all, read_key, unpipe_all, verify_all,
 };
 pub use crew_core::{MAX_DEPTH, MAX_LANES, MAX_WINDOW, MAX_WORKERS};

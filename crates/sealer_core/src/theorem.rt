@@ -9,9 +9,9 @@ ghost use Rattle.container_core.specs.Opening.{opening};
 ghost use Rattle.container_core.specs.Shape.{IsShape, ShapeView, size_of};
 ghost use Rattle.command_core.specs.declared.line.FileOutcome.TheVariants.{Opened, Sealed};
 ghost use Rattle.command_core.specs.Session.{IsSound, Session, begun_as};
-ghost use Rattle.command_core.specs.Trace.{Event, Finished};
+ghost use Rattle.command_core.specs.Trace.{Event, Finished, Reading};
 ghost use Rattle.command_core.specs.Unpiping.{Unpipes};
-ghost use Rattle.command_core.specs.Work.{Opening, output_of};
+ghost use Rattle.command_core.specs.Work.{Opening, output_for};
 ghost use Rattle.front_core.specs.Range.{IsHeld};
 ghost use Rattle.io_core.specs.Streams.{IsFront};
 ghost use Rattle.journal_core.specs.declared.entry.Entry.{Entry};
@@ -165,35 +165,41 @@ pub fn a_killed_call_is_a_run<D: Disk + Drop>()
 /// the bytes of a stream that the run sealed is the run's input. The same holds of what `unpipe_all` wrote, where its
 /// line says `opened` (`unpiped`, `back`). There is no premise on a ledger file or a disk.
 ///
-/// For each alone: what the call finished is what the bytes of a file that it had read right before open to. What the
-/// run finished is the container of what it had read of a file before.
+/// To be opened a file may be read twice: the statement is about its last reading, from which the output was written,
+/// whatever an earlier one gave.
+///
+/// For each alone: what the call finished is what the bytes of the last reading of a file, right before, open to. What
+/// the run finished is the container of what it had read of a file before.
 ///
 /// The last two clauses are on two lines, of any runs. Take what happened for a line `sealed` of `seal_all`, or a
 /// stream that `pipe_all` sealed, and what happened for a line `opened` of `open_all` under the same key. (Each line
-/// has its own events, as `Happened` and `AreWorked` say.) If the input that was opened is the output that was sealed,
-/// what was finished is, byte for byte, what had been read to be sealed.
+/// has its own events, as `Happened` and `AreWorked` say.) If the last reading of the input that was opened gave the
+/// output that was sealed, what was finished is, byte for byte, what had been read to be sealed.
 pub fn what_was_opened_was_sealed()
     ensures runs { (key : List ℕ) (terms : Terms) (history : List Entry) (outputs : List (List ℕ))
         (run : WroteFiles key terms history outputs) (call : OpenedFiles key) (output file bytes plain : List ℕ)
-        → IsAmong (Finished output bytes) run.events → WasOpened call.events file bytes plain
+        → IsAmong (Finished output bytes) run.events → WasOpened call.to call.events file bytes plain
         → (source : List ℕ) × (output ≡ sealed_name source) × WasSealed run.events source plain bytes }
     ensures piped { (key : List ℕ) (terms : Terms) (history : List Entry) (outputs : List (List ℕ))
         (run : WroteStream key terms history outputs) (call : OpenedFiles key) (number count : ℕ)
         (file plain : List ℕ)
-        → run.outcome ≡ Sealed number count → WasOpened call.events file run.bytes plain → plain ≡ run.input }
+        → run.outcome ≡ Sealed number count → WasOpened call.to call.events file run.bytes plain
+        → plain ≡ run.input }
     ensures unpiped { (key : List ℕ) (terms : Terms) (history : List Entry) (outputs : List (List ℕ))
-        (run : WroteFiles key terms history outputs) (output bytes before plain : List ℕ) (most n : ℕ)
-        (label : Option (List ℕ)) → IsAmong (Finished output bytes) run.events
-        → Unpipes key most label (Some bytes) (Some before) (Some (before ++ plain)) (Opened n)
+        (run : WroteFiles key terms history outputs) (output bytes name first before plain : List ℕ) (most n : ℕ)
+        (label : Option (List ℕ)) (events : List Event) → IsAmong (Finished output bytes) run.events
+        → Unpipes key most label name (Some before) (Some (before ++ plain)) (Opened n) events
+        → events ≡ Reading name first ∷ Reading name bytes ∷ []
         → (source : List ℕ) × (output ≡ sealed_name source) × WasSealed run.events source plain bytes }
     ensures back { (key : List ℕ) (terms : Terms) (history : List Entry) (outputs : List (List ℕ))
         (run : WroteStream key terms history outputs) (number count most n : ℕ) (label : Option (List ℕ))
-        (before plain : List ℕ) → run.outcome ≡ Sealed number count
-        → Unpipes key most label (Some run.bytes) (Some before) (Some (before ++ plain)) (Opened n) → plain ≡ run.input }
+        (name first before plain : List ℕ) (events : List Event) → run.outcome ≡ Sealed number count
+        → Unpipes key most label name (Some before) (Some (before ++ plain)) (Opened n) events
+        → events ≡ Reading name first ∷ Reading name run.bytes ∷ [] → plain ≡ run.input }
     ensures opened { (key : List ℕ) (call : OpenedFiles key) (output plain : List ℕ)
         → IsAmong (Finished output plain) call.events
-        → (file : List ℕ) × (bytes : List ℕ) × (output ≡ output_of file) × WasOpened call.events file bytes plain
-        × (most : ℕ) × (opening key most bytes ≡ Ok plain) }
+        → (file : List ℕ) × (bytes : List ℕ) × (output ≡ output_for call.to file)
+        × WasOpened call.to call.events file bytes plain × (most : ℕ) × (opening key most bytes ≡ Ok plain) }
     ensures sealed { (key : List ℕ) (terms : Terms) (history : List Entry) (outputs : List (List ℕ))
         (run : WroteFiles key terms history outputs) (output bytes : List ℕ)
         → IsAmong (Finished output bytes) run.events
@@ -201,17 +207,17 @@ pub fn what_was_opened_was_sealed()
         × (bytes ≡ container key run.shape (prefix_of terms.range.device number) input)
         × WasSealed run.events source input bytes }
     ensures files { (key : List ℕ) (shape : ShapeView) (device number bytes limit most n : ℕ)
-        (label : Option (List ℕ)) (name other void : List ℕ) (before after events : List Event)
+        (label : Option (List ℕ)) (name other target void : List ℕ) (before after events : List Event)
+        (earlier : List (List ℕ))
         → IsShape shape → Sealing key shape limit device name (Sealed number bytes) void before after
-        → Opening key most label other (Opened n) events → read_in events ≡ finished_in after
+        → Opening key most label target other (Opened n) events → read_in events ≡ earlier ++ finished_in after
         → (finished_in events ≡ read_in before) × (n ≡ bytes) }
     ensures streams { (key : List ℕ) (shape : ShapeView) (device number bytes chunks most n : ℕ)
         (label left : Option (List ℕ)) (failures later refusals more : Option ℕ)
-        (input taken written other void : List ℕ)
-        (events : List Event)
+        (input taken written other target void : List ℕ) (events : List Event) (earlier : List (List ℕ))
         → IsShape shape → WorksStream key shape chunks (Some input) left failures later (Some taken)
         (Some (taken ++ written)) refusals more device (Sealed number bytes) void
-        → Opening key most label other (Opened n) events → read_in events ≡ written ∷ []
+        → Opening key most label target other (Opened n) events → read_in events ≡ earlier ++ written ∷ []
         → (finished_in events ≡ input ∷ []) × (n ≡ bytes) }
 {
     containers_differ();

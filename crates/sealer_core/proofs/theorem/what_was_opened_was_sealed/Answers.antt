@@ -14,16 +14,16 @@ returns-clause-piped c key terms history outputs run call number count file plai
     terms history outputs call run number count file plain is was
 
 pub returns-clause-unpiped : goal.returns-clause-unpiped
-returns-clause-unpiped c key terms history outputs run output bytes before plain most n label at done =
+returns-clause-unpiped c key terms history outputs run output bytes name first before plain most n label events at done same =
     unpiped_run key (λ bytes plain most at. let r = (c.opens_exactly_its_container.ensures.exactly key bytes plain most).0 at in (r.1, r.2))
     (λ prefix other plain another shape form one two seven too same. (c.containers_differ.ensures.plaintext key prefix other plain another shape form one two seven too same).2)
-    terms history outputs run output bytes before plain most n label at done
+    terms history outputs run output bytes name first before plain most n label events at done same
 
 pub returns-clause-back : goal.returns-clause-back
-returns-clause-back c key terms history outputs run number count most n label before plain is done =
+returns-clause-back c key terms history outputs run number count most n label name first before plain events is done same =
     unpiped_stream_run key (λ bytes plain most at. let r = (c.opens_exactly_its_container.ensures.exactly key bytes plain most).0 at in (r.1, r.2))
     (λ prefix other plain another shape form one two seven too same. (c.containers_differ.ensures.plaintext key prefix other plain another shape form one two seven too same).2)
-    terms history outputs run number count most n label before plain is done
+    terms history outputs run number count most n label name first before plain events is done same
 
 pub returns-clause-opened : goal.returns-clause-opened
 returns-clause-opened c key call output plain at =
@@ -35,14 +35,14 @@ pub returns-clause-sealed : goal.returns-clause-sealed
 returns-clause-sealed c key terms history outputs run output bytes at = held_of_run key terms history outputs run output bytes at
 
 pub returns-clause-files : goal.returns-clause-files
-returns-clause-files c key shape device number bytes limit most n label name other void before after events is_shape sealed opened same =
+returns-clause-files c key shape device number bytes limit most n label name other target void before after events earlier is_shape sealed opened same =
     of_files key (λ bytes plain most at. let r = (c.opens_exactly_its_container.ensures.exactly key bytes plain most).0 at in (r.1, r.2))
     (λ prefix other plain another shape form one two seven too same. (c.containers_differ.ensures.plaintext key prefix other plain another shape form one two seven too same).2)
-    shape is_shape device number bytes limit most n label name other void before after events sealed opened same
+    shape is_shape device number bytes limit most n label name other target void before after events earlier sealed opened same
 
 pub returns-clause-streams : goal.returns-clause-streams
-returns-clause-streams c key shape device number bytes chunks most n label left failures later refusals more input taken written other void events
+returns-clause-streams c key shape device number bytes chunks most n label left failures later refusals more input taken written other target void events earlier
     is_shape sealed opened same =
     of_streams key (λ bytes plain most at. let r = (c.opens_exactly_its_container.ensures.exactly key bytes plain most).0 at in (r.1, r.2))
     (λ prefix other plain another shape form one two seven too same. (c.containers_differ.ensures.plaintext key prefix other plain another shape form one two seven too same).2)
-    shape is_shape device number bytes chunks most n label left failures later refusals more input taken written other void events sealed opened same
+    shape is_shape device number bytes chunks most n label left failures later refusals more input taken written other target void events earlier sealed opened same
