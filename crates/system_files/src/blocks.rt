@@ -8,7 +8,7 @@ use std::vec::IntoIter;
 const MAX_HELD: usize = 1 << 24;
 
 /// Bytes of a block.
-pub(crate) const BLOCK: usize = 1 << 18;
+const BLOCK: usize = 1 << 18;
 
 /// The blocks. All but the last are full.
 #[derive(Drop)]
@@ -20,9 +20,22 @@ impl Blocks {
         Blocks(Vec::new(alloc))
     }
 
-    /// Appends a prefix of a piece of at most `BLOCK` bytes, and returns its length. That is less than all of it only
-    /// if the most bytes are held, or if memory is refused.
-    pub(crate) fn append(&mut self, alloc: Global, piece: &[u8]) -> usize
+    /// Appends a prefix of these bytes, and returns its length. That is less than all of it only if the most bytes are
+    /// held, or if memory is refused.
+    pub(crate) fn append(&mut self, alloc: Global, bytes: &[u8]) -> usize {
+        let mut kept = 0usize;
+        for piece in bytes.chunks(BLOCK) {
+            let n = self.append_piece(alloc, piece);
+            kept = kept.saturating_add(n);
+            if n < piece.len() {
+                return kept;
+            }
+        }
+        kept
+    }
+
+    // The same for at most `BLOCK` bytes.
+    fn append_piece(&mut self, alloc: Global, piece: &[u8]) -> usize
         ensures most { result ≤ length piece.now }
     {
         let n = self.fill_last(piece);

@@ -2,27 +2,37 @@
 ghost use Rattle.std.specs.Prelude.{◌≡◌, ◌≢◌, Err, true, false};
 
 use crate::cause::Cause;
-use crate::input::{FileInput, open_known};
+use crate::input::{FileInput, OneOf, open_known};
 use crate::outputs::{self, Output, Outputs, PRIVATE, SHARED, make_new};
-use crate::own::{FileId, OwnFiles, OwnPaths, is_of_ledger};
+use crate::own::{
+    FileId, OwnFiles, OwnPaths, STANDARD_INPUT, STANDARD_OUTPUT, is_of_ledger, regular_at,
+};
 use crate::progress::Progress;
-use command_core::{Folder, FolderFault, OpeningFolder};
+use crate::spool::FileSpool;
+use command_core::{Folder, FolderFault, OpeningFolder, Plaintext};
 use container_core::{Key, Shape};
+use either::Either;
+use folder_core::{FileReader, Spooled};
 use front_core::SealingFolder;
+use io_core::Failed;
 use ledger_core::{Ledger, Seat, ToWrite};
 use path_core::put_below;
 use reserve_core::{Fold, LedgerFile};
 use std::alloc::Global;
 use std::fs;
 use std::fs::File;
-use std::io::ErrorKind;
+use std::io::{ErrorKind, Read};
+use std::marker::Brand;
 use std::rt::{Clock, Files};
 use system_ledger::is_beside;
 use thiserror::Error;
 
+/// The name of standard input.
+pub const STREAM: &str = "-";
+
 /// The files of the system, by their paths. A relative path begins at the current directory.
 #[derive(Drop)]
-pub struct SystemFiles<'p, 'r, R: Files + AllocGlobal + Clock + Eprint> {
+pub struct SystemFiles<'p, 'r, R: Files + AllocGlobal + Clock + Eprint, I: Read + Drop> {
     /// The runtime that opens them.
     pub rt: &'r R,
     /// The folder into which outputs go, each under the base name of its path. With `None` they go where their path
@@ -35,20 +45,28 @@ pub struct SystemFiles<'p, 'r, R: Files + AllocGlobal + Clock + Eprint> {
     /// Counts the bytes read of files. `None` if no progress line was asked for.
     pub progress: Option<&'p Progress<'r, R>>,
     outputs: Outputs,
+    // Whether `-` is standard input, which is taken when it is opened.
+    has_input: bool,
+    input: Option<I>,
+    // The folder of the spool for what can be read only once, if such a file is to be read twice.
+    spool: Option<&'r str>,
+    // The regular file that standard output is, if it can't be an input.
+    output: Option<FileId>,
     // The paths of the run's own files, if it has some. They are looked up when the first file is opened.
     own_paths: Option<OwnPaths<'r>>,
     own: Option<OwnFiles>,
 }
 
-impl<'p, 'r, R: Files + AllocGlobal + Clock + Eprint> SystemFiles<'p, 'r, R> {
-    /// The files of the system, for one run.
+impl<'p, 'r, R: Files + AllocGlobal + Clock + Eprint, I: Read + Drop> SystemFiles<'p, 'r, R, I> {
+    /// The files of the system, for one run. With an `input`, a file of the name `-` is that.
     pub fn new(
         rt: &'r R,
+        input: Option<I>,
         into: Option<&'r str>,
         sync: bool,
         private: bool,
         progress: Option<&'p Progress<'r, R>>,
-    ) -> SystemFiles<'p, 'r, R>
+    ) -> SystemFiles<'p, 'r, R, I>
         ensures sync { result.sync ≡ sync }
         ensures private { private ≡ true → result.mode ≡ PRIVATE }
         ensures shared { private ≡ false → result.mode ≡ SHARED }
@@ -60,6 +78,10 @@ impl<'p, 'r, R: Files + AllocGlobal + Clock + Eprint> SystemFiles<'p, 'r, R> {
             mode: if private { PRIVATE } else { SHARED },
             progress,
             outputs: Outputs::new(rt),
+            has_input: input.is_some(),
+            input,
+            spool: None,
+            output: None,
             own_paths: None,
             own: None,
         }
@@ -72,8 +94,39 @@ impl<'p, 'r, R: Files + AllocGlobal + Clock + Eprint> SystemFiles<'p, 'r, R> {
         self.own = None;
     }
 
+    /// From here on what can be read only once is kept, while it is read, in a spool with its file in this folder. So it
+    /// can be read again.
+    pub fn spool_in(&mut self, folder: &'r str) {
+        self.spool = Some(folder);
+    }
+
+    /// From here on the file that standard output is can't be opened, if it is a regular one: a run that appends to its
+    /// input would damage it.
+    pub fn keep_out_output(&mut self) {
+        self.output = regular_at(self.rt, STANDARD_OUTPUT);
+    }
+
+    // Whether standard input is the regular file that can't be opened.
+    fn is_output_input(&self) -> bool {
+        self.output.is_some() && regular_at(self.rt, STANDARD_INPUT) == self.output
+    }
+
+    // What reads this input.
+    fn reader_of(&self, input: FileInput<'p, 'r, R, I>) -> SystemReader<'p, 'r, R, I> {
+        match self.spool {
+            Some(folder) if !input.can_repeat => {
+                let spool = FileSpool::new(self.rt, folder);
+                OneOf(Either::Right(Spooled::of(input, spool)))
+            }
+            _ => OneOf(Either::Left(input)),
+        }
+    }
+
     // Whether a file is one of the run's own. If that can't be found out, it counts as one.
     fn is_own(&mut self, file: FileId) -> bool {
+        if self.output == Some(file) {
+            return true;
+        }
         let Some(paths) = self.own_paths else {
             return false;
         };
@@ -177,13 +230,29 @@ pub fn open_unbuffered<R: Files>(rt: &R, name: &str) -> Result<R::File, FolderFa
     }
 }
 
-impl<'p, 'r, R: Files + AllocGlobal + Clock + Eprint> Folder for SystemFiles<'p, 'r, R> {
-    type Reader = FileInput<'p, 'r, R>;
+/// What reads a file of the system: the file, or what was kept of it.
+pub type SystemReader<'p, 'r, R, I> = OneOf<
+    FileInput<'p, 'r, R, I>,
+    Spooled<FileInput<'p, 'r, R, I>, FileSpool<'r, R>, Brand>,
+>;
+
+impl<'p, 'r, R: Files + AllocGlobal + Clock + Eprint, I: Read + Drop> Folder
+    for SystemFiles<'p, 'r, R, I> {
+    type Reader = SystemReader<'p, 'r, R, I>;
 
     // Needs no buffer: each call that writes an output passes one chunk or more.
     type Writer = ToWrite<Output<R::File>>;
 
     fn open(&mut self, name: &str) -> Result<Self::Reader, FolderFault> {
+        if self.has_input && name == STREAM {
+            if self.is_output_input() {
+                return Err(FolderFault::Failed);
+            }
+            return match self.input.take() {
+                Some(input) => Ok(self.reader_of(FileInput::of_input(input, self.progress))),
+                None => Err(FolderFault::Failed),
+            };
+        }
         let opened = match open_known(self.rt, name) {
             Ok(opened) => opened,
             Err(fault) => return Err(fault),
@@ -191,7 +260,24 @@ impl<'p, 'r, R: Files + AllocGlobal + Clock + Eprint> Folder for SystemFiles<'p,
         if self.is_own(opened.id) {
             return Err(FolderFault::Failed);
         }
-        FileInput::of(self.rt, opened, self.progress)
+        match FileInput::of_file(self.rt, opened, self.progress) {
+            Ok(input) => Ok(self.reader_of(input)),
+            Err(fault) => Err(fault),
+        }
+    }
+
+    fn can_repeat(&self, reader: &Self::Reader) -> bool {
+        match &reader.0 {
+            Either::Left(input) => input.can_repeat,
+            Either::Right(_) => true,
+        }
+    }
+
+    fn again(&mut self, _name: &str, reader: &mut Self::Reader) -> Result<(), Failed> {
+        match &mut reader.0 {
+            Either::Left(input) => input.again(),
+            Either::Right(spooled) => spooled.again(),
+        }
     }
 
     fn create(&mut self, name: &str) -> Result<Self::Writer, FolderFault> {
@@ -221,8 +307,17 @@ impl<'p, 'r, R: Files + AllocGlobal + Clock + Eprint> Folder for SystemFiles<'p,
 }
 
 // The bound of an output is proof only: the contracts of its writers state it. Nothing happens at run time.
-impl<'p, 'r, R: Files + AllocGlobal + Clock + Eprint> OpeningFolder for SystemFiles<'p, 'r, R> {
+impl<'p, 'r, R: Files + AllocGlobal + Clock + Eprint, I: Read + Drop> OpeningFolder
+    for SystemFiles<'p, 'r, R, I> {
     fn allow_plain(
+        &mut self,
+        _output: &mut Self::Writer,
+        _key: &Key,
+        _name: &str,
+        _plain: &Plaintext,
+    ) {}
+
+    fn allow_again(
         &mut self,
         _output: &mut Self::Writer,
         _key: &Key,
@@ -232,7 +327,8 @@ impl<'p, 'r, R: Files + AllocGlobal + Clock + Eprint> OpeningFolder for SystemFi
     ) {}
 }
 
-impl<'p, 'r, R: Files + AllocGlobal + Clock + Eprint> SealingFolder for SystemFiles<'p, 'r, R> {
+impl<'p, 'r, R: Files + AllocGlobal + Clock + Eprint, I: Read + Drop> SealingFolder
+    for SystemFiles<'p, 'r, R, I> {
     fn start<S: Fold>(&mut self, _file: &LedgerFile<S>, _key: &Key, _ledger: &Ledger) {}
 
     fn allow_container(

@@ -1,16 +1,17 @@
-//! Opened files as commands read them: with a buffer, and counted in the progress line. A regular file can be read
-//! again.
+//! Opened files and standard input, as commands read them: counted in the progress line, and a file with a buffer.
 ghost use Rattle.std.specs.Prelude.{◌≡◌, ◌≢◌, Err, IfOk, IsErr, false};
 ghost use Rattle.std.specs.Io.Buffered.{reader_remaining};
+ghost use Rattle.either.specs.Either.{either};
 ghost use Rattle.system_files.specs.Inputs.{left_unless};
 
 use crate::own::FileId;
 use crate::progress::{Counted, Progress};
 use command_core::FolderFault;
+use either::Either;
 use folder_core::FileReader;
 use io_core::{Failed, FromRead, Source};
 use std::fs::{File, OpenFile};
-use std::io::{BufReader, Seek};
+use std::io::{BufReader, Read, Seek, SeekFrom};
 use std::rt::{Clock, Files};
 
 /// Bytes of the buffer through which a file is read.
@@ -44,37 +45,25 @@ pub(crate) fn open_known<R: Files>(rt: &R, name: &str) -> Result<Opened<R::File>
     })
 }
 
-/// Opens a file for reading, without a progress line. A directory is refused. The only fault is `Failed`.
-pub fn open_input<'p, 'r, R: Files + AllocGlobal + Clock + Eprint>(
-    rt: &'r R,
-    name: &str,
-) -> Result<FileInput<'p, 'r, R>, FolderFault>
-    ensures fault { result ≢ Err FolderFault.Exists }
-{
-    match open_known(rt, name) {
-        Ok(opened) => FileInput::of(rt, opened, None),
-        Err(fault) => Err(fault),
-    }
-}
-
-/// What reads an opened file. Nothing is promised of a second reading: another program can change the file.
+/// What reads an opened file, or standard input. Nothing is promised of a second reading: another program can change
+/// the file.
 #[derive(Drop)]
-pub struct FileInput<'p, 'r, R: Files + AllocGlobal + Clock + Eprint> {
-    /// Whether it is a regular file. Only such a file can be read again.
-    pub is_regular: bool,
+pub struct FileInput<'p, 'r, R: Files + AllocGlobal + Clock + Eprint, I: Read + Drop> {
+    /// Whether it can be read again: it is a regular file, and its first byte can be sought.
+    pub can_repeat: bool,
     // Whether it went back to its first byte.
     is_again: bool,
-    reader: FromRead<Counted<'p, 'r, R, BufReader<R::File>>>,
+    reader: FromRead<Counted<'p, 'r, R, Either<BufReader<R::File>, I>>>,
 }
 
-impl<'p, 'r, R: Files + AllocGlobal + Clock + Eprint> FileInput<'p, 'r, R> {
+impl<'p, 'r, R: Files + AllocGlobal + Clock + Eprint, I: Read + Drop> FileInput<'p, 'r, R, I> {
     /// Reads this file, and counts its bytes in `progress`, if there is one. Fails if memory is refused.
-    pub(crate) fn of(
+    pub(crate) fn of_file(
         rt: &'r R,
         opened: Opened<R::File>,
         progress: Option<&'p Progress<'r, R>>,
-    ) -> Result<FileInput<'p, 'r, R>, FolderFault>
-        ensures regular { IfOk result (λ input. input.is_regular ≡ opened.is_regular) }
+    ) -> Result<FileInput<'p, 'r, R, I>, FolderFault>
+        ensures other { opened.is_regular ≡ false → IfOk result (λ input. input.can_repeat ≡ false) }
         ensures fault { result ≢ Err FolderFault.Exists }
     {
         let Opened {
@@ -82,48 +71,86 @@ impl<'p, 'r, R: Files + AllocGlobal + Clock + Eprint> FileInput<'p, 'r, R> {
             is_regular,
             ..
         } = opened;
+        let mut file = file;
+        let can_repeat = is_regular && file.seek(SeekFrom::Start(0)).is_ok();
         match BufReader::with_capacity(rt.alloc(), BUFFER, file) {
             Ok(reader) => Ok(FileInput {
-                is_regular,
+                can_repeat,
                 is_again: false,
-                reader: FromRead(Counted { reader, progress }),
+                reader: FromRead(Counted {
+                    reader: Either::Left(reader),
+                    progress,
+                }),
             }),
             Err(_) => Err(FolderFault::Failed),
         }
     }
+
+    /// Reads standard input, and counts its bytes in `progress`, if there is one.
+    pub(crate) fn of_input(
+        input: I,
+        progress: Option<&'p Progress<'r, R>>,
+    ) -> FileInput<'p, 'r, R, I>
+        ensures once { result.can_repeat ≡ false }
+    {
+        FileInput {
+            can_repeat: false,
+            is_again: false,
+            reader: FromRead(Counted {
+                reader: Either::Right(input),
+                progress,
+            }),
+        }
+    }
 }
 
-impl<R: Files + AllocGlobal + Clock + Eprint> Source for FileInput<'_, '_, R> {
+impl<R: Files + AllocGlobal + Clock + Eprint, I: Read + Drop> Source for FileInput<'_, '_, R, I> {
     // It isn't known of a second reading: no contract of std says what is left after a seek.
-    ghost left = { λ f. left_unless f.is_again (reader_remaining R.File.remaining f.reader.0.reader) };
+    ghost left = { λ f. left_unless f.is_again
+        (either (reader_remaining R.File.remaining) I.remaining f.reader.0.reader) };
 
     fn read(&mut self, buffer: &mut [u8]) -> Result<usize, Failed> {
         self.reader.read(buffer)
     }
 }
 
-impl<R: Files + AllocGlobal + Clock + Eprint> FileReader for FileInput<'_, '_, R> {
+impl<R: Files + AllocGlobal + Clock + Eprint, I: Read + Drop> FileReader
+    for FileInput<'_, '_, R, I> {
     fn read_on(&mut self, buffer: &mut [u8]) -> Result<usize, Failed> {
         self.reader.read(buffer)
     }
 
-    fn can_repeat(&self) -> bool
-        ensures { result ≡ self.now.is_regular }
-    {
-        self.is_regular
-    }
-
     fn again(&mut self) -> Result<(), Failed>
-        ensures refused { self.old.is_regular ≡ false → IsErr result }
-        ensures regular { self.new.is_regular ≡ self.old.is_regular }
+        ensures refused { self.old.can_repeat ≡ false → IsErr result }
+        ensures same { self.new.can_repeat ≡ self.old.can_repeat }
     {
-        if !self.is_regular {
+        if !self.can_repeat {
             return Err(Failed);
         }
         self.is_again = true;
-        match self.reader.0.reader.rewind() {
-            Ok(()) => Ok(()),
-            Err(_) => Err(Failed),
+        match &mut self.reader.0.reader {
+            Either::Left(file) => match file.rewind() {
+                Ok(()) => Ok(()),
+                Err(_) => Err(Failed),
+            },
+            Either::Right(_) => Err(Failed),
+        }
+    }
+}
+
+/// One of two sources.
+#[derive(Drop)]
+pub struct OneOf<A: Source + Drop, B: Source + Drop>(pub(crate) Either<A, B>);
+
+impl<A: Source + Drop, B: Source + Drop> Source for OneOf<A, B> {
+    ghost left = { λ r. either A.left B.left r.0 };
+
+    ghost failures = { λ r. either A.failures B.failures r.0 };
+
+    fn read(&mut self, buffer: &mut [u8]) -> Result<usize, Failed> {
+        match &mut self.0 {
+            Either::Left(source) => source.read(buffer),
+            Either::Right(source) => source.read(buffer),
         }
     }
 }

@@ -13,10 +13,12 @@ pub mod progress;
 pub mod spool;
 
 pub use crate::cause::{About, Cause, Step, cause_of, is_for_others};
-pub use crate::files::{JournalFault, SystemFiles, new_journal, open_unbuffered, stand_ins};
-pub use crate::input::{FileInput, open_input};
+pub use crate::files::{
+    JournalFault, STREAM, SystemFiles, SystemReader, new_journal, open_unbuffered, stand_ins,
+};
+pub use crate::input::{FileInput, OneOf};
 pub use crate::kept::{Makes, Split, print_kept, split_names};
 pub use crate::own::{OwnPaths, StandardInput};
 pub use crate::progress::{Progress, Told};
-pub use crate::spool::{FileSpool, spool_folder};
+pub use crate::spool::{FileSpool, is_folder, spool_folder};
 pub use path_core::{PlaceFault, are_apart, last_name};

@@ -10,7 +10,10 @@ use std::rt::Files;
 use std::{fs, io};
 
 /// The path of a process's standard input.
-const STANDARD_INPUT: &str = "/proc/self/fd/0";
+pub(crate) const STANDARD_INPUT: &str = "/proc/self/fd/0";
+
+/// The path of a process's standard output.
+pub(crate) const STANDARD_OUTPUT: &str = "/proc/self/fd/1";
 
 /// A file's identity, the same by every path.
 #[derive(Clone, Copy, PartialEq, Eq, Debug)]
@@ -144,6 +147,14 @@ fn file_at<R: Files>(rt: &R, path: &str) -> io::Result<Option<FileId>> {
         Ok(found) => Ok(Some(FileId::of(&found))),
         Err(error) if is_missing(&error) => Ok(None),
         Err(error) => Err(error),
+    }
+}
+
+/// Returns the regular file at this path, if it is one.
+pub(crate) fn regular_at<R: Files>(rt: &R, path: &str) -> Option<FileId> {
+    match fs::metadata(rt, path) {
+        Ok(found) if found.is_file() => Some(FileId::of(&found)),
+        _ => None,
     }
 }
 

@@ -6,6 +6,7 @@
 //! It changes nothing else, and if the clock fails there is no line.
 ghost use Rattle.std.specs.Prelude.{◌≡◌};
 
+use crate::files::STREAM;
 use std::cell::Cell;
 use std::io::{Read, Write};
 use std::rt::{Clock, Files};
@@ -157,6 +158,9 @@ fn seconds_left(all: u64, done: u64, each: u64) -> u64 {
 fn bytes_of<R: Files>(rt: &R, names: &[&str], readings: u64) -> Option<u64> {
     let mut bytes = 0u64;
     for name in names {
+        if *name == STREAM {
+            return None;
+        }
         if let Ok(found) = fs::metadata(rt, *name) {
             if !found.is_file() {
                 return None;

@@ -7,7 +7,7 @@
 ghost use Rattle.std.specs.Prelude.{◌≡◌, IfSome, IfOk, IsOk, IsErr, is_err, true, false, string_bytes};
 ghost use Rattle.std.specs.Io.{ReadsAtMost};
 
-use crate::blocks::{BLOCK, Blocks};
+use crate::blocks::Blocks;
 use crate::outputs::{PRIVATE, make_new};
 use folder_core::{FileReader, Spool};
 use io_core::{Failed, FromRead, Source};
@@ -44,6 +44,72 @@ fn copy_of<R: AllocGlobal>(rt: &R, text: &str) -> Result<String, AllocError>
     String::from_str(rt.alloc(), text)
 }
 
+/// Returns whether there is a folder at this path.
+pub fn is_folder<R: Files>(rt: &R, path: &str) -> bool {
+    match fs::metadata(rt, path) {
+        Ok(found) => found.is_dir(),
+        Err(_) => false,
+    }
+}
+
+// A file to which bytes are appended, and which is read.
+#[derive(Drop)]
+struct Spilled<F: Read + Write + Seek + Drop> {
+    file: FromRead<F>,
+    // How many bytes were appended.
+    length: u64,
+    // The place at which the next call reads or writes, if it is known.
+    place: Option<u64>,
+}
+
+impl<F: Read + Write + Seek + Drop> Spilled<F> {
+    // An empty file.
+    fn of(file: F) -> Spilled<F> {
+        Spilled {
+            file: FromRead(file),
+            length: 0,
+            place: Some(0),
+        }
+    }
+
+    fn append(&mut self, bytes: &[u8]) -> Result<(), Failed> {
+        self.go_to(self.length)?;
+        self.place = None;
+        match self.file.0.write_all(bytes) {
+            Ok(()) => {
+                self.length = self.length.saturating_add(bytes.len() as u64);
+                self.place = Some(self.length);
+                Ok(())
+            }
+            Err(_) => Err(Failed),
+        }
+    }
+
+    fn read_at(&mut self, at: u64, buffer: &mut [u8]) -> Result<usize, Failed>
+        ensures bound { ReadsAtMost result buffer.new }
+    {
+        self.go_to(at)?;
+        self.place = None;
+        let n = self.file.read(buffer)?;
+        self.place = Some(at.saturating_add(n as u64));
+        Ok(n)
+    }
+
+    fn go_to(&mut self, place: u64) -> Result<(), Failed> {
+        if self.place == Some(place) {
+            return Ok(());
+        }
+        self.place = None;
+        match self.file.0.seek(SeekFrom::Start(place)) {
+            Ok(_) => {
+                self.place = Some(place);
+                Ok(())
+            }
+            Err(_) => Err(Failed),
+        }
+    }
+}
+
 /// A spool. Reading begins at its first byte.
 #[derive(Drop)]
 pub struct FileSpool<'r, R: Files + AllocGlobal + Clock> {
@@ -53,7 +119,7 @@ pub struct FileSpool<'r, R: Files + AllocGlobal + Clock> {
     folder: &'r str,
     // All bytes, until there is a file.
     blocks: Blocks,
-    file: Option<FromRead<R::File>>,
+    file: Option<Spilled<R::File>>,
     // The place of the byte that is read next.
     at: u64,
 }
@@ -81,32 +147,30 @@ impl<'r, R: Files + AllocGlobal + Clock> FileSpool<'r, R> {
         if self.failed {
             return Err(Failed);
         }
-        for piece in bytes.chunks(BLOCK) {
-            if self.append_piece(piece).is_err() {
-                self.failed = true;
-                self.blocks = Blocks::new(self.rt.alloc());
-                self.file = None;
-                return Err(Failed);
-            }
+        if self.append_all(bytes).is_err() {
+            self.failed = true;
+            self.blocks = Blocks::new(self.rt.alloc());
+            self.file = None;
+            return Err(Failed);
         }
         Ok(())
     }
 
-    // The same for at most `BLOCK` bytes.
-    fn append_piece(&mut self, piece: &[u8]) -> Result<(), Failed>
+    // The same, and what couldn't be appended whole is left so.
+    fn append_all(&mut self, bytes: &[u8]) -> Result<(), Failed>
         ensures failed { self.new.failed ≡ self.old.failed }
     {
-        let mut rest = piece;
+        let mut rest = bytes;
         if self.file.is_none() {
-            let n = self.blocks.append(self.rt.alloc(), piece);
-            rest = &piece[n..];
+            let n = self.blocks.append(self.rt.alloc(), bytes);
+            rest = bytes.get(n..).unwrap_or(&[]);
             if rest.is_empty() {
                 return Ok(());
             }
             self.move_to_file()?;
         }
         match &mut self.file {
-            Some(FromRead(file)) => write_at_end(file, rest),
+            Some(file) => file.append(rest),
             None => Err(Failed),
         }
     }
@@ -115,12 +179,12 @@ impl<'r, R: Files + AllocGlobal + Clock> FileSpool<'r, R> {
     fn move_to_file(&mut self) -> Result<(), Failed>
         ensures failed { self.new.failed ≡ self.old.failed }
     {
-        let mut file = unlinked_file(self.rt, self.folder)?;
+        let mut file = Spilled::of(unlinked_file(self.rt, self.folder)?);
         let blocks = mem::replace(&mut self.blocks, Blocks::new(self.rt.alloc()));
         for block in blocks.into_iter() {
-            write_at_end(&mut file, block.as_slice())?;
+            file.append(block.as_slice())?;
         }
-        self.file = Some(FromRead(file));
+        self.file = Some(file);
         Ok(())
     }
 
@@ -147,31 +211,11 @@ impl<'r, R: Files + AllocGlobal + Clock> FileSpool<'r, R> {
             return Err(Failed);
         }
         let n = match &mut self.file {
-            Some(file) => read_at(file, self.at, buffer)?,
+            Some(file) => file.read_at(self.at, buffer)?,
             None => self.blocks.read_at(self.at, buffer),
         };
         self.at = self.at.saturating_add(n as u64);
         Ok(n)
-    }
-}
-
-fn write_at_end<F: Write + Seek>(file: &mut F, bytes: &[u8]) -> Result<(), Failed> {
-    if file.seek(SeekFrom::End(0)).is_err() || file.write_all(bytes).is_err() {
-        return Err(Failed);
-    }
-    Ok(())
-}
-
-fn read_at<F: Read + Seek + Drop>(
-    file: &mut FromRead<F>,
-    at: u64,
-    buffer: &mut [u8],
-) -> Result<usize, Failed>
-    ensures bound { ReadsAtMost result buffer.new }
-{
-    match file.0.seek(SeekFrom::Start(at)) {
-        Ok(_) => file.read(buffer),
-        Err(_) => Err(Failed),
     }
 }
 
@@ -212,10 +256,6 @@ impl<R: Files + AllocGlobal + Clock> Source for FileSpool<'_, R> {
 impl<R: Files + AllocGlobal + Clock> FileReader for FileSpool<'_, R> {
     fn read_on(&mut self, buffer: &mut [u8]) -> Result<usize, Failed> {
         self.read_next(buffer)
-    }
-
-    fn can_repeat(&self) -> bool {
-        true
     }
 
     fn again(&mut self) -> Result<(), Failed> {
