@@ -1,10 +1,19 @@
-//! Files that are read again.
+//! Files that are read again, and standard input.
 
-use folder_core::FileReader;
+use command_core::Folder;
 use io_core::{Failed, Source, fill};
+use std::io::Read;
 use std::rt::{Clock, Files};
 use std::{fs, io};
-use system_files::open_input;
+use system_files::{STREAM, SystemFiles};
+
+// The files of the system, and this standard input.
+fn files_of<'r, R: Files + AllocGlobal + Clock + Eprint, I: Read + Drop>(
+    rt: &'r R,
+    input: Option<I>,
+) -> SystemFiles<'r, 'r, R, I> {
+    SystemFiles::new(rt, input, None, false, false, None)
+}
 
 // Whether a read from here on gives these bytes first.
 fn begins<S: Source>(source: &mut S, wanted: &[u8]) -> bool {
@@ -16,16 +25,16 @@ fn begins<S: Source>(source: &mut S, wanted: &[u8]) -> bool {
 }
 
 // Whether this file gives its bytes, and again after a part of them and after all of them.
-fn is_read_again<R: Files + AllocGlobal + Clock + Eprint>(rt: &R, name: &str) -> bool {
-    match open_input(rt, name) {
+fn is_read_again<F: Folder>(folder: &mut F, name: &str) -> bool {
+    match folder.open(name) {
         Ok(mut input) => {
-            input.is_regular
+            folder.can_repeat(&input)
                 && begins(&mut input, b"01234567")
-                && input.again().is_ok()
+                && folder.again(name, &mut input).is_ok()
                 && begins(&mut input, b"01234567")
                 && begins(&mut input, b"89")
                 && begins(&mut input, b"")
-                && input.again().is_ok()
+                && folder.again(name, &mut input).is_ok()
                 && begins(&mut input, b"01234567")
         }
         Err(_) => false,
@@ -39,7 +48,7 @@ fn a_new_file_is_read_again<R: Files + AllocGlobal + Clock + Eprint>(rt: &R) -> 
         return Ok(false);
     };
     fs::write(rt, name.as_str(), "0123456789")?;
-    let is_read = is_read_again(rt, name.as_str());
+    let is_read = is_read_again(&mut files_of(rt, None::<R::File>), name.as_str());
     fs::remove_file(rt, name.as_str())?;
     Ok(is_read)
 }
@@ -51,21 +60,98 @@ fn a_regular_file_is_read_again(rt: HostRuntime) -> io::Result<()> {
 }
 
 // Whether this file can't be read again, but on.
-fn is_read_once<R: Files + AllocGlobal + Clock + Eprint>(rt: &R, name: &str) -> bool {
-    match open_input(rt, name) {
+fn is_read_once<F: Folder>(folder: &mut F, name: &str, bytes: &[u8]) -> bool {
+    match folder.open(name) {
         Ok(mut input) => {
-            !input.is_regular
-                && input.again() == Err(Failed)
-                && begins(&mut input, b"\0\0\0\0\0\0\0\0")
-                && input.again() == Err(Failed)
+            !folder.can_repeat(&input)
+                && folder.again(name, &mut input) == Err(Failed)
+                && begins(&mut input, bytes)
+                && folder.again(name, &mut input) == Err(Failed)
         }
         Err(_) => false,
     }
 }
 
+// Whether that holds of this file, beside this standard input. After it there is no such input.
+fn is_once<R: Files + AllocGlobal + Clock + Eprint, I: Read + Drop>(
+    rt: &R,
+    input: I,
+    name: &str,
+    bytes: &[u8],
+) -> bool {
+    let mut folder = files_of(rt, Some(input));
+    is_read_once(&mut folder, name, bytes) && (name != STREAM || folder.open(name).is_err())
+}
+
+// Whether this can't be opened.
+fn is_refused<R: Files + AllocGlobal + Clock + Eprint, I: Read + Drop>(
+    rt: &R,
+    input: Option<I>,
+    name: &str,
+) -> bool {
+    files_of(rt, input).open(name).is_err()
+}
+
 #[test]
 fn another_file_is_not_read_again(rt: HostRuntime) {
-    assert!(rt; is_read_once(&rt, "/dev/zero"));
-    assert!(rt; open_input(&rt, "/dev").is_err());
-    assert!(rt; open_input(&rt, "/dev/no such file").is_err());
+    assert!(rt; is_once(&rt, io::empty(), "/dev/zero", b"\0\0\0\0\0\0\0\0"));
+    for name in ["/dev", "/dev/no such file", "./-"] {
+        assert!(rt; is_refused(&rt, Some(io::empty()), name));
+    }
+}
+
+#[test]
+fn standard_input_is_read_once(rt: HostRuntime) {
+    let input: &[u8] = b"0123456789";
+    assert!(rt; is_once(&rt, input, STREAM, b"01234567"));
+    assert!(rt; is_refused(&rt, None::<&[u8]>, STREAM));
+}
+
+// Whether this file gives its bytes, and again once it was read to its end.
+fn is_kept<F: Folder>(folder: &mut F, name: &str) -> bool {
+    match folder.open(name) {
+        Ok(mut input) => {
+            folder.can_repeat(&input)
+                && begins(&mut input, b"01234567")
+                && begins(&mut input, b"89")
+                && folder.again(name, &mut input).is_ok()
+                && begins(&mut input, b"01234567")
+                && begins(&mut input, b"89")
+        }
+        Err(_) => false,
+    }
+}
+
+// Whether a part of it can't be read again.
+fn is_kept_whole_alone<F: Folder>(folder: &mut F, name: &str) -> bool {
+    match folder.open(name) {
+        Ok(mut input) => {
+            begins(&mut input, b"01234567") && folder.again(name, &mut input) == Err(Failed)
+        }
+        Err(_) => false,
+    }
+}
+
+// Whether this standard input is kept in a spool.
+fn is_spooled<R: Files + AllocGlobal + Clock + Eprint, I: Read + Drop>(rt: &R, input: I) -> bool {
+    let mut folder = files_of(rt, Some(input));
+    folder.spool_in("/var/tmp");
+    is_kept(&mut folder, STREAM)
+}
+
+// Whether it isn't before its end was read.
+fn is_spooled_whole<R: Files + AllocGlobal + Clock + Eprint, I: Read + Drop>(
+    rt: &R,
+    input: I,
+) -> bool {
+    let mut folder = files_of(rt, Some(input));
+    folder.spool_in("/var/tmp");
+    is_kept_whole_alone(&mut folder, STREAM)
+}
+
+#[test]
+fn standard_input_is_kept_in_a_spool(rt: HostRuntime) {
+    let input: &[u8] = b"0123456789";
+    assert!(rt; is_spooled(&rt, input));
+    assert!(rt; is_spooled_whole(&rt, input));
 }

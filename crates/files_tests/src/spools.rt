@@ -6,7 +6,7 @@ use io_core::{Failed, Source};
 use std::alloc::{AllocError, Global};
 use std::rt::{Clock, Files};
 use std::test::Fail;
-use system_files::{FileSpool, spool_folder};
+use system_files::{FileSpool, is_folder, spool_folder};
 
 const FOLDER: &str = "/var/tmp";
 
@@ -220,4 +220,12 @@ fn the_given_folder_is_taken(rt: HostRuntime) -> Result<(), Fail> {
     let folder = spool_folder(&rt, Some("a/b"))?;
     assert_eq!(rt; folder.as_str(), "a/b");
     Ok(())
+}
+
+#[test]
+fn a_folder_is_known(rt: HostRuntime) {
+    assert!(rt; is_folder(&rt, "/dev"));
+    for path in ["", "/dev/null", "/dev/no such folder"] {
+        assert!(rt; !is_folder(&rt, path));
+    }
 }
