@@ -1,6 +1,6 @@
 -- The status of a run is that of its lines, if all of them were written.
-use Rattle.std.proofs.Common.{◌≡◌, inl, inr, ⊎_elim, All, ℕ, Bool, true, false, if◌then◌else◌, List, [], ◌∷◌, Option, codes, map, refl, sym, subst}
-use Rattle.std.proofs.KnownBytes.{Appends-trans}
+use Rattle.std.proofs.Common.{arith, length, ◌≡◌, inl, inr, ⊎_elim, All, ℕ, Bool, true, false, if◌then◌else◌, List, [], ◌∷◌, Option, codes, map, refl, sym, subst}
+use Rattle.std.proofs.KnownBytes.{Appends-nil, Appends-trans}
 use Rattle.std.proofs.lemmas.List.Elements.{All-cons, All-nil, All-weaker}
 use Rattle.std.proofs.lemmas.Bool.{cases_eq}
 use Rattle.clap.specs.declared.parser.matches.ArgMatches.{ArgMatches}
@@ -13,11 +13,10 @@ use Rattle.command_core.specs.declared.line.FileOutcome.{FileOutcome}
 use Rattle.command_core.specs.declared.line.FileOutcome.TheVariants.{Sealed, Opened, Good, Shown, Failed}
 use Rattle.sealer_core.specs.Piping.{WorksStream}
 use Rattle.command_core.specs.Lines.{FileLine, lines_text}
-use Rattle.command_core.specs.Unpiping.{Unpipes}
 use Rattle.command_core.specs.Work.{AreTold}
 use Rattle.system_files.specs.Kept.{IsSplit, kept_text}
 use Rattle.command_line.specs.Given.{IsFlag}
-use Rattle.sealer.specs.Status.{IsOfPiping, IsOfUnpiping, IsStatusOf, IsStatusOver}
+use Rattle.sealer.specs.Status.{IsOfPiping, IsStatusOf, IsStatusOver}
 
 -- lines that were reported
 pub of_lines : (fits : List ℕ → FileOutcome → Type 0) (status : ℕ) (lines : List FileLine) (old new : Option (List ℕ))
@@ -57,25 +56,6 @@ fits_stream _ _ _ _ _ _ _ _ _ _ _ _ (Failed (Unopened fault)) _ never = never
 fits_stream _ _ _ _ _ _ _ _ _ _ _ _ (Opened bytes) _ never = never
 fits_stream _ _ _ _ _ _ _ _ _ _ _ _ (Good bytes) _ never = never
 fits_stream _ _ _ _ _ _ _ _ _ _ _ _ (Shown bytes facts) _ never = never
-
--- what became of an input is an outcome of `unpipe`
-pub fits_input : (key : List ℕ) (most : ℕ) (label bytes taken taken' : Option (List ℕ)) (outcome : FileOutcome)
-    → Unpipes key most label bytes taken taken' outcome → IsOfUnpiping outcome
-fits_input _ _ _ _ _ _ (Opened n) _ = tt
-fits_input _ _ _ _ _ _ (Failed (Unopened fault)) _ = tt
-fits_input _ _ _ _ _ _ (Failed AnotherLabel) _ = tt
-fits_input _ _ _ _ _ _ (Failed CannotOpen) _ = tt
-fits_input _ _ _ _ _ _ (Failed Changed) _ = tt
-fits_input _ _ _ _ _ _ (Failed SpoolFailed) _ = tt
-fits_input _ _ _ _ _ _ (Failed NoSuffix) never = never
-fits_input _ _ _ _ _ _ (Failed OutputExists) never = never
-fits_input _ _ _ _ _ _ (Failed CannotCreate) never = never
-fits_input _ _ _ _ _ _ (Failed OutOfMemory) never = never
-fits_input _ _ _ _ _ _ (Failed NoNumber) never = never
-fits_input _ _ _ _ _ _ (Failed (Unsealed fault)) never = never
-fits_input _ _ _ _ _ _ (Sealed number n) never = never
-fits_input _ _ _ _ _ _ (Good n) never = never
-fits_input _ _ _ _ _ _ (Shown n facts) never = never
 
 -- one line that was reported
 pub of_line : (fits : List ℕ → FileOutcome → Type 0) (status : ℕ) (line : FileLine) (old new : Option (List ℕ))
@@ -118,6 +98,20 @@ with_kept fits matches skip status names kept others old mid new flag split none
       some.3,
       Appends-trans old mid new (kept_text kept) (lines_text some.0) first some.4,
     )) of
+
+pub no_items : {A B : Type 0} (f : A → B) (items : List A) → length items ≡ 0 → map f items ≡ []
+no_items f [] is = refl
+no_items f (x ∷ items) is = absurd (omega (arith, is))
+
+-- where all files are kept
+pub all_kept : (fits : List ℕ → FileOutcome → Type 0) (matches : ArgMatches) (skip : Bool)
+    (names kept others : List (List ℕ)) (old new : Option (List ℕ)) → IsFlag matches (codes "skip-existing") skip
+    → IsSplit names kept others → (skip ≡ false → kept ≡ []) → Appends old new (kept_text kept) → others ≡ []
+    → IsStatusOver fits matches 0 names old new
+all_kept fits matches skip names kept others old new flag split none printed empty =
+    with_kept fits matches skip 0 names kept others old new new flag split none printed
+    (subst (λ o. IsStatusOf fits 0 o new new) (sym empty)
+    (inr ([], refl, All-nil (λ line. fits line.name line.outcome), refl, Appends-nil new)))
 
 -- the same for equal arguments
 pub moved : (fits : List ℕ → FileOutcome → Type 0) (status : ℕ) (names names' : List (List ℕ))

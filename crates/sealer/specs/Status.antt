@@ -1,6 +1,6 @@
 -- The exit status of a run, by what it printed.
 use Rattle.std.specs.Prelude.{◌≡◌, ◌⊎◌, ◌++◌, ℕ, Bool, List, [], Option, Some, All, codes, false, map, option_map, ⊤}
-use Rattle.clap.specs.Matches.{found_of}
+use Rattle.clap.specs.Matches.{first_value, found_of}
 use Rattle.clap.specs.Simple.{subcommand_rows_of}
 use Rattle.clap.specs.Walk.{rows_of}
 use Rattle.clap.specs.declared.parser.matches.ArgMatches.{ArgMatches}
@@ -45,15 +45,16 @@ IsStatusOfRun fits matches input status old new = (status ≡ 2) ⊎ ((names : L
     × AreNames matches input names × IsStatusOver fits matches status names old new)
 
 -- an outcome that a command can have that opens FILEs, or checks them and perhaps prints their headers
-abbrev pub IsOfReading : Reading → Bool → List ℕ → FileOutcome → Type 0
-IsOfReading Open show name outcome = IsOfOpening name outcome
-IsOfReading Verify show name outcome = IsOfVerifying show outcome
+abbrev pub IsOfReading : Reading → Bool → Option (List ℕ) → List ℕ → FileOutcome → Type 0
+IsOfReading Open show to name outcome = IsOfOpening to name outcome
+IsOfReading Verify show to name outcome = IsOfVerifying show outcome
 
 -- an outcome that a command over FILEs can have
 abbrev pub IsOfCommand : OverFiles → ArgMatches → List ℕ → FileOutcome → Type 0
 IsOfCommand Seal matches name outcome = IsOfSealing outcome
 IsOfCommand (Read reading) matches name outcome =
-    (show : Bool) × IsFlag matches (codes "show") show × IsOfReading reading show name outcome
+    (show : Bool) × IsFlag matches (codes "show") show
+    × IsOfReading reading show (first_value (found_of matches) (codes "to")) name outcome
 
 -- an outcome that `pipe` can have
 abbrev pub IsOfPiping : FileOutcome → Type 0
@@ -61,16 +62,6 @@ IsOfPiping (Sealed number bytes) = ⊤
 IsOfPiping (Failed NoNumber) = ⊤
 IsOfPiping (Failed (Unsealed fault)) = ⊤
 IsOfPiping _ = ⊥
-
--- an outcome that `unpipe` can have
-abbrev pub IsOfUnpiping : FileOutcome → Type 0
-IsOfUnpiping (Opened bytes) = ⊤
-IsOfUnpiping (Failed CannotOpen) = ⊤
-IsOfUnpiping (Failed AnotherLabel) = ⊤
-IsOfUnpiping (Failed Changed) = ⊤
-IsOfUnpiping (Failed SpoolFailed) = ⊤
-IsOfUnpiping (Failed (Unopened fault)) = ⊤
-IsOfUnpiping _ = ⊥
 
 -- These were parsed as the subcommand's: their entries have the same rows.
 abbrev pub AreAsked : ArgMatches → ArgMatches → Type 0

@@ -55,13 +55,13 @@ pub(crate) struct NameList {
 }
 
 /// Reads the list of names, if one is given. `-` means standard input.
-pub(crate) fn read_list<R: Files + AllocGlobal, I: Read + Drop>(
+pub(crate) fn read_list<R: Files + AllocGlobal, I: Read>(
     rt: &R,
     matches: &ArgMatches<'_>,
-    input: I,
+    input: &mut I,
 ) -> Result<Option<NameList>, UsageFault>
     ensures ascii { IfOk result (λ list. IfSome list (λ one. one.separator < 128)) }
-    ensures text { IfOk result (λ list. IsListText matches.now (I.remaining input)
+    ensures text { IfOk result (λ list. IsListText matches.now (I.remaining input.old)
         (option_map (λ one. one.text.items) list) (unwrap_or (option_map (λ one. one.separator) list) 10)) }
 {
     let Some(ListRequest { path, separator }) = list_request(matches) else {
@@ -71,7 +71,7 @@ pub(crate) fn read_list<R: Files + AllocGlobal, I: Read + Drop>(
         read_whole(rt.alloc(), input)?
     } else {
         match open_unbuffered(rt, path) {
-            Ok(file) => read_whole(rt.alloc(), file)?,
+            Ok(mut file) => read_whole(rt.alloc(), &mut file)?,
             Err(_) => return Err(UsageFault::CannotReadList),
         }
     };
@@ -88,10 +88,9 @@ pub(crate) fn about_list<'a>(matches: &ArgMatches<'a>, fault: UsageFault) -> Abo
 }
 
 // Reads an input to its end.
-fn read_whole<I: Read + Drop>(alloc: Global, input: I) -> Result<Vec<u8>, UsageFault>
-    ensures text { IfOk result (λ text. IfSome (I.remaining input) (λ bytes. text.items ≡ bytes)) }
+fn read_whole<I: Read>(alloc: Global, input: &mut I) -> Result<Vec<u8>, UsageFault>
+    ensures text { IfOk result (λ text. IfSome (I.remaining input.old) (λ bytes. text.items ≡ bytes)) }
 {
-    let mut input = input;
     let mut text = Vec::new(alloc);
     match input.read_to_end(&mut text) {
         Ok(_) => Ok(text),

@@ -13,7 +13,8 @@ ghost use Rattle.ledger_core.specs.Verdict.{IsVerdict, verdict_text};
 ghost use Rattle.engine_core.specs.Status.{status_of};
 ghost use Rattle.clap.specs.declared.parser.matches.ArgMatches.{ArgMatches};
 ghost use Rattle.command_line.specs.Asked.{file_asked};
-ghost use Rattle.sealer.specs.Status.{AreAsked, IsOfCommand, IsOfPiping, IsOfUnpiping, IsStatusOf, IsStatusOfRun};
+ghost use Rattle.command_core.specs.Unpiping.{IsOfUnpiping};
+ghost use Rattle.sealer.specs.Status.{AreAsked, IsOfCommand, IsOfPiping, IsStatusOf, IsStatusOfRun};
 
 mod files;
 mod kept;
@@ -204,7 +205,8 @@ fn run<
         → IsStatusOf (λ name. IsOfPiping) result.0 (codes "-" ∷ [])
         (E.contents streams.errors.0) (E.contents result.1.errors.0) }
     ensures back { subcommand_name_of matches.now ≡ Some (codes "unpipe") → (asked : ArgMatches)
-        × AreAsked matches.now asked × IsStatusOf (λ name. IsOfUnpiping) result.0
+        × AreAsked matches.now asked × IsStatusOf
+        (λ name. IsOfUnpiping (O.contents streams.output.0) (O.contents result.1.output.0)) result.0
         (unwrap_or (file_asked (first_value (found_of asked) (codes "FILE"))) (codes "-") ∷ [])
         (E.contents streams.errors.0) (E.contents result.1.errors.0) }
     ensures verdict { subcommand_name_of matches.now ≡ Some (codes "audit")
@@ -247,7 +249,8 @@ fn over_files<
     ensures status { IsStatusOfRun (IsOfCommand command matches.now) matches.now (I.remaining input) result.0
         (O.contents streams.output.0) (O.contents result.1.output.0) }
 {
-    let list = match read_list(rt, matches, input) {
+    let mut input = input;
+    let list = match read_list(rt, matches, &mut input) {
         Ok(list) => list,
         Err(fault) => {
             let about = about_list(matches, fault);
@@ -258,7 +261,9 @@ fn over_files<
     match names_of(rt.alloc(), matches, &list) {
         Ok(names) => match command {
             OverFiles::Seal => seal(rt, host, matches, names.as_slice(), streams),
-            OverFiles::Read(reading) => open(rt, reading, matches, names.as_slice(), streams),
+            OverFiles::Read(reading) => {
+                open(rt, reading, matches, names.as_slice(), input, streams)
+            }
         },
         Err(fault) => (complain(rt, "usage", fault), streams),
     }

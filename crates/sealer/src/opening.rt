@@ -1,21 +1,21 @@
 //! The commands that open and verify.
 ghost use Rattle.std.specs.Prelude.{◌<◌, ◌≤◌, ◌≡◌, length, map, option_map};
-ghost use Rattle.command_core.specs.Work.{AreWorked, IsOfOpening, IsOfVerifying, Opening, Verifying};
+ghost use Rattle.command_core.specs.Work.{AreWorked, IsOfOpening, IsOfVerifying, Opening, Verifying, output_for};
 ghost use Rattle.sealer.specs.Status.{IsOfCommand, IsOfReading, IsStatusOf, IsStatusOver};
 
 use crate::files::{clear, key_at, outs_of, progress_of, streams_of};
 use crate::kept::worked_of;
 use crate::{OverFiles, Streams, complain};
 use clap::ArgMatches;
-use command_line::{OpenRequest, open_request};
+use command_line::{OpenRequest, UsageFault, list_request, open_request, reads_input};
 use container_core::{Key, MAX_OPENED};
 use sealer_core::{
     Folder, MAX_WORKERS, OpenOptions, OpeningFolder, Outs, Report, open_all, verify_all,
 };
-use std::io::Write;
+use std::io::{Read, Write};
 use std::rt::{Clock, Files};
 use std::thread::Threads;
-use system_files::{Makes, SystemFiles};
+use system_files::{Makes, STREAM, SystemFiles};
 
 /// What becomes of the plaintext of containers.
 #[derive(Clone, Copy)]
@@ -26,9 +26,10 @@ pub(crate) enum Reading {
     Verify,
 }
 
-/// Opens or verifies the files of these names. Returns the status, with the streams.
+/// Opens or verifies the files of these names, of which `-` is the input. Returns the status, with the streams.
 pub(crate) fn open<
     R: Files + AllocGlobal + Clock + Eprint + Threads + Sync,
+    I: Read + Drop,
     O: Write + Drop,
     E: Write + Drop,
 >(
@@ -36,6 +37,7 @@ pub(crate) fn open<
     reading: Reading,
     matches: &ArgMatches<'_>,
     names: &[&str],
+    input: I,
     streams: Streams<O, E>,
 ) -> (u8, Streams<O, E>)
     ensures status { IsStatusOver (IsOfCommand (OverFiles.Read reading) matches.now) matches.now result.0
@@ -45,6 +47,10 @@ pub(crate) fn open<
         Ok(request) => request,
         Err(fault) => return (complain(rt, "usage", fault), streams),
     };
+    match check_input(reading, matches, &request) {
+        Ok(()) => {}
+        Err(fault) => return (complain(rt, "usage", fault), streams),
+    }
     let mut streams = streams;
     let (skip, into) = (request.skip, request.into);
     let files = match worked_of(rt, Makes::Plaintext, skip, into, names, &mut streams.output) {
@@ -65,26 +71,47 @@ pub(crate) fn open<
     let (files, terminal) = (request.files, streams.terminals.errors);
     let progress = progress_of(rt, matches, files, readings, terminal);
     let (sync, private) = (request.sync, request.private);
-    let folder = SystemFiles::new(rt, request.into, sync, private, progress.as_ref());
+    let (input, into) = (Some(input), request.into);
+    let folder = SystemFiles::new(rt, input, into, sync, private, progress.as_ref());
     open_to(rt, reading, &request, folder, streams)
+}
+
+// Standard input has no name for a plaintext, and can be read only once.
+fn check_input(
+    reading: Reading,
+    matches: &ArgMatches<'_>,
+    request: &OpenRequest<'_, '_>,
+) -> Result<(), UsageFault> {
+    if !reads_input(request.files) {
+        return Ok(());
+    }
+    if matches!(reading, Reading::Open) && request.to.is_none() {
+        return Err(UsageFault::InputNeedsName);
+    }
+    match list_request(matches) {
+        Some(list) if list.path == STREAM => Err(UsageFault::InputTwice),
+        _ => Ok(()),
+    }
 }
 
 // Opens or verifies what is asked for, with the outputs in this folder.
 fn open_to<
     R: Files + AllocGlobal + Clock + Eprint + Threads + Sync,
+    I: Read + Drop,
     O: Write + Drop,
     E: Write + Drop,
 >(
     rt: &R,
     reading: Reading,
     request: &OpenRequest<'_, '_>,
-    folder: SystemFiles<'_, '_, R>,
+    folder: SystemFiles<'_, '_, R, I>,
     streams: Streams<O, E>,
 ) -> (u8, Streams<O, E>)
     requires files { 0 < length request.now.files.now }
     requires workers { (0 < request.now.workers) × (request.now.workers ≤ MAX_WORKERS) }
     requires max_bytes { request.now.max_bytes ≤ MAX_OPENED }
-    ensures status { IsStatusOf (IsOfReading reading request.now.show) result.0
+    ensures status { IsStatusOf
+        (IsOfReading reading request.now.show (option_map (λ to. to.now) request.now.to)) result.0
         (map (λ name. name.now) request.now.files.now) (O.contents streams.output.0) (O.contents result.1.output.0) }
 {
     let mut folder = folder;
@@ -114,8 +141,9 @@ fn open_files<
     requires files { 0 < length request.now.files.now }
     requires workers { (0 < request.now.workers) × (request.now.workers ≤ MAX_WORKERS) }
     requires max_bytes { request.now.max_bytes ≤ MAX_OPENED }
-    ensures files { AreWorked IsOfOpening
-        (Opening key.now request.now.max_bytes (option_map (λ b. b.now) request.now.label))
+    ensures files { AreWorked (IsOfOpening (option_map (λ to. to.now) request.now.to))
+        (λ name. Opening key.now request.now.max_bytes (option_map (λ b. b.now) request.now.label)
+        (output_for (option_map (λ to. to.now) request.now.to) name) name)
         (map (λ name. name.now) request.now.files.now) result
         (L.taken out.old.lines) (L.taken out.new.lines) (L.failures out.old.lines) (L.failures out.new.lines)
         (F.told folder.old) (F.told folder.new) }
@@ -151,6 +179,7 @@ fn options_of<'q>(request: &'q OpenRequest<'_, '_>) -> OpenOptions<'q>
     ensures workers { result.workers ≡ request.now.workers }
     ensures max_bytes { result.max_bytes ≡ request.now.max_bytes }
     ensures label { option_map (λ b. b.now) result.label ≡ option_map (λ b. b.now) request.now.label }
+    ensures to { option_map (λ to. to.now) result.to ≡ option_map (λ to. to.now) request.now.to }
     ensures show { result.show ≡ request.now.show }
 {
     OpenOptions {
@@ -158,6 +187,7 @@ fn options_of<'q>(request: &'q OpenRequest<'_, '_>) -> OpenOptions<'q>
         workers: request.workers,
         max_bytes: request.max_bytes,
         label: request.label,
+        to: request.to,
         show: request.show,
     }
 }

@@ -104,7 +104,8 @@ pub(crate) fn seal<
     };
     let progress = progress_of(rt, matches, request.files, 1, streams.terminals.errors);
     let (sync, private) = (request.sync, request.private);
-    let folder = SystemFiles::new(rt, request.into, sync, private, progress.as_ref());
+    let into = request.into;
+    let folder = SystemFiles::new(rt, None, into, sync, private, progress.as_ref());
     seal_to(rt, host, &request, folder, streams)
 }
 
@@ -118,7 +119,7 @@ fn seal_to<
     rt: &'r R,
     host: &HostRuntime,
     request: &SealRequest<'_, 'r>,
-    folder: SystemFiles<'_, 'r, R>,
+    folder: SystemFiles<'_, 'r, R, R::File>,
     streams: Streams<O, E>,
 ) -> (u8, Streams<O, E>)
     requires files { 0 < length request.now.files.now }

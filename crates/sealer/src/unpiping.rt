@@ -1,28 +1,23 @@
 //! The command that opens one container to standard output.
-ghost use Rattle.std.specs.Prelude.{◌<◌, ◌≤◌, ◌≡◌, [], ◌∷◌, codes, option_map, unwrap_or, IfSome};
+ghost use Rattle.std.specs.Prelude.{◌<◌, ◌≤◌, ◌≡◌, [], ◌∷◌, codes, option_map, unwrap_or};
 ghost use Rattle.clap.specs.Matches.{first_value, found_of};
 ghost use Rattle.command_core.specs.declared.line.FileOutcome.{FileOutcome};
-ghost use Rattle.command_core.specs.Again.{Gives};
-ghost use Rattle.command_core.specs.Unpiping.{HasUnpiped, whole_of};
+ghost use Rattle.command_core.specs.Unpiping.{HasUnpiped, IsOfUnpiping};
 ghost use Rattle.command_core.specs.Work.{AreTold};
 ghost use Rattle.command_line.specs.Asked.{file_asked};
-ghost use Rattle.sealer.specs.Status.{IsOfUnpiping, IsStatusOf};
+ghost use Rattle.sealer.specs.Status.{IsStatusOf};
 
-use crate::files::key_at;
+use crate::files::{clear, key_at, progress_of};
 use crate::{Streams, complain};
 use clap::ArgMatches;
 use command_line::{UnpipeRequest, UsageFault, unpipe_request};
 use container_core::{Key, MAX_OPENED};
-use ledger_core::{FromRead, Sink, Source};
-use sealer_core::{FileReader, MAX_WORKERS, Report, Spooled, UnpipeOptions, unpipe_all};
+use ledger_core::{Sink, ToWrite};
+use sealer_core::{Folder, MAX_WORKERS, Report, UnpipeOptions, unpipe_all};
 use std::io::{Read, Write};
-use std::marker::Brand;
 use std::rt::{Clock, Env, Files};
 use std::thread::Threads;
-use system_files::{FileInput, FileSpool, open_input, spool_folder};
-
-/// What the line calls standard input.
-const STREAM: &str = "-";
+use system_files::{Progress, STREAM, SystemFiles, Told, is_folder, spool_folder};
 
 /// Opens one container and writes its plaintext to the output. A terminal is refused as output, unless it was asked
 /// for. Returns the status, with the streams.
@@ -32,7 +27,8 @@ pub(crate) fn unpipe<
     O: Write + Drop,
     E: Write + Drop,
 >(rt: &R, matches: &ArgMatches<'_>, input: I, streams: Streams<O, E>) -> (u8, Streams<O, E>)
-    ensures status { IsStatusOf (λ name. IsOfUnpiping) result.0
+    ensures status { IsStatusOf
+        (λ name. IsOfUnpiping (O.contents streams.output.0) (O.contents result.1.output.0)) result.0
         (unwrap_or (file_asked (first_value (found_of matches.now) (codes "FILE"))) (codes "-") ∷ [])
         (E.contents streams.errors.0) (E.contents result.1.errors.0) }
 {
@@ -43,87 +39,89 @@ pub(crate) fn unpipe<
     if streams.terminals.output && !request.to_terminal {
         return (complain(rt, "usage", UsageFault::Terminal), streams);
     }
-    unpipe_to(rt, &request, input, streams)
+    let name = match request.file {
+        Some(file) => file,
+        None => STREAM,
+    };
+    let Ok(spool) = spool_folder(rt, request.spool) else {
+        return (complain(rt, "usage", UsageFault::OutOfMemory), streams);
+    };
+    if request.file.is_none() && !is_folder(rt, spool.as_str()) {
+        return (complain(rt, "usage", UsageFault::NoSpoolFolder), streams);
+    }
+    unpipe_to(rt, matches, &request, name, spool.as_str(), input, streams)
 }
 
-// Opens what is asked for.
+// The progress line, if one is asked for. The file is read twice.
+fn progress_on<'r, R: Files + Clock + Eprint>(
+    rt: &'r R,
+    matches: &ArgMatches<'_>,
+    name: &str,
+    terminal: bool,
+) -> Option<Progress<'r, R>> {
+    progress_of(rt, matches, &[name], 2, terminal)
+}
+
+// Opens the file of this name. What can be read only once is kept in this folder.
 fn unpipe_to<
-    R: Files + AllocGlobal + Clock + Env + Eprint + Threads + Sync,
+    'r,
+    R: Files + AllocGlobal + Clock + Eprint + Threads + Sync,
     I: Read + Drop,
     O: Write + Drop,
     E: Write + Drop,
->(rt: &R, request: &UnpipeRequest<'_>, input: I, streams: Streams<O, E>) -> (u8, Streams<O, E>)
+>(
+    rt: &'r R,
+    matches: &ArgMatches<'_>,
+    request: &UnpipeRequest<'_>,
+    name: &str,
+    spool: &'r str,
+    input: I,
+    streams: Streams<O, E>,
+) -> (u8, Streams<O, E>)
     requires workers { (0 < request.now.workers) × (request.now.workers ≤ MAX_WORKERS) }
     requires max_bytes { request.now.max_bytes ≤ MAX_OPENED }
-    ensures status { IsStatusOf (λ name. IsOfUnpiping) result.0
-        (unwrap_or (option_map (λ file. file.now) request.now.file) (codes "-") ∷ [])
+    ensures status { IsStatusOf
+        (λ name. IsOfUnpiping (O.contents streams.output.0) (O.contents result.1.output.0)) result.0 (name.now ∷ [])
         (E.contents streams.errors.0) (E.contents result.1.errors.0) }
 {
     let key = match key_at(rt, request.key, streams.terminals.causes) {
         Ok(key) => key,
         Err(status) => return (status, streams),
     };
-    let Ok(folder) = spool_folder(rt, request.spool) else {
-        return (complain(rt, "usage", UsageFault::OutOfMemory), streams);
-    };
-    let Some(name) = request.file else {
-        let spool = FileSpool::new(rt, folder.as_str());
-        let input = spooled(FromRead(input), spool);
-        return unpipe_over(rt, &key, request, STREAM, Some(input), streams);
-    };
-    match open_input(rt, name) {
-        Ok(file) if file.is_regular => { unpipe_over(rt, &key, request, name, Some(file), streams) }
-        Ok(file) => {
-            let spool = FileSpool::new(rt, folder.as_str());
-            unpipe_over(rt, &key, request, name, Some(spooled(file, spool)), streams)
-        }
-        Err(_) => unpipe_over::<R, FileInput<'_, '_, R>, O, E>(
-            rt, &key, request, name, None, streams,
-        ),
-    }
-}
-
-// An input that is kept in this spool while it is read.
-fn spooled<'r, R: Files + AllocGlobal + Clock, S: Source + Drop>(
-    input: S,
-    spool: FileSpool<'r, R>,
-) -> Spooled<S, FileSpool<'r, R>, Brand> {
-    Spooled::of(input, spool)
-}
-
-// Opens what this input gives.
-fn unpipe_over<
-    R: AllocGlobal + Threads + Sync,
-    S: FileReader + Drop,
-    O: Write + Drop,
-    E: Write + Drop,
->(
-    rt: &R,
-    key: &Key,
-    request: &UnpipeRequest<'_>,
-    name: &str,
-    input: Option<S>,
-    streams: Streams<O, E>,
-) -> (u8, Streams<O, E>)
-    requires workers { (0 < request.now.workers) × (request.now.workers ≤ MAX_WORKERS) }
-    requires max_bytes { request.now.max_bytes ≤ MAX_OPENED }
-    requires first { IfSome input (λ input. Gives (S.whole input) (S.left input)) }
-    ensures status { IsStatusOf (λ name. IsOfUnpiping) result.0 (name.now ∷ [])
-        (E.contents streams.errors.0) (E.contents result.1.errors.0) }
-{
+    let progress = progress_on(rt, matches, name, streams.terminals.errors);
+    let mut folder = SystemFiles::new(rt, Some(input), None, false, false, progress.as_ref());
+    folder.spool_in(spool);
+    folder.keep_out_output();
     let Streams {
         output,
         errors,
         terminals,
     } = streams;
-    let mut errors = errors;
-    let (status, output) = unpipe_from(rt, key, request, name, input, output, &mut errors);
+    let mut errors = told_on(errors, progress.as_ref());
+    let (status, output) = unpipe_from(rt, &key, request, &mut folder, name, output, &mut errors);
+    clear(progress.as_ref());
+    let ToWrite(errors) = errors;
     let streams = Streams {
         output,
-        errors,
+        errors: ToWrite(errors.writer),
         terminals,
     };
     (status, streams)
+}
+
+// The stream on which the line is printed. The progress line is cleared before it.
+fn told_on<'p, 'r, R: Clock + Eprint, E: Write + Drop>(
+    errors: ToWrite<E>,
+    progress: Option<&'p Progress<'r, R>>,
+) -> ToWrite<Told<'p, 'r, R, E>>
+    ensures writer { result.0.writer ≡ errors.0 }
+{
+    let ToWrite(writer) = errors;
+    ToWrite(Told {
+        writer,
+        progress,
+        of_files: true,
+    })
 }
 
 // The options of this request.
@@ -139,26 +137,26 @@ fn unpipe_options<'q>(request: &'q UnpipeRequest<'_>) -> UnpipeOptions<'q>
     }
 }
 
-/// Opens what an input gives to a stream, as `unpipe_all` does. Returns the status and the stream.
-fn unpipe_from<R: AllocGlobal + Threads + Sync, S: FileReader + Drop, W: Sink + Drop, E: Report>(
+/// Opens a file of a folder to a stream, as `unpipe_all` does. Returns the status and the stream.
+fn unpipe_from<R: AllocGlobal + Threads + Sync, F: Folder, W: Sink + Drop, E: Report>(
     rt: &R,
     key: &Key,
     request: &UnpipeRequest<'_>,
+    folder: &mut F,
     name: &str,
-    input: Option<S>,
     stream: W,
     lines: &mut E,
 ) -> (u8, W)
     requires workers { (0 < request.now.workers) × (request.now.workers ≤ MAX_WORKERS) }
     requires max_bytes { request.now.max_bytes ≤ MAX_OPENED }
-    requires first { IfSome input (λ input. Gives (S.whole input) (S.left input)) }
     ensures status { result.0 ≤ 2 }
     ensures run { (outcome : FileOutcome)
-        × HasUnpiped key.now request.now.max_bytes (option_map (λ b. b.now) request.now.label) (whole_of S.whole input)
-        (W.taken stream) (W.taken result.1) (W.failures stream) (W.failures result.1) outcome
+        × HasUnpiped key.now request.now.max_bytes (option_map (λ b. b.now) request.now.label) name.now
+        (W.taken stream) (W.taken result.1) (W.failures stream) (W.failures result.1)
+        (F.told folder.old) (F.told folder.new) outcome
         × AreTold result.0 (record { name = name.now; outcome = outcome } ∷ [])
         (E.taken lines.old) (E.taken lines.new) (E.failures lines.old) (E.failures lines.new) }
 {
     let options = unpipe_options(request);
-    unpipe_all(rt, rt.alloc(), key, name, input, stream, &options, lines)
+    unpipe_all(rt, rt.alloc(), key, folder, name, stream, &options, lines)
 }

@@ -3,8 +3,8 @@ use Rattle.sealer.specs.declared.OverFiles.TheVariants.{Read}
 use Rattle.sealer.specs.Status.{IsOfCommand, IsStatusOver}
 use Rattle.sealer.proofs.over_files.Goals as goal
 
-pub returns-in-Ok-names_of : goal.returns-in-Ok-names_of
-returns-in-Ok-names_of g c =
+pub returns-in-Read : goal.returns-in-Read
+returns-in-Read g c =
     let (listed, each, all) = c.in-Ok-names_of.ensures.names in
     let of = subst
     (λ files. IsStatusOver (IsOfCommand (Read c.in-Read.reading) c.args.matches.now) c.args.matches.now c.open.result.0 (map (λ name. name.now) files) (g.O.Write.contents c.args.streams.output.0)

@@ -1,0 +1,14 @@
+use Rattle.std.proofs.Common.{ap, refl}
+use Rattle.command_core.specs.Unpiping.{IsOfUnpiping}
+use Rattle.sealer.proofs.Statuses.{moved, of_line}
+use Rattle.sealer.proofs.unpiping.unpipe_to.Goals as goal
+
+pub returns : goal.returns
+returns g c = record {
+  status =
+      let (outcome, done, told) = c.unpipe_from-status.ensures.run in
+      moved (λ name. IsOfUnpiping (g.O.Write.contents c.args.streams.output.0) (g.O.Write.contents c.unpipe_from-status.result.1.0))
+      _ _ _ _ _ _ _ refl (ap g.E.Write.contents c.told_on-errors.ensures.writer) refl
+      (of_line (λ name. IsOfUnpiping (g.O.Write.contents c.args.streams.output.0) (g.O.Write.contents c.unpipe_from-status.result.1.0))
+      _ _ _ _ _ _ done.kept told);
+}
