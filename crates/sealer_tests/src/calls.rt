@@ -1,5 +1,5 @@
-//! Runs over two files in which each call of the folder fails in turn: to open an input, to create its output, to
-//! finish it. The lines and journals are written by hand.
+//! Runs over two files in which each call of the folder fails in turn: to open an input, to read it again if it is
+//! opened, to create its output, to finish it. The lines and journals are written by hand.
 use crate::cases::{Case, Left, Trouble, Work, ends};
 use crate::runs::{EMPTY, SECRET};
 
@@ -136,7 +136,7 @@ static RUNS: [Runs; 3] = [
             },
         ],
     },
-    // The calls are: open `a.stm`, create `a`, finish it, and the same for `b.stm`.
+    // The calls are: open `a.stm`, read it again, create `a`, finish it, and the same for `b.stm`.
     Runs {
         what: "an opening",
         folder: &[("a.stm", &SECRET), ("b.stm", &EMPTY)],
@@ -146,6 +146,12 @@ static RUNS: [Runs; 3] = [
             Run {
                 status: 1,
                 lines: b"failed a.stm: cannot open\nopened b.stm bytes 0\n",
+                journal: b"",
+                left: &[("a", Left::Absent), ("b", Left::Is(b""))],
+            },
+            Run {
+                status: 1,
+                lines: b"failed a.stm: read failed\nopened b.stm bytes 0\n",
                 journal: b"",
                 left: &[("a", Left::Absent), ("b", Left::Is(b""))],
             },
@@ -164,6 +170,12 @@ static RUNS: [Runs; 3] = [
             Run {
                 status: 1,
                 lines: b"opened a.stm bytes 8\nfailed b.stm: cannot open\n",
+                journal: b"",
+                left: &[("a", Left::Is(b"a secret")), ("b", Left::Absent)],
+            },
+            Run {
+                status: 1,
+                lines: b"opened a.stm bytes 8\nfailed b.stm: read failed\n",
                 journal: b"",
                 left: &[("a", Left::Is(b"a secret")), ("b", Left::Absent)],
             },

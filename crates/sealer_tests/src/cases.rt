@@ -35,6 +35,8 @@ pub(crate) enum Work {
     // In version 2, in chunks of 4,096 bytes with this label, with one worker.
     SealLabelled { lanes: u32, label: &'static [u8] },
     Open,
+    // To this output.
+    OpenTo(&'static str),
     Verify,
     // The same if this label is required.
     OpenLabelled(&'static [u8]),
@@ -132,6 +134,7 @@ fn options_of<'a>(case: &Case<'a>) -> OpenOptions<'a> {
         workers: 1,
         max_bytes: case.max_bytes,
         label: None,
+        to: None,
         show: false,
     }
 }
@@ -171,6 +174,14 @@ fn status_over<R: AllocGlobal + Threads + Wait + Sync, S: Fold>(
             )
         }
         Work::Open => open_over(rt, folder, &options_of(case), false, out),
+        Work::OpenTo(output) => {
+            let to = Some(output);
+            let options = OpenOptions {
+                to,
+                ..options_of(case)
+            };
+            open_over(rt, folder, &options, false, out)
+        }
         Work::Verify => open_over(rt, folder, &options_of(case), true, out),
         Work::OpenLabelled(label) => {
             let label = Some(label);

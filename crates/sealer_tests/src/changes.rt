@@ -6,8 +6,10 @@ use crate::runs::{MemoryOuts, open_over, steady_outs};
 use crate::spools::{LENGTH, MANY_CHUNKS};
 use crate::unpipes::{pattern, sealed_as};
 use container_core::Key;
+use folder_core::FileReader;
 use folder_memory::{MemoryFolder, MemoryWriter, Told};
-use sealer_core::{Folder, FolderFault, OpenOptions, OpeningFolder};
+use ledger_core::Failed;
+use sealer_core::{Folder, FolderFault, OpenOptions, OpeningFolder, Plaintext};
 use std::alloc::Global;
 use std::thread::Threads;
 
@@ -39,6 +41,14 @@ impl<'a> Folder for Changing<'a> {
         Ok(input_of(self.first, self.later, MOST, self.calls))
     }
 
+    fn can_repeat(&self, _reader: &Input<'a>) -> bool {
+        true
+    }
+
+    fn again(&mut self, _name: &str, reader: &mut Input<'a>) -> Result<(), Failed> {
+        reader.again()
+    }
+
     fn create(&mut self, name: &str) -> Result<MemoryWriter, FolderFault> {
         self.folder.create(name)
     }
@@ -56,6 +66,14 @@ impl<'a> Folder for Changing<'a> {
 
 impl<'a> OpeningFolder for Changing<'a> {
     fn allow_plain(
+        &mut self,
+        _output: &mut MemoryWriter,
+        _key: &Key,
+        _name: &str,
+        _plain: &Plaintext,
+    ) {}
+
+    fn allow_again(
         &mut self,
         _output: &mut MemoryWriter,
         _key: &Key,
@@ -94,6 +112,7 @@ fn is_left<R: AllocGlobal + Threads + Sync>(
         workers,
         max_bytes: 1 << 30,
         label: None,
+        to: None,
         show: false,
     };
     let status = open_over(rt, &mut folder, &options, false, &mut out);

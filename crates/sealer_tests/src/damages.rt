@@ -71,6 +71,7 @@ fn is_refused_in_folder<R: AllocGlobal + Threads + Sync>(
         workers,
         max_bytes: 1 << 30,
         label: None,
+        to: None,
         show: false,
     };
     let status = open_over(rt, &mut folder, &options, false, &mut out);

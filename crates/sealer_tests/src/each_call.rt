@@ -62,6 +62,7 @@ fn status_of_opening<R: AllocGlobal + Threads + Sync>(
         workers,
         max_bytes: run.max_bytes,
         label: None,
+        to: None,
         show: false,
     };
     open_over(rt, folder, &options, verifies, out)

@@ -1,11 +1,10 @@
 //! A folder in memory. Its calls and those of its readers and writers are counted together, and the one with a given
 //! number fails. Other inputs and outputs of the tests share the count.
 use container_core::{Key, Shape};
-use folder_core::FileReader;
 use folder_memory::{MemoryFolder, MemoryReader, MemoryWriter};
 use ledger_core::{Failed, Ledger, Seat, Sink, Source};
 use reserve_core::Fold;
-use sealer_core::{Folder, FolderFault, LedgerFile, OpeningFolder, SealingFolder};
+use sealer_core::{Folder, FolderFault, LedgerFile, OpeningFolder, Plaintext, SealingFolder};
 use std::sync::atomic::{AtomicU64, Ordering};
 
 /// What a failing call does.
@@ -123,7 +122,6 @@ pub(crate) struct Failing<'a> {
 pub(crate) struct FailingReader<'a> {
     reader: MemoryReader,
     calls: &'a Calls,
-    once: bool,
 }
 
 /// A writer of such a folder.
@@ -144,13 +142,20 @@ impl<'a> Folder for Failing<'a> {
             return Err(FolderFault::Failed);
         }
         match self.folder.open(name) {
-            Ok(reader) => Ok(FailingReader {
-                reader,
-                calls,
-                once: self.once,
-            }),
+            Ok(reader) => Ok(FailingReader { reader, calls }),
             Err(_) => Err(FolderFault::Failed),
         }
+    }
+
+    fn can_repeat(&self, _reader: &FailingReader<'a>) -> bool {
+        !self.once
+    }
+
+    fn again(&mut self, name: &str, reader: &mut FailingReader<'a>) -> Result<(), Failed> {
+        if self.calls.fails(Act::Read) {
+            return Err(Failed);
+        }
+        self.folder.again(name, &mut reader.reader)
     }
 
     fn create(&mut self, name: &str) -> Result<FailingWriter<'a>, FolderFault> {
@@ -195,6 +200,14 @@ impl<'a> OpeningFolder for Failing<'a> {
         _output: &mut FailingWriter<'a>,
         _key: &Key,
         _name: &str,
+        _plain: &Plaintext,
+    ) {}
+
+    fn allow_again(
+        &mut self,
+        _output: &mut FailingWriter<'a>,
+        _key: &Key,
+        _name: &str,
         _reader: &FailingReader<'a>,
         _max_bytes: u64,
     ) {}
@@ -216,27 +229,10 @@ impl<'a> SealingFolder for Failing<'a> {
 
 impl Source for FailingReader<'_> {
     fn read(&mut self, buffer: &mut [u8]) -> Result<usize, Failed> {
-        self.read_on(buffer)
-    }
-}
-
-impl FileReader for FailingReader<'_> {
-    fn read_on(&mut self, buffer: &mut [u8]) -> Result<usize, Failed> {
         if self.calls.fails(Act::Read) {
             return Err(Failed);
         }
         self.reader.read(buffer)
-    }
-
-    fn can_repeat(&self) -> bool {
-        !self.once
-    }
-
-    fn again(&mut self) -> Result<(), Failed> {
-        if self.calls.fails(Act::Read) {
-            return Err(Failed);
-        }
-        self.reader.again()
     }
 }
 

@@ -29,7 +29,7 @@ const SEALED_TWICE: [u8; 88] = [
 ];
 
 // What a row shows, and its case.
-static CASES: [(&str, Case); 10] = [
+static CASES: [(&str, Case); 14] = [
     (
         "a file is opened, and another name is refused",
         Case {
@@ -63,6 +63,68 @@ static CASES: [(&str, Case); 10] = [
             faults: b"",
             journal: b"",
             left: &[("a", Left::Is(b"a secret")), ("c", Left::Is(b"kept"))],
+        },
+    ),
+    (
+        "a file is opened to the output that is given",
+        Case {
+            folder: &[("a.stm", &SECRET)],
+            trouble: Trouble::Nothing,
+            work: Work::OpenTo("other"),
+            files: &["a.stm"],
+            max_bytes: 8,
+            status: 0,
+            lines: b"opened a.stm bytes 8\n",
+            faults: b"",
+            journal: b"",
+            left: &[("other", Left::Is(b"a secret")), ("a", Left::Absent)],
+        },
+    ),
+    (
+        "where an output is given a file may have any name",
+        Case {
+            folder: &[("a.txt", &SECRET)],
+            trouble: Trouble::Nothing,
+            work: Work::OpenTo("other"),
+            files: &["a.txt"],
+            max_bytes: 8,
+            status: 0,
+            lines: b"opened a.txt bytes 8\n",
+            faults: b"",
+            journal: b"",
+            left: &[("other", Left::Is(b"a secret"))],
+        },
+    ),
+    (
+        "an output that is given and is there stays as it is",
+        Case {
+            folder: &[("a.stm", &SECRET), ("other", b"kept")],
+            trouble: Trouble::Nothing,
+            work: Work::OpenTo("other"),
+            files: &["a.stm"],
+            max_bytes: 8,
+            status: 1,
+            lines: b"failed a.stm: output exists\n",
+            faults: b"",
+            journal: b"",
+            left: &[("other", Left::Is(b"kept")), ("a", Left::Absent)],
+        },
+    ),
+    (
+        "the first of several files is opened to the output that is given",
+        Case {
+            folder: &[("a.stm", &SECRET), ("b", &EMPTY)],
+            trouble: Trouble::Nothing,
+            work: Work::OpenTo("other"),
+            files: &["m", "a.stm", "b"],
+            max_bytes: 8,
+            status: 1,
+            lines: b"failed m: cannot open\n\
+              opened a.stm bytes 8\n\
+              failed b: output exists\n",
+            faults: b"",
+            journal: b"",
+            left: &[("other", Left::Is(b"a secret")), ("a", Left::Absent)],
         },
     ),
     (
@@ -182,7 +244,7 @@ static CASES: [(&str, Case); 10] = [
         },
     ),
     (
-        // The calls are to open the input, create the output and remove it.
+        // The calls are to open the input, read it again, create the output and remove it.
         "the line is the same where an output that fails can't be removed",
         Case {
             folder: &[("a.stm", &SECRET)],
@@ -191,7 +253,7 @@ static CASES: [(&str, Case); 10] = [
                     most: 3,
                     schedule: Schedule::Bytes(5),
                 },
-                2,
+                3,
             ),
             work: Work::Open,
             files: &["a.stm"],

@@ -1,12 +1,10 @@
-//! Inputs, spools and streams in memory, and runs of `unpipe_all` over them.
-ghost use Rattle.std.specs.Prelude.{◌≡◌, IfSome, Some};
-
+//! Inputs, spools and streams in memory, and runs of `unpipe_all` over them and over folders.
 use crate::failing::{Act, Calls};
 use crate::runs::counting_key;
 use folder_core::{FileReader, Spool, Spooled};
 use io_memory::{Schedule, ToMemory};
 use ledger_core::{Failed, Sink, Source};
-use sealer_core::{UnpipeOptions, unpipe_all};
+use sealer_core::{Folder, FolderFault, UnpipeOptions, unpipe_all};
 use std::alloc::Global;
 use std::marker::Brand;
 use std::thread::Threads;
@@ -57,10 +55,6 @@ impl FileReader for Input<'_> {
         Ok(n)
     }
 
-    fn can_repeat(&self) -> bool {
-        true
-    }
-
     fn again(&mut self) -> Result<(), Failed> {
         if self.calls.fails(Act::Spool) {
             return Err(Failed);
@@ -95,10 +89,6 @@ impl FileReader for MemorySpool<'_> {
         buffer[..n].copy_from_slice(&rest[..n]);
         self.at = self.at.saturating_add(n);
         Ok(n)
-    }
-
-    fn can_repeat(&self) -> bool {
-        true
     }
 
     fn again(&mut self) -> Result<(), Failed> {
@@ -138,6 +128,56 @@ pub(crate) fn pipe_of<'a>(
         calls,
     };
     Spooled::of(input_of(bytes, &[], step, calls), spool)
+}
+
+// The name of the input in its folder.
+const NAME: &str = "a.stm";
+
+/// A folder of one input, which can be opened once. No output can be created in it.
+#[derive(Drop)]
+struct OneFile<I: FileReader + Drop> {
+    input: Option<I>,
+}
+
+impl<I: FileReader + Drop> Folder for OneFile<I> {
+    type Reader = I;
+
+    type Writer = ToMemory;
+
+    fn open(&mut self, name: &str) -> Result<I, FolderFault> {
+        if name != NAME {
+            return Err(FolderFault::Failed);
+        }
+        match self.input.take() {
+            Some(input) => Ok(input),
+            None => Err(FolderFault::Failed),
+        }
+    }
+
+    fn can_repeat(&self, _reader: &I) -> bool {
+        true
+    }
+
+    fn again(&mut self, name: &str, reader: &mut I) -> Result<(), Failed> {
+        if name != NAME {
+            return Err(Failed);
+        }
+        reader.again()
+    }
+
+    fn create(&mut self, _name: &str) -> Result<ToMemory, FolderFault> {
+        Err(FolderFault::Failed)
+    }
+
+    fn finish(&mut self, output: ToMemory) -> Result<(), ToMemory> {
+        Err(output)
+    }
+
+    fn discard(&mut self, _output: ToMemory) -> Result<(), FolderFault> {
+        Err(FolderFault::Failed)
+    }
+
+    ghost sound = { λ _. ∣ tt ∣₁ };
 }
 
 /// A stream in memory.
@@ -188,15 +228,13 @@ pub(crate) struct Ended {
     written: ToMemory,
 }
 
-/// Opens an input by the name `a.stm`. `None` if memory is refused, or the number of workers is wrong.
-pub(crate) fn run_over<R: AllocGlobal + Threads + Sync, I: FileReader + Drop>(
+/// Opens the file `a.stm` of a folder. `None` if memory is refused, or the number of workers is wrong.
+pub(crate) fn run_in<R: AllocGlobal + Threads + Sync, F: Folder>(
     rt: &R,
-    input: Option<I>,
+    folder: &mut F,
     how: &How,
     calls: &Calls,
-) -> Option<Ended>
-    requires first { IfSome input (λ input. IfSome (I.whole input) (λ bytes. I.left input ≡ Some bytes)) }
-{
+) -> Option<Ended> {
     if how.workers == 0 || how.workers > 16 {
         return None;
     }
@@ -213,8 +251,8 @@ pub(crate) fn run_over<R: AllocGlobal + Threads + Sync, I: FileReader + Drop>(
         rt,
         rt.alloc(),
         &key,
-        "a.stm",
-        input,
+        folder,
+        NAME,
         stream,
         &options,
         &mut lines,
@@ -225,6 +263,17 @@ pub(crate) fn run_over<R: AllocGlobal + Threads + Sync, I: FileReader + Drop>(
         lines,
         written: taken,
     })
+}
+
+/// Opens an input that is the file `a.stm` of its folder; `None` as above.
+pub(crate) fn run_over<R: AllocGlobal + Threads + Sync, I: FileReader + Drop>(
+    rt: &R,
+    input: Option<I>,
+    how: &How,
+    calls: &Calls,
+) -> Option<Ended> {
+    let mut folder = OneFile { input };
+    run_in(rt, &mut folder, how, calls)
 }
 
 /// How a run is to end: its status, its line, and how many bytes of the plaintext were written, at least and at most.

@@ -2,18 +2,21 @@
 //! finished and discarded, by name and with all its bytes, and what was refused. The short containers are from Python's
 //! `cryptography`.
 use crate::cases::{Case, Left, Trouble, Work, ends_in};
-use crate::runs::{BARE, CUT, EMPTY, LABELLED, SECRET, counting_key, folder_of};
+use crate::failing::{Calls, Failing};
+use crate::runs::{
+    BARE, CUT, EMPTY, LABELLED, SECRET, counting_key, folder_of, open_over, steady_outs,
+};
 use container_core::{Shape, seal};
 use folder_memory::{MemoryFolder, Pace, Told};
 use io_memory::Schedule;
-use sealer_core::FolderFault;
+use sealer_core::{FolderFault, OpenOptions};
 use std::alloc::Global;
 use std::sync::Wait;
 use std::thread::Threads;
 
-// An expected event.
+/// An expected event.
 #[derive(Clone, Copy)]
-enum Seen<'a> {
+pub(crate) enum Seen<'a> {
     Reading(&'a str, &'a [u8]),
     Unread(&'a str),
     Created(&'a str),
@@ -51,8 +54,8 @@ fn is_seen(told: &Told, seen: Seen) -> bool {
     }
 }
 
-// Whether exactly this happened in the folder, in this order.
-fn tells(folder: &MemoryFolder, seen: &[Seen]) -> bool {
+/// Whether exactly this happened in the folder, in this order.
+pub(crate) fn tells(folder: &MemoryFolder, seen: &[Seen]) -> bool {
     let Some(told) = folder.told() else {
         return false;
     };
@@ -76,9 +79,9 @@ fn goes<R: AllocGlobal + Threads + Wait + Sync>(rt: &R, case: &Case, seen: &[See
 }
 
 // What a row shows, its case, and what happens.
-static OPENED: [(&str, Case, &[Seen]); 6] = [
+static OPENED: [(&str, Case, &[Seen]); 8] = [
     (
-        "an output is created behind what was checked, and finished once",
+        "what is opened is read twice, then its output is created, and finished once",
         Case {
             folder: &[
                 ("a.stm", &SECRET),
@@ -105,12 +108,15 @@ static OPENED: [(&str, Case, &[Seen]); 6] = [
         },
         &[
             Seen::Reading("a.stm", &SECRET),
+            Seen::Reading("a.stm", &SECRET),
             Seen::Created("a"),
             Seen::Finished("a", b"a secret"),
             Seen::Unread("m.stm"),
             Seen::Reading("c.stm", &EMPTY),
+            Seen::Reading("c.stm", &EMPTY),
             Seen::Refused("c", FolderFault::Exists),
             Seen::Reading("d.stm", &CUT),
+            Seen::Reading("e.stm", &EMPTY),
             Seen::Reading("e.stm", &EMPTY),
             Seen::Created("e"),
             Seen::Finished("e", b""),
@@ -139,19 +145,21 @@ static OPENED: [(&str, Case, &[Seen]); 6] = [
         },
         &[
             Seen::Reading("a.stm", &SECRET),
+            Seen::Reading("a.stm", &SECRET),
             Seen::Created("a"),
             Seen::Discarded("a", b"a sec"),
+            Seen::Reading("b.stm", &EMPTY),
             Seen::Reading("b.stm", &EMPTY),
             Seen::Created("b"),
             Seen::Finished("b", b""),
         ],
     ),
     (
-        // The calls are to open the input, create the output and finish it.
+        // The calls are to open the input, read it again, create the output and finish it.
         "an output that could not be finished is given up",
         Case {
             folder: &[("a.stm", &SECRET)],
-            trouble: Trouble::Call(2),
+            trouble: Trouble::Call(3),
             work: Work::Open,
             files: &["a.stm"],
             max_bytes: 8,
@@ -163,16 +171,17 @@ static OPENED: [(&str, Case, &[Seen]); 6] = [
         },
         &[
             Seen::Reading("a.stm", &SECRET),
+            Seen::Reading("a.stm", &SECRET),
             Seen::Created("a"),
             Seen::Discarded("a", b"a secret"),
         ],
     ),
     (
-        // The calls are to open the input and create the output.
+        // The calls are to open the input, read it again and create the output.
         "an output that could not be created is refused",
         Case {
             folder: &[("a.stm", &SECRET)],
-            trouble: Trouble::Call(1),
+            trouble: Trouble::Call(2),
             work: Work::Open,
             files: &["a.stm"],
             max_bytes: 8,
@@ -183,6 +192,7 @@ static OPENED: [(&str, Case, &[Seen]); 6] = [
             left: &[("a", Left::Absent)],
         },
         &[
+            Seen::Reading("a.stm", &SECRET),
             Seen::Reading("a.stm", &SECRET),
             Seen::Refused("a", FolderFault::Failed),
         ],
@@ -205,6 +215,47 @@ static OPENED: [(&str, Case, &[Seen]); 6] = [
             left: &[("a", Left::Absent)],
         },
         &[Seen::Reading("a.stm", &SECRET)],
+    ),
+    (
+        // The calls are to open the input and read it again.
+        "of a file that could not be read again nothing is created",
+        Case {
+            folder: &[("a.stm", &SECRET)],
+            trouble: Trouble::Call(1),
+            work: Work::Open,
+            files: &["a.stm"],
+            max_bytes: 8,
+            status: 1,
+            lines: b"failed a.stm: read failed\n",
+            faults: b"",
+            journal: b"",
+            left: &[("a", Left::Absent)],
+        },
+        &[Seen::Reading("a.stm", &SECRET)],
+    ),
+    (
+        "the output that is given is created, and no other",
+        Case {
+            folder: &[("a.stm", &SECRET), ("b.txt", &SECRET)],
+            trouble: Trouble::Nothing,
+            work: Work::OpenTo("other"),
+            files: &["a.stm", "b.txt"],
+            max_bytes: 8,
+            status: 1,
+            lines: b"opened a.stm bytes 8\nfailed b.txt: output exists\n",
+            faults: b"",
+            journal: b"",
+            left: &[("a", Left::Absent), ("other", Left::Is(b"a secret"))],
+        },
+        &[
+            Seen::Reading("a.stm", &SECRET),
+            Seen::Reading("a.stm", &SECRET),
+            Seen::Created("other"),
+            Seen::Finished("other", b"a secret"),
+            Seen::Reading("b.txt", &SECRET),
+            Seen::Reading("b.txt", &SECRET),
+            Seen::Refused("other", FolderFault::Exists),
+        ],
     ),
     (
         "what is verified is read once, and nothing else happens",
@@ -401,11 +452,43 @@ fn is_opened<'a, R: AllocGlobal + Threads + Wait + Sync>(
             &folder,
             &[
                 Seen::Reading("a.stm", sealed),
+                Seen::Reading("a.stm", sealed),
                 Seen::Created("a"),
                 Seen::Finished("a", plain),
                 Seen::Reading("a.stm", sealed),
             ],
         )
+}
+
+// Whether a container that can be read only once is opened, and what then happens is as expected.
+fn is_opened_once<'a, R: AllocGlobal + Threads + Sync>(
+    rt: &R,
+    sealed: &'a [u8],
+    plain: &'a [u8],
+) -> Option<bool> {
+    let calls = Calls::steady();
+    let mut out = steady_outs(rt.alloc())?;
+    let mut folder = Failing {
+        folder: folder_of(rt.alloc(), &[("a.stm", sealed)])?,
+        calls: &calls,
+        once: true,
+    };
+    let options = OpenOptions {
+        files: &["a.stm"],
+        workers: 1,
+        max_bytes: 8197,
+        label: None,
+        to: None,
+        show: false,
+    };
+    let status = open_over(rt, &mut folder, &options, false, &mut out);
+    let line: &[u8] = b"opened a.stm bytes 8197\n";
+    let seen = [
+        Seen::Reading("a.stm", sealed),
+        Seen::Created("a"),
+        Seen::Finished("a", plain),
+    ];
+    Some(status == Some(0) && out.lines.bytes() == line && tells(&folder.folder, &seen))
 }
 
 fn works_three_chunks<R: AllocGlobal + Threads + Wait + Sync>(rt: &R) -> bool {
@@ -418,7 +501,18 @@ fn works_three_chunks<R: AllocGlobal + Threads + Wait + Sync>(rt: &R) -> bool {
     is_opened(rt, sealed.as_slice(), plain.as_slice())
 }
 
+fn works_three_chunks_once<R: AllocGlobal + Threads + Sync>(rt: &R) -> Option<bool> {
+    let plain = plain_of_three(rt.alloc())?;
+    let sealed = sealed_of(rt.alloc(), plain.as_slice())?;
+    is_opened_once(rt, sealed.as_slice(), plain.as_slice())
+}
+
 #[test]
 fn an_output_of_three_chunks_is_finished_with_all_its_bytes(rt: HostRuntime) {
     assert!(rt; works_three_chunks(&rt));
+}
+
+#[test]
+fn a_file_that_can_be_read_only_once_is_read_once_and_opened_in_memory(rt: HostRuntime) {
+    assert!(rt; works_three_chunks_once(&rt) == Some(true));
 }

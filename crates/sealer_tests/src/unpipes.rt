@@ -2,9 +2,10 @@
 //! written by hand.
 use crate::failing::Calls;
 use crate::inputs::{
-    End, How, Input, STEADY, by, ends_once, ends_twice, is_end, refused, run_over,
+    End, How, Input, STEADY, by, ends_once, ends_twice, is_end, refused, run_in, run_over,
 };
-use crate::runs::{CUT, SECRET, counting_key, folder_of, has_bytes, open_over, steady_outs};
+use crate::runs::{CUT, EMPTY, SECRET, counting_key, folder_of, has_bytes, open_over, steady_outs};
+use crate::traces::{Seen, tells};
 use container_core::{Shape, seal};
 use io_memory::Schedule;
 use sealer_core::OpenOptions;
@@ -208,6 +209,7 @@ fn is_opened_in_folder<R: AllocGlobal + Threads + Sync>(
         workers: how.workers,
         max_bytes: 1 << 30,
         label: how.label,
+        to: None,
         show: false,
     };
     let status = open_over(rt, &mut folder, &options, false, &mut out);
@@ -263,6 +265,113 @@ fn a_whole_container_is_opened_if_it_has_the_label(rt: HostRuntime) {
             opens(&rt, *is_two, *count, digest) == Some(true),
             "{is_two} {count}"
         );
+    }
+}
+
+// ---- a folder that tells what happened
+
+// A file of a folder of which a call may fail, how `unpipe_all` of `a.stm` is to end, and what is to happen.
+#[derive(Clone, Copy)]
+struct InFolder {
+    what: &'static str,
+    name: &'static str,
+    sealed: &'static [u8],
+    // Calls are to open the file, and to read it again.
+    failing: u64,
+    status: u8,
+    line: &'static [u8],
+    written: &'static [u8],
+    seen: &'static [Seen<'static>],
+}
+
+static IN_FOLDER: [InFolder; 6] = [
+    InFolder {
+        what: "a file is read twice, and nothing is created",
+        name: "a.stm",
+        sealed: &SECRET,
+        failing: 2,
+        status: 0,
+        line: b"opened a.stm bytes 8\n",
+        written: b"a secret",
+        seen: &[
+            Seen::Reading("a.stm", &SECRET),
+            Seen::Reading("a.stm", &SECRET),
+        ],
+    },
+    InFolder {
+        what: "of a file that could not be read again nothing is written",
+        name: "a.stm",
+        sealed: &SECRET,
+        failing: 1,
+        status: 1,
+        line: b"failed a.stm: spool failed\n",
+        written: b"",
+        seen: &[Seen::Reading("a.stm", &SECRET)],
+    },
+    InFolder {
+        what: "a file that is damaged is not read again",
+        name: "a.stm",
+        sealed: &CUT,
+        failing: 1,
+        status: 1,
+        line: b"failed a.stm: chunk 0 does not check\n",
+        written: b"",
+        seen: &[Seen::Reading("a.stm", &CUT)],
+    },
+    InFolder {
+        what: "a file that could not be opened",
+        name: "a.stm",
+        sealed: &SECRET,
+        failing: 0,
+        status: 1,
+        line: b"failed a.stm: cannot open\n",
+        written: b"",
+        seen: &[Seen::Unread("a.stm")],
+    },
+    InFolder {
+        what: "a file that is not there",
+        name: "a",
+        sealed: &SECRET,
+        failing: 2,
+        status: 1,
+        line: b"failed a.stm: cannot open\n",
+        written: b"",
+        seen: &[Seen::Unread("a.stm")],
+    },
+    InFolder {
+        what: "the empty plaintext",
+        name: "a.stm",
+        sealed: &EMPTY,
+        failing: 2,
+        status: 0,
+        line: b"opened a.stm bytes 0\n",
+        written: b"",
+        seen: &[
+            Seen::Reading("a.stm", &EMPTY),
+            Seen::Reading("a.stm", &EMPTY),
+        ],
+    },
+];
+
+// Whether the run over such a folder ends so, and exactly this happened there.
+fn goes_in_folder<R: AllocGlobal + Threads + Sync>(rt: &R, row: &InFolder) -> Option<bool> {
+    let mut folder = folder_of(rt.alloc(), &[(row.name, row.sealed)])?;
+    folder.refuse_call(row.failing);
+    let ended = run_in(rt, &mut folder, &STEADY, &Calls::steady())?;
+    let end = End {
+        status: row.status,
+        line: row.line,
+        least: row.written.len(),
+        most: row.written.len(),
+    };
+    Some(is_end(&ended, row.written, &end) && tells(&folder, row.seen))
+}
+
+#[test]
+fn an_opening_to_a_stream_does_this_in_the_folder_and_nothing_else(rt: HostRuntime) {
+    for row in &IN_FOLDER {
+        let what = row.what;
+        assert!(rt; goes_in_folder(&rt, row) == Some(true), "{what}");
     }
 }
 
