@@ -10,9 +10,9 @@ fails, and so does standard output.
 sixth is taken. What it wrote begins the plaintext, is all of it if its line says so, and is nothing if something doesn't check. No file is
 left in the spool's folder, but an empty one by a kill before it was unlinked, or where that failed.
 
-A FILE is exchanged in place between the two readings of `open` and `unpipe`, which a SIGSTOP holds at their lseek: by another container, by
-a shorter and a longer one, and with a byte changed. Then the line is `changed while it was opened`, `open` leaves no output, and what
-`unpipe` wrote begins the first plaintext.
+A FILE is exchanged in place between the two readings of `open` and `unpipe`, which a SIGSTOP holds at their second lseek: by another
+container, by a shorter and a longer one, and with a byte changed. Then the line is `changed while it was opened`, `open` leaves no output,
+and what `unpipe` wrote begins the first plaintext. Another file of its name changes nothing.
 
 After an error the status and the text are of docs/MANUAL.md, and fit the lines. An output is whole or absent; it is absent if its line says
 that it failed, unless its removal failed. No input is altered, and no other file is left. After a kill each output with a line is whole, and
@@ -52,8 +52,8 @@ FAULTS.update({call: ("error=ENOMEM",) for call in ("mmap", "mremap", "munmap", 
 FAULTS["brk"] = ("retval=0",)
 # The loader's and the threads', neither on files nor on memory: the program is only killed at these.
 OTHERS = "execve access arch_prctl set_tid_address set_robust_list rseq prlimit64 getrandom futex rt_sigaction rt_sigprocmask exit exit_group".split()
-# An error of these can't be passed over.
-MUST_SHOW = {call: ("error=EIO", "error=ENOSPC") for call in ("read", "write", "lseek")}
+# An error of these can't be passed over. A FILE in which the first lseek fails is read once, or kept.
+MUST_SHOW = {call: ("error=EIO", "error=ENOSPC") for call in ("read", "write")}
 PLAIN = {"small": b"".join(b"%d\n" % i for i in range(1, 401)), "long": b"".join(b"%d\n" % i for i in range(1, 50_001))}
 PLAIN["large"] = bytes(range(256)) * (17 << 12)
 NAMES = ["small.stm", "long.stm"]
@@ -261,21 +261,24 @@ def exchanges(first, others):
     return rows
 
 
-def held(words, becomes):
-    """A run that is held at its second reading, while long.stm becomes other bytes. Returns status, output and texts."""
+def held(words, becomes, is_replaced):
+    """A run that is held at its second reading, while long.stm becomes other bytes, or another file has its name. Returns status, output and
+    texts."""
     trace = "../trace of what is held"
     open(trace, "wb").close()
     with open("plain", "wb") as plain:
-        strace = ["strace", "-f", "-qq", "-o", trace, "-e", "trace=lseek", "-e", "inject=lseek:signal=STOP:when=1"]
+        strace = ["strace", "-f", "-qq", "-o", trace, "-e", "trace=lseek", "-e", "inject=lseek:signal=STOP:when=2"]
         run = subprocess.Popen([*strace, sealer, *words], stdin=subprocess.DEVNULL, stdout=plain, stderr=subprocess.PIPE, text=True)
         until, stopped = time.monotonic() + HANG, None
         while not stopped and run.poll() is None and time.monotonic() < until:
             time.sleep(0.005)
             stopped = re.search(r"^([0-9]+) +--- stopped by SIGSTOP", read(trace).decode(), re.M)
         if stopped:
-            with open("long.stm", "r+b") as file:
+            with open("new" if is_replaced else "long.stm", "wb" if is_replaced else "r+b") as file:
                 file.write(becomes)
                 file.truncate()
+            if is_replaced:
+                os.rename("new", "long.stm")
             os.kill(int(stopped[1]), signal.SIGCONT)
         texts = run.communicate(timeout=HANG)[1].splitlines()
     return run.returncode if stopped else "never held", read("plain"), texts
@@ -288,19 +291,20 @@ def exchanged(first, others):
     for workers in ("1", "2"):
         for command in ("open", "unpipe"):
             words = [command, "--key", key, "--workers", workers, "long.stm"]
-            for what, becomes in {"the same": first, **exchanges(first, others)}.items():
+            rows = {"the same": first, "another file": next(iter(others.values())), **exchanges(first, others)}
+            for what, becomes in rows.items():
                 count += 1
                 for name in os.listdir("."):
                     os.remove(name)
                 with open("long.stm", "wb") as file:
                     file.write(first)
-                status, out, texts = held(words, becomes)
+                status, out, texts = held(words, becomes, what == "another file")
                 left = sorted(set(os.listdir(".")) - {"long.stm", "plain"})
                 if command == "open":
                     lines, plain = out.decode().splitlines(), read("long") if left == ["long"] else b""
                 else:
                     lines, texts, plain = texts, [], out
-                if what == "the same":
+                if what in ("the same", "another file"):
                     right = (status, lines, plain) == (0, [f"opened long.stm bytes {len(whole)}"], whole)
                 else:
                     right = (status, lines, left) == (1, ["failed long.stm: changed while it was opened"], [])

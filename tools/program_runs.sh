@@ -608,10 +608,10 @@ printf 'files/c\nd.stm\n' > list
 run verify --key "$key" --files-from list
 wants lines-end-names 1 'failed files/c: cannot open
 failed d.stm: cannot open' ''
-printf ' files/numbers.stm\n-\n--key\nfiles/numbers.stm\r\n' > list
+printf ' files/numbers.stm\n-k\n--key\nfiles/numbers.stm\r\n' > list
 run verify --key "$key" --files-from list
 wants names-as-they-are 1 'failed  files/numbers.stm: cannot open
-failed -: cannot open
+failed -k: cannot open
 failed --key: cannot open
 failed files/numbers.stm'$'\r'': cannot open' ''
 : > list
@@ -1782,7 +1782,7 @@ run unpipe --key "$key" files/more.stm files/numbers.stm
 wants unpipe-two 2 '' "begins error: unexpected argument 'files/numbers.stm' found"
 run unpipe --key none --label "$(printf 'x%.0s' $(seq 256))" files/more.stm
 wants unpipe-label-too-long 2 '' 'usage: label too long'
-for option in --into=files --sync --private --skip-existing --files-from=none --progress --show --ledger=none; do
+for option in --into=files --sync --private --skip-existing --files-from=none --to=none --show --ledger=none; do
     run unpipe --key "$key" $option files/more.stm
     wants "unpipe $option" 2 '' "begins error: unexpected argument '${option%=*}' found"
 done
@@ -1837,6 +1837,104 @@ is unpipe-a-file-to-a-terminal test "$(python3 to_terminal.py "$sealer" unpipe -
 is unpipe-to-a-terminal-if-asked test "$(python3 to_terminal.py "$sealer" unpipe --key own-key --force-terminal)" = '0;opened - bytes 1492;True'
 is unpipe-help-on-a-terminal test "$(python3 to_terminal.py "$sealer" unpipe --help | cut -c 1-2)" = '0;'
 
+# `--to` names the output of one FILE, which may have any name. `-` is standard input.
+cp files/more.stm files/any-name
+for words in '--workers 1' '--workers 4 --private --sync'; do
+    for input in files/more.stm files/any-name ./files/more.stm; do
+        # shellcheck disable=SC2086
+        run open --key "$key" $words --to files/named "$input" < /dev/null
+        wants "open-to $words $input" 0 "opened $input bytes 348894" ''
+        is "open-to-plaintext $words $input" cmp -s files/named files/more
+        rm files/named
+    done
+    # shellcheck disable=SC2086
+    run open --key "$key" $words --to files/named - < files/more.stm
+    wants "open-a-file-as-input $words" 0 'opened - bytes 348894' ''
+    is "open-a-file-as-input-plaintext $words" cmp -s files/named files/more
+    rm files/named
+    # shellcheck disable=SC2086
+    run open --key "$key" $words --to files/named - < <(cat files/more.stm)
+    wants "open-input $words" 0 'opened - bytes 348894' ''
+    is "open-input-plaintext $words" cmp -s files/named files/more
+    # shellcheck disable=SC2086
+    run open --key "$key" $words --to files/named - < <(cat files/more.stm)
+    wants "open-input-to-what-is-there $words" 1 'failed -: output exists' ''
+    run open --key "$key" $words --to files/named files/more.stm
+    wants "open-to-what-is-there $words" 1 'failed files/more.stm: output exists' ''
+    rm files/named
+    # shellcheck disable=SC2086
+    run verify --key "$key" ${words%%--p*} - < <(cat files/more.stm)
+    wants "verify-input $words" 0 'good - bytes 348894' ''
+done
+run open --key "$key" --private --to files/named files/more.stm
+is open-to-private test "$status $(stat -c %a files/named)" = '0 600'
+rm files/named
+run verify --key "$key" --label none files/more.stm - files/more.stm < files/numbers.stm
+wants verify-input-of-another-label 1 'failed files/more.stm: another label
+failed -: another label
+failed files/more.stm: another label' ''
+run verify --key "$key" - files/more.stm - < files/numbers.stm
+wants verify-input-twice 1 'good - bytes 1492
+good files/more.stm bytes 348894
+failed -: cannot open' ''
+head -c -1 files/more.stm > files/wrong
+for input in files/wrong -; do
+    run open --key "$key" --to files/named "$input" < files/wrong
+    wants "open-to-of-a-cut $input" 1 "failed $input: chunk 85 does not check" ''
+    is "open-to-of-a-cut-makes-nothing $input" test ! -e files/named
+done
+for input in files/more.stm -; do
+    run open --key "$key" --max-bytes 348893 --to files/named "$input" < files/more.stm
+    wants "open-to-max-bytes $input" 1 "failed $input: too long" ''
+done
+run open --key "$key" --to files/named - <&-
+wants open-closed-input 1 'failed -: read failed' ''
+run verify --key "$key" - < files
+wants verify-a-folder-as-input 1 'failed -: read failed' ''
+run open --key "$key" --to files files/more.stm
+wants open-to-a-folder 1 'failed files/more.stm: output exists' ''
+run open --key "$key" --to none/named files/more.stm
+wants open-to-no-folder 1 'failed files/more.stm: cannot create' ''
+run open --key "$key" --to files/more.stm files/more.stm
+wants open-to-itself 1 'failed files/more.stm: output exists' ''
+for input in - files/none; do
+    run open --key "$key" --to files/named files/more.stm "$input"
+    wants "open-two-to $input" 2 '' 'usage: --to takes one file'
+done
+for name in '' -; do
+    run open --key "$key" "--to=$name" files/more.stm
+    wants "open-to-no-file '$name'" 2 '' 'usage: --to names no file'
+done
+for option in --into=files --skip-existing --files-from=/dev/null; do
+    run open --key "$key" --to files/named $option files/more.stm
+    wants "open-to $option" 2 '' 'usage: --to excludes --into, --skip-existing and --files-from'
+done
+for words in - 'files/more.stm -' '--into files -' '--skip-existing -'; do
+    # shellcheck disable=SC2086
+    run open --key none $words < files/more.stm
+    wants "open-input-without-a-name $words" 2 '' 'usage: - needs --to'
+done
+run verify --key none --files-from - - < <(echo files/more.stm)
+wants verify-list-and-input 2 '' 'usage: standard input can be read only once'
+run verify --key none --to x files/more.stm
+wants verify-to 2 '' "begins error: unexpected argument '--to' found"
+is nothing-is-left-of-these test ! -e files/named
+# a line of progress, cleared before that of the stream
+for input in - files/more.stm; do
+    unpiped --progress=always "$input" < files/more.stm
+    is "unpipe-progress $input" cmp -s files/plain files/more
+    is "unpipe-progress-line $input" test "$status $(tr '\r' '\n' < err | sed 's/^\x1b\[K//' | grep -cx "opened $input bytes 348894")" = '0 1'
+done
+
+# What standard output is can't be opened: the plaintext would follow the container.
+cp files/more.stm files/same
+for input in files/same -; do
+    "$sealer" unpipe --key "$key" "$input" < files/same >> files/same 2> err; status=$?; : > out
+    wants "unpipe-to-its-input $input" 1 '' "failed $input: cannot open"
+    is "unpipe-to-its-input-changes-nothing $input" cmp -s files/same files/more.stm
+done
+rm files/same
+
 # A stream of 16 MiB is kept in memory. Of a longer one the sealed bytes are in a file without a name, in the folder of --spool, else TMPDIR,
 # else /var/tmp; where that can't be made or written nothing is opened. A file is read again instead.
 yes plaintext | head -c 16773096 > files/fits
@@ -1845,11 +1943,12 @@ run seal --key "$key" --ledger files/ledger --device 1 files/fits files/long
 wants spool-sealed 0 'sealed files/fits file 1 bytes 16773096
 sealed files/long file 2 bytes 16773097' ''
 is spool-sealed-lengths test "$(stat -c %s files/fits.stm files/long.stm | tr '\n' ' ')" = '16777216 16777217 '
-unpiped --spool none < <(cat files/fits.stm)
+unpiped --spool files/spool < <(cat files/fits.stm)
 unpipes spool-is-not-needed 'opened - bytes 16773096' files/fits
 for folder in none '' files/long; do
-    unpiped "--spool=$folder" < <(cat files/long.stm)
-    refuses "spool '$folder'" 'failed -: spool failed'
+    unpiped "--spool=$folder" < <(cat files/fits.stm)
+    wants "spool '$folder'" 2 '' 'usage: the folder of the spool is missing'
+    is "spool-writes-nothing '$folder'" test ! -s files/plain
     unpiped "--spool=$folder" files/long.stm
     unpipes "spool-of-a-file '$folder'" 'opened files/long.stm bytes 16773097' files/long
     timeout 60 cp files/long.stm files/fifo & unpiped "--spool=$folder" files/fifo
@@ -1869,8 +1968,10 @@ unpiped --spool files/spool < <(cat files/wrong)
 refuses spool-of-a-cut-stream 'failed -: chunk 255 does not check'
 unpiped --spool files/spool --label x < <(cat files/long.stm)
 refuses spool-of-another-label 'failed -: another label'
-TMPDIR=none unpiped < <(cat files/long.stm)
-refuses spool-of-the-environment 'failed -: spool failed'
+for folder in none files/long; do
+    TMPDIR=$folder unpiped < <(cat files/long.stm)
+    wants "spool-of-the-environment $folder" 2 '' 'usage: the folder of the spool is missing'
+done
 TMPDIR=none unpiped --spool files/spool < <(cat files/long.stm)
 unpipes spool-comes-before-the-environment 'opened - bytes 16773097' files/long
 (trap '' XFSZ; ulimit -f 8192; exec "$sealer" unpipe --key "$key" --spool files/spool < <(cat files/long.stm) 2> err | cat > files/plain; exit "${PIPESTATUS[0]}"); status=$?; : > out
@@ -1912,7 +2013,7 @@ if command -v strace >/dev/null; then
     traced_stream "$sealer" unpipe --key "$key" --spool files/spool < <(cat files/fits.stm)
     is no-spool-unneeded test "$status $(folders)" = '0 '
     traced_stream "$sealer" unpipe --key "$key" --spool files/spool files/long.stm
-    is no-spool-of-a-file test "$status $(folders)$(grep -c 'lseek([0-9]*<[^>]*/files/long.stm>, 0, SEEK_SET) *= 0' calls)" = '0 1'
+    is no-spool-of-a-file test "$status $(folders)$(grep -c 'lseek([0-9]*<[^>]*/files/long.stm>, 0, SEEK_SET) *= 0' calls)" = '0 2'
     # `open` reads a FIFO once, and keeps its plaintext in memory, without a spool
     mkfifo files/once.stm
     timeout 60 cp files/long.stm files/once.stm & TMPDIR=none traced_stream "$sealer" open --key "$key" files/once.stm

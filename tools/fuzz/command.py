@@ -16,6 +16,8 @@ NOT_OF_UNPIPE = ("--lanes=2", "--window=2", "--depth=2", "--max-chunks=1", "--sh
 UNKNOWN = ("--worker", "--Workers", "--keys", "--key-file=key", "-k", "-w1", "--dry-run", "--max_bytes=1", "-1")
 # The commands that seal; `pipe` takes no file, and `unpipe` at most one.
 SEALS = ("seal", "pipe")
+# What can't have the spool of standard input: there is no such folder, and it is a file.
+NO_FOLDERS = ("none", "", "key")
 # No command at all, or more than `audit` takes.
 NO_COMMANDS = ([], ["--key", "key"], ["audit", "a"], ["audit", "--key", "key"], ["audit", "audit"], ["audit", "-1"])
 
@@ -47,8 +49,7 @@ def lawful_options(rng, command, first_only):
         # It is no terminal.
         given["--force-terminal"] = None
     if command == "unpipe" and rng.random() < 0.3:
-        # What is given fits into memory.
-        given["--spool"] = rng.choice((".", "none", ""))
+        given["--spool"] = rng.choice((".", ".", *NO_FOLDERS))
     if not first_only and command == "verify" and rng.random() < 0.2:
         given["--show"] = None
     if command in ("seal", "open") and rng.random() < 0.1:
@@ -169,6 +170,8 @@ def wanted_of(ask, command, given):
         ask.status, ask.faults = 2, "usage: lanes and workers cannot both be above 1\n"
     elif "--no-new-ledger" in given:
         ask.status, ask.faults = 2, "ledger: not there\n"
+    elif given.get("--spool") in NO_FOLDERS and ask.names[-1:] != ["a.stm"]:
+        ask.status, ask.faults = 2, "usage: the folder of the spool is missing\n"
     elif command == "unpipe":
         name = ask.names[-1] if ask.names[-1:] == ["a.stm"] else "-"
         ask.input = b"" if name == "a.stm" else ask.files["a.stm"]
