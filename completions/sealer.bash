@@ -23,7 +23,7 @@ _sealer() {
             --progress1) _sealer_words 'terminal always' "$current"; return ;;
         esac
         case $before in
-            --key | --files-from | --ledger | --journal) _sealer_files "$current"; return ;;
+            --key | --files-from | --to | --ledger | --journal) _sealer_files "$current"; return ;;
             --workers | --lanes) _sealer_words 'auto 1 2 4 8 16' "$current"; return ;;
             --into | --spool) _sealer_folders "$current"; return ;;
             --max-bytes | --max-chunks) _sealer_words 'max' "$current"; return ;;
@@ -41,9 +41,9 @@ _sealer() {
                     --window --into --skip-existing --sync --private --exponent --label --journal --help -h' ;;
         pipe) words='--key --workers --verbose --ledger --no-new-ledger --device --depth --max-chunks --force-terminal --exponent
                     --label --journal --help -h' ;;
-        unpipe) words='--key --workers --verbose --max-bytes --spool --label --force-terminal --help -h' ;;
-        open) words='--key --workers --verbose --files-from --null --progress --max-bytes --label --into --skip-existing --sync
-                    --private --help -h' ;;
+        unpipe) words='--key --workers --verbose --progress --max-bytes --spool --label --force-terminal --help -h' ;;
+        open) words='--key --workers --verbose --files-from --null --progress --max-bytes --label --to --into --skip-existing
+                    --sync --private --help -h' ;;
         verify) words='--key --workers --verbose --files-from --null --progress --max-bytes --label --show --help -h' ;;
         audit) words='--help -h' ;;
         ledger) words='--ledger --verbose --help -h' ;;

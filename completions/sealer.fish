@@ -18,7 +18,7 @@ complete -c sealer -f
 complete -c sealer -n 'not __sealer_command seal pipe unpipe open verify audit ledger help' -a seal -d 'Seals each FILE to FILE.stm, each under a number of its own'
 complete -c sealer -n 'not __sealer_command seal pipe unpipe open verify audit ledger help' -a pipe -d 'Seals standard input to standard output, a stream of any length, under a number of its own'
 complete -c sealer -n 'not __sealer_command seal pipe unpipe open verify audit ledger help' -a unpipe -d 'Checks a sealed stream or FILE whole, then writes its plaintext to standard output'
-complete -c sealer -n 'not __sealer_command seal pipe unpipe open verify audit ledger help' -a open -d 'Checks each FILE whole, then writes its plaintext to the name without .stm'
+complete -c sealer -n 'not __sealer_command seal pipe unpipe open verify audit ledger help' -a open -d 'Checks each FILE whole, then writes its plaintext to the name without .stm or that of --to'
 complete -c sealer -n 'not __sealer_command seal pipe unpipe open verify audit ledger help' -a verify -d 'Checks each FILE whole and writes no file'
 complete -c sealer -n 'not __sealer_command seal pipe unpipe open verify audit ledger help' -a audit -d 'Audits the journal on standard input and prints the verdict'
 complete -c sealer -n 'not __sealer_command seal pipe unpipe open verify audit ledger help' -a ledger -d 'Prints what a ledger file holds, and changes nothing'
@@ -33,7 +33,8 @@ complete -c sealer -n '__sealer_command seal pipe unpipe open verify' -l verbose
 
 complete -c sealer -n '__sealer_command seal open verify' -l files-from -rF -d 'Read further FILEs from a list, one a line, after those of the command line'
 complete -c sealer -n '__sealer_command seal open verify' -l null -d 'FILEs in the list of --files-from end with a NUL byte, not a line feed'
-complete -c sealer -n '__sealer_command seal open verify' -l progress -a 'terminal always' -d 'Show progress on standard error if that is a terminal, or always'
+
+complete -c sealer -n '__sealer_command seal unpipe open verify' -l progress -a 'terminal always' -d 'Show progress on standard error if that is a terminal, or always'
 
 complete -c sealer -n '__sealer_command seal open' -l into -xa '(__fish_complete_directories)' -d 'Put the outputs into this folder, each under the base name of its FILE'
 complete -c sealer -n '__sealer_command seal open' -l skip-existing -d 'Skip each FILE whose output exists: its line says kept, not failed'
@@ -46,6 +47,8 @@ complete -c sealer -n '__sealer_command unpipe open verify' -l label -x -d 'Acce
 
 complete -c sealer -n '__sealer_command unpipe' -l max-bytes -x -a 'max' -d 'Refuse more plaintext bytes, 0 to 4503599626321920, or max'
 complete -c sealer -n '__sealer_command unpipe' -l spool -xa '(__fish_complete_directories)' -d 'The folder of the temporary file for sealed bytes, if standard input has more than 16 MiB'
+
+complete -c sealer -n '__sealer_command open' -l to -rF -d 'Write the plaintext to NAME'
 
 complete -c sealer -n '__sealer_command verify' -l show -d 'After the line of a good FILE print its version, chunk size, device, number and label'
 

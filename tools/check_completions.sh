@@ -129,7 +129,7 @@ try:
             pattern = r"(?:one\.stm|words\.stm|plain)\b"
             # fish has those with the end first, and then the others
             asked += [("sealer open ", all_names if kind == "fish" else stm, pattern)]
-            asked += [(f"sealer {it} ", all_names, pattern) for it in ("verify --key", "seal", "unpipe")]
+            asked += [(f"sealer {it} ", all_names, pattern) for it in ("verify --key", "open --to", "seal", "unpipe")]
             # these options take a folder
             asked += [(f"sealer {it} ", {"below"}, r"(?:one\.stm|words\.stm|plain|below)\b") for it in ("seal --into", "unpipe --spool")]
             # in a folder after a tilde, folders too

@@ -26,6 +26,7 @@ SYNOPSIS = {"audit": [".No < Ar JOURNAL"]}
 # What completes a value that is neither a number nor a word, in zsh, bash and fish.
 KINDS = {
     "Path": ("file:_files", '_sealer_files "$current"; ', "-rF"),
+    "Name": ("file:_files", '_sealer_files "$current"; ', "-rF"),
     "Folder": ("folder:_files -/", '_sealer_folders "$current"; ', "-xa '(__fish_complete_directories)'"),
     "Text": ("text: ", "", "-x"),
 }

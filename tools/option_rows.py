@@ -13,6 +13,7 @@ SOURCES = TOP / "crates/command_line/src"
 # The fields of each kind of `Takes`, as a row has them.
 FIELDS = {
     "Path": r"is_required: (?P<required>true|false)",
+    "Name": "",
     "Folder": "",
     "Text": "",
     "Number": r'least: (?P<least>\S+),\s*most: (?P<most>\S+),\s*absent: Absent::(?:Default\("(?P<default>\d+)"\)|Nothing|(?P<required>Fault))',

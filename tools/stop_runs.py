@@ -54,7 +54,7 @@ TEXTS = re.compile(
 )
 LINES = re.compile(r"sealed \S+ file [0-9]+ bytes [0-9]+|failed \S+: (cannot open|cannot create|read failed|write failed|out of memory)")
 # The calls that are made to fail, and how.
-ON_FILES = "openat read pread64 write pwrite64 fsync fdatasync ftruncate statx newfstatat close fadvise64 readlink getcwd fchmod fchown fcntl ioctl link unlink".split()
+ON_FILES = "openat read pread64 write pwrite64 fsync fdatasync ftruncate lseek statx newfstatat close fadvise64 readlink getcwd fchmod fchown fcntl ioctl link unlink".split()
 ON_MEMORY = ["mmap", "mremap", "munmap", "mprotect", "madvise", "clone3"]
 # At these the program is only killed: they are the loader's and the threads', neither on files nor on memory.
 OTHERS = "execve access arch_prctl set_tid_address set_robust_list rseq prlimit64 getrandom futex rt_sigaction rt_sigprocmask exit exit_group".split()
