@@ -1,6 +1,7 @@
 -- What was given on the command line: what a parse found under the name of an option.
-use Rattle.std.specs.Prelude.{◌≡◌, ◌≢◌, ◌⊎◌, ℕ, Bool, List, [], Option, Some, None, codes, true, false, option_map, unwrap_or}
-use Rattle.std.specs.Str.Parse.{digits_value, without_leading_plus}
+use Rattle.std.specs.Prelude.{◌≡◌, ◌≢◌, ◌≤◌, ◌⊎◌, ℕ, Bool, List, [], Option, Some, None, codes, true, false, option_map, unwrap_or}
+use Rattle.std.specs.Bool.{⊤}
+use Rattle.std.specs.Str.Parse.{IsNumeral, digits_value, without_leading_plus}
 use Rattle.clap.specs.Matches.{first_value, found_of, matched_of, one_text, raw_values}
 use Rattle.clap.specs.declared.parser.matches.ArgMatches.{ArgMatches}
 
@@ -11,6 +12,12 @@ number_of text = digits_value 10 (without_leading_plus text)
 -- the number that was given, if any
 abbrev pub number_given : ArgMatches → List ℕ → Option ℕ
 number_given matches option = option_map number_of (one_text (found_of matches) option)
+
+-- a text writes a number of this range, or none was given
+abbrev pub IsWithin : ℕ → ℕ → Option (List ℕ) → Type 0
+IsWithin least most None = ⊤
+IsWithin least most (Some text) =
+    IsNumeral 10 (without_leading_plus text) × (least ≤ number_of text) × (number_of text ≤ most)
 
 -- a flag is true if it was given, else false: a parse finds one of these two words, or nothing
 pub record IsFlag (matches : ArgMatches) (flag : List ℕ) (value : Bool) : Type 0 where

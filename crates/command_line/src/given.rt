@@ -1,6 +1,7 @@
 //! The numbers that were given on the command line, each in the range of its option.
-ghost use Rattle.std.specs.Prelude.{◌≡◌, ◌≢◌, ◌<◌, ◌≤◌, IfErr, IfOk, IfSome, Some, codes, unwrap_or};
-ghost use Rattle.command_line.specs.Given.{number_given};
+ghost use Rattle.std.specs.Prelude.{◌≡◌, ◌≢◌, ◌<◌, ◌≤◌, IfErr, IfOk, IfSome, IsOk, Some, codes, unwrap_or};
+ghost use Rattle.clap.specs.Matches.{found_of, one_text};
+ghost use Rattle.command_line.specs.Given.{IsWithin, number_given};
 
 use crate::fault::UsageFault;
 use clap::ArgMatches;
@@ -104,6 +105,8 @@ pub(crate) fn open_numbers(matches: &ArgMatches<'_>, usual: u64) -> Result<OpenN
     ensures max_bytes { IfOk result (λ n. n.max_bytes
         ≡ unwrap_or (number_given matches.now (codes "max-bytes")) usual) }
     ensures few_bytes { IfOk result (λ n. n.max_bytes ≤ MAX_OPENED) }
+    ensures within { IsWithin 1 MAX_WORKERS (one_text (found_of matches.now) (codes "workers"))
+        → IsWithin 0 MAX_OPENED (one_text (found_of matches.now) (codes "max-bytes")) → IsOk result }
     ensures fault { IfErr result (λ fault. fault ≡ UsageFault.OutOfRange) }
 {
     Ok(OpenNumbers {
@@ -132,6 +135,7 @@ fn number_in(
 ) -> Result<Option<u32>, UsageFault>
     ensures given { IfOk result (λ number. number ≡ number_given matches.now option.now) }
     ensures range { IfOk result (λ number. IfSome number (λ n. (least ≤ n) × (n ≤ most))) }
+    ensures within { IsWithin least most (one_text (found_of matches.now) option.now) → IsOk result }
     ensures fault { IfErr result (λ fault. fault ≡ UsageFault.OutOfRange) }
 {
     match matches.try_get_one::<u32>(option) {
@@ -152,6 +156,7 @@ fn number_or(
     requires usual { (least ≤ usual) × (usual ≤ most) }
     ensures given { IfOk result (λ number. number ≡ unwrap_or (number_given matches.now option.now) usual) }
     ensures range { IfOk result (λ number. (least ≤ number) × (number ≤ most)) }
+    ensures within { IsWithin least most (one_text (found_of matches.now) option.now) → IsOk result }
     ensures fault { IfErr result (λ fault. fault ≡ UsageFault.OutOfRange) }
 {
     match number_in(matches, option, least, most) {
@@ -170,6 +175,7 @@ fn bytes_or(
     requires usual { usual ≤ most }
     ensures given { IfOk result (λ bytes. bytes ≡ unwrap_or (number_given matches.now option.now) usual) }
     ensures range { IfOk result (λ bytes. bytes ≤ most) }
+    ensures within { IsWithin 0 most (one_text (found_of matches.now) option.now) → IsOk result }
     ensures fault { IfErr result (λ fault. fault ≡ UsageFault.OutOfRange) }
 {
     match matches.try_get_one::<u64>(option) {

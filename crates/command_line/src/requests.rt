@@ -1,11 +1,11 @@
 //! The requests of the commands, from words that their parser accepted.
-ghost use Rattle.std.specs.Prelude.{[], ◌<◌, ◌≤◌, ◌≡◌, ◌≢◌, ◌⊎◌, IfErr, IfOk, IfSome, None, OnErr, false};
+ghost use Rattle.std.specs.Prelude.{[], ◌<◌, ◌≤◌, ◌≡◌, ◌≢◌, ◌⊎◌, Err, IfErr, IfOk, IfSome, None, OnErr, false};
 ghost use Rattle.std.specs.Prelude.{Some, codes, length, not, option_map, unwrap_or};
-ghost use Rattle.clap.specs.Matches.{first_value, found_of};
+ghost use Rattle.clap.specs.Matches.{first_value, found_of, one_text};
 ghost use Rattle.container_core.specs.Shape.{IsShape, IsShort, size_of};
 ghost use Rattle.gate_core.specs.Window.{usual};
-ghost use Rattle.command_line.specs.Asked.{file_asked, shape_asked};
-ghost use Rattle.command_line.specs.Given.{IsFlag, IsForMany, number_given};
+ghost use Rattle.command_line.specs.Asked.{IsOfOpening, file_asked, shape_asked};
+ghost use Rattle.command_line.specs.Given.{IsFlag, IsForMany, IsWithin, number_given};
 
 use crate::fault::UsageFault;
 use crate::given::{
@@ -295,6 +295,13 @@ pub fn open_request<'m, 'a>(
         → IfSome (first_value (found_of matches.now) (codes "to")) (λ to. (to ≡ []) ⊎ (to ≡ codes "-")) }
     ensures others { result ≡ Err UsageFault.ToAndOthers → IsForMany matches.now }
     ensures others_to { result ≡ Err UsageFault.ToAndOthers → first_value (found_of matches.now) (codes "to") ≢ None }
+    ensures missing { result ≡ Err UsageFault.Missing → first_value (found_of matches.now) (codes "key") ≡ None }
+    ensures no_files { result ≡ Err UsageFault.NoFiles → files.now ≡ [] }
+    ensures range { result ≡ Err UsageFault.OutOfRange
+        → IsWithin 1 MAX_WORKERS (one_text (found_of matches.now) (codes "workers"))
+        → IsWithin 0 MAX_OPENED (one_text (found_of matches.now) (codes "max-bytes")) → ⊥ }
+    // Each of these has a clause that says when it comes. So where none of them can, the request is given.
+    ensures fault { IfErr result IsOfOpening }
 {
     let Some(key) = matches.get_str("key") else {
         return Err(UsageFault::Missing);
