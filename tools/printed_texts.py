@@ -38,7 +38,7 @@ NEVER = (
     ("seal pipe unpipe verify", "UsageFault", "ToForMany ToAndOthers ToNoFile InputNeedsName", "there is no --to"),
     ("seal pipe open verify", "UsageFault", "NoSpoolFolder", "there is no spool"),
     ("seal pipe unpipe", "UsageFault", "InputTwice", "- is the name of a file, or there is no list of FILEs"),
-    ("open", "UsageFault", "InputTwice", "- needs --to, which excludes --files-from"),
+    ("open", "UsageFault", "InputTwice", "- needs --to, which takes one file and excludes --files-from"),
     ("seal open verify", "UsageFault", "Terminal", "nothing but lines goes to standard output"),
     ("pipe unpipe", "UsageFault", "NoFiles EmptyName ListNoText CannotReadList", "there is no list of FILEs"),
     ("seal pipe", "ReserveFault", "ZeroCount", "a run without FILEs ended before"),

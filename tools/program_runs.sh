@@ -1873,10 +1873,14 @@ run verify --key "$key" --label none files/more.stm - files/more.stm < files/num
 wants verify-input-of-another-label 1 'failed files/more.stm: another label
 failed -: another label
 failed files/more.stm: another label' ''
-run verify --key "$key" - files/more.stm - < files/numbers.stm
-wants verify-input-twice 1 'good - bytes 1492
-good files/more.stm bytes 348894
-failed -: cannot open' ''
+for words in '- -' '- files/more.stm -' '--files-from files/twice' '--files-from files/once -'; do
+    printf '%s\n' - ./- - > files/twice
+    echo - > files/once
+    # shellcheck disable=SC2086
+    run verify --key none $words < files/numbers.stm
+    wants "verify-input-twice $words" 2 '' 'usage: standard input can be read only once'
+done
+rm files/twice files/once
 head -c -1 files/more.stm > files/wrong
 for input in files/wrong -; do
     run open --key "$key" --to files/named "$input" < files/wrong

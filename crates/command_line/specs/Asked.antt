@@ -1,10 +1,11 @@
 -- What the options of the command line ask for.
-use Rattle.std.specs.Prelude.{ℕ, List, [], Option, Some, None, codes, bytes_eq, if◌then◌else◌}
+use Rattle.std.specs.Prelude.{◌+◌, ℕ, List, [], Option, Some, None, codes, bytes_eq, count_by, if◌then◌else◌}
 use Rattle.std.specs.Bool.{⊤}
+use Rattle.std.specs.Borrow.{Bor}
 use Rattle.container_core.specs.Shape.{ShapeView, one, two}
 use Rattle.command_line.specs.declared.fault.UsageFault.{UsageFault}
 use Rattle.command_line.specs.declared.fault.UsageFault.TheVariants.{Missing, NoFiles, ToAndOthers, ToForMany, ToNoFile}
-use Rattle.command_line.specs.declared.fault.UsageFault.TheVariants.{OutOfRange, LabelTooLong}
+use Rattle.command_line.specs.declared.fault.UsageFault.TheVariants.{OutOfRange, LabelTooLong, InputNeedsName, InputTwice}
 
 -- the shape of the containers to write, from the exponent and the label given: version 1 without both; else version 2,
 -- where a missing exponent is 16 and a missing label is empty
@@ -13,6 +14,15 @@ shape_asked None None = one
 shape_asked (Some exponent) None = two exponent []
 shape_asked None (Some label) = two 16 label
 shape_asked (Some exponent) (Some label) = two exponent label
+
+-- how many of these files are `-`, which is standard input
+abbrev pub dashes : List (Bor (List ℕ)) → ℕ
+dashes files = count_by (λ file. bytes_eq file.now (codes "-")) files
+
+-- how often standard input is read: once for the list of names, if that is `-`, and once for each such file
+abbrev pub inputs_asked : Option (List ℕ) → List (Bor (List ℕ)) → ℕ
+inputs_asked None files = dashes files
+inputs_asked (Some list) files = (if bytes_eq list (codes "-") then 1 else 0) + dashes files
 
 -- the file to open, if it isn't standard input: the FILE that was given, unless that is `-`
 abbrev pub file_asked : Option (List ℕ) → Option (List ℕ)
@@ -28,4 +38,6 @@ IsOfOpening ToForMany = ⊤
 IsOfOpening ToNoFile = ⊤
 IsOfOpening OutOfRange = ⊤
 IsOfOpening LabelTooLong = ⊤
+IsOfOpening InputNeedsName = ⊤
+IsOfOpening InputTwice = ⊤
 IsOfOpening _ = ⊥

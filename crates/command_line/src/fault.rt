@@ -22,10 +22,10 @@ pub enum UsageFault {
     /// The name for the output is empty, or `-`, which elsewhere is a stream.
     #[error("--to names no file")]
     ToNoFile,
-    /// Standard input is to be opened, and its output has no name. The program reports it; no request does.
+    /// Standard input is to be opened, and its output has no name.
     #[error("- needs --to")]
     InputNeedsName,
-    /// Standard input is to be the list, and a file too. The program reports it; no request does.
+    /// Standard input is to be two files, or a file and the list.
     #[error("standard input can be read only once")]
     InputTwice,
     /// The folder for the spool of standard input isn't there. The program reports it; no request does.

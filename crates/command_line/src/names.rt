@@ -1,10 +1,11 @@
 //! The names of the files of a command: those of the command line, and those of a list. A list is a text with a name on
 //! each line, or with a byte 0 after each name.
 ghost use Rattle.std.specs.Prelude.{◌≡◌, ◌≢◌, ◌<◌, ◌++◌, ◌∷◌, ℕ, List, [], IfOk};
-ghost use Rattle.std.specs.Prelude.{IfSome, None, Some, bytes_eq, codes, length, map};
+ghost use Rattle.std.specs.Prelude.{IfSome, None, Some, codes, length, map};
 ghost use Rattle.std.specs.Prelude.{option_map, true, false};
 ghost use Rattle.clap.specs.Matches.{first_value, found_of, one_text};
-ghost use Rattle.std.specs.List.{All, list_any};
+ghost use Rattle.std.specs.List.{All};
+ghost use Rattle.command_line.specs.Asked.{dashes};
 ghost use Rattle.command_line.specs.Names.{IsListOf, IsListed};
 
 use crate::fault::UsageFault;
@@ -103,11 +104,11 @@ pub fn names_in(alloc: Global, text: &str, separator: char) -> Result<Vec<&str>,
     }
 }
 
-/// Returns whether one of these names is `-`: standard input.
-pub fn reads_input(files: &[&str]) -> bool
-    ensures { result ≡ list_any (λ name. bytes_eq name.now (codes "-")) files.now }
+/// Returns how many of these names are `-`: standard input.
+pub(crate) fn inputs_in(files: &[&str]) -> usize
+    ensures { result ≡ dashes files.now }
 {
-    files.iter().any(|name| *name == "-")
+    files.iter().filter(|name| **name == "-").count()
 }
 
 // The text before the first separator, and the text after it.

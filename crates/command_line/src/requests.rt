@@ -1,10 +1,10 @@
 //! The requests of the commands, from words that their parser accepted.
-ghost use Rattle.std.specs.Prelude.{[], ◌<◌, ◌≤◌, ◌≡◌, ◌≢◌, ◌⊎◌, Err, IfErr, IfOk, IfSome, None, OnErr, false};
+ghost use Rattle.std.specs.Prelude.{[], ◌<◌, ◌≤◌, ◌≡◌, ◌≢◌, ◌⊎◌, Err, IfErr, IfOk, IfSome, None, OnErr, OnOk, false};
 ghost use Rattle.std.specs.Prelude.{Some, codes, length, not, option_map, unwrap_or};
 ghost use Rattle.clap.specs.Matches.{first_value, found_of, one_text};
 ghost use Rattle.container_core.specs.Shape.{IsShape, IsShort, size_of};
 ghost use Rattle.gate_core.specs.Window.{usual};
-ghost use Rattle.command_line.specs.Asked.{IsOfOpening, file_asked, shape_asked};
+ghost use Rattle.command_line.specs.Asked.{IsOfOpening, dashes, file_asked, inputs_asked, shape_asked};
 ghost use Rattle.command_line.specs.Given.{IsFlag, IsForMany, IsWithin, number_given};
 
 use crate::fault::UsageFault;
@@ -12,6 +12,7 @@ use crate::given::{
     DEFAULT_DEPTH, DEFAULT_LANES, DEFAULT_MAX_BYTES, DEFAULT_MAX_CHUNKS, DEFAULT_WORKERS,
     open_numbers, pipe_numbers, seal_numbers,
 };
+use crate::names::inputs_in;
 use clap::ArgMatches;
 use container_core::{MAX_EXPONENT, MAX_LABEL, MAX_OPENED, MAX_PLAIN, MIN_EXPONENT, Shape};
 use gate_core::{MAX_DEPTH, MAX_LANES, MAX_WINDOW, MAX_WORKERS, usual_window};
@@ -232,6 +233,15 @@ pub fn pipe_request<'a>(matches: &ArgMatches<'a>) -> Result<PipeRequest<'a>, Usa
     })
 }
 
+/// What becomes of the plaintext of containers.
+#[derive(Clone, Copy, PartialEq, Eq, Debug)]
+pub enum Reading {
+    /// It is written, by `open`.
+    Open,
+    /// Nothing: `verify` only checks the containers.
+    Verify,
+}
+
 /// A request of `open` or `verify`.
 #[derive(Clone, Copy)]
 pub struct OpenRequest<'m, 'a> {
@@ -256,10 +266,15 @@ pub struct OpenRequest<'m, 'a> {
     pub private: bool,
 }
 
-/// Returns the request of `open` or `verify` for these files. Errors, in this order: `NoFiles` if there are none,
-/// `ToAndOthers` if the output's name and an option for several files are given, `ToForMany` if the output's name and
-/// several files are, `ToNoFile` if that name is empty or `-`, `LabelTooLong` if the label has more than 255 bytes: no container has it.
+/// Returns the request of `open` or `verify` for these files. Errors, in this order:
+/// - `NoFiles` if there are none;
+/// - `ToAndOthers` if the output's name and an option for several files are given, `ToForMany` if the output's name and
+///   several files are, `ToNoFile` if that name is empty or `-`;
+/// - `LabelTooLong` if the label has more than 255 bytes: no container has it;
+/// - `InputNeedsName` if `open` is to read standard input and its output has no name, `InputTwice` if standard input is
+///   to be read more than once.
 pub fn open_request<'m, 'a>(
+    reading: Reading,
     matches: &ArgMatches<'a>,
     files: &'m [&'m str],
 ) -> Result<OpenRequest<'m, 'a>, UsageFault>
@@ -295,6 +310,16 @@ pub fn open_request<'m, 'a>(
         → IfSome (first_value (found_of matches.now) (codes "to")) (λ to. (to ≡ []) ⊎ (to ≡ codes "-")) }
     ensures others { result ≡ Err UsageFault.ToAndOthers → IsForMany matches.now }
     ensures others_to { result ≡ Err UsageFault.ToAndOthers → first_value (found_of matches.now) (codes "to") ≢ None }
+    ensures named_input { IfOk result (λ request. reading ≡ Reading.Open → request.to ≡ None
+        → dashes files.now ≡ 0) }
+    ensures once { OnOk result (inputs_asked (first_value (found_of matches.now) (codes "files-from")) files.now ≤ 1) }
+    ensures input { result ≡ Err UsageFault.InputNeedsName
+        → 0 < dashes files.now }
+    ensures opens { result ≡ Err UsageFault.InputNeedsName → reading ≡ Reading.Open }
+    ensures without_to { result ≡ Err UsageFault.InputNeedsName
+        → first_value (found_of matches.now) (codes "to") ≡ None }
+    ensures twice { result ≡ Err UsageFault.InputTwice
+        → 1 < inputs_asked (first_value (found_of matches.now) (codes "files-from")) files.now }
     ensures missing { result ≡ Err UsageFault.Missing → first_value (found_of matches.now) (codes "key") ≡ None }
     ensures no_files { result ≡ Err UsageFault.NoFiles → files.now ≡ [] }
     ensures range { result ≡ Err UsageFault.OutOfRange
@@ -331,6 +356,10 @@ pub fn open_request<'m, 'a>(
         Ok(label) => label,
         Err(fault) => return Err(fault),
     };
+    match check_input(reading, matches.get_str("files-from"), files, to.is_some()) {
+        Ok(()) => {}
+        Err(fault) => return Err(fault),
+    }
     Ok(OpenRequest {
         key,
         files,
@@ -344,6 +373,37 @@ pub fn open_request<'m, 'a>(
         sync: matches.get_flag("sync"),
         private: matches.get_flag("private"),
     })
+}
+
+// Checks that standard input, if `open` reads it, has a name for its output, and that it is read at most once.
+fn check_input(
+    reading: Reading,
+    list: Option<&str>,
+    files: &[&str],
+    is_named: bool,
+) -> Result<(), UsageFault>
+    ensures named { OnOk result (reading ≡ Reading.Open → is_named ≡ false
+        → dashes files.now ≡ 0) }
+    ensures once { OnOk result (inputs_asked (option_map (λ list. list.now) list.entry) files.now ≤ 1) }
+    ensures unnamed { result ≡ Err UsageFault.InputNeedsName → (reading ≡ Reading.Open) × (is_named ≡ false)
+        × (0 < dashes files.now) }
+    ensures twice { result ≡ Err UsageFault.InputTwice → 1 < inputs_asked (option_map (λ list. list.now) list.entry) files.now }
+    ensures fault { IfErr result (λ fault. (fault ≡ UsageFault.InputNeedsName) ⊎ (fault ≡ UsageFault.InputTwice)) }
+{
+    let inputs = inputs_in(files);
+    if inputs == 0 {
+        return Ok(());
+    }
+    if reading == Reading::Open && !is_named {
+        return Err(UsageFault::InputNeedsName);
+    }
+    if inputs > 1 {
+        return Err(UsageFault::InputTwice);
+    }
+    match list {
+        Some("-") => Err(UsageFault::InputTwice),
+        _ => Ok(()),
+    }
 }
 
 /// A request of `unpipe`.

@@ -25,11 +25,11 @@ mod unpiping;
 
 use crate::files::{about_list, names_of, read_list};
 use crate::ledger::tell_ledger;
-use crate::opening::{Reading, open};
+use crate::opening::open;
 use crate::sealing::{pipe, seal};
 use crate::unpiping::unpipe;
 use clap::{ArgMatches, Error};
-use command_line::{asks_for_processors, command, verbose_asked, write_out};
+use command_line::{Reading, asks_for_processors, command, verbose_asked, write_out};
 use ledger_core::{FromRead, ToWrite};
 use sealer_core::run_audit;
 use std::alloc::Global;

@@ -7,7 +7,7 @@ use crate::files::{clear, key_at, outs_of, progress_of, streams_of};
 use crate::kept::worked_of;
 use crate::{OverFiles, Streams, complain};
 use clap::ArgMatches;
-use command_line::{OpenRequest, UsageFault, list_request, open_request, reads_input};
+use command_line::{OpenRequest, Reading, open_request};
 use container_core::{Key, MAX_OPENED};
 use sealer_core::{
     Folder, MAX_WORKERS, OpenOptions, OpeningFolder, Outs, Report, open_all, verify_all,
@@ -15,16 +15,7 @@ use sealer_core::{
 use std::io::{Read, Write};
 use std::rt::{Clock, Files};
 use std::thread::Threads;
-use system_files::{Makes, STREAM, SystemFiles};
-
-/// What becomes of the plaintext of containers.
-#[derive(Clone, Copy)]
-pub(crate) enum Reading {
-    /// It is written.
-    Open,
-    /// Nothing: the containers are only checked.
-    Verify,
-}
+use system_files::{Makes, SystemFiles};
 
 /// Opens or verifies the files of these names, of which `-` is the input. Returns the status, with the streams.
 pub(crate) fn open<
@@ -43,14 +34,10 @@ pub(crate) fn open<
     ensures status { IsStatusOver (IsOfCommand (OverFiles.Read reading) matches.now) matches.now result.0
         (map (λ name. name.now) names.now) (O.contents streams.output.0) (O.contents result.1.output.0) }
 {
-    let request = match open_request(matches, names) {
+    let request = match open_request(reading, matches, names) {
         Ok(request) => request,
         Err(fault) => return (complain(rt, "usage", fault), streams),
     };
-    match check_input(reading, matches, &request) {
-        Ok(()) => {}
-        Err(fault) => return (complain(rt, "usage", fault), streams),
-    }
     let mut streams = streams;
     let (skip, into) = (request.skip, request.into);
     let files = match worked_of(rt, Makes::Plaintext, skip, into, names, &mut streams.output) {
@@ -74,24 +61,6 @@ pub(crate) fn open<
     let (input, into) = (Some(input), request.into);
     let folder = SystemFiles::new(rt, input, into, sync, private, progress.as_ref());
     open_to(rt, reading, &request, folder, streams)
-}
-
-// Standard input has no name for a plaintext, and can be read only once.
-fn check_input(
-    reading: Reading,
-    matches: &ArgMatches<'_>,
-    request: &OpenRequest<'_, '_>,
-) -> Result<(), UsageFault> {
-    if !reads_input(request.files) {
-        return Ok(());
-    }
-    if matches!(reading, Reading::Open) && request.to.is_none() {
-        return Err(UsageFault::InputNeedsName);
-    }
-    match list_request(matches) {
-        Some(list) if list.path == STREAM => Err(UsageFault::InputTwice),
-        _ => Ok(()),
-    }
 }
 
 // Opens or verifies what is asked for, with the outputs in this folder.
