@@ -24,11 +24,6 @@ abbrev pub inputs_asked : Option (List ℕ) → List (Bor (List ℕ)) → ℕ
 inputs_asked None files = dashes files
 inputs_asked (Some list) files = (if bytes_eq list (codes "-") then 1 else 0) + dashes files
 
--- the file to open, if it isn't standard input: the FILE that was given, unless that is `-`
-abbrev pub file_asked : Option (List ℕ) → Option (List ℕ)
-file_asked None = None
-file_asked (Some file) = if bytes_eq file (codes "-") then None else Some file
-
 -- a fault of usage that a request of `open` or `verify` can have
 abbrev pub IsOfOpening : UsageFault → Type 0
 IsOfOpening Missing = ⊤

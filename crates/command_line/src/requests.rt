@@ -4,7 +4,7 @@ ghost use Rattle.std.specs.Prelude.{Some, codes, length, not, option_map, unwrap
 ghost use Rattle.clap.specs.Matches.{first_value, found_of, one_text};
 ghost use Rattle.container_core.specs.Shape.{IsShape, IsShort, size_of};
 ghost use Rattle.gate_core.specs.Window.{usual};
-ghost use Rattle.command_line.specs.Asked.{IsOfOpening, dashes, file_asked, inputs_asked, shape_asked};
+ghost use Rattle.command_line.specs.Asked.{IsOfOpening, dashes, inputs_asked, shape_asked};
 ghost use Rattle.command_line.specs.Given.{IsFlag, IsForMany, IsWithin, number_given};
 
 use crate::fault::UsageFault;
@@ -410,8 +410,8 @@ fn check_input(
 #[derive(Clone, Copy)]
 pub struct UnpipeRequest<'a> {
     pub key: &'a str,
-    /// The sealed file, or `None` for standard input.
-    pub file: Option<&'a str>,
+    /// The sealed file, or `-` for standard input.
+    pub file: &'a str,
     pub workers: u32,
     /// The most plaintext bytes.
     pub max_bytes: u64,
@@ -427,8 +427,8 @@ pub struct UnpipeRequest<'a> {
 /// has more than 255 bytes: no container has it.
 pub fn unpipe_request<'a>(matches: &ArgMatches<'a>) -> Result<UnpipeRequest<'a>, UsageFault>
     ensures key { IfOk result (λ request. Some request.key.now ≡ first_value (found_of matches.now) (codes "key")) }
-    ensures file { IfOk result (λ request. option_map (λ file. file.now) request.file
-        ≡ file_asked (first_value (found_of matches.now) (codes "FILE"))) }
+    ensures file { IfOk result (λ request. request.file.now
+        ≡ unwrap_or (first_value (found_of matches.now) (codes "FILE")) (codes "-")) }
     ensures workers { IfOk result (λ request. (0 < request.workers) × (request.workers ≤ MAX_WORKERS)) }
     ensures workers_given { IfOk result (λ request. request.workers
         ≡ unwrap_or (number_given matches.now (codes "workers")) DEFAULT_WORKERS) }
@@ -458,23 +458,13 @@ pub fn unpipe_request<'a>(matches: &ArgMatches<'a>) -> Result<UnpipeRequest<'a>,
     let to_terminal = matches.get_flag("force-terminal");
     Ok(UnpipeRequest {
         key,
-        file: file_of(matches.get_str("FILE")),
+        file: matches.get_str("FILE").unwrap_or("-"),
         workers: numbers.workers,
         max_bytes: numbers.max_bytes,
         label,
         spool: matches.get_str("spool"),
         to_terminal,
     })
-}
-
-// The file to open, if it isn't standard input.
-fn file_of(given: Option<&str>) -> Option<&str>
-    ensures { option_map (λ file. file.now) result ≡ file_asked (option_map (λ file. file.now) given.entry) }
-{
-    match given {
-        Some("-") => None,
-        other => other,
-    }
 }
 
 // The shape of the containers to write, from the options given.

@@ -12,7 +12,6 @@ ghost use Rattle.journal_core.specs.declared.verdict.Verdict.{Verdict};
 ghost use Rattle.ledger_core.specs.Verdict.{IsVerdict, verdict_text};
 ghost use Rattle.engine_core.specs.Status.{status_of};
 ghost use Rattle.clap.specs.declared.parser.matches.ArgMatches.{ArgMatches};
-ghost use Rattle.command_line.specs.Asked.{file_asked};
 ghost use Rattle.command_core.specs.Unpiping.{IsOfUnpiping};
 ghost use Rattle.sealer.specs.Status.{AreAsked, IsOfCommand, IsOfPiping, IsStatusOf, IsStatusOfRun};
 
@@ -207,7 +206,7 @@ fn run<
     ensures back { subcommand_name_of matches.now ≡ Some (codes "unpipe") → (asked : ArgMatches)
         × AreAsked matches.now asked × IsStatusOf
         (λ name. IsOfUnpiping (O.contents streams.output.0) (O.contents result.1.output.0)) result.0
-        (unwrap_or (file_asked (first_value (found_of asked) (codes "FILE"))) (codes "-") ∷ [])
+        (unwrap_or (first_value (found_of asked) (codes "FILE")) (codes "-") ∷ [])
         (E.contents streams.errors.0) (E.contents result.1.errors.0) }
     ensures verdict { subcommand_name_of matches.now ≡ Some (codes "audit")
         → (result.0 ≡ FAULT) ⊎ ((verdict : Verdict) × (result.0 ≡ status_of verdict)

@@ -4,7 +4,6 @@ ghost use Rattle.clap.specs.Matches.{first_value, found_of};
 ghost use Rattle.command_core.specs.declared.line.FileOutcome.{FileOutcome};
 ghost use Rattle.command_core.specs.Unpiping.{HasUnpiped, IsOfUnpiping};
 ghost use Rattle.command_core.specs.Work.{AreTold};
-ghost use Rattle.command_line.specs.Asked.{file_asked};
 ghost use Rattle.sealer.specs.Status.{IsStatusOf};
 
 use crate::files::{clear, key_at, progress_of};
@@ -29,7 +28,7 @@ pub(crate) fn unpipe<
 >(rt: &R, matches: &ArgMatches<'_>, input: I, streams: Streams<O, E>) -> (u8, Streams<O, E>)
     ensures status { IsStatusOf
         (λ name. IsOfUnpiping (O.contents streams.output.0) (O.contents result.1.output.0)) result.0
-        (unwrap_or (file_asked (first_value (found_of matches.now) (codes "FILE"))) (codes "-") ∷ [])
+        (unwrap_or (first_value (found_of matches.now) (codes "FILE")) (codes "-") ∷ [])
         (E.contents streams.errors.0) (E.contents result.1.errors.0) }
 {
     let request = match unpipe_request(matches) {
@@ -39,17 +38,13 @@ pub(crate) fn unpipe<
     if streams.terminals.output && !request.to_terminal {
         return (complain(rt, "usage", UsageFault::Terminal), streams);
     }
-    let name = match request.file {
-        Some(file) => file,
-        None => STREAM,
-    };
     let Ok(spool) = spool_folder(rt, request.spool) else {
         return (complain(rt, "usage", UsageFault::OutOfMemory), streams);
     };
-    if request.file.is_none() && !is_folder(rt, spool.as_str()) {
+    if request.file == STREAM && !is_folder(rt, spool.as_str()) {
         return (complain(rt, "usage", UsageFault::NoSpoolFolder), streams);
     }
-    unpipe_to(rt, matches, &request, name, spool.as_str(), input, streams)
+    unpipe_to(rt, matches, &request, spool.as_str(), input, streams)
 }
 
 // The progress line, if one is asked for. The file is read twice.
@@ -73,7 +68,6 @@ fn unpipe_to<
     rt: &'r R,
     matches: &ArgMatches<'_>,
     request: &UnpipeRequest<'_>,
-    name: &str,
     spool: &'r str,
     input: I,
     streams: Streams<O, E>,
@@ -81,9 +75,10 @@ fn unpipe_to<
     requires workers { (0 < request.now.workers) × (request.now.workers ≤ MAX_WORKERS) }
     requires max_bytes { request.now.max_bytes ≤ MAX_OPENED }
     ensures status { IsStatusOf
-        (λ name. IsOfUnpiping (O.contents streams.output.0) (O.contents result.1.output.0)) result.0 (name.now ∷ [])
-        (E.contents streams.errors.0) (E.contents result.1.errors.0) }
+        (λ name. IsOfUnpiping (O.contents streams.output.0) (O.contents result.1.output.0)) result.0
+        (request.now.file.now ∷ []) (E.contents streams.errors.0) (E.contents result.1.errors.0) }
 {
+    let name = request.file;
     let key = match key_at(rt, request.key, streams.terminals.causes) {
         Ok(key) => key,
         Err(status) => return (status, streams),
