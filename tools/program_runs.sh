@@ -1949,6 +1949,11 @@ sealed files/long file 2 bytes 16773097' ''
 is spool-sealed-lengths test "$(stat -c %s files/fits.stm files/long.stm | tr '\n' ' ')" = '16777216 16777217 '
 unpiped --spool files/spool < <(cat files/fits.stm)
 unpipes spool-is-not-needed 'opened - bytes 16773096' files/fits
+# Its second reading counts in the progress line too: a slow reader sees more there than the 16 MiB of the first.
+"$sealer" unpipe --key "$key" --spool files/spool --progress=always < <(cat files/fits.stm) 2> err |
+    { for _ in 1 2 3 4; do head -c 4194304; sleep 0.3; done; cat; } > files/plain
+is progress-of-a-spool cmp -s files/plain files/fits
+is progress-of-both-readings grep -qE ', (1[7-9]|2[0-9]|3[0-2]) MiB, ' <(tr '\r' '\n' < err)
 for folder in none '' files/long; do
     unpiped "--spool=$folder" < <(cat files/fits.stm)
     wants "spool '$folder'" 2 '' 'usage: the folder of the spool is missing'

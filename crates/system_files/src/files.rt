@@ -112,13 +112,17 @@ impl<'p, 'r, R: Files + AllocGlobal + Clock + Eprint, I: Read + Drop> SystemFile
     }
 
     // What reads this input.
-    fn reader_of(&self, input: FileInput<'p, 'r, R, I>) -> SystemReader<'p, 'r, R, I> {
-        match self.spool {
+    fn reader_of(&self, input: FileInput<R, I>) -> SystemReader<'p, 'r, R, I> {
+        let reader = match self.spool {
             Some(folder) if !input.can_repeat => {
                 let spool = FileSpool::new(self.rt, folder);
-                OneOf(Either::Right(Spooled::of(input, spool)))
+                Either::Right(Spooled::of(input, spool))
             }
-            _ => OneOf(Either::Left(input)),
+            _ => Either::Left(input),
+        };
+        OneOf {
+            reader,
+            progress: self.progress,
         }
     }
 
@@ -230,10 +234,13 @@ pub fn open_unbuffered<R: Files>(rt: &R, name: &str) -> Result<R::File, FolderFa
     }
 }
 
-/// What reads a file of the system: the file, or what was kept of it.
+/// What reads a file of the system: the file, or what was kept of it. Its bytes count in the progress line.
 pub type SystemReader<'p, 'r, R, I> = OneOf<
-    FileInput<'p, 'r, R, I>,
-    Spooled<FileInput<'p, 'r, R, I>, FileSpool<'r, R>, Brand>,
+    'p,
+    'r,
+    R,
+    FileInput<R, I>,
+    Spooled<FileInput<R, I>, FileSpool<'r, R>, Brand>,
 >;
 
 impl<'p, 'r, R: Files + AllocGlobal + Clock + Eprint, I: Read + Drop> Folder
@@ -249,7 +256,7 @@ impl<'p, 'r, R: Files + AllocGlobal + Clock + Eprint, I: Read + Drop> Folder
                 return Err(FolderFault::Failed);
             }
             return match self.input.take() {
-                Some(input) => Ok(self.reader_of(FileInput::of_input(input, self.progress))),
+                Some(input) => Ok(self.reader_of(FileInput::of_input(input))),
                 None => Err(FolderFault::Failed),
             };
         }
@@ -260,21 +267,21 @@ impl<'p, 'r, R: Files + AllocGlobal + Clock + Eprint, I: Read + Drop> Folder
         if self.is_own(opened.id) {
             return Err(FolderFault::Failed);
         }
-        match FileInput::of_file(self.rt, opened, self.progress) {
+        match FileInput::of_file(self.rt.alloc(), opened) {
             Ok(input) => Ok(self.reader_of(input)),
             Err(fault) => Err(fault),
         }
     }
 
     fn can_repeat(&self, reader: &Self::Reader) -> bool {
-        match &reader.0 {
+        match &reader.reader {
             Either::Left(input) => input.can_repeat,
             Either::Right(_) => true,
         }
     }
 
     fn again(&mut self, _name: &str, reader: &mut Self::Reader) -> Result<(), Failed> {
-        match &mut reader.0 {
+        match &mut reader.reader {
             Either::Left(input) => input.again(),
             Either::Right(spooled) => spooled.again(),
         }

@@ -1,15 +1,16 @@
-//! Opened files and standard input, as commands read them: counted in the progress line, and a file with a buffer.
+//! Opened files and standard input, as commands read them, a file with a buffer.
 ghost use Rattle.std.specs.Prelude.{◌≡◌, ◌≢◌, Err, IfOk, IsErr, false};
 ghost use Rattle.std.specs.Io.Buffered.{reader_remaining};
 ghost use Rattle.either.specs.Either.{either};
 ghost use Rattle.system_files.specs.Inputs.{left_unless};
 
 use crate::own::FileId;
-use crate::progress::{Counted, Progress};
+use crate::progress::Progress;
 use command_core::FolderFault;
 use either::Either;
 use folder_core::FileReader;
 use io_core::{Failed, FromRead, Source};
+use std::alloc::Global;
 use std::fs::{File, OpenFile};
 use std::io::{BufReader, Read, Seek, SeekFrom};
 use std::rt::{Clock, Files};
@@ -48,21 +49,20 @@ pub(crate) fn open_known<R: Files>(rt: &R, name: &str) -> Result<Opened<R::File>
 /// What reads an opened file, or standard input. Nothing is promised of a second reading: another program can change
 /// the file.
 #[derive(Drop)]
-pub struct FileInput<'p, 'r, R: Files + AllocGlobal + Clock + Eprint, I: Read + Drop> {
+pub struct FileInput<R: Files, I: Read + Drop> {
     /// Whether it can be read again: it is a regular file, and its first byte can be sought.
     pub can_repeat: bool,
     // Whether it went back to its first byte.
     is_again: bool,
-    reader: FromRead<Counted<'p, 'r, R, Either<BufReader<R::File>, I>>>,
+    reader: FromRead<Either<BufReader<R::File>, I>>,
 }
 
-impl<'p, 'r, R: Files + AllocGlobal + Clock + Eprint, I: Read + Drop> FileInput<'p, 'r, R, I> {
-    /// Reads this file, and counts its bytes in `progress`, if there is one. Fails if memory is refused.
+impl<R: Files, I: Read + Drop> FileInput<R, I> {
+    /// Reads this file. Fails if memory is refused.
     pub(crate) fn of_file(
-        rt: &'r R,
+        alloc: Global,
         opened: Opened<R::File>,
-        progress: Option<&'p Progress<'r, R>>,
-    ) -> Result<FileInput<'p, 'r, R, I>, FolderFault>
+    ) -> Result<FileInput<R, I>, FolderFault>
         ensures other { opened.is_regular ≡ false → IfOk result (λ input. input.can_repeat ≡ false) }
         ensures fault { result ≢ Err FolderFault.Exists }
     {
@@ -73,49 +73,39 @@ impl<'p, 'r, R: Files + AllocGlobal + Clock + Eprint, I: Read + Drop> FileInput<
         } = opened;
         let mut file = file;
         let can_repeat = is_regular && file.seek(SeekFrom::Start(0)).is_ok();
-        match BufReader::with_capacity(rt.alloc(), BUFFER, file) {
+        match BufReader::with_capacity(alloc, BUFFER, file) {
             Ok(reader) => Ok(FileInput {
                 can_repeat,
                 is_again: false,
-                reader: FromRead(Counted {
-                    reader: Either::Left(reader),
-                    progress,
-                }),
+                reader: FromRead(Either::Left(reader)),
             }),
             Err(_) => Err(FolderFault::Failed),
         }
     }
 
-    /// Reads standard input, and counts its bytes in `progress`, if there is one.
-    pub(crate) fn of_input(
-        input: I,
-        progress: Option<&'p Progress<'r, R>>,
-    ) -> FileInput<'p, 'r, R, I>
+    /// Reads standard input as a stream.
+    pub(crate) fn of_input(input: I) -> FileInput<R, I>
         ensures once { result.can_repeat ≡ false }
     {
         FileInput {
             can_repeat: false,
             is_again: false,
-            reader: FromRead(Counted {
-                reader: Either::Right(input),
-                progress,
-            }),
+            reader: FromRead(Either::Right(input)),
         }
     }
 }
 
-impl<R: Files + AllocGlobal + Clock + Eprint, I: Read + Drop> Source for FileInput<'_, '_, R, I> {
+impl<R: Files, I: Read + Drop> Source for FileInput<R, I> {
     // It isn't known of a second reading: no contract of std says what is left after a seek.
     ghost left = { λ f. left_unless f.is_again
-        (either (reader_remaining R.File.remaining) I.remaining f.reader.0.reader) };
+        (either (reader_remaining R.File.remaining) I.remaining f.reader.0) };
 
     fn read(&mut self, buffer: &mut [u8]) -> Result<usize, Failed> {
         self.reader.read(buffer)
     }
 }
 
-impl<R: Files + AllocGlobal + Clock + Eprint, I: Read + Drop> FileReader
-    for FileInput<'_, '_, R, I> {
+impl<R: Files, I: Read + Drop> FileReader for FileInput<R, I> {
     fn read_on(&mut self, buffer: &mut [u8]) -> Result<usize, Failed> {
         self.reader.read(buffer)
     }
@@ -128,7 +118,7 @@ impl<R: Files + AllocGlobal + Clock + Eprint, I: Read + Drop> FileReader
             return Err(Failed);
         }
         self.is_again = true;
-        match &mut self.reader.0.reader {
+        match &mut self.reader.0 {
             Either::Left(file) => match file.rewind() {
                 Ok(()) => Ok(()),
                 Err(_) => Err(Failed),
@@ -138,19 +128,26 @@ impl<R: Files + AllocGlobal + Clock + Eprint, I: Read + Drop> FileReader
     }
 }
 
-/// One of two sources.
+/// One of two readers. Its bytes are counted in `progress`, if there is one.
 #[derive(Drop)]
-pub struct OneOf<A: Source + Drop, B: Source + Drop>(pub(crate) Either<A, B>);
+pub struct OneOf<'p, 'r, R: Clock + Eprint, A: Source + Drop, B: Source + Drop> {
+    pub(crate) reader: Either<A, B>,
+    pub(crate) progress: Option<&'p Progress<'r, R>>,
+}
 
-impl<A: Source + Drop, B: Source + Drop> Source for OneOf<A, B> {
-    ghost left = { λ r. either A.left B.left r.0 };
+impl<R: Clock + Eprint, A: Source + Drop, B: Source + Drop> Source for OneOf<'_, '_, R, A, B> {
+    ghost left = { λ one. either A.left B.left one.reader };
 
-    ghost failures = { λ r. either A.failures B.failures r.0 };
+    ghost failures = { λ one. either A.failures B.failures one.reader };
 
     fn read(&mut self, buffer: &mut [u8]) -> Result<usize, Failed> {
-        match &mut self.0 {
-            Either::Left(source) => source.read(buffer),
-            Either::Right(source) => source.read(buffer),
+        let got = match &mut self.reader {
+            Either::Left(reader) => reader.read(buffer),
+            Either::Right(reader) => reader.read(buffer),
+        };
+        if let (Some(progress), Ok(bytes)) = (self.progress, &got) {
+            progress.add(*bytes);
         }
+        got
     }
 }

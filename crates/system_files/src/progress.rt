@@ -8,7 +8,7 @@ ghost use Rattle.std.specs.Prelude.{◌≡◌};
 
 use crate::files::STREAM;
 use std::cell::Cell;
-use std::io::{Read, Write};
+use std::io::Write;
 use std::rt::{Clock, Files};
 use std::time::{Duration, Instant};
 use std::{fs, io};
@@ -169,25 +169,6 @@ fn bytes_of<R: Files>(rt: &R, names: &[&str], readings: u64) -> Option<u64> {
         }
     }
     Some(bytes.saturating_mul(readings))
-}
-
-/// A reader that counts its bytes in `progress`, if there is one.
-#[derive(Drop)]
-pub struct Counted<'p, 'r, R: Clock + Eprint, F: Read + Drop> {
-    pub(crate) reader: F,
-    pub(crate) progress: Option<&'p Progress<'r, R>>,
-}
-
-impl<R: Clock + Eprint, F: Read + Drop> Read for Counted<'_, '_, R, F> {
-    ghost remaining = { λ counted. F.remaining counted.reader };
-
-    fn read(&mut self, buf: &mut [u8]) -> io::Result<usize> {
-        let got = self.reader.read(buf);
-        if let (Some(progress), Ok(bytes)) = (self.progress, &got) {
-            progress.add(*bytes);
-        }
-        got
-    }
 }
 
 /// A stream on which a run prints lines. The progress line is cleared before each of them and drawn again after it.
