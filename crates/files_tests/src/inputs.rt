@@ -5,14 +5,36 @@ use io_core::{Failed, Source, fill};
 use std::io::Read;
 use std::rt::{Clock, Files};
 use std::{fs, io};
-use system_files::{STREAM, SystemFiles};
+use system_files::{FileOptions, STREAM, SystemFiles};
+
+// Files that are to be read again.
+const AGAIN: FileOptions<'static> = FileOptions {
+    into: None,
+    sync: false,
+    private: false,
+    own: None,
+    refuses_output: false,
+    spool: None,
+};
 
 // The files of the system, and this standard input.
 fn files_of<'r, R: Files + AllocGlobal + Clock + Eprint, I: Read + Drop>(
     rt: &'r R,
     input: Option<I>,
 ) -> SystemFiles<'r, 'r, R, I> {
-    SystemFiles::new(rt, input, None, false, false, None)
+    SystemFiles::new(rt, input, None, AGAIN)
+}
+
+// The same, and what can be read only once is kept in a spool.
+fn spooled_files_of<'r, R: Files + AllocGlobal + Clock + Eprint, I: Read + Drop>(
+    rt: &'r R,
+    input: I,
+) -> SystemFiles<'r, 'r, R, I> {
+    let options = FileOptions {
+        spool: Some("/var/tmp"),
+        ..AGAIN
+    };
+    SystemFiles::new(rt, Some(input), None, options)
 }
 
 // Whether a read from here on gives these bytes first.
@@ -134,8 +156,7 @@ fn is_kept_whole_alone<F: Folder>(folder: &mut F, name: &str) -> bool {
 
 // Whether this standard input is kept in a spool.
 fn is_spooled<R: Files + AllocGlobal + Clock + Eprint, I: Read + Drop>(rt: &R, input: I) -> bool {
-    let mut folder = files_of(rt, Some(input));
-    folder.spool_in("/var/tmp");
+    let mut folder = spooled_files_of(rt, input);
     is_kept(&mut folder, STREAM)
 }
 
@@ -144,8 +165,7 @@ fn is_spooled_whole<R: Files + AllocGlobal + Clock + Eprint, I: Read + Drop>(
     rt: &R,
     input: I,
 ) -> bool {
-    let mut folder = files_of(rt, Some(input));
-    folder.spool_in("/var/tmp");
+    let mut folder = spooled_files_of(rt, input);
     is_kept_whole_alone(&mut folder, STREAM)
 }
 

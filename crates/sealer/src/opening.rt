@@ -15,7 +15,7 @@ use sealer_core::{
 use std::io::{Read, Write};
 use std::rt::{Clock, Files};
 use std::thread::Threads;
-use system_files::{Makes, SystemFiles};
+use system_files::{FileOptions, Makes, SystemFiles};
 
 /// Opens or verifies the files of these names, of which `-` is the input. Returns the status, with the streams.
 pub(crate) fn open<
@@ -57,9 +57,15 @@ pub(crate) fn open<
     };
     let (files, terminal) = (request.files, streams.terminals.errors);
     let progress = progress_of(rt, matches, files, readings, terminal);
-    let (sync, private) = (request.sync, request.private);
-    let (input, into) = (Some(input), request.into);
-    let folder = SystemFiles::new(rt, input, into, sync, private, progress.as_ref());
+    let options = FileOptions {
+        into: request.into,
+        sync: request.sync,
+        private: request.private,
+        own: None,
+        refuses_output: false,
+        spool: None,
+    };
+    let folder = SystemFiles::new(rt, Some(input), progress.as_ref(), options);
     open_to(rt, reading, &request, folder, streams)
 }
 

@@ -31,7 +31,9 @@ use std::io::{Read, Write, sink};
 use std::rt::{Clock, Files};
 use std::sync::Wait;
 use std::thread::Threads;
-use system_files::{About, Makes, OwnPaths, StandardInput, Step, SystemFiles, new_journal};
+use system_files::{
+    About, FileOptions, Makes, OwnPaths, StandardInput, Step, SystemFiles, new_journal,
+};
 use system_ledger::{LedgerFault, LedgerPath, close_ledger, may_open, open_ledger};
 
 /// Begins a run that seals: reads the key file, creates the journal, then checks whether the ledger file may be opened.
@@ -103,9 +105,20 @@ pub(crate) fn seal<
         ..request
     };
     let progress = progress_of(rt, matches, request.files, 1, streams.terminals.errors);
-    let (sync, private) = (request.sync, request.private);
-    let into = request.into;
-    let folder = SystemFiles::new(rt, None, into, sync, private, progress.as_ref());
+    let options = FileOptions {
+        into: request.into,
+        sync: request.sync,
+        private: request.private,
+        // Sealing a ledger would make a copy of it.
+        own: Some(OwnPaths {
+            ledger: request.ledger,
+            key: request.key,
+            journal: request.journal,
+        }),
+        refuses_output: false,
+        spool: None,
+    };
+    let folder = SystemFiles::new(rt, None, progress.as_ref(), options);
     seal_to(rt, host, &request, folder, streams)
 }
 
@@ -131,12 +144,6 @@ fn seal_to<
         (O.contents streams.output.0) (O.contents result.1.output.0) }
 {
     let mut folder = folder;
-    // Sealing a ledger would make a copy of it.
-    folder.keep_out(OwnPaths {
-        ledger: request.ledger,
-        key: request.key,
-        journal: request.journal,
-    });
     let progress = folder.progress;
     let terminals = streams.terminals;
     let (key, journal) = match begin(

@@ -16,7 +16,7 @@ use sealer_core::{Folder, MAX_WORKERS, Report, UnpipeOptions, unpipe_all};
 use std::io::{Read, Write};
 use std::rt::{Clock, Env, Files};
 use std::thread::Threads;
-use system_files::{Progress, STREAM, SystemFiles, Told, is_folder, spool_folder};
+use system_files::{FileOptions, Progress, STREAM, SystemFiles, Told, is_folder, spool_folder};
 
 /// Opens one container and writes its plaintext to the output. A terminal is refused as output, unless it was asked
 /// for. Returns the status, with the streams.
@@ -44,32 +44,30 @@ pub(crate) fn unpipe<
     if request.file == STREAM && !is_folder(rt, spool.as_str()) {
         return (complain(rt, "usage", UsageFault::NoSpoolFolder), streams);
     }
-    unpipe_to(rt, matches, &request, spool.as_str(), input, streams)
+    let options = FileOptions {
+        into: None,
+        sync: false,
+        private: false,
+        own: None,
+        refuses_output: true,
+        spool: Some(spool.as_str()),
+    };
+    let (files, terminal) = ([request.file], streams.terminals.errors);
+    let progress = progress_of(rt, matches, &files, 2, terminal);
+    let folder = SystemFiles::new(rt, Some(input), progress.as_ref(), options);
+    unpipe_to(rt, &request, folder, streams)
 }
 
-// The progress line, if one is asked for. The file is read twice.
-fn progress_on<'r, R: Files + Clock + Eprint>(
-    rt: &'r R,
-    matches: &ArgMatches<'_>,
-    name: &str,
-    terminal: bool,
-) -> Option<Progress<'r, R>> {
-    progress_of(rt, matches, &[name], 2, terminal)
-}
-
-// Opens the file of this name. What can be read only once is kept in this folder.
+// Opens the file that is asked for, which is in this folder.
 fn unpipe_to<
-    'r,
     R: Files + AllocGlobal + Clock + Eprint + Threads + Sync,
     I: Read + Drop,
     O: Write + Drop,
     E: Write + Drop,
 >(
-    rt: &'r R,
-    matches: &ArgMatches<'_>,
+    rt: &R,
     request: &UnpipeRequest<'_>,
-    spool: &'r str,
-    input: I,
+    folder: SystemFiles<'_, '_, R, I>,
     streams: Streams<O, E>,
 ) -> (u8, Streams<O, E>)
     requires workers { (0 < request.now.workers) × (request.now.workers ≤ MAX_WORKERS) }
@@ -78,27 +76,24 @@ fn unpipe_to<
         (λ name. IsOfUnpiping (O.contents streams.output.0) (O.contents result.1.output.0)) result.0
         (request.now.file.now ∷ []) (E.contents streams.errors.0) (E.contents result.1.errors.0) }
 {
-    let name = request.file;
+    let mut folder = folder;
+    let progress = folder.progress;
     let key = match key_at(rt, request.key, streams.terminals.causes) {
         Ok(key) => key,
         Err(status) => return (status, streams),
     };
-    let progress = progress_on(rt, matches, name, streams.terminals.errors);
-    let mut folder = SystemFiles::new(rt, Some(input), None, false, false, progress.as_ref());
-    folder.spool_in(spool);
-    folder.keep_out_output();
     let Streams {
         output,
         errors,
         terminals,
     } = streams;
-    let mut errors = told_on(errors, progress.as_ref());
+    let mut errors = told_on(errors, progress);
+    let name = request.file;
     let (status, output) = unpipe_from(rt, &key, request, &mut folder, name, output, &mut errors);
-    clear(progress.as_ref());
-    let ToWrite(errors) = errors;
+    clear(progress);
     let streams = Streams {
         output,
-        errors: ToWrite(errors.writer),
+        errors: ToWrite(errors.0.writer),
         terminals,
     };
     (status, streams)

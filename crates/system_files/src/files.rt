@@ -30,13 +30,33 @@ use thiserror::Error;
 /// The name of standard input.
 pub const STREAM: &str = "-";
 
+/// What a run asks of the files of the system.
+#[derive(Clone, Copy)]
+pub struct FileOptions<'a> {
+    /// The folder into which outputs go, each under the base name of its path. With `None` they go where their path
+    /// says.
+    pub into: Option<&'a str>,
+    /// Whether `finish` syncs an output and its name to the disk.
+    pub sync: bool,
+    /// Whether outputs are created for their owner only.
+    pub private: bool,
+    /// The paths of the run's own files, if it has some: they can't be opened, by any name. They are looked up when the
+    /// first file is opened.
+    pub own: Option<OwnPaths<'a>>,
+    /// Whether the regular file that standard output is can't be opened: a run that appends to its input would damage
+    /// it.
+    pub refuses_output: bool,
+    /// The folder for the file of a spool. It keeps what can be read only once, while that is read, so that it can be
+    /// read again.
+    pub spool: Option<&'a str>,
+}
+
 /// The files of the system, by their paths. A relative path begins at the current directory.
 #[derive(Drop)]
 pub struct SystemFiles<'p, 'r, R: Files + AllocGlobal + Clock + Eprint, I: Read + Drop> {
     /// The runtime that opens them.
     pub rt: &'r R,
-    /// The folder into which outputs go, each under the base name of its path. With `None` they go where their path
-    /// says.
+    /// The folder into which outputs go, if they don't go where their path says.
     pub into: Option<&'r str>,
     /// Whether `finish` syncs an output and its name to the disk.
     pub sync: bool,
@@ -45,14 +65,13 @@ pub struct SystemFiles<'p, 'r, R: Files + AllocGlobal + Clock + Eprint, I: Read 
     /// Counts the bytes read of files. `None` if no progress line was asked for.
     pub progress: Option<&'p Progress<'r, R>>,
     outputs: Outputs,
-    // Whether `-` is standard input, which is taken when it is opened.
+    // Whether `-` is standard input, which is taken when it is opened as a stream.
     has_input: bool,
     input: Option<I>,
-    // The folder of the spool for what can be read only once, if such a file is to be read twice.
     spool: Option<&'r str>,
-    // The regular file that standard output is, if it can't be an input.
+    // The regular file that standard output is, if it can't be opened.
     output: Option<FileId>,
-    // The paths of the run's own files, if it has some. They are looked up when the first file is opened.
+    // The paths of the run's own files, and these files, once they were looked up.
     own_paths: Option<OwnPaths<'r>>,
     own: Option<OwnFiles>,
 }
@@ -62,53 +81,44 @@ impl<'p, 'r, R: Files + AllocGlobal + Clock + Eprint, I: Read + Drop> SystemFile
     pub fn new(
         rt: &'r R,
         input: Option<I>,
-        into: Option<&'r str>,
-        sync: bool,
-        private: bool,
         progress: Option<&'p Progress<'r, R>>,
+        options: FileOptions<'r>,
     ) -> SystemFiles<'p, 'r, R, I>
-        ensures sync { result.sync ≡ sync }
-        ensures private { private ≡ true → result.mode ≡ PRIVATE }
-        ensures shared { private ≡ false → result.mode ≡ SHARED }
+        ensures sync { result.sync ≡ options.entry.sync }
+        ensures private { options.entry.private ≡ true → result.mode ≡ PRIVATE }
+        ensures shared { options.entry.private ≡ false → result.mode ≡ SHARED }
     {
         SystemFiles {
             rt,
-            into,
-            sync,
-            mode: if private { PRIVATE } else { SHARED },
+            into: options.into,
+            sync: options.sync,
+            mode: if options.private { PRIVATE } else { SHARED },
             progress,
             outputs: Outputs::new(rt),
             has_input: input.is_some(),
             input,
-            spool: None,
-            output: None,
-            own_paths: None,
+            spool: options.spool,
+            output: if options.refuses_output {
+                regular_at(rt, STANDARD_OUTPUT)
+            } else {
+                None
+            },
+            own_paths: options.own,
             own: None,
         }
     }
 
-    /// From here on the files at these paths can't be opened, by any name. They are looked up when the first file is
-    /// opened.
-    pub fn keep_out(&mut self, paths: OwnPaths<'r>) {
-        self.own_paths = Some(paths);
-        self.own = None;
-    }
-
-    /// From here on what can be read only once is kept, while it is read, in a spool with its file in this folder. So it
-    /// can be read again.
-    pub fn spool_in(&mut self, folder: &'r str) {
-        self.spool = Some(folder);
-    }
-
-    /// From here on the file that standard output is can't be opened, if it is a regular one: a run that appends to its
-    /// input would damage it.
-    pub fn keep_out_output(&mut self) {
-        self.output = regular_at(self.rt, STANDARD_OUTPUT);
-    }
-
-    // Whether standard input is the regular file that can't be opened.
-    fn is_output_input(&self) -> bool {
-        self.output.is_some() && regular_at(self.rt, STANDARD_INPUT) == self.output
+    // What reads standard input as a stream. It is refused if it is the regular file that can't be opened.
+    fn open_stream(&mut self) -> Result<SystemReader<'p, 'r, R, I>, FolderFault>
+        ensures fault { result ≢ Err FolderFault.Exists }
+    {
+        if self.output.is_some() && regular_at(self.rt, STANDARD_INPUT) == self.output {
+            return Err(FolderFault::Failed);
+        }
+        match self.input.take() {
+            Some(input) => Ok(self.reader_of(FileInput::of_input(input))),
+            None => Err(FolderFault::Failed),
+        }
     }
 
     // What reads this input.
@@ -252,13 +262,7 @@ impl<'p, 'r, R: Files + AllocGlobal + Clock + Eprint, I: Read + Drop> Folder
 
     fn open(&mut self, name: &str) -> Result<Self::Reader, FolderFault> {
         if self.has_input && name == STREAM {
-            if self.is_output_input() {
-                return Err(FolderFault::Failed);
-            }
-            return match self.input.take() {
-                Some(input) => Ok(self.reader_of(FileInput::of_input(input))),
-                None => Err(FolderFault::Failed),
-            };
+            return self.open_stream();
         }
         let opened = match open_known(self.rt, name) {
             Ok(opened) => opened,

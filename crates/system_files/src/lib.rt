@@ -14,7 +14,8 @@ pub mod spool;
 
 pub use crate::cause::{About, Cause, Step, cause_of, is_for_others};
 pub use crate::files::{
-    JournalFault, STREAM, SystemFiles, SystemReader, new_journal, open_unbuffered, stand_ins,
+    FileOptions, JournalFault, STREAM, SystemFiles, SystemReader, new_journal, open_unbuffered,
+    stand_ins,
 };
 pub use crate::input::{FileInput, OneOf};
 pub use crate::kept::{Makes, Split, print_kept, split_names};
