@@ -2023,6 +2023,13 @@ if command -v strace >/dev/null; then
     is no-spool-unneeded test "$status $(folders)" = '0 '
     traced_stream "$sealer" unpipe --key "$key" --spool files/spool files/long.stm
     is no-spool-of-a-file test "$status $(folders)$(grep -c 'lseek([0-9]*<[^>]*/files/long.stm>, 0, SEEK_SET) *= 0' calls)" = '0 2'
+    # `seal` and `verify` read once, and seek nothing
+    cp numbers.plain files/unsought
+    traced_stream "$sealer" seal --key "$key" --ledger files/ledger --device 1 files/unsought
+    is seal-seeks-nothing test "$status $(grep -c 'lseek([0-9]*<[^>]*/files/unsought>' calls)" = '0 0'
+    traced_stream "$sealer" verify --key "$key" files/unsought.stm
+    is verify-seeks-nothing test "$status $(grep -c 'lseek([0-9]*<[^>]*/files/unsought.stm>' calls)" = '0 0'
+    rm files/unsought files/unsought.stm
     # `open` reads a FIFO once, and keeps its plaintext in memory, without a spool
     mkfifo files/once.stm
     timeout 60 cp files/long.stm files/once.stm & TMPDIR=none traced_stream "$sealer" open --key "$key" files/once.stm

@@ -14,6 +14,7 @@ const AGAIN: FileOptions<'static> = FileOptions {
     private: false,
     own: None,
     refuses_output: false,
+    reads_again: true,
     spool: None,
 };
 

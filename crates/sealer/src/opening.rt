@@ -51,10 +51,8 @@ pub(crate) fn open<
         files: files.as_slice(),
         ..request
     };
-    let readings = match reading {
-        Reading::Open => 2,
-        Reading::Verify => 1,
-    };
+    let reads_again = reading == Reading::Open;
+    let readings = if reads_again { 2 } else { 1 };
     let (files, terminal) = (request.files, streams.terminals.errors);
     let progress = progress_of(rt, matches, files, readings, terminal);
     let options = FileOptions {
@@ -63,6 +61,7 @@ pub(crate) fn open<
         private: request.private,
         own: None,
         refuses_output: false,
+        reads_again,
         spool: None,
     };
     let folder = SystemFiles::new(rt, Some(input), progress.as_ref(), options);

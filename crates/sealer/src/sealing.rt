@@ -116,6 +116,7 @@ pub(crate) fn seal<
             journal: request.journal,
         }),
         refuses_output: false,
+        reads_again: false,
         spool: None,
     };
     let folder = SystemFiles::new(rt, None, progress.as_ref(), options);

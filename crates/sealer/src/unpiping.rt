@@ -50,6 +50,7 @@ pub(crate) fn unpipe<
         private: false,
         own: None,
         refuses_output: true,
+        reads_again: true,
         spool: Some(spool.as_str()),
     };
     let (files, terminal) = ([request.file], streams.terminals.errors);

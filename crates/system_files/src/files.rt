@@ -46,6 +46,8 @@ pub struct FileOptions<'a> {
     /// Whether the regular file that standard output is can't be opened: a run that appends to its input would damage
     /// it.
     pub refuses_output: bool,
+    /// Whether files are to be read again.
+    pub reads_again: bool,
     /// The folder for the file of a spool. It keeps what can be read only once, while that is read, so that it can be
     /// read again.
     pub spool: Option<&'a str>,
@@ -68,6 +70,7 @@ pub struct SystemFiles<'p, 'r, R: Files + AllocGlobal + Clock + Eprint, I: Read 
     // Whether `-` is standard input, which is taken when it is opened as a stream.
     has_input: bool,
     input: Option<I>,
+    reads_again: bool,
     spool: Option<&'r str>,
     // The regular file that standard output is, if it can't be opened.
     output: Option<FileId>,
@@ -97,6 +100,7 @@ impl<'p, 'r, R: Files + AllocGlobal + Clock + Eprint, I: Read + Drop> SystemFile
             outputs: Outputs::new(rt),
             has_input: input.is_some(),
             input,
+            reads_again: options.reads_again,
             spool: options.spool,
             output: if options.refuses_output {
                 regular_at(rt, STANDARD_OUTPUT)
@@ -271,7 +275,7 @@ impl<'p, 'r, R: Files + AllocGlobal + Clock + Eprint, I: Read + Drop> Folder
         if self.is_own(opened.id) {
             return Err(FolderFault::Failed);
         }
-        match FileInput::of_file(self.rt.alloc(), opened) {
+        match FileInput::of_file(self.rt.alloc(), opened, self.reads_again) {
             Ok(input) => Ok(self.reader_of(input)),
             Err(fault) => Err(fault),
         }

@@ -58,12 +58,14 @@ pub struct FileInput<R: Files, I: Read + Drop> {
 }
 
 impl<R: Files, I: Read + Drop> FileInput<R, I> {
-    /// Reads this file. Fails if memory is refused.
+    /// Reads this file. Only if `reads_again` it is looked up whether it can be read again. Fails if memory is refused.
     pub(crate) fn of_file(
         alloc: Global,
         opened: Opened<R::File>,
+        reads_again: bool,
     ) -> Result<FileInput<R, I>, FolderFault>
         ensures other { opened.is_regular ≡ false → IfOk result (λ input. input.can_repeat ≡ false) }
+        ensures unasked { reads_again ≡ false → IfOk result (λ input. input.can_repeat ≡ false) }
         ensures fault { result ≢ Err FolderFault.Exists }
     {
         let Opened {
@@ -72,7 +74,7 @@ impl<R: Files, I: Read + Drop> FileInput<R, I> {
             ..
         } = opened;
         let mut file = file;
-        let can_repeat = is_regular && file.seek(SeekFrom::Start(0)).is_ok();
+        let can_repeat = reads_again && is_regular && file.seek(SeekFrom::Start(0)).is_ok();
         match BufReader::with_capacity(alloc, BUFFER, file) {
             Ok(reader) => Ok(FileInput {
                 can_repeat,
