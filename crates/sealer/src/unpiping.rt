@@ -16,7 +16,7 @@ use sealer_core::{Folder, MAX_WORKERS, Report, UnpipeOptions, unpipe_all};
 use std::io::{Read, Write};
 use std::rt::{Clock, Env, Files};
 use std::thread::Threads;
-use system_files::{FileOptions, Progress, STREAM, SystemFiles, Told, is_folder, spool_folder};
+use system_files::{FileOptions, STREAM, SystemFiles, Told, is_folder, spool_folder};
 
 /// Opens one container and writes its plaintext to the output. A terminal is refused as output, unless it was asked
 /// for. Returns the status, with the streams.
@@ -88,7 +88,11 @@ fn unpipe_to<
         errors,
         terminals,
     } = streams;
-    let mut errors = told_on(errors, progress);
+    let mut errors = ToWrite(Told {
+        writer: errors.0,
+        progress,
+        of_files: true,
+    });
     let name = request.file;
     let (status, output) = unpipe_from(rt, &key, request, &mut folder, name, output, &mut errors);
     clear(progress);
@@ -98,21 +102,6 @@ fn unpipe_to<
         terminals,
     };
     (status, streams)
-}
-
-// The stream on which the line is printed. The progress line is cleared before it.
-fn told_on<'p, 'r, R: Clock + Eprint, E: Write + Drop>(
-    errors: ToWrite<E>,
-    progress: Option<&'p Progress<'r, R>>,
-) -> ToWrite<Told<'p, 'r, R, E>>
-    ensures writer { result.0.writer ≡ errors.0 }
-{
-    let ToWrite(writer) = errors;
-    ToWrite(Told {
-        writer,
-        progress,
-        of_files: true,
-    })
 }
 
 // The options of this request.

@@ -25,24 +25,15 @@ impl Blocks {
     pub(crate) fn append(&mut self, alloc: Global, bytes: &[u8]) -> usize {
         let mut kept = 0usize;
         for piece in bytes.chunks(BLOCK) {
-            let n = self.append_piece(alloc, piece);
+            let filled = self.fill_last(piece);
+            let begun = self.begin_block(alloc, &piece[filled..]);
+            let n = filled + begun;
             kept = kept.saturating_add(n);
             if n < piece.len() {
                 return kept;
             }
         }
         kept
-    }
-
-    // The same for at most `BLOCK` bytes.
-    fn append_piece(&mut self, alloc: Global, piece: &[u8]) -> usize
-        ensures most { result ≤ length piece.now }
-    {
-        let n = self.fill_last(piece);
-        if n == piece.len() {
-            return n;
-        }
-        n + self.begin_block(alloc, &piece[n..])
     }
 
     // Appends to the last block what it has room for.
@@ -63,7 +54,7 @@ impl Blocks {
     fn begin_block(&mut self, alloc: Global, bytes: &[u8]) -> usize
         ensures most { result ≤ length bytes.now }
     {
-        if self.0.len() >= MAX_HELD / BLOCK {
+        if bytes.is_empty() || self.0.len() >= MAX_HELD / BLOCK {
             return 0;
         }
         let n = bytes.len().min(BLOCK);

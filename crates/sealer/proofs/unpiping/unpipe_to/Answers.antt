@@ -8,7 +8,7 @@ returns g c = record {
   status =
       let (outcome, done, told) = c.unpipe_from-status.ensures.run in
       moved (λ name. IsOfUnpiping (g.O.Write.contents c.args.streams.output.0) (g.O.Write.contents c.unpipe_from-status.result.1.0))
-      _ _ _ _ _ _ _ refl (ap g.E.Write.contents c.told_on-errors.ensures.writer) refl
+      _ _ _ _ _ _ _ refl refl refl
       (of_line (λ name. IsOfUnpiping (g.O.Write.contents c.args.streams.output.0) (g.O.Write.contents c.unpipe_from-status.result.1.0))
       _ _ _ _ _ _ done.kept told);
 }
