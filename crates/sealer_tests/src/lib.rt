@@ -38,6 +38,8 @@ mod stops;
 #[cfg(test)]
 mod streams;
 #[cfg(test)]
+mod three_chunks;
+#[cfg(test)]
 mod traces;
 #[cfg(test)]
 mod unpipes;
