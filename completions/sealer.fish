@@ -46,7 +46,7 @@ complete -c sealer -n '__sealer_command open verify' -l max-bytes -x -a 'max' -d
 complete -c sealer -n '__sealer_command unpipe open verify' -l label -x -d 'Accept only FILEs with this label, 0 to 255 bytes of UTF-8'
 
 complete -c sealer -n '__sealer_command unpipe' -l max-bytes -x -a 'max' -d 'Refuse more plaintext bytes, 0 to 4503599626321920, or max'
-complete -c sealer -n '__sealer_command unpipe' -l spool -xa '(__fish_complete_directories)' -d 'The folder of the temporary file for sealed bytes, if standard input has more than 16 MiB'
+complete -c sealer -n '__sealer_command unpipe' -l spool -xa '(__fish_complete_directories)' -d 'The folder of the temporary file for sealed bytes, if a pipe has more than 16 MiB'
 
 complete -c sealer -n '__sealer_command open' -l to -rF -d 'Write the plaintext to NAME'
 

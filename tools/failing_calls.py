@@ -100,11 +100,14 @@ class Way:
         for name, data in self.given.items():
             with open(name, "wb") as file:
                 file.write(data)
-        with open(self.input or f"{top}/examples/journal.txt", "rb") as source:
-            words = ["strace", "-f", "-qq", *strace, sealer, *self.words]
-            narrow = lambda: resource.setrlimit(resource.RLIMIT_FSIZE, (most, most))
-            # Python ignores SIGXFSZ, and so does the program then.
-            more = {"restore_signals": False, "preexec_fn": narrow} if most != resource.RLIM_INFINITY else {}
+        words = ["strace", "-f", "-qq", *strace, sealer, *self.words]
+        narrow = lambda: resource.setrlimit(resource.RLIMIT_FSIZE, (most, most))
+        # Python ignores SIGXFSZ, and so does the program then.
+        more = {"restore_signals": False, "preexec_fn": narrow} if most != resource.RLIM_INFINITY else {}
+        # Of a stream the first byte was read before, or the file would be opened again. A pipe gives it in other parts each time.
+        with tempfile.TemporaryFile(dir="..", buffering=0) as source:
+            source.write(b"x" + (self.given[self.input] if self.input else read(f"{top}/examples/journal.txt")))
+            source.seek(1)
             ran = subprocess.run(words, stdin=source, stdout=output, stderr=subprocess.PIPE, timeout=HANG, **more)
         out, texts = ran.stdout or b"", ran.stderr.decode(errors="replace").splitlines()
         if self.words[0] != "unpipe":

@@ -1688,6 +1688,9 @@ unpiped < files/numbers.stm
 unpipes unpipe-a-file-as-input 'opened - bytes 1492' numbers.plain
 unpiped - < <(cat files/numbers.stm)
 unpipes unpipe-a-dash 'opened - bytes 1492' numbers.plain
+# a pipe that nobody writes to any more, which can't be opened by its path
+{ sleep 0.3; timeout 60 "$sealer" unpipe --key "$key" > files/plain 2> err; status=$?; } < <(cat files/numbers.stm); : > out
+unpipes unpipe-a-pipe-that-ended 'opened - bytes 1492' numbers.plain
 unpiped files/numbers.stm < /dev/null
 unpipes unpipe-a-file 'opened files/numbers.stm bytes 1492' numbers.plain
 cp files/numbers.stm files/any-name
@@ -1969,6 +1972,25 @@ for words in '--workers 1' '--workers 4'; do
     unpiped $words --spool files/spool < <(cat files/long.stm)
     unpipes "spool $words" 'opened - bytes 16773097' files/long
 done
+# A file as standard input is opened by its path, removed or not, and needs no spool. From a later byte on it is a stream, and so is one
+# that this user can't open.
+for folder in none '' files/long; do
+    unpiped "--spool=$folder" < files/long.stm
+    unpipes "spool-of-a-file-as-input '$folder'" 'opened - bytes 16773097' files/long
+done
+{ printf x; cat files/long.stm; } > files/behind
+{ dd bs=1 count=1 status=none > /dev/null; unpiped --spool files/spool; } < files/behind
+unpipes spool-from-a-later-byte 'opened - bytes 16773097' files/long
+{ dd bs=1 count=1 status=none > /dev/null; unpiped --spool none; } < files/behind
+wants no-spool-from-a-later-byte 2 '' 'usage: the folder of the spool is missing'
+is no-spool-from-a-later-byte-writes-nothing test ! -s files/plain
+rm files/behind
+cp files/long.stm files/gone
+exec 3< files/gone
+rm files/gone
+unpiped --spool none <&3
+unpipes spool-of-a-removed-file 'opened - bytes 16773097' files/long
+exec 3<&-
 timeout 60 cp files/long.stm files/fifo & unpiped --spool files/spool files/fifo
 wait
 unpipes spool-of-a-fifo 'opened files/fifo bytes 16773097' files/long
@@ -1999,6 +2021,13 @@ cp "$key" locked/key
 chmod 555 locked
 (cd locked && as_user ./sealer unpipe --key key --spool . > ../files/plain 2> ../err) < <(cat files/long.stm); status=$?; : > out
 refuses spool-in-a-locked-folder 'failed -: spool failed'
+cp files/long.stm files/closed
+exec 3< files/closed
+chmod 0 files/closed
+(cd locked && as_user ./sealer unpipe --key key --spool . > ../files/plain 2> ../err) <&3; status=$?; : > out
+refuses spool-of-a-file-that-cannot-be-opened 'failed -: spool failed'
+exec 3<&-
+rm -f files/closed
 if command -v strace >/dev/null; then
     # spooled: what the last traced run did for its file: created for its owner alone, unlinked, and only then written
     spooled() {
@@ -2023,6 +2052,14 @@ if command -v strace >/dev/null; then
     is no-spool-unneeded test "$status $(folders)" = '0 '
     traced_stream "$sealer" unpipe --key "$key" --spool files/spool files/long.stm
     is no-spool-of-a-file test "$status $(folders)$(grep -c 'lseek([0-9]*<[^>]*/files/long.stm>, 0, SEEK_SET) *= 0' calls)" = '0 2'
+    # the same of a file as standard input, also by `open`
+    for words in '' 'open --to files/named -'; do
+        # shellcheck disable=SC2086
+        traced_stream "$sealer" ${words:-unpipe --spool files/spool} --key "$key" < files/long.stm
+        is "no-spool-of-a-file-as-input $words" test "$status $(folders)$(grep -c 'lseek([0-9]*<[^>]*/files/long.stm>, 0, SEEK_SET) *= 0' calls)" = '0 2'
+    done
+    is open-a-file-as-input-twice cmp -s files/named files/long
+    rm files/named
     # `seal` and `verify` read once, and seek nothing
     cp numbers.plain files/unsought
     traced_stream "$sealer" seal --key "$key" --ledger files/ledger --device 1 files/unsought

@@ -29,6 +29,11 @@ mkdir "$room/spooled"
 truncate -s 16M "$room/spooled/zeros"
 "$sealer" seal --key "$key" --ledger "$room/ledger" --device 1 --exponent 20 "$room/spooled/zeros" > "$room/lines" || exit 1
 
+# given COMMAND..: runs it with its input in a pipe, since a file would be opened again; a folder can't be
+given() {
+    if [ -d "$from" ]; then "$@" < "$from"; else cat "$from" | "$@"; fi
+}
+
 # under NAME TOOL STATUS ARGS..: a run under the tool, and one without it, each in a folder that has the given files, with the journal as its
 # input, or what $input names
 under() {
@@ -39,8 +44,8 @@ under() {
     fi
     shift 3
     mkdir "$folder" && cp -r "$room/given" "$folder/plain" && cp -r "$room/given" "$folder/tool"
-    (cd "$folder/plain" && "$sealer" "$@" < "$from" > ../plain.out 2> ../plain.err; echo $? > ../plain.status)
-    (cd "$folder/tool" && valgrind "${options[@]}" "$sealer" "$@" < "$from" > ../tool.out 2> ../tool.err; echo $? > ../tool.status)
+    (cd "$folder/plain" && given "$sealer" "$@" > ../plain.out 2> ../plain.err; echo $? > ../plain.status)
+    (cd "$folder/tool" && given valgrind "${options[@]}" "$sealer" "$@" > ../tool.out 2> ../tool.err; echo $? > ../tool.status)
     # with lanes a file can get any number
     sed -i 's/ file [0-9]* / /' "$folder/plain.out" "$folder/tool.out"
     for run in plain tool; do

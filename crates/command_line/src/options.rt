@@ -177,8 +177,8 @@ pub(crate) static UNPIPE_ROWS: [Row; 3] = [
     Row {
         name: "spool",
         takes: Takes::Folder,
-        help: "The folder of the temporary file for sealed bytes, if standard input has\n\
-            more than 16 MiB; if not given TMPDIR, else /var/tmp",
+        help: "The folder of the temporary file for sealed bytes, if a pipe has more\n\
+            than 16 MiB; if not given TMPDIR, else /var/tmp",
     },
 ];
 

@@ -2,6 +2,7 @@
 
 use std::alloc::{Allocator, Global};
 use std::cell::Cell;
+use std::fmt::Display;
 use std::fs::{Metadata, OpenOptions};
 use std::io;
 use std::io::ErrorKind;
@@ -20,6 +21,8 @@ pub struct Disk<'h, R> {
     removes: bool,
     // What is opened in place of each file.
     instead: Option<&'static str>,
+    // What is opened in place of standard input, and of what `/proc` says of it.
+    input: Option<(&'h str, &'h str)>,
 }
 
 impl<'h, R> Disk<'h, R> {
@@ -31,6 +34,7 @@ impl<'h, R> Disk<'h, R> {
             taken: Cell::new(0),
             removes: true,
             instead: None,
+            input: None,
         }
     }
 
@@ -39,6 +43,23 @@ impl<'h, R> Disk<'h, R> {
         let disk = Disk::new(host);
         disk.taken.set(taken);
         disk
+    }
+
+    /// A disk with this file as standard input, of which `/proc` says what the other file has.
+    pub fn with_input(host: &'h R, input: &'h str, state: &'h str) -> Disk<'h, R> {
+        Disk {
+            input: Some((input, state)),
+            ..Disk::new(host)
+        }
+    }
+
+    // The path of what is at this path.
+    fn path_of<'a>(&'a self, path: &'a str) -> &'a str {
+        match (self.input, path) {
+            (Some((input, _)), "/proc/self/fd/0") => input,
+            (Some((_, state)), "/proc/self/fdinfo/0") => state,
+            _ => path,
+        }
     }
 
     /// A disk on which no name can be removed.
@@ -63,6 +84,16 @@ impl<R: AllocGlobal> Alloc for Disk<'_, R> {
 
     fn alloc(&self) -> Global {
         self.host.alloc()
+    }
+}
+
+impl<R: Eprint> Eprint for Disk<'_, R> {
+    fn eprint<D: Display + Drop>(&self, value: D) -> io::Result<()> {
+        self.host.eprint(value)
+    }
+
+    fn eprintln<D: Display + Drop>(&self, value: D) -> io::Result<()> {
+        self.host.eprintln(value)
     }
 }
 
@@ -92,7 +123,7 @@ impl<R: Files> Files for Disk<'_, R> {
                 .read(true)
                 .write(true)
                 .open(self.host, instead),
-            None => self.host.open_file(how, path),
+            None => self.host.open_file(how, self.path_of(path)),
         }
     }
 
@@ -101,7 +132,7 @@ impl<R: Files> Files for Disk<'_, R> {
     }
 
     fn metadata(&self, path: &str) -> io::Result<Metadata> {
-        self.host.metadata(path)
+        self.host.metadata(self.path_of(path))
     }
 
     fn symlink_metadata(&self, path: &str) -> io::Result<Metadata> {

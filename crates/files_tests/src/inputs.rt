@@ -1,11 +1,12 @@
 //! Files that are read again, and standard input.
 
+use crate::disk::Disk;
 use command_core::Folder;
 use io_core::{Failed, Source, fill};
-use std::io::Read;
+use std::io::{ErrorKind, Read};
 use std::rt::{Clock, Files};
 use std::{fs, io};
-use system_files::{FileOptions, STREAM, SystemFiles};
+use system_files::{FileOptions, STREAM, SystemFiles, can_reopen_input};
 
 // Files that are to be read again.
 const AGAIN: FileOptions<'static> = FileOptions {
@@ -15,6 +16,7 @@ const AGAIN: FileOptions<'static> = FileOptions {
     own: None,
     refuses_output: false,
     reads_again: true,
+    reopens_input: false,
     spool: None,
 };
 
@@ -64,13 +66,19 @@ fn is_read_again<F: Folder>(folder: &mut F, name: &str) -> bool {
     }
 }
 
-// Whether that holds of a new file.
-fn a_new_file_is_read_again<R: Files + AllocGlobal + Clock + Eprint>(rt: &R) -> io::Result<bool> {
+// Writes a new file with this text, and returns its path.
+fn new_file<R: Files + AllocGlobal + Clock>(rt: &R, text: &str) -> io::Result<String> {
     let now = rt.since_1970()?.as_nanos();
     let Ok(name) = format!(in rt.alloc(); "/var/tmp/files_tests-{now}") else {
-        return Ok(false);
+        return Err(io::Error::from(ErrorKind::OutOfMemory));
     };
-    fs::write(rt, name.as_str(), "0123456789")?;
+    fs::write(rt, name.as_str(), text)?;
+    Ok(name)
+}
+
+// Whether that holds of a new file.
+fn a_new_file_is_read_again<R: Files + AllocGlobal + Clock + Eprint>(rt: &R) -> io::Result<bool> {
+    let name = new_file(rt, "0123456789")?;
     let is_read = is_read_again(&mut files_of(rt, None::<R::File>), name.as_str());
     fs::remove_file(rt, name.as_str())?;
     Ok(is_read)
@@ -175,4 +183,60 @@ fn standard_input_is_kept_in_a_spool(rt: HostRuntime) {
     let input: &[u8] = b"0123456789";
     assert!(rt; is_spooled(&rt, input));
     assert!(rt; is_spooled_whole(&rt, input));
+}
+
+// Whether standard input can be opened by its path where it is this file, and `/proc` says this of it.
+fn is_reopened<R: Files + AllocGlobal + Clock>(rt: &R, input: &str, said: &str) -> io::Result<bool>
+where
+    R: Drop,
+{
+    let state = new_file(rt, said)?;
+    let is_reopened = can_reopen_input(&Disk::with_input(rt, input, state.as_str()));
+    fs::remove_file(rt, state.as_str())?;
+    Ok(is_reopened)
+}
+
+// What is said of a file of which nothing was read.
+const UNREAD: &str = "pos:\t0\nflags:\t0100000\nmnt_id:\t26\n";
+
+#[test]
+fn a_regular_file_is_opened_by_its_path_if_it_was_not_read(rt: HostRuntime) -> io::Result<()> {
+    let file = new_file(&rt, "0123456789")?;
+    assert!(rt; is_reopened(&rt, file.as_str(), UNREAD)?);
+    for said in ["", "pos:\t0", "pos:\t1\n", "pos:\t00\n", "pos:\t10\n"] {
+        assert!(rt; !is_reopened(&rt, file.as_str(), said)?, "{said}");
+    }
+    fs::remove_file(&rt, file.as_str())
+}
+
+#[test]
+fn another_input_is_not_opened_by_its_path(rt: HostRuntime) -> io::Result<()> {
+    for input in ["/dev/zero", "/dev", "/dev/no such file"] {
+        assert!(rt; !is_reopened(&rt, input, UNREAD)?, "{input}");
+    }
+    Ok(())
+}
+
+// Whether this file as standard input, opened by its path, is read again.
+fn is_input_read_again<R: Files + AllocGlobal + Clock + Eprint>(rt: &R, input: &str) -> bool
+where
+    R: Drop,
+{
+    let disk = Disk::with_input(rt, input, "/dev/null");
+    let options = FileOptions {
+        reopens_input: true,
+        spool: Some("/dev/null"),
+        ..AGAIN
+    };
+    is_read_again(
+        &mut SystemFiles::new(&disk, Some(io::empty()), None, options),
+        STREAM,
+    )
+}
+
+#[test]
+fn what_is_opened_by_its_path_is_read_again(rt: HostRuntime) -> io::Result<()> {
+    let file = new_file(&rt, "0123456789")?;
+    assert!(rt; is_input_read_again(&rt, file.as_str()));
+    fs::remove_file(&rt, file.as_str())
 }

@@ -15,7 +15,7 @@ use sealer_core::{
 use std::io::{Read, Write};
 use std::rt::{Clock, Files};
 use std::thread::Threads;
-use system_files::{FileOptions, Makes, SystemFiles};
+use system_files::{FileOptions, Makes, SystemFiles, can_reopen_input};
 
 /// Opens or verifies the files of these names, of which `-` is the input. Returns the status, with the streams.
 pub(crate) fn open<
@@ -62,6 +62,8 @@ pub(crate) fn open<
         own: None,
         refuses_output: false,
         reads_again,
+        // Standard input is opened only under another name.
+        reopens_input: request.to.is_some() && can_reopen_input(rt),
         spool: None,
     };
     let folder = SystemFiles::new(rt, Some(input), progress.as_ref(), options);

@@ -117,6 +117,7 @@ pub(crate) fn seal<
         }),
         refuses_output: false,
         reads_again: false,
+        reopens_input: false,
         spool: None,
     };
     let folder = SystemFiles::new(rt, None, progress.as_ref(), options);

@@ -16,7 +16,9 @@ use sealer_core::{Folder, MAX_WORKERS, Report, UnpipeOptions, unpipe_all};
 use std::io::{Read, Write};
 use std::rt::{Clock, Env, Files};
 use std::thread::Threads;
-use system_files::{FileOptions, STREAM, SystemFiles, Told, is_folder, spool_folder};
+use system_files::{
+    FileOptions, STREAM, SystemFiles, Told, can_reopen_input, is_folder, spool_folder,
+};
 
 /// Opens one container and writes its plaintext to the output. A terminal is refused as output, unless it was asked
 /// for. Returns the status, with the streams.
@@ -41,7 +43,9 @@ pub(crate) fn unpipe<
     let Ok(spool) = spool_folder(rt, request.spool) else {
         return (complain(rt, "usage", UsageFault::OutOfMemory), streams);
     };
-    if request.file == STREAM && !is_folder(rt, spool.as_str()) {
+    let is_input = request.file == STREAM;
+    let reopens_input = is_input && can_reopen_input(rt);
+    if is_input && !reopens_input && !is_folder(rt, spool.as_str()) {
         return (complain(rt, "usage", UsageFault::NoSpoolFolder), streams);
     }
     let options = FileOptions {
@@ -51,6 +55,7 @@ pub(crate) fn unpipe<
         own: None,
         refuses_output: true,
         reads_again: true,
+        reopens_input,
         spool: Some(spool.as_str()),
     };
     let (files, terminal) = ([request.file], streams.terminals.errors);

@@ -48,6 +48,8 @@ pub struct FileOptions<'a> {
     pub refuses_output: bool,
     /// Whether files are to be read again.
     pub reads_again: bool,
+    /// Whether standard input is opened by its path, as a file is: `can_reopen_input`. Else it is read as a stream.
+    pub reopens_input: bool,
     /// The folder for the file of a spool. It keeps what can be read only once, while that is read, so that it can be
     /// read again.
     pub spool: Option<&'a str>,
@@ -70,6 +72,7 @@ pub struct SystemFiles<'p, 'r, R: Files + AllocGlobal + Clock + Eprint, I: Read 
     // Whether `-` is standard input, which is taken when it is opened as a stream.
     has_input: bool,
     input: Option<I>,
+    reopens_input: bool,
     reads_again: bool,
     spool: Option<&'r str>,
     // The regular file that standard output is, if it can't be opened.
@@ -100,6 +103,7 @@ impl<'p, 'r, R: Files + AllocGlobal + Clock + Eprint, I: Read + Drop> SystemFile
             outputs: Outputs::new(rt),
             has_input: input.is_some(),
             input,
+            reopens_input: options.reopens_input,
             reads_again: options.reads_again,
             spool: options.spool,
             output: if options.refuses_output {
@@ -265,10 +269,12 @@ impl<'p, 'r, R: Files + AllocGlobal + Clock + Eprint, I: Read + Drop> Folder
     type Writer = ToWrite<Output<R::File>>;
 
     fn open(&mut self, name: &str) -> Result<Self::Reader, FolderFault> {
-        if self.has_input && name == STREAM {
+        let is_input = self.has_input && name == STREAM;
+        if is_input && !self.reopens_input {
             return self.open_stream();
         }
-        let opened = match open_known(self.rt, name) {
+        let path = if is_input { STANDARD_INPUT } else { name };
+        let opened = match open_known(self.rt, path) {
             Ok(opened) => opened,
             Err(fault) => return Err(fault),
         };

@@ -4,7 +4,7 @@ ghost use Rattle.std.specs.Io.Buffered.{reader_remaining};
 ghost use Rattle.either.specs.Either.{either};
 ghost use Rattle.system_files.specs.Inputs.{left_unless};
 
-use crate::own::FileId;
+use crate::own::{FileId, STANDARD_INPUT, regular_at};
 use crate::progress::Progress;
 use command_core::FolderFault;
 use either::Either;
@@ -17,6 +17,12 @@ use std::rt::{Clock, Files};
 
 /// Bytes of the buffer through which a file is read.
 const BUFFER: usize = 1 << 16;
+
+/// The path of what the system says of a process's standard input: first its position in the file.
+const INPUT_STATE: &str = "/proc/self/fdinfo/0";
+
+/// How that begins if nothing was read yet.
+const AT_FIRST_BYTE: [u8; 7] = *b"pos:\t0\n";
 
 /// A file that was opened for reading.
 #[derive(Drop)]
@@ -44,6 +50,24 @@ pub(crate) fn open_known<R: Files>(rt: &R, name: &str) -> Result<Opened<R::File>
         id: FileId::of(&metadata),
         is_regular: metadata.is_file(),
     })
+}
+
+/// Returns whether standard input can be opened by its path, and so read again as a file is. It is a regular file, of
+/// which nothing was read yet, and the system has `/proc`.
+pub fn can_reopen_input<R: Files>(rt: &R) -> bool {
+    // It is looked up before it is opened: that would wait for the other end of a pipe.
+    regular_at(rt, STANDARD_INPUT).is_some()
+        && is_input_unread(rt)
+        && matches!(open_known(rt, STANDARD_INPUT), Ok(opened) if opened.is_regular)
+}
+
+// Whether standard input is at its first byte.
+fn is_input_unread<R: Files>(rt: &R) -> bool {
+    let Ok(mut state) = File::open(rt, INPUT_STATE) else {
+        return false;
+    };
+    let mut begun = [0u8; AT_FIRST_BYTE.len()];
+    matches!(state.read(&mut begun), Ok(n) if n == begun.len()) && begun == AT_FIRST_BYTE
 }
 
 /// What reads an opened file, or standard input. Nothing is promised of a second reading: another program can change

@@ -17,7 +17,7 @@ pub use crate::files::{
     FileOptions, JournalFault, STREAM, SystemFiles, SystemReader, new_journal, open_unbuffered,
     stand_ins,
 };
-pub use crate::input::{FileInput, OneOf};
+pub use crate::input::{FileInput, OneOf, can_reopen_input};
 pub use crate::kept::{Makes, Split, print_kept, split_names};
 pub use crate::own::{OwnPaths, StandardInput};
 pub use crate::progress::{Progress, Told};
