@@ -2,6 +2,7 @@
 //! records what happened.
 #![tactic(auto)]
 
+pub mod folder;
 pub mod memory;
 pub mod session;
 pub mod streams;

@@ -2,7 +2,7 @@ use Rattle.std.proofs.Common.{rules, ◌≡◌, ◌∙◌, ap, inl, refl, true, 
 use Rattle.folder_memory.specs.Memory.{FileView, file_of, name_of, with_bytes}
 use Rattle.folder_memory.proofs.Files.{there_by, whole-view}
 use Rattle.folder_memory.proofs.Truth.{named, true_of_forgotten, true_once_finished}
-use Rattle.folder_memory.proofs.memory.MemoryFolderFolder.finish.Goals as goal
+use Rattle.folder_memory.proofs.folder.MemoryFolderFolder.finish.Goals as goal
 
 pub returns-in_default-clause-cause : goal.returns-in_default-clause-cause
 returns-in_default-clause-cause c =

@@ -5,7 +5,7 @@ use Rattle.folder_memory.specs.Memory.{FileView, file_of, name_of, without}
 use Rattle.folder_memory.specs.declared.memory.File.{File}
 use Rattle.folder_memory.proofs.Files.{others, others-view, there_by}
 use Rattle.folder_memory.proofs.Truth.{true_once_removed, true_discarded}
-use Rattle.folder_memory.proofs.memory.MemoryFolderFolder.discard.Goals as goal
+use Rattle.folder_memory.proofs.folder.MemoryFolderFolder.discard.Goals as goal
 
 pub invariant_of-self : goal.invariant_of-self
 invariant_of-self c =
