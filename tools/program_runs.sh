@@ -86,7 +86,7 @@ for command in $kept; do
     for words in "$command --help" "$command -h" "help $command"; do helps "$command" $words; done
 done
 grep -nE '^.{101}' tools/help/*.txt && { bad=1; echo 'these lines have over 100 columns'; }
-# The version names the toolchain that is here.
+# The version names the toolchain that is here, and no commit, which tools/link_static.py puts in.
 version=$(sed -n 's/^pub const VERSION: &str = "\(.*\)";$/\1/p' crates/command_line/src/version.rt)
 for option in --version -V; do
     run $option < /dev/null
@@ -94,7 +94,7 @@ for option in --version -V; do
 done
 toolchain=$(rt version 2>/dev/null) || missing="$missing rt"
 case $version in
-    [0-9]*.[0-9]*.[0-9]*" ($toolchain)") ;;
+    [0-9]*.[0-9]*.[0-9]*" ($toolchain) commit not-recorded") ;;
     *) has rt && { bad=1; echo "version: '$version' isn't that of '$toolchain'"; } ;;
 esac
 run seal --version < /dev/null
