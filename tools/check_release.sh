@@ -45,8 +45,11 @@ else
     sed 's/x86-64-v2/x86-64-v3/g' "$built/sealer" > "$built/sealer-x86-64-v3"
     chmod +x "$built/sealer-x86-64-v3"
 fi
+# What the program prints as it was built, and what it prints once the commit is named.
 version=$(crates/sealer/out/sealer --version)
 number=${version#sealer } number=${number%% *}
+commit=$(git -C "$tree" rev-parse HEAD)
+named="${version% *} ${commit:0:12}"
 name=sealer-$number-linux-x86_64
 package=sealer_$number-1_amd64.deb
 release() { run "$tree/tools/release.sh" "$@"; }
@@ -91,6 +94,10 @@ touch -d '2001-01-01' "$built/sealer-x86-64-v3"
 release "$room/three"
 is portable-alone test $status = 0
 is portable-alone-reported says 'sealer-x86-64-v3 is left out'
+echo >> "$tree/README.md"
+release "$room/changed"
+is with-changes test $status = 0
+git -C "$tree" checkout -q README.md
 
 # The archive.
 unpacked() { zstd -qdc "$room/$1" | tar -C "$2" -x; } # ARCHIVE FOLDER
@@ -98,6 +105,11 @@ mkdir "$room/unpacked"
 unpacked "one/$name.tar.zst" "$room/unpacked"
 unpacked "one/$name-dynamic.tar.zst" "$room/unpacked"
 made=$room/unpacked/$name
+mkdir "$room/with-changes"
+unpacked "changed/$name.tar.zst" "$room/with-changes"
+run "$room/with-changes/$name/bin/sealer" --version
+is with-changes-no-commit says "$version"
+is with-changes-reported grep -qxF "commit $commit, with changes" "$room/with-changes/$name/share/doc/sealer/RELEASE"
 is one-folder-each test "$(cd "$room/unpacked" && echo *)" = "$name $name-dynamic"
 pages='man1/sealer.1 man5/sealer-container.5 man5/sealer-journal.5'
 documents="RELEASE open_container.py examples/key examples/numbers.stm examples/journal.txt $(basename -a docs/*.md)
@@ -116,18 +128,35 @@ has() {
     is "$1-zsh" cmp -s completions/_sealer "$2/share/zsh/$3/_sealer"
     is "$1-fish" cmp -s completions/sealer.fish "$2/share/fish/vendor_completions.d/sealer.fish"
     run "$2/bin/sealer" --version
-    is "$1-runs" says "$version"
+    is "$1-runs" says "$named"
 }
 has archive "$made" site-functions
-is archive-commit grep -qxF "commit $(git -C "$tree" rev-parse HEAD)" "$made/share/doc/sealer/RELEASE"
+is archive-commit grep -qxF "commit $commit" "$made/share/doc/sealer/RELEASE"
 for file in "$made"/share/doc/sealer/*.md; do
     grep -oE '\]\([A-Za-z0-9_/.-]+\.md' "$file" | sed 's/^](//' | sort -u > "$room/links"
     while IFS= read -r link; do is "link-$link-of-${file##*/}" test -e "${file%/*}/$link"; done < "$room/links"
 done
+link() { run "$room/unpacked/$name-dynamic/link_static.py" "$@"; }
 for level in x86-64-v2 x86-64-v3; do
-    run "$room/unpacked/$name-dynamic/link_static.py" "$room/unpacked/$name-dynamic/sealer-$level" "$room/linked"
+    as_built=$built/sealer
+    [ $level = x86-64-v2 ] || as_built=$built/sealer-x86-64-v3
+    is "as-built-$level" cmp -s "$as_built" "$room/unpacked/$name-dynamic/sealer-$level"
+    link "$as_built" "$room/linked" "$commit"
     is "linked-again-$level" cmp -s "$room/linked" "$made/lib/sealer/sealer-$level"
+    # the commit is all that differs from what was built
+    link "$as_built" "$room/linked"
+    is "linked-unnamed-$level" test "$(cmp -l "$room/linked" "$made/lib/sealer/sealer-$level" | wc -l)" -le 12
+    run "$room/linked" --version
+    is "unnamed-$level" test "$(cat "$out")" = "$version"
 done
+sed 's/commit not-recorded/commit not_recorded/' "$built/sealer" > "$room/no-place"
+(cat "$built/sealer"; echo ') commit not-recorded') > "$room/two-places"
+link "$room/no-place" "$room/linked" "$commit"
+is no-place says 'has 0 places for a commit'
+link "$room/two-places" "$room/linked" "$commit"
+is two-places says 'has 2 places for a commit'
+link "$built/sealer" "$room/linked" "${commit:0:12}"
+is short-name says 'is not the full name of a commit'
 
 # An empty root.
 seq 1 400000 > "$room/large"
@@ -184,7 +213,7 @@ else
         rm "$root/dynamic"
         cp "$made/lib/sealer/sealer-$level" "$root/sealer"
         in_root --version
-        is "$level-in-an-empty-root" says "$version"
+        is "$level-in-an-empty-root" says "$named"
         works "$level"
     done
     # by the independent reader, as it is in the archive
@@ -207,7 +236,7 @@ is staged-all test "$(listed "$stage" | grep -v '^./share/sealer/installed$')" =
 is staged-nowhere-else test ! -e "$room/away"
 if [ "$as" != none ]; then
     root=$room/stage program=$room/away/lib/sealer/sealer-x86-64-v2 in_root --version
-    is staged-in-its-root says "$version"
+    is staged-in-its-root says "$named"
 fi
 run env -i PATH=/usr/bin:/bin DESTDIR="$room/stage" "$made/install.sh" "$room/away" --uninstall
 is unstaged test $status = 0
@@ -220,9 +249,9 @@ is installed test $status = 0
 mkdir "$room/bin"
 ln -s "$prefix/bin/sealer" "$room/bin/sealer"
 run env -i PATH="$room/bin:/usr/bin:/bin" sealer --version
-is by-a-link says "$version"
+is by-a-link says "$named"
 run env -i PATH="$prefix/bin:/usr/bin:/bin" sealer --version
-is by-path says "$version"
+is by-path says "$named"
 input=examples/journal.txt run "$prefix/bin/sealer" audit
 is launcher-input says 'legal: 2 granted'
 run "$prefix/bin/sealer" verify --key nowhere 'a file'
@@ -232,7 +261,7 @@ is installed-again test $status = 0
 wide=$prefix/lib/sealer/sealer-x86-64-v3
 rm "$wide"
 run "$prefix/bin/sealer" --version
-is launcher-portable-alone says "$version"
+is launcher-portable-alone says "$named"
 # shellcheck disable=SC2016
 printf '#!/bin/sh\necho "wide $*"\n' > "$wide"
 chmod +x "$wide"
@@ -240,7 +269,7 @@ run "$prefix/bin/sealer" --version
 is launcher-takes-the-wide-one says 'wide --version'
 printf '#!/bin/sh\necho this machine lacks a feature of x86-64-v3 >&2\nexit 127\n' > "$wide"
 run "$prefix/bin/sealer" --version
-is launcher-falls-back says "$version"
+is launcher-falls-back says "$named"
 is launcher-falls-back-silently no says lacks
 run "$made/install.sh" "$prefix" --uninstall
 is a-changed-program-stays test $status = 1
@@ -266,7 +295,7 @@ else
     run dpkg --root="$root" -s sealer
     is package-status says 'install ok installed'
     in_root --version
-    is package-in-an-empty-root says "$version"
+    is package-in-an-empty-root says "$named"
     works package
     # shellcheck disable=SC2086
     run $as dpkg --root="$root" --log=/dev/null -P sealer

@@ -1,14 +1,18 @@
 #!/usr/bin/env python3
-"""link_static.py PROGRAM OUTPUT: links a program that `rt` built against the static C library.
+"""link_static.py PROGRAM OUTPUT [COMMIT]: links a program that `rt` built against the static C library.
 
 PROGRAM is what `rt` linked, dynamically and position-independent: the file that the gate tests. Its code and data are
 taken as they are, each segment at its old distance from the others, and the places that the loader would fill are
 filled by the linker: with addresses inside PROGRAM, and with those of the C library's functions. At the end the code and
 the constants in OUTPUT are compared with PROGRAM's. What it can't take over, as thread-local storage, it refuses.
 
+With COMMIT, a commit's full name, the first twelve digits of that replace 'not-recorded' in the text of `--version`. That
+is one place in a constant; nothing else differs.
+
 `rt` keeps no object file of a program that was proved in an earlier run, so this starts from the program itself.
 Needs cc and the C library's static archive (Debian: gcc, libc6-dev).
 """
+import re
 import shutil
 import struct
 import subprocess
@@ -17,6 +21,9 @@ import tempfile
 from collections import namedtuple
 from pathlib import Path
 
+# What `--version` ends with before a commit is named (crates/command_line/src/version.rt), and how many digits replace its last word.
+COMMIT = b") commit not-recorded"
+DIGITS = 12
 # Where PROGRAM's first segment lies in OUTPUT, above all that the C library brings: its address in bytes.
 BASE = 1 << 24
 # The types of segments, and of what the loader fills in, as ELF and its supplement for x86-64 number them.
@@ -45,6 +52,18 @@ class Program:
         found = [Section(*struct.unpack_from("<IIQQQQIIQQ", data, table + row * it)) for it in range(rows)]
         self.strings_of = lambda section: found[section.link]
         self.sections = {self.text(found[names], it.name): it for it in found}
+
+    def name_commit(self, commit):
+        """Puts a commit's first digits into the constant that has room for them."""
+        if not re.fullmatch("[0-9a-f]{40,64}", commit):
+            sys.exit(f"{commit} is not the full name of a commit")
+        at = self.data.find(COMMIT)
+        if at < 0 or self.data.count(COMMIT) != 1:
+            sys.exit(f"the program has {self.data.count(COMMIT)} places for a commit, not one")
+        end = at + len(COMMIT)
+        if not any(it.offset <= at and end <= it.offset + it.in_file and not it.flags & WRITABLE for it in self.loaded()):
+            sys.exit("the place for a commit is not in a constant")
+        self.data = self.data[: end - DIGITS] + commit[:DIGITS].encode() + self.data[end:]
 
     def text(self, strings, at):
         start = strings.offset + at
@@ -122,19 +141,21 @@ def check(program, output):
 
 
 def main():
-    if len(sys.argv) != 3:
-        sys.exit("usage: link_static.py PROGRAM OUTPUT")
-    file, output = sys.argv[1:]
+    if len(sys.argv) not in (3, 4):
+        sys.exit("usage: link_static.py PROGRAM OUTPUT [COMMIT]")
+    file, output, *commits = sys.argv[1:]
     program = Program(file)
+    for commit in commits:
+        program.name_commit(commit)
     if any(it.kind == TLS for it in program.segments):
         sys.exit(f"{file} has thread-local storage, which cannot be taken over")
     if program.sections[".fini_array"].size != PLACE:
         sys.exit(f"{file} has functions that run at its end, which cannot be taken over")
     addresses = [f"-Wl,--section-start=.program{number}={BASE + it.address:#x}" for number, it in enumerate(program.loaded())]
     with tempfile.TemporaryDirectory() as room:
-        shutil.copyfile(file, f"{room}/program")
+        Path(room, "program").write_bytes(program.data)
         Path(room, "program.s").write_text("\n".join(assembly_of(program)) + "\n", encoding="utf-8")
-        words = ["cc", "-static-pie", "-s", "-Wl,-z,relro,-z,now,-z,noexecstack", *addresses, "-o", "linked", "program.s"]
+        words = ["cc", "-static-pie", "-s", "-Wl,--build-id=none", "-Wl,-z,relro,-z,now,-z,noexecstack", *addresses, "-o", "linked", "program.s"]
         if subprocess.run(words, cwd=room, check=False).returncode:
             sys.exit(f"{file} was not linked")
         check(program, Program(f"{room}/linked"))

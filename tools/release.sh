@@ -24,11 +24,13 @@ trap 'rm -rf "$room"' EXIT
 
 # What is released.
 text=$(sed -n 's/^pub const VERSION: &str = "\(.*\)";$/\1/p' "$top/crates/command_line/src/version.rt")
-version=${text%% *}
+version=${text%% *} toolchain=${text#* } toolchain=${toolchain% commit *}
 [ -n "$version" ] || stop "crates/command_line/src/version.rt names no version"
 grep -q "^## $version\b" "$top/CHANGELOG.md" || stop "CHANGELOG.md has nothing of version $version"
+# The commit, in RELEASE and in the static programs; with changes it would be untrue of the programs, which then name none.
 commit=$(git -C "$top" rev-parse HEAD)
-git -C "$top" diff --quiet HEAD -- || commit="$commit, with changes"
+named=$commit
+git -C "$top" diff --quiet HEAD -- || { named=; commit="$commit, with changes"; }
 : "${SOURCE_DATE_EPOCH:=$(git -C "$top" log -1 --format=%ct)}"
 export SOURCE_DATE_EPOCH
 maintainer=$(git -C "$top" log -1 --format='%an <%ae>')
@@ -60,7 +62,7 @@ docs=$made/share/doc/sealer
 mkdir -p "$made/bin" "$made/lib/sealer" "$docs/examples" "$made"/share/man/man{1,5} "$room/$name-dynamic" \
     "$made"/share/{bash-completion/completions,zsh/site-functions,fish/vendor_completions.d}
 for level in $levels; do
-    "$top/tools/link_static.py" "${programs[$level]}" "$made/lib/sealer/sealer-$level"
+    "$top/tools/link_static.py" "${programs[$level]}" "$made/lib/sealer/sealer-$level" ${named:+"$named"}
     install -m 755 "${programs[$level]}" "$room/$name-dynamic/sealer-$level"
 done
 chmod 755 "$made"/lib/sealer/*
@@ -82,7 +84,7 @@ compiler=$(cc --version | head -n 1)
 {
     echo "version $version"
     echo "commit $commit"
-    echo "proved and built with ${text#* }"
+    echo "proved and built with $toolchain"
     echo "linked by $compiler with the C library $library"
     for level in $levels; do
         echo "sealer-$level as built, SHA-256 $(sha256sum < "${programs[$level]}" | cut -d ' ' -f 1)"
@@ -103,9 +105,10 @@ END
 cat > "$room/$name-dynamic/README" << END
 The programs of sealer $version as they were built and tested: they need the GNU C library, 2.34 or newer.
 
-    ./link_static.py sealer-x86-64-v2 OUTPUT
+    ./link_static.py sealer-x86-64-v2 OUTPUT $named
 
 links one against the static C library of this machine, as the release's programs were made. So you can take another C library.
+These programs' --version names no commit: RELEASE does, and the third word of link_static.py puts it into OUTPUT.
 END
 install -m 755 "$top/tools/link_static.py" "$room/$name-dynamic"
 cp "$docs"/LICENSE-* "$docs/THIRD-PARTY.md" "$docs/RELEASE" "$room/$name-dynamic"
