@@ -87,6 +87,9 @@ mv "$tree/CHANGELOG.md" "$room"
 echo '# Changes' > "$tree/CHANGELOG.md"
 refused no-changes "nothing of version $number"
 mv "$room/CHANGELOG.md" "$tree"
+git -C "$tree" tag "v$number" "$(git -C "$tree" -c user.name=nobody -c user.email=nobody@localhost commit-tree -m other 'HEAD^{tree}')"
+refused released-before 'was released before, of commit'
+git -C "$tree" tag -f "v$number" > /dev/null 2>&1
 touch -d '2001-01-01' "$built/sealer"
 refused older-than-sources 'no program for x86-64-v2'
 touch "$built/sealer"
@@ -94,6 +97,7 @@ touch -d '2001-01-01' "$built/sealer-x86-64-v3"
 release "$room/three"
 is portable-alone test $status = 0
 is portable-alone-reported says 'sealer-x86-64-v3 is left out'
+git -C "$tree" tag -d "v$number" > /dev/null
 echo >> "$tree/README.md"
 release "$room/changed"
 is with-changes test $status = 0

@@ -29,6 +29,8 @@ version=${text%% *} toolchain=${text#* } toolchain=${toolchain% commit *}
 grep -q "^## $version\b" "$top/CHANGELOG.md" || stop "CHANGELOG.md has nothing of version $version"
 # The commit, in RELEASE and in the static programs; with changes it would be untrue of the programs, which then name none.
 commit=$(git -C "$top" rev-parse HEAD)
+released=$(git -C "$top" rev-parse -q --verify "refs/tags/v$version^{commit}" || true)
+[ "${released:-$commit}" = "$commit" ] || stop "version $version was released before, of commit $released: raise it"
 named=$commit
 git -C "$top" diff --quiet HEAD -- || { named=; commit="$commit, with changes"; }
 : "${SOURCE_DATE_EPOCH:=$(git -C "$top" log -1 --format=%ct)}"
