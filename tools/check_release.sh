@@ -1,7 +1,7 @@
 #!/bin/bash
-# tools/release.sh: makes a release twice, and runs it where nothing else is. Each static program seals, verifies, opens, pipes and audits in
-# an empty root: no /proc, no shell, no C library. The archive and the Debian package are installed, run and removed. Prints 'N conditions
-# hold', or those that don't.
+# tools/release.sh: makes a release twice, and runs it where nothing else is. Each static program seals, verifies, opens, pipes, unpipes and
+# audits in an empty root: no /proc, no shell, no C library. The archive is unpacked, installed, run and removed in a root that has only the
+# tools for it, and the Debian package in an empty one. Prints 'N conditions hold', or those that don't.
 # usage: tools/check_release.sh [RELEASE.SH]
 #
 # The program is crates/sealer/out/sealer, for x86-64-v2. If there is none for x86-64-v3, a copy that claims to be one takes its place. What
@@ -192,6 +192,12 @@ works() { # NAME, of $program in $root
     is "$1-pipes" says 'sealed - file 6 bytes'
     in_root open --key key stream.stm
     is "$1-opens-the-stream" cmp -s "$room/large" "$root/stream"
+    # shellcheck disable=SC2086
+    $as chroot "$root" "$program" unpipe --key key --workers 2 stream.stm > "$room/back" 2> "$out"
+    is "$1-unpipes" cmp -s "$room/large" "$room/back"
+    # shellcheck disable=SC2086
+    $as chroot "$root" "$program" unpipe --key key --spool / < "$root/stream.stm" > "$room/back" 2> "$out"
+    is "$1-unpipes-a-stream" cmp -s "$room/large" "$room/back"
     input=$root/journal in_root audit
     is "$1-audits" says 'legal: 3 granted, 3 sealed'
     in_root ledger --ledger /ledger
@@ -245,6 +251,33 @@ fi
 run env -i PATH=/usr/bin:/bin DESTDIR="$room/stage" "$made/install.sh" "$room/away" --uninstall
 is unstaged test $status = 0
 is nothing-stays test -z "$(find "$room/stage" -type f)"
+
+# Unpacked, installed, run and removed on a machine that has a shell and the tools for that: no compiler, no toolchain, no clone.
+if [ "$as" = none ]; then
+    lacks 'an installation from the archive in a root of its own, since chroot cannot be had here'
+else
+    root=$room/machine
+    mkdir -p "$root/dev" "$root/tmp" "$root/usr/bin"
+    : > "$root/dev/null"
+    ln -s usr/bin "$root/bin"
+    for tool in sh tar zstd awk cat chmod cut dirname env find grep head mkdir mktemp mv readlink rm rmdir sed sha256sum sort; do
+        file=$(command -v $tool)
+        cp "$file" "$root/usr/bin/$tool"
+        for library in $(ldd "$file" 2>/dev/null | grep -o '/[^ ]*'); do
+            [ -e "$root$library" ] || { mkdir -p "$root${library%/*}" && cp "$library" "$root$library"; }
+        done
+    done
+    cp "$room/one/$name.tar.zst" "$root/tmp/release"
+    inside() { program=/bin/env in_root -i PATH=/bin sh -ec "$1"; }
+    inside "cd /tmp && zstd -qdc < release | tar --no-same-owner -x && ./$name/install.sh"
+    is machine-installed test $status = 0
+    program=/usr/local/bin/sealer in_root --version
+    is machine-runs says "$named"
+    program=/usr/local/bin/sealer works machine
+    inside "/tmp/$name/install.sh --uninstall"
+    is machine-uninstalled test $status = 0
+    is machine-keeps-nothing test -z "$(find "$root/usr/local" -type f)"
+fi
 prefix="$room/pre fix"
 run env -i PATH=/usr/bin:/bin "$made/install.sh" "$prefix"
 is installed test $status = 0
