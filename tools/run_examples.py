@@ -5,8 +5,8 @@ In a document an example is a block marked `console`; in a manual page it is a l
 with '$ '. A line '$ COMMAND' is run, with the lines '> ..' after it. The lines below are what it prints on both streams,
 where a line '...' is any number of lines. A command with nothing below it prints nothing and exits with status 0. The
 blocks of a document are one session of bash, in a folder like the top of a fresh clone, with the built program. A block
-marked `sh` takes long, or another machine: only its syntax is checked, and whether the files exist that it names. A
-block marked `text` is no example. Prints how many were run, or what differs, with status 1.
+marked `sh` takes long, or another machine: only its syntax is checked, and whether the files exist that it names
+(tools/recipe_runs.sh runs those of the manual). A block marked `text` is no example. Prints how many were run, or what differs, with status 1.
 """
 import os
 import re
