@@ -7,6 +7,10 @@
 # each for the level of processors that it was built for. There has to be one for x86-64-v2 (tools/build.py x86-64-v2); the one for
 # x86-64-v3 is left out where it isn't there, or is older than its sources.
 #
+# Before a release raise the version in crates/command_line/src/version.rt, and give it a section of CHANGELOG.md; after it tag the commit
+# `vVERSION`. A version that is the tag of another commit is refused. The static programs name the commit in `--version`; the programs as
+# they were built, in the -dynamic archive, don't.
+#
 # The same programs, the same commit and the same Debian packages give the same bytes: times are SOURCE_DATE_EPOCH, or the commit's.
 # Needs git, python3, cc, the C library's static archive, zstd and dpkg-deb (Debian: git python3 gcc libc6-dev zstd dpkg).
 set -eu
