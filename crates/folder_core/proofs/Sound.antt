@@ -22,6 +22,8 @@ pub allows_front : (bound : Bound) (bytes front : List ℕ) → Allows bound byt
 allows_front (bounds.Container before key shape prefix) bytes front (plain, f) part =
     (plain, front_of_front front bytes (before ++ container key shape prefix plain) part f)
 allows_front (Exactly all) bytes front f part = front_of_front front bytes all part f
+allows_front (bounds.Checked before key header input) bytes front (plain, is, f) part =
+    (plain, is, front_of_front front bytes (before ++ plain) part f)
 
 pub after_front : (held one two : List ℕ) → IsFront one two → IsFront (held ++ one) (held ++ two)
 after_front held one two (rest, p) = (rest, ap (λ l. held ++ l) p ∙ sym (append_assoc held one rest))

@@ -2,7 +2,7 @@
 use Rattle.std.proofs.Common.{◌≡◌, ℕ, ◌-◌, List, [], ◌++◌, length, take, drop, Option, None, Some, refl, sym, ap, ◌∙◌, append_assoc, subst}
 use Rattle.io_core.proofs.WriteLemmas.{written_more}
 use Rattle.io_core.specs.Streams.{Appends, IsFront}
-use Rattle.output_core.specs.Bounds.{Admits, Allows, Bound, Container, Exactly}
+use Rattle.output_core.specs.Bounds.{Admits, Allows, Bound, Checked, Container, Exactly}
 
 pub front_of_front : (one two three : List ℕ) → IsFront one two → IsFront two three → IsFront one three
 front_of_front one two three (rest, p) (more, q) =
@@ -15,6 +15,8 @@ front_behind held one two (rest, p) = (rest, ap (λ l. held ++ l) p ∙ sym (app
 pub allows_front : (b : Bound) (bytes whole : List ℕ) → Allows b whole → IsFront bytes whole → Allows b bytes
 allows_front (Container before key shape prefix) bytes whole (plain, f) g = (plain, front_of_front bytes whole _ g f)
 allows_front (Exactly all) bytes whole f g = front_of_front bytes whole all g f
+allows_front (Checked before key header input) bytes whole (plain, is, f) g =
+    (plain, is, front_of_front bytes whole (before ++ plain) g f)
 
 -- an output that may take all may take a front
 pub admits_front : (bound : Option Bound) (taken : Option (List ℕ)) (bytes whole : List ℕ) → Admits bound taken whole
