@@ -1,7 +1,18 @@
-use Rattle.std.proofs.Common.{arith, ◌++◌, ℕ, List, sym, subst}
+use Rattle.std.proofs.Common.{arith, ◌++◌, ℕ, List, refl, sym, subst}
 use Rattle.io_core.specs.Streams.{AppendsFront, LacksSome}
+use Rattle.output_core.specs.Bounds.{Admits}
+use Rattle.output_core.proofs.BoundLemmas.{admits_front}
 use Rattle.pipe_core.proofs.ChunkLemmas.{begun_before, begun_behind, both_err, front_first, lacks_before, lacks_behind, on_err}
 use Rattle.pipe_core.proofs.writing.write_part.Goals as goal
+
+pub put_all-requires-2 : goal.put_all-requires-2
+put_all-requires-2 g c =
+    let first = front_first c.args.front.now c.args.number (omega arith) in
+    record {
+      may = admits_front _ _ c.args.front.now (c.args.front.now ++ c.args.bytes.now)
+          (subst (λ (l : List ℕ). Admits (g.W.Output.bound c.args.writer.now) (g.W.Output.taken c.args.writer.now) (l ++ c.args.bytes.now)) first c.requires.may)
+          (c.args.bytes.now, refl);
+    }
 
 pub returns-in-Err-clause-err : goal.returns-in-Err-clause-err
 returns-in-Err-clause-err g c =
