@@ -8,7 +8,7 @@ use Rattle.container_core.specs.Chunks.{sealed_chunks}
 use Rattle.container_core.specs.Container.{header_length, size_in}
 use Rattle.container_core.specs.Opening.{unsealed, unsealed_by, behind, unless, early_fault, opening}
 use Rattle.round_core.specs.Answer.{joined}
-use Rattle.output_core.specs.Bounds.{Admits, Allows, Bound}
+use Rattle.output_core.specs.Bounds.{Admits, Allows, Bound, Checked, IsChecked}
 use Rattle.output_core.proofs.BoundLemmas.{admits_rest, admits_same, allows_front, front_behind}
 use Rattle.round_core.specs.declared.round.Task.{Task}
 use Rattle.round_core.specs.declared.round.Task.TheVariants.{Sealing, Opening, Checking}
@@ -269,16 +269,49 @@ admits-known key header most first (Some after) now b rest whole kept past held 
     admits-front b kept (Some kept) now plain waiting more whole refl allowed sent
     (subst (λ (l : List ℕ). IsFront (plain ++ l) whole) same ([], r.2 ∙ sym (append-nil (plain ++ r.0))))
 
+-- what was opened so far, and of the last round, was checked
+checked-all : (key header : List ℕ) (first : ℕ) (left' : Option (List ℕ)) (rest past held plain more : List ℕ)
+    → Consumes (Some rest) left' (past ++ held) → OpensBehind key header first past plain → (first ≡ 0 → plain ≡ [])
+    → (0 < first → unsealed_by key header 0 false (sealed_chunks (size_in header) past) ≡ Ok plain)
+    → (more ≡ []) ⊎ ((0 < length held) × IsAtEnd left' × (unsealed_by key header first true (sealed_chunks (size_in header) held) ≡ Ok more))
+    → IsChecked key header (header ++ rest) (plain ++ more)
+checked-all key header zero left' rest past held plain more consumed before none checks (inl nothing) =
+    inl (ap₂ ◌++◌ (none refl) nothing)
+checked-all key header (suc n) left' rest past held plain more consumed before none checks (inl nothing) = inr (
+  past,
+  false,
+  front_behind header past rest (front-read (Some rest) left' past held consumed),
+  checks (omega arith) ∙ ap (λ (l : List ℕ). Ok l) (sym (ap (λ (l : List ℕ). plain ++ l) nothing ∙ append-nil plain)),
+)
+checked-all key header first left' rest past held plain more consumed before none checks (inr (some, end, opens)) = inr (
+  past ++ held,
+  true,
+  front_behind header (past ++ held) rest (front-read (Some rest) left' (past ++ held) []
+      (subst (Consumes (Some rest) left') (sym (append-nil (past ++ held))) consumed)),
+  opens-last key header first past plain held (Ok more) some opens before,
+)
+
 module _ (task : Task) (key header : List ℕ) (most first : ℕ) (left' : Option (List ℕ)) (past held plain waiting : List ℕ)
     (long : header_length header ≡ length header)
     (law : (pieces : List (List ℕ)) → unsealed_by key header 0 true pieces ≡ unsealed key header 0 pieces)
-    (before : OpensBehind key header first past plain) where
+    (before : OpensBehind key header first past plain) (none : first ≡ 0 → plain ≡ [])
+    (checks : 0 < first → unsealed_by key header 0 false (sealed_chunks (size_in header) past) ≡ Ok plain) where
   admits-more : (left a now : Option (List ℕ)) (bound0 : Option Bound) (more : List ℕ) → IfSome bound0 (MayTake task key header most left a)
       → Consumes left left' (past ++ held) → (0 < length held) ⊎ (plain ≡ []) → (task ≡ Opening → Sent a now plain waiting)
       → (more ≡ []) ⊎ ((0 < length held) × IsAtEnd left' × (unsealed_by key header first true (sealed_chunks (size_in header) held) ≡ Ok more))
       → Admits bound0 now (waiting ++ more)
   admits-more left a now None more may consumed some kept last = tt
-  admits-more left a now (Some b) more (opening_task, rest, whole, kept_before, known, opens, had, allowed) consumed some kept last =
+  admits-more left a now (Some b) more (opening_task, kept_before, rest, had, known, inl is) consumed some kept last =
+      let all = plain ++ more in
+      let allowed : Allows (Checked kept_before key header (header ++ rest)) (kept_before ++ all) = (
+        all,
+        checked-all key header first left' rest past held plain more
+            (subst (λ (o : Option (List ℕ)). Consumes o left' (past ++ held)) known consumed) before none checks last,
+        ([], sym (append-nil (kept_before ++ all))),
+      ) in
+      admits-front b kept_before (Some kept_before) now plain waiting more all refl (subst (λ (x : Bound). Allows x (kept_before ++ all)) (sym is) allowed)
+      (subst (λ (o : Option (List ℕ)). Sent o now plain waiting) had (kept opening_task)) ([], sym (append-nil all))
+  admits-more left a now (Some b) more (opening_task, kept_before, rest, had, known, inr (whole, opens, allowed)) consumed some kept last =
       admits-known key header most first left' now b rest whole kept_before past held plain waiting more long law before
       (subst (λ (o : Option (List ℕ)). Consumes o left' (past ++ held)) known consumed) some opens allowed
       (subst (λ (o : Option (List ℕ)). Sent o now plain waiting) had (kept opening_task)) last

@@ -1,12 +1,12 @@
 -- What a second reading gives and writes.
-use Rattle.std.proofs.Common.{◌≡◌, ℕ, inl, inr, Bool, true, false, ◌&&◌, List, [], ◌∷◌, ◌++◌, length, Option, Some, None, Result, Ok, Err, IfSome, OnErr}
-use Rattle.std.proofs.Common.{refl, ap, ap₂, sym, subst, ◌∙◌, append_assoc}
+use Rattle.std.proofs.Common.{◌≡◌, ◌⊎◌, ℕ, inl, inr, Bool, true, false, ◌&&◌, List, [], ◌∷◌, ◌++◌, length, Option, Some, None, Result, Ok, Err, IfSome, OnErr}
+use Rattle.std.proofs.Common.{refl, ap, ap₂, sym, subst, ◌∙◌, append_assoc, append-nil}
 use Rattle.std.proofs.KnownBytes.{Appends-nil, Keeps-refl}
 use Rattle.std.proofs.lemmas.Bool.{eq-eqb, eqb-true}
 use Rattle.std.proofs.lemmas.Result.{IfOk-weaker}
 use lib.Pointwise.{pointwise}
 use lib.Dec.{eqb}
-use Rattle.io_core.specs.Streams.{Appends, Consumes, IsFront, Keeps, counted}
+use Rattle.io_core.specs.Streams.{Appends, Consumes, IsAtEnd, IsFront, Keeps, counted}
 use Rattle.container_core.specs.declared.fault.OpenFault.{OpenFault}
 use Rattle.container_core.specs.Faults.{IsOfBytes}
 use Rattle.container_core.specs.Opening.{opening}
@@ -14,12 +14,13 @@ use Rattle.opening_core.specs.declared.twice.Stopped.{Stopped}
 use Rattle.opening_core.specs.declared.twice.Stopped.TheVariants.{Refused, Changed, Broken}
 use Rattle.opening_core.specs.Engine.{HasHeader, OpensTo}
 use Rattle.opening_core.specs.Fronts.{Answers, SaysLength}
-use Rattle.opening_core.specs.Twice.{HasOpenedTwice, HasWrittenAgain, MayWrite, MayWriteIt, WritesSome, broken_by_read, broken_by_write}
-use Rattle.output_core.specs.Bounds.{Bound}
+use Rattle.opening_core.specs.Twice.{HasOpenedTwice, HasWrittenAgain, MayWrite, MayWriteIt, WritesAll, WritesSome}
+use Rattle.opening_core.specs.Twice.{broken_by_read, broken_by_write}
+use Rattle.output_core.specs.Bounds.{Allows, Bound, Checked}
 use Rattle.round_core.specs.declared.round.Task.TheVariants.{Opening}
 use Rattle.opening_core.specs.Windows.{HasBegun, HasSent, MayTake}
-use Rattle.opening_core.proofs.FrontLemmas.{input-answers}
-use Rattle.opening_core.proofs.ReadingLemmas.{header-opened}
+use Rattle.opening_core.proofs.FrontLemmas.{ended, input-answers}
+use Rattle.opening_core.proofs.ReadingLemmas.{header-before, header-opened}
 
 some-of : (o : Option (List ℕ)) (P Q : List ℕ → Type 0) → ((x : List ℕ) → P x → Q x) → IfSome o P → IfSome o Q
 some-of None P Q weaker p = tt
@@ -59,15 +60,32 @@ sent-behind key header left left' a c first sent = record {
     behind (Some input) (Some rest) consumed read =
         (read.0, consumed ∙ ap (λ (l : List ℕ). header ++ l) read.1 ∙ sym (append_assoc header sent.body read.0))
 
+-- all was read
+all-given : (key front plain : List ℕ) (most : ℕ) (left left' left'' : Option (List ℕ)) → SaysLength key front
+    → Consumes left left' front → (a : Answers key front most left' left'' (Ok plain))
+    → IfSome left (λ bytes. bytes ≡ front ++ a.read)
+all-given key front plain most None left' left'' says first a = tt
+all-given key front plain most (Some input) None left'' says first a = absurd first
+all-given key front plain most (Some input) (Some rest) left'' says first a =
+    first ∙ ap (λ (l : List ℕ). front ++ l) (whole left'' a.reads.consumed (ended key front plain most (Some rest) left'' says a))
+  where
+    whole : (o : Option (List ℕ)) → Consumes (Some rest) o a.read → IsAtEnd o → rest ≡ a.read
+    whole None consumed end = absurd consumed
+    whole (Some more) consumed end = consumed ∙ ap (λ (l : List ℕ). a.read ++ l) end ∙ append-nil a.read
+
 -- all was written
 pub again-written : (key front header : List ℕ) (most n : ℕ) (left left' left'' a c : Option (List ℕ)) (r r' w w' : Option ℕ)
     → front ≡ header → SaysLength key front → Consumes left left' front
     → (plain : List ℕ) × (n ≡ length plain) × Answers key front most left' left'' (Ok plain) × Appends a c plain
     → r' ≡ r → w' ≡ w → HasWrittenAgain key header most left a c r r' w w' (Ok n)
 again-written key front header most n left left' left'' a c r r' w w' same says first wrote read write = record {
-  written = some-of left _ _ (λ input opens. (wrote.0, opens, wrote.3, wrote.1)) (input-answers key front most left left' left'' (Ok wrote.0) says first wrote.2);
+  written = (
+    front ++ wrote.2.read,
+    subst (λ h. HasHeader h (front ++ wrote.2.read)) same (header-before key front wrote.2.read says),
+    (wrote.0, wrote.2.opens, wrote.3, wrote.1),
+    all-given key front wrote.0 most left left' left'' says first wrote.2,
+  );
   begun = tt;
-  headed = subst (λ h. IfSome left (HasHeader h)) same (header-opened key front left left' says first);
   checked = tt;
   changed = λ e. cc;
   checked_before = λ fault e. cc;
@@ -86,7 +104,6 @@ pub again-stopped : (key front header : List ℕ) (most : ℕ) (fault : OpenFaul
 again-stopped key front header most fault stop left left' left'' a c r r' w w' same says first begun sent refused changed broken before read write = record {
   written = tt;
   begun = begun-all key front most left left' a c first begun;
-  headed = tt;
   checked = inr (subst (λ h. HasSent key h h left a c) same (sent-behind key front left left' a c first sent));
   changed = λ e.
       let is : stop ≡ Changed = cc in
@@ -136,7 +153,6 @@ pub again-other : (key front header : List ℕ) (most : ℕ) (left left' a : Opt
 again-other key front header most left left' a r r' w says first differs read = record {
   written = tt;
   begun = nothing-written key most left a;
-  headed = tt;
   checked = inl (Keeps-refl a);
   changed = λ e. some-of left _ _ (λ input is plain was opens. differs (one-header front header input is was)) (header-opened key front left left' says first);
   checked_before = λ f e. cc;
@@ -154,7 +170,6 @@ pub again-front : (key header : List ℕ) (most : ℕ) (fault : OpenFault) (stop
 again-front key header most fault stop left a r r' w refused changed broken before read unwritten = record {
   written = tt;
   begun = nothing-written key most left a;
-  headed = tt;
   checked = inl (Keeps-refl a);
   changed = λ e.
       let is : stop ≡ Changed = cc in
@@ -196,7 +211,8 @@ pub twice-done : (key header : List ℕ) (most n : ℕ) (bytes left bytes' left'
     → IfSome left (HasHeader header) → IfSome left (λ input. OpensTo key most input n)
     → HasWrittenAgain key header most left' a c r r' w w' result → HasOpenedTwice key most bytes a c w w' result
 twice-done key header most n bytes left bytes' left' a c r r' w w' result kept still again named opens wrote = record {
-  written = IfOk-weaker result _ _ (λ k w. back _ w) wrote.written;
+  written = IfOk-weaker result _ _ (λ k w. back _ (some-of left' _ _
+      (λ input is. subst (λ i. WritesAll key most a c i k) (sym is) w.2) w.3)) wrote.written;
   unwritten = λ f e. absurd (wrote.checked_before f e);
   refused = λ f e own. absurd (wrote.checked_before f e);
   begun = λ f e.
@@ -219,28 +235,33 @@ twice-done key header most n bytes left bytes' left' a c r r' w w' result kept s
 
 -- ---- what may be written
 
-pub may-behind : (key header : List ℕ) (most : ℕ) (left left' a : Option (List ℕ)) (bound : Option Bound) → IfSome bound (MayWrite key most left a)
-    → Consumes left left' header → IfSome bound (MayTake Opening key header most left' a)
-may-behind key header most left left' a None may first = tt
-may-behind key header most left left' a (Some b) (input, plain, held, known, opens, had, allowed) first =
-    behind left' (subst (λ o. Consumes o left' header) known first)
+pub may-behind : (key front header : List ℕ) (most : ℕ) (left left' a : Option (List ℕ)) (bound : Option Bound) → front ≡ header
+    → IfSome bound (MayWrite key header most left a) → Consumes left left' front → IfSome bound (MayTake Opening key front most left' a)
+may-behind key front header most left left' a None same may first = tt
+may-behind key front header most left left' a (Some b) same (held, input, had, known, may) first =
+    behind left' may (subst (λ o. Consumes o left' front) known first)
   where
-    behind : (o : Option (List ℕ)) → Consumes (Some input) o header → MayTake Opening key header most o a b
-    behind None consumed = absurd consumed
-    behind (Some rest) consumed = (refl, rest, plain, held, refl, ap (opening key most) (sym consumed) ∙ opens, had, allowed)
+    behind : (o : Option (List ℕ)) → (b ≡ Checked held key header input)
+        ⊎ ((plain : List ℕ) × (opening key most input ≡ Ok plain) × Allows b (held ++ plain))
+        → Consumes (Some input) o front → MayTake Opening key front most o a b
+    behind None either consumed = absurd consumed
+    behind (Some rest) (inl is) consumed =
+        (refl, held, rest, had, refl, inl (is ∙ ap₂ (Checked held key) (sym same) consumed))
+    behind (Some rest) (inr (plain, opens, allowed)) consumed =
+        (refl, held, rest, had, refl, inr (plain, ap (opening key most) (sym consumed) ∙ opens, allowed))
 
-pub may-know : (key : List ℕ) (most n : ℕ) (bytes left bytes' left' a : Option (List ℕ)) (bound : Option Bound)
+pub may-know : (key header : List ℕ) (most n : ℕ) (bytes left bytes' left' a : Option (List ℕ)) (bound : Option Bound)
     → IfSome bound (MayWriteIt key most bytes a) → Keeps bytes left → Keeps bytes bytes' → Keeps bytes' left'
-    → IfSome left (λ input. OpensTo key most input n) → IfSome bound (MayWrite key most left' a)
-may-know key most n bytes left bytes' left' a None may kept still again opens = tt
-may-know key most n bytes left bytes' left' a (Some b) (input, held, known, had, allowed) kept still again opens =
+    → IfSome left (λ input. OpensTo key most input n) → IfSome bound (MayWrite key header most left' a)
+may-know key header most n bytes left bytes' left' a None may kept still again opens = tt
+may-know key header most n bytes left bytes' left' a (Some b) (input, held, known, had, allowed) kept still again opens =
     found left bytes' left' (subst (λ o. Keeps o left) known kept) (subst (λ o. Keeps o bytes') known still) again opens
   where
     found : (one two three : Option (List ℕ)) → Keeps (Some input) one → Keeps (Some input) two → Keeps two three
-        → IfSome one (λ i. OpensTo key most i n) → MayWrite key most three a b
+        → IfSome one (λ i. OpensTo key most i n) → MayWrite key header most three a b
     found None two three k s r o = absurd k
     found (Some x) None three k s r o = absurd s
     found (Some x) (Some y) None k s r o = absurd r
     found (Some x) (Some y) (Some z) k s r o =
         let same : z ≡ x = r ∙ s ∙ sym k in
-        (z, o.0, held, refl, ap (opening key most) same ∙ o.1, had, allowed o.0 (ap (opening key most) (sym k) ∙ o.1))
+        (held, z, had, refl, inr (o.0, ap (opening key most) same ∙ o.1, allowed o.0 (ap (opening key most) (sym k) ∙ o.1)))

@@ -1,6 +1,6 @@
 -- What the contracts of an opening by two readings cite.
 use Rattle.std.specs.Prelude.{◌≡◌, ◌⊎◌, ℕ, List, ◌++◌, length, Bool, true, false, Option, Some, IfSome}
-use Rattle.std.specs.Prelude.{Result, Ok, Err, OnOk, OnErr, IfOk}
+use Rattle.std.specs.Prelude.{Result, Ok, Err, OnErr, IfOk}
 use Rattle.container_core.specs.declared.fault.OpenFault.{OpenFault}
 use Rattle.container_core.specs.declared.fault.OpenFault.TheVariants as opening_fault
 use Rattle.container_core.specs.Faults.{IsOfBytes}
@@ -10,7 +10,7 @@ use Rattle.opening_core.specs.declared.twice.Stopped.{Stopped}
 use Rattle.opening_core.specs.declared.twice.Stopped.TheVariants.{Refused, Changed, Broken}
 use Rattle.opening_core.specs.Engine.{HasHeader}
 use Rattle.opening_core.specs.Windows.{HasSent}
-use Rattle.output_core.specs.Bounds.{Allows, Bound}
+use Rattle.output_core.specs.Bounds.{Allows, Bound, Checked}
 
 -- whether it was broken off by a failed read, or by a failed write
 abbrev pub broken_by_read : Result ℕ Stopped → Bool
@@ -37,12 +37,11 @@ WritesSome key most taken taken' input =
 -- its writer had taken `taken` before and `taken'` after. For both, failed calls are counted.
 pub record HasWrittenAgain (key header : List ℕ) (most : ℕ) (left taken taken' : Option (List ℕ))
     (reads reads' writes writes' : Option ℕ) (result : Result ℕ Stopped) : Type 0 where
-  -- what was written is the plaintext of exactly what this reading gave
-  pub written : IfOk result (λ n. IfSome left (λ input. WritesAll key most taken taken' input n))
+  -- a container with the header of the first reading was given, and nothing else, and its whole plaintext was written
+  pub written : IfOk result (λ n. (input : List ℕ) × HasHeader header input × WritesAll key most taken taken' input n
+      × IfSome left (λ bytes. bytes ≡ input))
   -- else a prefix of it, where it has one
   pub begun : OnErr result (IfSome left (WritesSome key most taken taken'))
-  -- it has the header of the first reading
-  pub headed : OnOk result (IfSome left (HasHeader header))
   -- whatever it gave, each byte that was written is of a chunk that was checked, under that header and at its place
   pub checked : OnErr result (Keeps taken taken' ⊎ HasSent key header header left taken taken')
   -- it gave other bytes: they don't open, or have another header
@@ -73,10 +72,12 @@ pub record HasOpenedTwice (key : List ℕ) (most : ℕ) (bytes taken taken' : Op
   -- readings that give the same bytes don't differ
   pub same : result ≡ Err Changed → IfSome bytes (λ _. ⊥)
 
--- the input opens, and a bounded output may hold its plaintext after what it took
-abbrev pub MayWrite : List ℕ → ℕ → Option (List ℕ) → Option (List ℕ) → Bound → Type 0
-MayWrite key most left taken bound = (input : List ℕ) × (plain : List ℕ) × (held : List ℕ)
-    × (left ≡ Some input) × (opening key most input ≡ Ok plain) × (taken ≡ Some held) × Allows bound (held ++ plain)
+-- A bounded output may hold, after what it took, what is opened of the input, as far as its chunks are checked under the
+-- header of the first reading. Or the input opens, and it may hold the plaintext.
+abbrev pub MayWrite : List ℕ → List ℕ → ℕ → Option (List ℕ) → Option (List ℕ) → Bound → Type 0
+MayWrite key header most left taken bound = (held : List ℕ) × (input : List ℕ)
+    × (taken ≡ Some held) × (left ≡ Some input) × ((bound ≡ Checked held key header input)
+    ⊎ ((plain : List ℕ) × (opening key most input ≡ Ok plain) × Allows bound (held ++ plain)))
 
 -- where the input opens, a bounded output may hold its plaintext after what it took
 abbrev pub MayWriteIt : List ℕ → ℕ → Option (List ℕ) → Option (List ℕ) → Bound → Type 0

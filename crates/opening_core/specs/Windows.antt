@@ -17,7 +17,7 @@ use Rattle.round_core.specs.Views.{PlacesView}
 use Rattle.worker_core.specs.Crew.{CrewView}
 use Rattle.window_core.specs.Windows.{WindowView}
 use Rattle.opening_core.specs.Engine.{open_read_failed, open_write_failed}
-use Rattle.output_core.specs.Bounds.{Admits, Allows, Bound}
+use Rattle.output_core.specs.Bounds.{Admits, Allows, Bound, Checked}
 
 -- a round opens, and where it isn't only checked this is its plaintext
 pub record OpensRound (task : Task) (key header : List ℕ) (first : ℕ) (last : Bool) (body joined : List ℕ)
@@ -89,10 +89,12 @@ pub record HasSent (key header before : List ℕ) (left taken taken' : Option (L
   pub checked : (plain ≡ []) ⊎ (unsealed_by key header 0 last (sealed_chunks (size_in header) body) ≡ Ok plain)
   pub sent : AppendsFront taken taken' plain
 
--- what follows the header makes it open, and a bounded output may hold the plaintext after what it took
+-- A bounded output may hold, after what it took, what is opened of what follows the header, as far as its chunks are
+-- checked. Or that makes the header open, and it may hold the plaintext.
 abbrev pub MayTake : Task → List ℕ → List ℕ → ℕ → Option (List ℕ) → Option (List ℕ) → Bound → Type 0
-MayTake task key header most left taken bound = (task ≡ Opening) × (rest : List ℕ) × (plain : List ℕ) × (held : List ℕ)
-    × (left ≡ Some rest) × (opening key most (header ++ rest) ≡ Ok plain) × (taken ≡ Some held) × Allows bound (held ++ plain)
+MayTake task key header most left taken bound = (task ≡ Opening) × (held : List ℕ) × (rest : List ℕ)
+    × (taken ≡ Some held) × (left ≡ Some rest) × ((bound ≡ Checked held key header (header ++ rest))
+    ⊎ ((plain : List ℕ) × (opening key most (header ++ rest) ≡ Ok plain) × Allows bound (held ++ plain)))
 
 -- an output may take the pieces that wait, and the plaintext of the last round after them
 pub record MayTakeLast (task : Task) (key header : List ℕ) (first : ℕ) (held : List ℕ) (waiting : List (Option (List ℕ)))

@@ -136,7 +136,8 @@ pub fn write_again<T: Threads + Sync, R: Source, W: Output + Drop, G: Gate + Syn
 ) -> (Result<u64, Stopped>, W)
     requires max_bytes { max_bytes ≤ MAX_OPENED }
     requires workers { (0 < workers) × (workers ≤ MAX_WORKERS) }
-    requires may { IfSome (W.bound writer) (MayWrite key.now max_bytes (R.left reader.old) (W.taken writer)) }
+    requires may { IfSome (W.bound writer)
+        (MayWrite key.now header.now max_bytes (R.left reader.old) (W.taken writer)) }
     ensures { HasWrittenAgain key.now header.now max_bytes (R.left reader.old)
         (W.taken writer) (W.taken result.1) (R.failures reader.old) (R.failures reader.new)
         (W.failures writer) (W.failures result.1) result.0 }

@@ -37,7 +37,9 @@ returns-in-Err-default g c =
 
 pub write_body-requires-clause-may : goal.write_body-requires-clause-may
 write_body-requires-clause-may g c κs within =
-    may-behind c.args.key.now c.in-Ok.again c.args.max_bytes _ _ _ _ c.requires.may c.in-Ok.ensures.header
+    may-behind c.args.key.now c.in-Ok.again c.args.header.now c.args.max_bytes _ _ _ _
+    (found-same c.bytes.result.now c.bytes-2.result.now c.in-Ok.again c.args.header.now c.bytes.ensures.bytes c.bytes-2.ensures.bytes (search rules))
+    c.requires.may c.in-Ok.ensures.header
 
 pub returns-in-Err : goal.returns-in-Err
 returns-in-Err g c =

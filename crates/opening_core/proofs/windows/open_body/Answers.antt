@@ -457,7 +457,7 @@ open_full-requires-clause-may g c κs within =
     let before = c.rounds.invariant in
     let some : 0 < length c.rounds.rooms.current.held = search rules in
     admits-waiting c.args.task c.args.key.now c.args.header.now c.args.max_bytes c.rounds.first _ before.past c.rounds.rooms.current.held before.plain _
-    c.requires.front.whole (c.rounds_open.ensures.whole c.args.key.now c.args.header.now 0) before.opens _ _ _ _ _ before.bound c.requires.may
+    c.requires.front.whole (c.rounds_open.ensures.whole c.args.key.now c.args.header.now 0) before.opens before.none before.checks _ _ _ _ _ before.bound c.requires.may
     before.consumed (inl some) before.kept
 
 pub open_last-requires-clause-may : goal.open_last-requires-clause-may
@@ -481,10 +481,10 @@ open_last-requires-clause-may g c κs within =
     ] in
     record {
       before = admits-waiting c.args.task key header c.args.max_bytes c.rounds.first _ before.past held before.plain _
-          c.requires.front.whole (c.rounds_open.ensures.whole key header 0) before.opens _ _ _ _ _ before.bound c.requires.may
+          c.requires.front.whole (c.rounds_open.ensures.whole key header 0) before.opens before.none before.checks _ _ _ _ _ before.bound c.requires.may
           before.consumed (inl some) before.kept;
       other = bounded-opens c.args.task key header c.args.max_bytes _ _ _ _ before.bound c.requires.may;
       behind = λ opening last opens. admits-last c.args.task key header c.args.max_bytes c.rounds.first _ before.past held before.plain _
-          c.requires.front.whole (c.rounds_open.ensures.whole key header 0) before.opens _ _ _ _ _ last before.bound c.requires.may
+          c.requires.front.whole (c.rounds_open.ensures.whole key header 0) before.opens before.none before.checks _ _ _ _ _ last before.bound c.requires.may
           before.consumed some end before.kept opens;
     }
