@@ -20,11 +20,11 @@ use Rattle.command_core.specs.declared.line.FileFault.TheVariants.{Unopened, Out
 use Rattle.command_core.specs.declared.line.FileOutcome.TheVariants.{Opened, Failed}
 use Rattle.command_core.specs.Again.{IsAgainFault, IsBegun, IsGood}
 use Rattle.command_core.specs.Labels.{IsLabelled}
-use Rattle.command_core.specs.Session.{IsBoundAgain, IsBoundTo}
+use Rattle.command_core.specs.Session.{IsBoundChecked, IsBoundTo}
 use Rattle.command_core.specs.Trace.{Event, Created, Finished, Discarded, Reading, Does, Nothing, Opens, Creates, Finishes}
-use Rattle.command_core.specs.Trace.{Discards, IsOpenedBy, IsReadAgain, Refuses, tape}
+use Rattle.command_core.specs.Trace.{Discards, FailsToOpen, IsOpenedBy, IsReadAgain, Refuses, tape}
 use Rattle.command_core.specs.Trace as trace
-use Rattle.command_core.specs.Work.{IsBrokenOff, IsRefused, Opening}
+use Rattle.command_core.specs.Work.{IsBrokenOff, IsRefused, IsUnrepeated, Opening}
 use Rattle.command_core.proofs.Traces.{chain, known, finished_as, discarded_as, tape_as, weaken}
 
 -- ---- what a file had
@@ -78,27 +78,44 @@ read_once k key most label name plain left one two three does good opens =
     (λ x y o e. (o.0, y, (λ i. o.2 i ++ y), (known (λ input. IsGood key most label input plain) left o.0 o.1 good).0))
     one two three opens does)
 
-pub read_again : (k : List Event → Type 0) (key : List ℕ) (most : ℕ) (label : Option (List ℕ)) (name : List ℕ)
+pub read_again : (k : List Event → Type 0) (key header : List ℕ) (most : ℕ) (label : Option (List ℕ)) (name : List ℕ)
     (left left' : Option (List ℕ)) (one two three four : Option (List Event)) → Does k three four
-    → IsGoodIf key most label left → Does (Opens name left') two three → Does (Opens name left) one two
-    → IfSome four (IsReadAgain key most name left')
-read_again k key most label name left left' one two three four does good again opens =
-    came (IsReadAgain key most name left') one four
-    (λ before events is. (is.0, is.1, is.2, before, is.3, is.4, is.5, (λ i. before ++ is.6 i)))
-    (chain (λ events. (first : List ℕ) × (last : List ℕ) × (plain : List ℕ) × (after : List Event) × (left' ≡ Some last)
-    × (opening key most first ≡ Ok plain) × (events ≡ Reading name first ∷ Reading name last ∷ after))
+    → IsGoodIf key most label left → IfSome left (HasHeader header) → Does (Opens name left') two three
+    → Does (Opens name left) one two → IfSome four (IsReadAgain key header name left')
+read_again k key header most label name left left' one two three four later good headed again opens =
+    came (IsReadAgain key header name left') one four
+    (λ before events is. (is.0, is.1, is.2, most, before, is.3, (λ i. before ++ is.4 i), is.5, is.6, is.7))
+    (chain (λ events. (first : List ℕ) × (last : List ℕ) × (plain : List ℕ) × (after : List Event)
+    × (events ≡ Reading name first ∷ Reading name last ∷ after) × (left' ≡ Some last) × (opening key most first ≡ Ok plain)
+    × HasHeader header first)
     (λ x y o e.
     let (plain, is) = known (λ input. (plain : List ℕ) × IsGood key most label input plain) left o.0 o.1 good in
-    (o.0, e.0, plain, e.1, e.2, is.0, (λ i. o.2 i ++ e.3 i)))
+    (o.0, e.0, plain, e.1, (λ i. o.2 i ++ e.3 i), e.2, is.0, known (HasHeader header) left o.0 o.1 headed))
     one two four opens
     (chain (λ events. (last : List ℕ) × (after : List Event) × (left' ≡ Some last) × (events ≡ Reading name last ∷ after))
-    (λ x y a e. (a.0, y, a.1, (λ i. a.2 i ++ y))) two three four again does))
+    (λ x y a e. (a.0, y, a.1, (λ i. a.2 i ++ y))) two three four again later))
 
-pub may_again : (key : List ℕ) (most : ℕ) (left taken taken' : Option (List ℕ)) (bound : Option Bound) → taken' ≡ taken
-    → IfSome bound (IsBoundAgain key most left taken) → IfSome bound (MayWrite key most left taken')
-may_again key most left taken taken' None kept bounds = tt
-may_again key most left taken taken' (Some b) kept (input, plain, had, ok, (held, took, is)) =
-    (input, plain, held, had, ok, kept ∙ took, allows_all b held plain is)
+pub may_again : (key header : List ℕ) (most : ℕ) (left taken taken' : Option (List ℕ)) (bound : Option Bound) → taken' ≡ taken
+    → IfSome bound (IsBoundChecked key header left taken) → IfSome bound (MayWrite key header most left taken')
+may_again key header most left taken taken' None kept bounds = tt
+may_again key header most left taken taken' (Some b) kept (input, had, (held, took, is)) =
+    (held, input, kept ∙ took, had, inl is)
+
+-- ---- a file that can't be read again
+
+pub unrepeated : (key : List ℕ) (most : ℕ) (label : Option (List ℕ)) (name : List ℕ) (left : Option (List ℕ)) (one two three : Option (List Event))
+    → IsGoodIf key most label left → Does (FailsToOpen name) two three → Does (Opens name left) one two
+    → Does (IsUnrepeated key most label name) one three
+unrepeated key most label name left one two three good fails opens =
+    chain (IsUnrepeated key most label name) (λ x y o f.
+    let (plain, is) = known (λ input. (plain : List ℕ) × IsGood key most label input plain) left o.0 o.1 good in
+    (o.0, plain, is, (λ i. o.2 i ++ f i))) one two three opens fails
+
+pub not_repeated : (key : List ℕ) (most : ℕ) (label : Option (List ℕ)) (name output : List ℕ) (left : Option (List ℕ))
+    (one two three : Option (List Event)) → IsGoodIf key most label left → Does (FailsToOpen name) two three
+    → Does (Opens name left) one two → Does (Opening key most label output name (Failed (Unopened bytes.Read))) one three
+not_repeated key most label name output left one two three good fails opens =
+    weaken (λ events u. inr (inl u)) one three (unrepeated key most label name left one two three good fails opens)
 
 pub may_once : (plain : List ℕ) (taken taken' : Option (List ℕ)) (bound : Option Bound) → taken' ≡ taken
     → IfSome bound (IsBoundTo (λ held. Exactly (held ++ plain)) taken) → Admits bound taken' plain
@@ -228,10 +245,10 @@ all_appends : (plain : List ℕ) (old new : Option (List ℕ)) → Appends old n
 all_appends plain old new grew = (plain, ([], sym (append-nil plain)), grew)
 
 pub begun_whole : (key : List ℕ) (most n : ℕ) (header : List ℕ) (left taken taken' : Option (List ℕ))
-    → IfSome left (λ input. WritesAll key most taken taken' input n) → IfSome left (HasHeader header)
+    → IfSome left (λ input. HasHeader header input × WritesAll key most taken taken' input n)
     → IfSome left (λ input. IsBegun key most header input taken taken')
-begun_whole key most n header None taken taken' wrote headed = tt
-begun_whole key most n header (Some input) taken taken' (plain, ok, grew, count) headed = (
+begun_whole key most n header None taken taken' wrote = tt
+begun_whole key most n header (Some input) taken taken' (headed, (plain, ok, grew, count)) = (
   (λ other is. let same : plain ≡ other = cc in subst (AppendsFront taken taken') same (all_appends plain taken taken' grew)),
   inr (inr (headed, (plain, ok, all_appends plain taken taken' grew))),
 )
@@ -243,11 +260,13 @@ begun_part key most header None taken taken' wrote sent = tt
 begun_part key most header (Some input) taken taken' wrote (inl keeps) = (wrote, inl keeps)
 begun_part key most header (Some input) taken taken' wrote (inr sent) = (wrote, inr (inl sent))
 
-pub headed_whole : (key : List ℕ) (most n : ℕ) (header : List ℕ) (left taken taken' : Option (List ℕ))
-    → IfSome left (λ input. WritesAll key most taken taken' input n) → IfSome left (HasHeader header)
+-- of what was given, where it is known
+pub given_whole : (key : List ℕ) (most n : ℕ) (header : List ℕ) (left taken taken' : Option (List ℕ))
+    → (input : List ℕ) × HasHeader header input × WritesAll key most taken taken' input n × IfSome left (λ b. b ≡ input)
     → IfSome left (λ input. HasHeader header input × WritesAll key most taken taken' input n)
-headed_whole key most n header None taken taken' wrote headed = tt
-headed_whole key most n header (Some input) taken taken' wrote headed = (headed, wrote)
+given_whole key most n header None taken taken' wrote = tt
+given_whole key most n header (Some bytes) taken taken' (input, headed, wrote, is) =
+    subst (λ i. HasHeader header i × WritesAll key most taken taken' i n) (sym is) (headed, wrote)
 
 -- it was given up
 broken : (are : List ℕ → List ℕ → Type 0) (key header : List ℕ) (most : ℕ) (label : Option (List ℕ)) (name output : List ℕ)
@@ -301,7 +320,7 @@ broken_off key most label output name bytes.KeyMismatch events other up = absurd
 broken_off key most label output name bytes.BadLength events other up = absurd (other tt)
 broken_off key most label output name (bytes.Forged chunk) events other up = absurd (other tt)
 broken_off key most label output name bytes.OutOfMemory events other up = inr up
-broken_off key most label output name bytes.Read events other up = inr up
+broken_off key most label output name bytes.Read events other up = inr (inr up)
 broken_off key most label output name bytes.Write events other up = inr up
 
 -- readings of which the first opens and the second doesn't, or has another header, differ

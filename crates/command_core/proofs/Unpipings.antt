@@ -1,8 +1,9 @@
 -- What a file that was opened to a stream did, by its outcome.
 use Rattle.std.specs.Prelude.{⊤}
 use Rattle.std.proofs.Common.{◌≡◌, ◌≢◌, ◌⊎◌, inl, inr, ℕ, true, false, refl, sym, ap, subst, ◌∙◌, List, [], ◌∷◌, ◌++◌, Option, Some, IfSome}
-use Rattle.std.proofs.Common.{Result, Ok, Err, OnOk, OnErr, IfOk}
+use Rattle.std.proofs.Common.{Result, Ok, Err, OnErr}
 use Rattle.std.proofs.KnownBytes.{Keeps-refl}
+use Rattle.std.proofs.lemmas.Result.{IfOk-at_ok}
 use Rattle.container_core.specs.declared.fault.OpenFault.{OpenFault}
 use Rattle.container_core.specs.declared.fault.OpenFault.TheVariants as bytes
 use Rattle.container_core.specs.Faults.{IsOfBytes}
@@ -18,10 +19,10 @@ use Rattle.command_core.specs.declared.line.FileOutcome.{FileOutcome}
 use Rattle.command_core.specs.declared.line.FileOutcome.TheVariants.{Failed, Opened}
 use Rattle.command_core.specs.Again.{IsBegun, IsGood}
 use Rattle.command_core.specs.Labels.{IsLabelled}
-use Rattle.command_core.specs.Trace.{Does, Event, Nothing, Opens, Reading}
+use Rattle.command_core.specs.Trace.{Does, Event, FailsToOpen, Opens, Reading}
 use Rattle.command_core.specs.Unpiping.{HasUnpiped, IsCutShort, IsOfUnpiping, Unpipes, write_failed}
 use Rattle.command_core.specs.Work.{IsFaultOf, IsOfVerifying}
-use Rattle.command_core.proofs.Openings.{IsGoodIf, begun_part, differ}
+use Rattle.command_core.proofs.Openings.{IsGoodIf, begun_part, differ, given_whole, unrepeated}
 use Rattle.command_core.proofs.Traces.{chain, known, weaken}
 
 -- ---- nothing was written
@@ -99,13 +100,11 @@ refused_unpipes key most label name left taken failures one two f of why opens =
 }
 
 pub lost_unpipes : (key : List ℕ) (most : ℕ) (label : Option (List ℕ)) (name : List ℕ) (left taken : Option (List ℕ))
-    (failures : Option ℕ) (one two three : Option (List Event)) → IsGoodIf key most label left → Does Nothing two three
+    (failures : Option ℕ) (one two three : Option (List Event)) → IsGoodIf key most label left → Does (FailsToOpen name) two three
     → Does (Opens name left) one two
     → HasUnpiped key most label name taken taken failures failures one three (Failed fault.SpoolFailed)
-lost_unpipes key most label name left taken failures one two three good none opens = record {
-  works = chain (Unpipes key most label name taken taken (Failed fault.SpoolFailed)) (λ x y o n.
-      let (plain, is) = known (λ input. (plain : List ℕ) × IsGood key most label input plain) left o.0 o.1 good in
-      (o.0, plain, is, (λ i. o.2 i ++ n i))) one two three opens none;
+lost_unpipes key most label name left taken failures one two three good fails opens = record {
+  works = unrepeated key most label name left one two three good fails opens;
   kept = Keeps-refl taken;
   write = refl;
 }
@@ -120,12 +119,12 @@ pub opened_unpipes : (key header : List ℕ) (most n : ℕ) (label : Option (Lis
     → Does (Opens name left') two three → Does (Opens name left) one two
     → HasUnpiped key most label name taken taken' failures failures' one three (Opened n)
 opened_unpipes key header most n label name left left' taken taken' reads reads' failures failures' result one two three good headed
-    labelled wrote is again opens = record {
+    labelled wrote is again opens =
+    let (input, first_header, (plain, opened, written, long), given) = IfOk-at_ok _ is wrote.written in record {
       works = chain (Unpipes key most label name taken taken' (Opened n)) (λ x y o a.
           let first = known (λ input. (plain : List ℕ) × IsGood key most label input plain) left o.0 o.1 good in
-          let same = known (HasHeader header) left' a.0 a.1 (subst (λ r. OnOk r (IfSome left' (HasHeader header))) is wrote.headed) in
-          let (whole, ok, grew, count) = known (λ input. WritesAll key most taken taken' input n) left' a.0 a.1
-          (subst (λ r. IfOk r (λ n. IfSome left' (λ input. WritesAll key most taken taken' input n))) is wrote.written) in (
+          let (same, (whole, ok, grew, count)) = known (λ input. HasHeader header input × WritesAll key most taken taken' input n) left' a.0 a.1
+          (given_whole key most n header left' taken taken' (IfOk-at_ok _ is wrote.written)) in (
             header,
             o.0,
             a.0,
@@ -136,7 +135,7 @@ opened_unpipes key header most n label name left left' taken taken' reads reads'
             count,
             grew,
           )) one two three opens again;
-      kept = tt;
+      kept = (plain, long, written);
       write = wrote.write ∙ ap (λ r. counted (broken_by_write r) failures) is;
     }
 
@@ -183,11 +182,11 @@ broken_unpipes key most label name taken taken' failures failures' one three byt
 broken_unpipes key most label name taken taken' failures failures' one three bytes.BadLength other cut count = absurd (other tt)
 broken_unpipes key most label name taken taken' failures failures' one three (bytes.Forged chunk) other cut count = absurd (other tt)
 broken_unpipes key most label name taken taken' failures failures' one three bytes.OutOfMemory other cut count =
-    record { works = weaken (λ events c. inr c) one three cut; kept = (λ of. absurd of); write = count }
+    record { works = weaken (λ events c. inr c) one three cut; kept = (λ of. absurd (other of)); write = count }
 broken_unpipes key most label name taken taken' failures failures' one three bytes.Read other cut count =
-    record { works = weaken (λ events c. inr c) one three cut; kept = (λ of. absurd of); write = count }
+    record { works = weaken (λ events c. inr c) one three cut; kept = (λ of. absurd (other of)); write = count }
 broken_unpipes key most label name taken taken' failures failures' one three bytes.Write other cut count =
-    record { works = cut; kept = (λ of. absurd of); write = count }
+    record { works = cut; kept = (λ of. absurd (other of)); write = count }
 
 pub stopped_unpipes : (key header : List ℕ) (most : ℕ) (label : Option (List ℕ)) (name : List ℕ)
     (left left' taken taken' : Option (List ℕ)) (reads reads' failures failures' : Option ℕ) (result : Result ℕ Stopped)

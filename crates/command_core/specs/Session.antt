@@ -1,11 +1,10 @@
 -- Under which key, and over which range of numbers, containers are written into the outputs of a folder.
-use Rattle.std.specs.Prelude.{◌≡◌, ℕ, ◌+◌, ◌<◌, ◌≤◌, List, [], ◌∷◌, ◌++◌, nat_eq, count_by, Option, Some, IfSome, Ok}
+use Rattle.std.specs.Prelude.{◌≡◌, ℕ, ◌+◌, ◌<◌, ◌≤◌, List, [], ◌∷◌, nat_eq, count_by, Option, Some, IfSome}
 use Rattle.std.specs.List.{AllByRecursion}
-use Rattle.container_core.specs.Opening.{opening}
 use Rattle.container_core.specs.Shape.{IsShape, ShapeView}
 use Rattle.journal_core.specs.Range.{Numbers}
 use Rattle.command_core.specs.Trace.{tape}
-use Rattle.output_core.specs.Bounds.{Bound, Exactly}
+use Rattle.output_core.specs.Bounds.{Bound, Checked, Exactly}
 
 -- A container that began: under which number, and in which shape.
 pub record Begun : Type 0 where
@@ -51,10 +50,10 @@ pub record IsSound (session : Session) : Type 0 where
 abbrev pub IsBoundTo : (List ℕ → Bound) → Option (List ℕ) → Bound → Type 0
 IsBoundTo make taken bound = (held : List ℕ) × (taken ≡ Some held) × (bound ≡ make held)
 
--- An output may hold, after what it took, the plaintext of a reading that opens.
-abbrev pub IsBoundAgain : List ℕ → ℕ → Option (List ℕ) → Option (List ℕ) → Bound → Type 0
-IsBoundAgain key most left taken bound = (input : List ℕ) × (plain : List ℕ) × (left ≡ Some input)
-    × (opening key most input ≡ Ok plain) × IsBoundTo (λ held. Exactly (held ++ plain)) taken bound
+-- An output may hold, after what it took, what is opened of a reading, as far as its chunks are checked.
+abbrev pub IsBoundChecked : List ℕ → List ℕ → Option (List ℕ) → Option (List ℕ) → Bound → Type 0
+IsBoundChecked key header left taken bound =
+    (input : List ℕ) × (left ≡ Some input) × IsBoundTo (λ held. Checked held key header input) taken bound
 
 -- Nothing can be written to it yet: it may hold no more than it took.
 abbrev pub IsShut : Option Bound → Option (List ℕ) → Type 0

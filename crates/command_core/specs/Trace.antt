@@ -1,11 +1,12 @@
 -- What a folder reports of a run: which files were read, and what became of its outputs.
 use Rattle.std.specs.Prelude.{⊤, ◌≡◌, ℕ, List, [], ◌∷◌, ◌++◌, length, Option, None, Some, Ok}
 use Rattle.container_core.specs.Opening.{opening}
+use Rattle.opening_core.specs.Engine.{HasHeader}
 use Rattle.command_core.specs.declared.folder.FolderFault.{FolderFault}
 
--- A file was opened for reading, and its reader has these bytes; or it could not be opened. An output was created; or
--- it could not be created, with this fault. An output was finished, and these are all its bytes; or it was given up
--- with these bytes, and its removal was tried.
+-- A file was opened for reading, and its reader has these bytes; or it could not be opened, or not read again. An output
+-- was created; or it could not be created, with this fault. An output was finished, and these are all its bytes; or it
+-- was given up with these bytes, and its removal was tried.
 pub data Event : Type 0 where
   Reading : List ℕ → List ℕ → Event
   Unread : List ℕ → Event
@@ -34,7 +35,7 @@ Nothing events = events ≡ []
 abbrev pub Opens : List ℕ → Option (List ℕ) → List Event → Type 0
 Opens name left events = (bytes : List ℕ) × (left ≡ Some bytes) × (events ≡ Reading name bytes ∷ [])
 
--- a file could not be opened
+-- a file could not be opened, or not read again
 abbrev pub FailsToOpen : List ℕ → List Event → Type 0
 FailsToOpen name events = events ≡ Unread name ∷ []
 
@@ -61,8 +62,8 @@ abbrev pub IsOpenedBy : List ℕ → List ℕ → List ℕ → List Event → Ty
 IsOpenedBy key name plain events = (bytes : List ℕ) × (most : ℕ) × (before : List Event) × (after : List Event)
     × (events ≡ before ++ Reading name bytes ∷ after) × (opening key most bytes ≡ Ok plain)
 
--- a file of this name was read, and opens under the key; then it was read again, and gave these bytes
-abbrev pub IsReadAgain : List ℕ → ℕ → List ℕ → Option (List ℕ) → List Event → Type 0
-IsReadAgain key most name left events = (first : List ℕ) × (last : List ℕ) × (plain : List ℕ) × (before : List Event)
-    × (after : List Event) × (left ≡ Some last) × (opening key most first ≡ Ok plain)
-    × (events ≡ before ++ Reading name first ∷ Reading name last ∷ after)
+-- a file of this name was read, opens under the key, and has this header; then it was read again, and gave these bytes
+abbrev pub IsReadAgain : List ℕ → List ℕ → List ℕ → Option (List ℕ) → List Event → Type 0
+IsReadAgain key header name left events = (first : List ℕ) × (last : List ℕ) × (plain : List ℕ) × (most : ℕ)
+    × (before : List Event) × (after : List Event) × (events ≡ before ++ Reading name first ∷ Reading name last ∷ after)
+    × (left ≡ Some last) × (opening key most first ≡ Ok plain) × HasHeader header first

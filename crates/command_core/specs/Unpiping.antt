@@ -9,17 +9,17 @@ use Rattle.command_core.specs.declared.line.FileOutcome.{FileOutcome}
 use Rattle.command_core.specs.declared.line.FileOutcome.TheVariants.{Opened, Failed}
 use Rattle.command_core.specs.Again.{IsBegun, IsGood, IsReadTwice}
 use Rattle.command_core.specs.Trace.{Does, Event, Reading, Unread}
-use Rattle.command_core.specs.Work.{IsFaultOf}
+use Rattle.command_core.specs.Work.{IsFaultOf, IsUnrepeated}
 
 -- whether the outcome is that a write failed
 abbrev pub write_failed : FileOutcome → Bool
 write_failed (Failed (Unopened Write)) = true
 write_failed _ = false
 
--- An outcome that `unpipe_all` can have, and what is always so: nothing was written at a fault of the bytes, or at
--- another label, or before the second reading.
+-- An outcome that `unpipe_all` can have, and what is always so, whatever is known of the file. At `opened` as many bytes
+-- were written as the line says. At a fault of the bytes, at another label, and before the second reading none was.
 abbrev pub IsOfUnpiping : Option (List ℕ) → Option (List ℕ) → FileOutcome → Type 0
-IsOfUnpiping taken taken' (Opened n) = ⊤
+IsOfUnpiping taken taken' (Opened n) = (plain : List ℕ) × (n ≡ length plain) × Appends taken taken' plain
 IsOfUnpiping taken taken' (Failed (Unopened fault)) = IsOfBytes fault → Keeps taken taken'
 IsOfUnpiping taken taken' (Failed AnotherLabel) = Keeps taken taken'
 IsOfUnpiping taken taken' (Failed CannotOpen) = Keeps taken taken'
@@ -37,7 +37,8 @@ module _ (key : List ℕ) (most : ℕ) (label : Option (List ℕ)) (name : List 
 
   -- `opened`: both readings are good and have the same header, and all of the plaintext of the second was written. A
   -- fault of the bytes, or another label: of the first reading, and there is no other. Where memory or a call failed,
-  -- nothing was written, or what was checked of the second reading. `changed`: the second gave other bytes.
+  -- nothing was written, or what was checked of the second reading. `changed`: the second gave other bytes. `spool
+  -- failed`: the file is good, and could not be read again.
   abbrev pub Unpipes : FileOutcome → List Event → Type 0
   Unpipes (Opened n) events = (header : List ℕ) × (first : List ℕ) × (last : List ℕ) × (plain : List ℕ)
       × IsReadTwice key most label name header first last events × HasHeader header last
@@ -49,8 +50,7 @@ module _ (key : List ℕ) (most : ℕ) (label : Option (List ℕ)) (name : List 
       (Keeps taken taken' × (first : List ℕ) × (events ≡ Reading name first ∷ [])) ⊎ IsCutShort (λ _ _. ⊤) events
   Unpipes (Failed Changed) events = IsCutShort (λ first last. first ≢ last) events
   Unpipes (Failed CannotOpen) events = events ≡ Unread name ∷ []
-  Unpipes (Failed SpoolFailed) events = (first : List ℕ) × (plain : List ℕ) × IsGood key most label first plain
-      × (events ≡ Reading name first ∷ [])
+  Unpipes (Failed SpoolFailed) events = IsUnrepeated key most label name events
   Unpipes (Failed fault) events = (first : List ℕ) × IsFaultOf key most label first fault
       × (events ≡ Reading name first ∷ [])
   Unpipes _ events = ⊥

@@ -104,6 +104,11 @@ abbrev pub AreReadings : List ℕ → List ℕ → List Event → Type 0
 AreReadings name first readings = (readings ≡ trace.Reading name first ∷ [])
     ⊎ ((last : List ℕ) × (readings ≡ trace.Reading name first ∷ trace.Reading name last ∷ []))
 
+-- The events for a file that is good, and could not be read again.
+abbrev pub IsUnrepeated : List ℕ → ℕ → Option (List ℕ) → List ℕ → List Event → Type 0
+IsUnrepeated key most label name events = (first : List ℕ) × (plain : List ℕ) × IsGood key most label first plain
+    × (events ≡ trace.Reading name first ∷ trace.Unread name ∷ [])
+
 -- The events for a file that is good, whose output was refused for this cause.
 abbrev pub IsRefused : List ℕ → ℕ → Option (List ℕ) → List ℕ → List ℕ → FolderFault → List Event → Type 0
 IsRefused key most label output name cause events = (first : List ℕ) × (plain : List ℕ) × (readings : List Event)
@@ -128,7 +133,7 @@ IsBrokenOff are key most label output name events = (header : List ℕ) × (firs
 -- The events for a file of this name that is to be opened to this output. An output is asked for only after an input
 -- was read that opens and has the label. It is finished with the plaintext of the last reading, once, and then the line
 -- says `opened`. Or it is given up, after a write, a read or memory failed, or because the second reading gave other
--- bytes; or it is refused, for the cause in the line.
+-- bytes; or it is refused, for the cause in the line. Where a file can't be read again the line says `read failed`.
 abbrev pub Opening : List ℕ → ℕ → Option (List ℕ) → List ℕ → List ℕ → FileOutcome → List Event → Type 0
 Opening key most label output name (Opened n) events = (last : List ℕ) × (plain : List ℕ) × (before : List Event)
     × IsGood key most label last plain × (n ≡ length plain) × AreBefore key most label name last before
@@ -136,7 +141,8 @@ Opening key most label output name (Opened n) events = (last : List ℕ) × (pla
 Opening key most label output name (Failed (Unopened Write)) events =
     IsGivenUp key most label output name events ⊎ IsBrokenOff (λ _ _. ⊤) key most label output name events
 Opening key most label output name (Failed (Unopened Read)) events =
-    ((input : List ℕ) × (events ≡ trace.Reading name input ∷ [])) ⊎ IsBrokenOff (λ _ _. ⊤) key most label output name events
+    ((input : List ℕ) × (events ≡ trace.Reading name input ∷ []))
+    ⊎ (IsUnrepeated key most label name events ⊎ IsBrokenOff (λ _ _. ⊤) key most label output name events)
 Opening key most label output name (Failed (Unopened bytes.OutOfMemory)) events =
     ((input : List ℕ) × (events ≡ trace.Reading name input ∷ [])) ⊎ IsBrokenOff (λ _ _. ⊤) key most label output name events
 Opening key most label output name (Failed Changed) events = IsBrokenOff (λ first last. first ≢ last) key most label output name events

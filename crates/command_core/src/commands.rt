@@ -141,7 +141,7 @@ fn open_again<T: Threads + Sync, F: OpeningFolder>(
         Ok(writer) => writer,
         Err(fault) => return FileOutcome::Failed(refusal(fault)),
     };
-    folder.allow_again(&mut writer, key, name, &reader, most);
+    folder.allow_checked(&mut writer, key, &header, name, &reader);
     match write_again_or_discard(
         rt,
         alloc,

@@ -6,7 +6,7 @@ ghost use Rattle.opening_core.specs.Engine.{HasHeader};
 ghost use Rattle.opening_core.specs.Twice.{MayWrite, WritesAll};
 ghost use Rattle.output_core.specs.Bounds.{Admits, Exactly};
 ghost use Rattle.command_core.specs.Again.{IsAgainFault, IsBegun};
-ghost use Rattle.command_core.specs.Session.{IsBoundAgain, IsBoundTo, IsNew, IsSound, Session};
+ghost use Rattle.command_core.specs.Session.{IsBoundChecked, IsBoundTo, IsNew, IsSound, Session};
 ghost use Rattle.command_core.specs.Trace.{Event, Creates, Discards, Does, FailsToOpen, Finishes, Nothing, Opens};
 ghost use Rattle.command_core.specs.Trace.{IsOpenedBy, IsReadAgain, Refuses};
 
@@ -56,11 +56,11 @@ pub trait Folder {
     fn can_repeat(&self, reader: &Self::Reader) -> bool;
 
     /// Goes back to the first byte of a file that was opened by this name: of the same open file, whatever has the name
-    /// by now. Fails if the file can't be read again.
+    /// by now. Fails if the file can't be read again, which is reported as a file that can't be opened.
     fn again(&mut self, name: &str, reader: &mut Self::Reader) -> Result<(), Failed>
         ensures again { OnOk result
             (Does (Opens name.now (Self.Reader.left reader.new)) (told self.old) (told self.new)) }
-        ensures refused { OnErr result (Does Nothing (told self.old) (told self.new)) }
+        ensures refused { OnErr result (Does (FailsToOpen name.now) (told self.old) (told self.new)) }
         ensures session { session self.new ≡ session self.old };
 
     /// Creates an empty output. It never replaces a file: `Exists` if the name exists, `Failed` for any other cause.
@@ -105,25 +105,25 @@ pub trait OpeningFolder: Folder {
         ensures bound { IfSome (Self.Writer.bound output.new)
             (IsBoundTo (λ held. Exactly (held ++ plain.now)) (Self.Writer.taken output.old)) };
 
-    /// Declares that an output is to hold the plaintext of a second reading of a file, of which a first one opens under
-    /// this key.
-    fn allow_again(
+    /// Declares that an output is to hold what is opened of a second reading of a file, as far as its chunks are
+    /// checked, each at its place, under the header of a first reading that opens under this key.
+    fn allow_checked(
         &mut self,
         output: &mut Self::Writer,
         key: &Key,
+        header: &Header,
         name: &str,
         reader: &Self::Reader,
-        max_bytes: u64,
     )
         requires new { IsNew (Self.Writer.bound output.old) (Self.Writer.taken output.old) }
         requires read { IfSome (Self.told self.old)
-            (IsReadAgain key.now max_bytes name.now (Self.Reader.left reader.now)) }
+            (IsReadAgain key.now header.now name.now (Self.Reader.left reader.now)) }
         ensures told { Self.told self.new ≡ Self.told self.old }
         ensures session { Self.session self.new ≡ Self.session self.old }
         ensures taken { Self.Writer.taken output.new ≡ Self.Writer.taken output.old }
-        // A folder that bounds its outputs knows that the second reading opens.
+        // A folder that bounds its outputs knows what the second reading gives. It may be anything.
         ensures bound { IfSome (Self.Writer.bound output.new)
-            (IsBoundAgain key.now max_bytes (Self.Reader.left reader.now) (Self.Writer.taken output.old)) };
+            (IsBoundChecked key.now header.now (Self.Reader.left reader.now) (Self.Writer.taken output.old)) };
 }
 
 // Finishes an output, or gives it up.
@@ -182,7 +182,7 @@ pub(crate) fn write_again_or_discard<T: Threads + Sync, F: Folder, R: Source>(
     requires max_bytes { max_bytes ≤ MAX_OPENED }
     requires workers { (0 < workers) × (workers ≤ MAX_WORKERS) }
     requires may { IfSome (F.Writer.bound output)
-        (MayWrite key.now max_bytes (R.left reader.old) (F.Writer.taken output)) }
+        (MayWrite key.now header.now max_bytes (R.left reader.old) (F.Writer.taken output)) }
     ensures ok { IfOk result (λ n. (taken : Option (List ℕ))
         × IfSome (R.left reader.old) (λ input. HasHeader header.now input
         × WritesAll key.now max_bytes (F.Writer.taken output) taken input n)

@@ -1,6 +1,6 @@
 //! Opening one file or stream to a stream: `unpipe`.
 ghost use Rattle.std.specs.Prelude.{◌≡◌, ℕ, ◌<◌, ◌≤◌, List, [], ◌∷◌, Option, IfSome, option_map};
-ghost use Rattle.command_core.specs.Session.{IsBoundAgain, IsShut};
+ghost use Rattle.command_core.specs.Session.{IsBoundChecked, IsShut};
 ghost use Rattle.command_core.specs.Trace.{Event, IsReadAgain};
 ghost use Rattle.command_core.specs.Unpiping.{HasUnpiped};
 ghost use Rattle.command_core.specs.Work.{AreTold};
@@ -10,7 +10,7 @@ use crate::folder::Folder;
 use crate::line::{FileFault, FileOutcome};
 use crate::reading::check_labelled;
 use crate::report::Report;
-use container_core::Key;
+use container_core::{Header, Key};
 use gate_core::{Free, MAX_WORKERS};
 use io_core::Sink;
 use ledger_core::Failed;
@@ -32,35 +32,36 @@ pub struct UnpipeOptions<'a> {
 
 /// What a plaintext is written to that isn't an output of a folder.
 pub trait OpeningStream: Output {
-    /// Declares that the stream is to hold, after what it took, the plaintext of the second reading of a file of this
-    /// folder, of which a first one opens under this key.
-    fn allow_stream<F: Folder>(
+    /// Declares that the stream is to hold, after what it took, what is opened of a second reading of a file of this
+    /// folder, as far as its chunks are checked, each at its place, under the header of a first reading that opens under
+    /// this key.
+    fn allow_checked<F: Folder>(
         &mut self,
         folder: &F,
         key: &Key,
+        header: &Header,
         name: &str,
         reader: &F::Reader,
-        max_bytes: u64,
     )
         requires shut { IsShut (Self.bound self.old) (Self.taken self.old) }
         requires read { IfSome (F.told folder.now)
-            (IsReadAgain key.now max_bytes name.now (F.Reader.left reader.now)) }
+            (IsReadAgain key.now header.now name.now (F.Reader.left reader.now)) }
         ensures taken { Self.taken self.new ≡ Self.taken self.old }
         ensures failures { Self.failures self.new ≡ Self.failures self.old }
-        // A stream that is bounded knows that the second reading opens.
+        // A stream that is bounded knows what the second reading gives. It may be anything.
         ensures bound { IfSome (Self.bound self.new)
-            (IsBoundAgain key.now max_bytes (F.Reader.left reader.now) (Self.taken self.old)) };
+            (IsBoundChecked key.now header.now (F.Reader.left reader.now) (Self.taken self.old)) };
 }
 
 /// A writer may take anything.
 impl<W: Sink> OpeningStream for W {
-    fn allow_stream<F: Folder>(
+    fn allow_checked<F: Folder>(
         &mut self,
         _folder: &F,
         _key: &Key,
+        _header: &Header,
         _name: &str,
         _reader: &F::Reader,
-        _max_bytes: u64,
     ) {}
 }
 
@@ -94,7 +95,7 @@ fn unpipe<T: Threads + Sync, F: Folder, W: OpeningStream + Drop>(
         Err(Failed) => return (FileOutcome::Failed(FileFault::SpoolFailed), stream),
     }
     let mut stream = stream;
-    stream.allow_stream(folder, key, name, &reader, most);
+    stream.allow_checked(folder, key, &header, name, &reader);
     match write_again(
         rt,
         alloc,
@@ -117,7 +118,7 @@ fn unpipe<T: Threads + Sync, F: Folder, W: OpeningStream + Drop>(
 /// stream. The status is 0 if the file was opened, 1 if that failed, 2 if the line couldn't be written.
 ///
 /// At a fault of the bytes nothing was written. If memory, a read or a write failed after the whole check, or if the
-/// second reading gave other bytes (`changed while it was opened`), what was written had passed both checks.
+/// second reading gave other bytes (`changed while it was opened`), what was written had passed the check again.
 pub fn unpipe_all<T: Threads + Sync, F: Folder, W: OpeningStream + Drop, E: Report>(
     rt: &T,
     alloc: Global,

@@ -1,15 +1,18 @@
 use Rattle.std.proofs.Common.{rules}
-use Rattle.command_core.proofs.Openings.{begun_part, begun_whole, headed_whole}
+use Rattle.std.proofs.lemmas.Result.{IfOk-at_ok}
+use Rattle.command_core.proofs.Openings.{begun_part, begun_whole, given_whole}
 use Rattle.command_core.proofs.Traces.{nothing}
 use Rattle.command_core.proofs.folder.write_again_or_discard.Goals as goal
 
 pub returns-in-Ok-clause-ok : goal.returns-in-Ok-clause-ok
-returns-in-Ok-clause-ok g c = (_, headed_whole _ _ _ _ _ _ _ (search rules) (search rules), c.in-Ok.ensures.ok)
+returns-in-Ok-clause-ok g c =
+    (_, given_whole _ _ c.in-Ok-default.n _ _ _ _ (IfOk-at_ok _ c.in-Ok-default.is-0 c.write_again.ensures.written), c.in-Ok.ensures.ok)
 
 pub returns-in-Err-clause-err : goal.returns-in-Err-clause-err
 returns-in-Err-clause-err g c =
     let (between, none, gone) = c.in-Err.ensures.err in
-    (_, between, begun_whole _ _ c.in-Ok-default.n _ _ _ _ (search rules) (search rules), none, gone)
+    let wrote = given_whole _ _ c.in-Ok-default.n _ _ _ _ (IfOk-at_ok _ c.in-Ok-default.is-0 c.write_again.ensures.written) in
+    (_, between, begun_whole _ _ c.in-Ok-default.n _ _ _ _ wrote, none, gone)
 
 pub returns-in-Err-default-clause-err : goal.returns-in-Err-default-clause-err
 returns-in-Err-default-clause-err g c =
