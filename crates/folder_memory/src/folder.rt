@@ -16,7 +16,7 @@ use crate::session::{SessionNote, is_shape};
 use crate::streams::{MemoryReader, MemoryWriter};
 use crate::told::{created, discarded, finished, reading, refused, tell, unread};
 use command_core::{Folder, FolderFault, OpeningFolder, Plaintext};
-use container_core::{Key, Shape};
+use container_core::{Header, Key, Shape};
 use front_core::SealingFolder;
 use ledger_core::{Failed, Ledger, Seat};
 use reserve_core::{Fold, LedgerFile};
@@ -65,7 +65,7 @@ impl Folder for MemoryFolder {
 
     fn again(&mut self, name: &str, reader: &mut MemoryReader) -> Result<(), Failed>
         ensures again { OnOk result (Does (Opens name.now (Some reader.new.left)) self.old.log self.new.log) }
-        ensures refused { OnErr result (Does Nothing self.old.log self.new.log) }
+        ensures refused { OnErr result (Does (FailsToOpen name.now) self.old.log self.new.log) }
         // On success its reader gives all bytes that it had when it was opened, whatever the file has by now. On failure
         // it goes on where it was.
         ensures whole { OnOk result (reader.new ≡ reader_view reader.old.whole reader.old.whole) }
@@ -78,6 +78,8 @@ impl Folder for MemoryFolder {
         ensures session { self.new.session ≡ self.old.session }
     {
         if self.is_refused() {
+            let event = unread(self.alloc, name);
+            tell(&mut self.told, event);
             return Err(Failed);
         }
         reader.rewind();
@@ -192,13 +194,13 @@ impl OpeningFolder for MemoryFolder {
         ensures output { output.new ≡ output.old }
     {}
 
-    fn allow_again(
+    fn allow_checked(
         &mut self,
         output: &mut MemoryWriter,
         _key: &Key,
+        _header: &Header,
         _name: &str,
         _reader: &MemoryReader,
-        _max_bytes: u64,
     )
         ensures folder { self.new ≡ self.old }
         ensures output { output.new ≡ output.old }
