@@ -10,7 +10,7 @@ use crate::own::{
 use crate::progress::Progress;
 use crate::spool::FileSpool;
 use command_core::{Folder, FolderFault, OpeningFolder, Plaintext};
-use container_core::{Key, Shape};
+use container_core::{Header, Key, Shape};
 use either::Either;
 use folder_core::{FileReader, Spooled};
 use front_core::SealingFolder;
@@ -338,13 +338,13 @@ impl<'p, 'r, R: Files + AllocGlobal + Clock + Eprint, I: Read + Drop> OpeningFol
         _plain: &Plaintext,
     ) {}
 
-    fn allow_again(
+    fn allow_checked(
         &mut self,
         _output: &mut Self::Writer,
         _key: &Key,
+        _header: &Header,
         _name: &str,
         _reader: &Self::Reader,
-        _max_bytes: u64,
     ) {}
 }
 
