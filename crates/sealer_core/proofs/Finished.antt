@@ -282,7 +282,9 @@ module _ (key : List ℕ) (most : ℕ) (label : Option (List ℕ)) (output name 
   ended (Opened n) events (last, text, before, good, long, first, did) = inr (inr (before, last, text, before_quiet last before first, good.0, did))
   ended (Failed (Unopened open_fault.Write)) events (inl up) = inr (inl (up_left events up))
   ended (Failed (Unopened open_fault.Write)) events (inr broken) = inr (inl (broken_left (λ _ _. ⊤) events broken))
-  ended (Failed (Unopened open_fault.Read)) events either = either_ended events either
+  ended (Failed (Unopened open_fault.Read)) events (inl (read, did)) = inl (read_quiet read events did)
+  ended (Failed (Unopened open_fault.Read)) events (inr (inl (first, plain, good, did))) = inl (subst AreQuiet (sym did) (tt, (tt, tt)))
+  ended (Failed (Unopened open_fault.Read)) events (inr (inr broken)) = inr (inl (broken_left (λ _ _. ⊤) events broken))
   ended (Failed (Unopened open_fault.OutOfMemory)) events either = either_ended events either
   ended (Failed Changed) events broken = inr (inl (broken_left (λ first last. first ≢ last) events broken))
   ended (Failed OutputExists) events refused = inl (refused_quiet refusal.Exists events refused)
