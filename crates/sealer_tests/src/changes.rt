@@ -5,7 +5,7 @@ use crate::inputs::{End, Input, begins, by, ends_twice, input_of};
 use crate::runs::{MemoryOuts, open_over, steady_outs};
 use crate::spools::{LENGTH, MANY_CHUNKS};
 use crate::unpipes::{pattern, sealed_as};
-use container_core::Key;
+use container_core::{Header, Key};
 use folder_core::FileReader;
 use folder_memory::{MemoryFolder, MemoryWriter, Told};
 use ledger_core::Failed;
@@ -73,13 +73,13 @@ impl<'a> OpeningFolder for Changing<'a> {
         _plain: &Plaintext,
     ) {}
 
-    fn allow_again(
+    fn allow_checked(
         &mut self,
         _output: &mut MemoryWriter,
         _key: &Key,
+        _header: &Header,
         _name: &str,
         _reader: &Input<'a>,
-        _max_bytes: u64,
     ) {}
 }
 

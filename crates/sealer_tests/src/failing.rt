@@ -1,6 +1,6 @@
 //! A folder in memory. Its calls and those of its readers and writers are counted together, and the one with a given
 //! number fails. Other inputs and outputs of the tests share the count.
-use container_core::{Key, Shape};
+use container_core::{Header, Key, Shape};
 use folder_memory::{MemoryFolder, MemoryReader, MemoryWriter};
 use ledger_core::{Failed, Ledger, Seat, Sink, Source};
 use reserve_core::Fold;
@@ -203,13 +203,13 @@ impl<'a> OpeningFolder for Failing<'a> {
         _plain: &Plaintext,
     ) {}
 
-    fn allow_again(
+    fn allow_checked(
         &mut self,
         _output: &mut FailingWriter<'a>,
         _key: &Key,
+        _header: &Header,
         _name: &str,
         _reader: &FailingReader<'a>,
-        _max_bytes: u64,
     ) {}
 }
 

@@ -226,7 +226,7 @@ static OPENED: [(&str, Case, &[Seen]); 8] = [
             journal: b"",
             left: &[("a", Left::Absent)],
         },
-        &[Seen::Reading("a.stm", &SECRET)],
+        &[Seen::Reading("a.stm", &SECRET), Seen::Unread("a.stm")],
     ),
     (
         "the output that is given is created, and no other",
