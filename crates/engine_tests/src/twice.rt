@@ -1,12 +1,13 @@
 //! Opening with two readings: what is written if both return a container, if the first has a fault, and if the second
-//! returns other bytes.
+//! returns other bytes. An output that may hold only what was checked takes all of it.
 ghost use Rattle.std.specs.Prelude.{◌≤◌, ◌<◌, Some};
 
 use container_core::{Key, MAX_OPENED, OpenFault, Shape, seal};
 use crew_core::{Free, MAX_WORKERS};
-use engine_core::{Readings, Stopped, run_open_twice};
+use engine_core::{Readings, Stopped, run_check, run_open_twice, write_again};
 use io_core::Failed;
 use io_memory::{FromMemory, Schedule, ToMemory};
+use output_tests::CheckedOutput;
 use std::alloc::Global;
 use std::test::Fail;
 use std::thread::Threads;
@@ -249,6 +250,63 @@ fn a_failed_write_leaves_a_beginning(rt: HostRuntime) -> Result<(), Fail> {
     for bytes in [0u64, 1, 4096, 100_000, 196_608] {
         let answer = broken(&rt, rt.alloc(), bytes);
         assert!(rt; answer == Some((Err(Stopped::Broken(OpenFault::Write)), bytes as usize)));
+    }
+    Ok(())
+}
+
+// What a second reading writes to an output that may hold only what is checked of it under the header of the first. The
+// result, and how many bytes were written. They must be a prefix of the text.
+fn checked<T: Threads + Sync>(
+    rt: &T,
+    alloc: Global,
+    first: &[u8],
+    second: &[u8],
+    plain: &[u8],
+    workers: u32,
+) -> Option<(Result<u64, Stopped>, usize)>
+    requires { (0 < workers) × (workers ≤ MAX_WORKERS) }
+{
+    let key = key();
+    let mut reader = FromMemory::new(first, MOST, Schedule::Never);
+    let (header, _) = run_check(rt, alloc, &key, &mut reader, MAX_OPENED, workers, &Free).ok()?;
+    let output = CheckedOutput::new(alloc, &key, &header, second);
+    let mut again = FromMemory::new(second, MOST, Schedule::Never);
+    let (done, output) = write_again(
+        rt, alloc, &key, &header, &mut again, output, MAX_OPENED, workers, &Free,
+    );
+    let n = output.bytes.len();
+    let begins = n <= plain.len() && output.bytes.as_slice() == &plain[..n];
+    if begins { Some((done, n)) } else { None }
+}
+
+// The same, where a byte is changed before the second reading; none is if the container ends before it.
+fn checked_after<T: Threads + Sync>(
+    rt: &T,
+    alloc: Global,
+    place: usize,
+    workers: u32,
+) -> Option<(Result<u64, Stopped>, usize)>
+    requires { (0 < workers) × (workers ≤ MAX_WORKERS) }
+{
+    let plain = text(alloc, SHORT)?;
+    let container = sealed(alloc, 0, plain.as_slice())?;
+    let mut other = sealed(alloc, 0, plain.as_slice())?;
+    if place < other.len() {
+        other[place] ^= 1;
+    }
+    let (first, second) = (container.as_slice(), other.as_slice());
+    checked(rt, alloc, first, second, plain.as_slice(), workers)
+}
+
+#[test]
+fn an_output_takes_what_was_checked_and_no_more(rt: HostRuntime) -> Result<(), Fail> {
+    for workers in [1u32, 3] {
+        let whole = checked_after(&rt, rt.alloc(), MOST, workers);
+        assert!(rt; whole == Some((Ok(u64::from(SHORT)), SHORT as usize)));
+    }
+    for (chunk, written) in [(15, 0), (16, 65_536), (48, 196_608)] {
+        let cut = checked_after(&rt, rt.alloc(), place_of(chunk), 1);
+        assert!(rt; cut == Some((Err(Stopped::Changed), written)));
     }
     Ok(())
 }

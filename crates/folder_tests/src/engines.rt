@@ -34,7 +34,7 @@ fn again_named<'a, N: Rest, T: Threads + Sync, R: Source, F: Outputs, G: Gate + 
     requires rest { F.rest folder.old ≡ N.rest }
     requires reference { folder.ghost_name ≡ N.folder }
     requires may { IfSome (option_map bound_in N.rest)
-        (MayWrite key.now max_bytes (R.left reader.old) (F.taken folder.old)) }
+        (MayWrite key.now header.now max_bytes (R.left reader.old) (F.taken folder.old)) }
     ensures rest { F.rest result.1.now ≡ N.rest }
     ensures reference { result.1.ghost_name ≡ folder.entry.ghost_name }
     ensures written { HasWrittenAgain key.now header.now max_bytes (R.left reader.old)
@@ -64,7 +64,7 @@ pub fn fill_again<T: Threads + Sync, R: Source, F: Outputs, G: Gate + Sync>(
     requires max_bytes { max_bytes ≤ MAX_OPENED }
     requires workers { (0 < workers) × (workers ≤ MAX_WORKERS) }
     requires may { IfSome (option_map bound_in (F.rest folder.old))
-        (MayWrite key.now max_bytes (R.left reader.old) (F.taken folder.old)) }
+        (MayWrite key.now header.now max_bytes (R.left reader.old) (F.taken folder.old)) }
     ensures rest { F.rest folder.new ≡ F.rest folder.old }
     ensures written { HasWrittenAgain key.now header.now max_bytes (R.left reader.old)
         (F.taken folder.old) (F.taken folder.new) (R.failures reader.old) (R.failures reader.new)
