@@ -217,21 +217,26 @@ fn another_input_is_not_opened_by_its_path(rt: HostRuntime) -> io::Result<()> {
     Ok(())
 }
 
-// Whether this file as standard input, opened by its path, is read again.
-fn is_input_read_again<R: Files + AllocGlobal + Clock + Eprint>(rt: &R, input: &str) -> bool
-where
-    R: Drop,
-{
-    let disk = Disk::with_input(rt, input, "/dev/null");
+// Whether standard input, opened by its path, is read again.
+fn is_path_read_again<R: Files + AllocGlobal + Clock + Eprint, I: Read + Drop>(
+    rt: &R,
+    input: I,
+) -> bool {
     let options = FileOptions {
         reopens_input: true,
         spool: Some("/dev/null"),
         ..AGAIN
     };
-    is_read_again(
-        &mut SystemFiles::new(&disk, Some(io::empty()), None, options),
-        STREAM,
-    )
+    let mut folder = SystemFiles::new(rt, Some(input), None, options);
+    is_read_again(&mut folder, STREAM)
+}
+
+// Whether that holds where it is this file.
+fn is_input_read_again<R: Files + AllocGlobal + Clock + Eprint>(rt: &R, input: &str) -> bool
+where
+    R: Drop,
+{
+    is_path_read_again(&Disk::with_input(rt, input, "/dev/null"), io::empty())
 }
 
 #[test]
