@@ -1,7 +1,7 @@
 #!/bin/bash
 # Times sealing, verifying and opening of one file of 1 GiB, by workers and windows, and of many files of one size, by lanes, beside `age` and
-# `cp`: each in turn, ROUNDS times. `unpipe` opens a file into a pipe, and a pipe into a pipe with the spool in the folder. Prints for each the
-# best wall seconds, and the user seconds and the peak memory of that run.
+# `cp`: each in turn, ROUNDS times. `unpipe` opens a file into a pipe, and a pipe into a pipe with the spool in the folder; `open` of a pipe holds
+# the plaintext in memory, as it did of every file once. Prints for each the best wall seconds, and the user seconds and the peak memory of that run.
 # usage: tools/measure_files.sh FOLDER [ROUNDS [open]]    FOLDER: an empty folder, best in memory-backed storage, with 6 GiB free
 # With `open` it times the opening of 1 GiB alone.
 # `age` and GNU `time` are Debian's packages of these names.
@@ -48,8 +48,11 @@ opened_file() {
         cmp big kept
         rm big
         unpipes "unpipe --workers $workers, 1 GiB of a file" /dev/null --workers $workers big.stm
+        opens "open --workers $workers, 1 GiB of a pipe, in memory" --workers $workers --to big - < <(cat big.stm)
+        rm big
     done
     unpipes 'unpipe, 1 GiB of a pipe' <(cat big.stm)
+    timed 'dd, 1 GiB into a pipe' bash -c 'dd if=kept bs=64K status=none | cat > /dev/null'
     timed 'age -d, 1 GiB' age -d -i age.key -o copy big.age
     cmp copy kept
     rm copy
