@@ -37,7 +37,7 @@ complete -c sealer -n '__sealer_command seal open verify' -l null -d 'FILEs in t
 complete -c sealer -n '__sealer_command seal unpipe open verify' -l progress -a 'terminal always' -d 'Show progress on standard error if that is a terminal, or always'
 
 complete -c sealer -n '__sealer_command seal open' -l into -xa '(__fish_complete_directories)' -d 'Put the outputs into this folder, each under the base name of its FILE'
-complete -c sealer -n '__sealer_command seal open' -l skip-existing -d 'Skip each FILE whose output exists: its line says kept, not failed'
+complete -c sealer -n '__sealer_command seal open' -l skip-existing -d "Skip each FILE if a regular file has its output's name: its line says kept, not failed"
 complete -c sealer -n '__sealer_command seal open' -l sync -d 'Sync each output and its folder before its line is printed'
 complete -c sealer -n '__sealer_command seal open' -l private -d 'Create each output with the mode 0600: for its owner only'
 

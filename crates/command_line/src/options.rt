@@ -123,7 +123,8 @@ pub(crate) static OUTPUT_ROWS: [Row; 4] = [
     Row {
         name: "skip-existing",
         takes: Takes::Nothing,
-        help: "Skip each FILE whose output exists: its line says kept, not failed",
+        help: "Skip each FILE if a regular file has its output's name: its line says\n\
+            kept, not failed",
     },
     Row {
         name: "sync",
