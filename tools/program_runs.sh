@@ -2376,7 +2376,8 @@ kill -9 "$first"
 wait "$first" 2>/dev/null
 exec 8>&-
 # modes
-mkdir locked/mine
+mkdir locked/mine locked/blind
+chmod 333 locked/blind
 cp files/key locked/no-key
 cp files/l locked/no-ledger
 cp files/key locked/key
@@ -2394,10 +2395,13 @@ cause: this user has no permission'
 unprivileged seal --verbose --key key --ledger mine/l --device 1 a
 wants 'cause: ledger-in-a-locked-folder' 2 '' 'ledger: cannot open
 cause: it cannot be made: another run makes it, or see its folder'\''s mode, the disk'\''s room, and the path'\''s length and UTF-8'
+unprivileged seal --verbose --key key --ledger blind/l --device 1 a
+wants 'cause: ledger-in-an-unreadable-folder' 2 '' 'ledger: cannot open
+cause: this user has no permission'
 unprivileged seal --verbose --key key --ledger l --device 1 --journal mine/j a
 wants 'cause: journal-in-a-locked-folder' 2 '' 'journal: cannot create
 cause: this user has no permission'
-chmod 755 locked locked/mine
+chmod 755 locked locked/mine locked/blind
 if mount -t tmpfs -o size=300k none files/full 2>/dev/null; then
     cat /dev/zero > files/full/fill 2>/dev/null
     sealing ledger-full-disk 'ledger: cannot open' 'it cannot be made: another run makes it, or see its folder'\''s mode, the disk'\''s room, and the path'\''s length and UTF-8' files/full/l
