@@ -2348,6 +2348,9 @@ rm files/l-wal
 mkdir files/l-wal
 sealing ledger-unusable-log 'ledger: cannot open' 'LEDGER-wal is no regular file, has more than one name, or gives no permission' files/l
 rmdir files/l-wal
+ln -s nowhere files/l-wal
+sealing ledger-dangling-log 'ledger: cannot open' 'LEDGER-wal is no regular file, has more than one name, or gives no permission' files/l
+rm files/l-wal
 printf 'a journal' > files/l-journal
 sealing ledger-left-journal 'ledger: cannot open' 'another program left LEDGER-journal, which only that program can play back' files/l
 rm files/l-journal

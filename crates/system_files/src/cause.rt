@@ -208,9 +208,7 @@ fn not_opened<R: Files + AllocGlobal>(rt: &R, path: &str, step: Step) -> Cause {
     }
     if has_more_names(rt, path) {
         Cause::HardLink
-    } else if log_bytes.is_some()
-        && (has_more_names(rt, log) || unusable(rt, log, writes).is_some())
-    {
+    } else if is_unusable_log(rt, log, writes) {
         Cause::UnusableLog
     } else if is_hot(rt, journal) {
         Cause::LeftJournal
@@ -335,6 +333,14 @@ fn length_at<R: Files>(rt: &R, path: &str) -> Option<u64> {
 // Whether a file has more than one name.
 fn has_more_names<R: Files>(rt: &R, path: &str) -> bool {
     matches!(fs::metadata(rt, path), Ok(found) if found.nlink() > 1)
+}
+
+// Whether a log is there that is a link or no regular file, has more than one name, or can't be opened.
+fn is_unusable_log<R: Files>(rt: &R, log: &str, writes: bool) -> bool {
+    match fs::symlink_metadata(rt, log) {
+        Ok(found) => !found.is_file() || found.nlink() > 1 || unusable(rt, log, writes).is_some(),
+        Err(_) => false,
+    }
 }
 
 // Whether a journal is there that must be played back: it isn't empty, and its first byte isn't 0.
