@@ -1,11 +1,12 @@
 //! Opening with two readings: what is written if both return a container, if the first has a fault, and if the second
 //! returns other bytes. An output that may hold only what was checked takes all of it.
-ghost use Rattle.std.specs.Prelude.{◌≤◌, ◌<◌, Some};
+ghost use Rattle.std.specs.Prelude.{◌≡◌, ◌≤◌, ◌<◌, Some, true};
+ghost use Rattle.io_core.specs.Streams.{counted};
 
 use container_core::{Key, MAX_OPENED, OpenFault, Shape, seal};
 use crew_core::{Free, MAX_WORKERS};
 use engine_core::{Readings, Stopped, run_check, run_open_twice, write_again};
-use io_core::Failed;
+use io_core::{Failed, Source};
 use io_memory::{FromMemory, Schedule, ToMemory};
 use output_tests::CheckedOutput;
 use std::alloc::Global;
@@ -28,6 +29,8 @@ impl<'a> Readings for Same<'a> {
     fn begin(&mut self) -> Result<Self::Reading, Failed> {
         Ok(FromMemory::new(self.bytes, MOST, Schedule::Never))
     }
+
+    fn end(&mut self, _reading: FromMemory<'a>) {}
 }
 
 // Bytes that differ at the second reading. No contract describes them.
@@ -49,6 +52,74 @@ impl<'a> Readings for Changed<'a> {
         }
         self.began = true;
         Ok(FromMemory::new(self.first, MOST, Schedule::Never))
+    }
+
+    fn end(&mut self, _reading: FromMemory<'a>) {}
+}
+
+// Bytes in memory. It is known how many calls failed, in both readings and at their beginnings.
+#[derive(Drop)]
+struct Tallied<'a> {
+    bytes: &'a [u8],
+    // How the calls of this reading fail, and of the next. A reading without a schedule can't be begun.
+    schedules: [Option<Schedule>; 2],
+    failures: Option<u64>,
+}
+
+// A reading of such bytes.
+#[derive(Drop)]
+struct Tally<'a> {
+    rest: FromMemory<'a>,
+    failures: Option<u64>,
+}
+
+fn one_more(count: Option<u64>) -> Option<u64>
+    ensures { result ≡ counted true count }
+{
+    match count {
+        None => None,
+        Some(n) => { if n < u64::MAX { Some(n + 1) } else { None } }
+    }
+}
+
+impl<'a> Source for Tally<'a> {
+    ghost left = { λ t. Some t.rest.left };
+
+    ghost failures = { λ t. t.failures };
+
+    fn read(&mut self, buffer: &mut [u8]) -> Result<usize, Failed> {
+        match self.rest.read(buffer) {
+            Ok(n) => Ok(n),
+            Err(Failed) => {
+                self.failures = one_more(self.failures);
+                Err(Failed)
+            }
+        }
+    }
+}
+
+impl<'a> Readings for Tallied<'a> {
+    type Reading = Tally<'a>;
+
+    ghost bytes = { λ s. Some s.bytes.now };
+
+    ghost failures = { λ s. s.failures };
+
+    fn begin(&mut self) -> Result<Self::Reading, Failed> {
+        let [first, next] = self.schedules;
+        let Some(schedule) = first else {
+            self.failures = one_more(self.failures);
+            return Err(Failed);
+        };
+        self.schedules = [next, None];
+        Ok(Tally {
+            rest: FromMemory::new(self.bytes, MOST, schedule),
+            failures: self.failures,
+        })
+    }
+
+    fn end(&mut self, reading: Tally<'a>) {
+        self.failures = reading.failures;
     }
 }
 
@@ -251,6 +322,38 @@ fn a_failed_write_leaves_a_beginning(rt: HostRuntime) -> Result<(), Fail> {
         let answer = broken(&rt, rt.alloc(), bytes);
         assert!(rt; answer == Some((Err(Stopped::Broken(OpenFault::Write)), bytes as usize)));
     }
+    Ok(())
+}
+
+// The fault, if any, and how many calls failed, where calls of the two readings fail so.
+fn failures_of<R: Threads + Sync>(
+    rt: &R,
+    alloc: Global,
+    first: Option<Schedule>,
+    second: Option<Schedule>,
+) -> Option<(Option<Stopped>, Option<u64>)> {
+    let plain = text(alloc, SHORT)?;
+    let container = sealed(alloc, 0, plain.as_slice())?;
+    let mut source = Tallied {
+        bytes: container.as_slice(),
+        schedules: [first, second],
+        failures: Some(0),
+    };
+    let (done, _) = opened(rt, alloc, &mut source, plain.as_slice(), Schedule::Never, 1)?;
+    Some((done.err(), source.failures))
+}
+
+#[test]
+fn failed_reads_are_counted_over_both_readings(rt: HostRuntime) -> Result<(), Fail> {
+    let never = Some(Schedule::Never);
+    let late = Some(Schedule::Bytes(place_of(40) as u64));
+    let refused = Some(Stopped::Refused(OpenFault::Read));
+    let broken = Some(Stopped::Broken(OpenFault::Read));
+    assert!(rt; failures_of(&rt, rt.alloc(), never, never) == Some((None, Some(0))));
+    assert!(rt; failures_of(&rt, rt.alloc(), None, never) == Some((refused, Some(1))));
+    assert!(rt; failures_of(&rt, rt.alloc(), late, never) == Some((refused, Some(1))));
+    assert!(rt; failures_of(&rt, rt.alloc(), never, None) == Some((refused, Some(1))));
+    assert!(rt; failures_of(&rt, rt.alloc(), never, late) == Some((broken, Some(1))));
     Ok(())
 }
 

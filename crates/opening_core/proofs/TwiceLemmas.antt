@@ -8,14 +8,15 @@ use lib.Pointwise.{pointwise}
 use lib.Dec.{eqb}
 use Rattle.io_core.specs.Streams.{Appends, Consumes, IsAtEnd, IsFront, Keeps, counted}
 use Rattle.container_core.specs.declared.fault.OpenFault.{OpenFault}
+use Rattle.container_core.specs.declared.fault.OpenFault.TheVariants as opening_fault
 use Rattle.container_core.specs.Faults.{IsOfBytes}
 use Rattle.container_core.specs.Opening.{opening}
 use Rattle.opening_core.specs.declared.twice.Stopped.{Stopped}
 use Rattle.opening_core.specs.declared.twice.Stopped.TheVariants.{Refused, Changed, Broken}
 use Rattle.opening_core.specs.Engine.{HasHeader, OpensTo}
 use Rattle.opening_core.specs.Fronts.{Answers, SaysLength}
-use Rattle.opening_core.specs.Twice.{HasOpenedTwice, HasWrittenAgain, MayWrite, MayWriteIt, WritesAll, WritesSome}
-use Rattle.opening_core.specs.Twice.{broken_by_read, broken_by_write}
+use Rattle.opening_core.specs.Twice.{CountsOn, HasOpenedTwice, HasWrittenAgain, MayWrite, MayWriteIt, WritesSome}
+use Rattle.opening_core.specs.Twice.{broken_by_read, broken_by_write, stopped_by_read}
 use Rattle.output_core.specs.Bounds.{Allows, Bound, Checked}
 use Rattle.round_core.specs.declared.round.Task.TheVariants.{Opening}
 use Rattle.opening_core.specs.Windows.{HasBegun, HasSent, MayTake}
@@ -188,10 +189,10 @@ kept-some (Some x) None P kept p = absurd kept
 kept-some (Some x) (Some y) P kept p = subst P kept p
 
 -- nothing was written
-pub twice-refused : (key : List ℕ) (most : ℕ) (fault : OpenFault) (bytes left a : Option (List ℕ)) (w : Option ℕ) → Keeps bytes left
+pub twice-refused : (key : List ℕ) (most : ℕ) (fault : OpenFault) (bytes left a : Option (List ℕ)) (r r' w : Option ℕ) → Keeps bytes left
     → (IsOfBytes fault → IfSome left (λ input. opening key most input ≡ Err fault))
-    → HasOpenedTwice key most bytes a a w w (Err (Refused fault))
-twice-refused key most fault bytes left a w kept refused = record {
+    → CountsOn (stopped_by_read (Err (Refused fault))) r r' → HasOpenedTwice key most bytes a a r r' w w (Err (Refused fault))
+twice-refused key most fault bytes left a r r' w kept refused read = record {
   written = tt;
   unwritten = λ f e. Keeps-refl a;
   refused = λ f e own.
@@ -200,25 +201,49 @@ twice-refused key most fault bytes left a w kept refused = record {
       (subst (λ g. IfSome left (λ input. opening key most input ≡ Err g)) is (refused (subst IsOfBytes (sym is) own)));
   begun = λ f e. cc;
   broken = λ f e own. cc;
+  read = read;
   write = refl;
   same = λ e. cc;
 }
 
+-- the count of a reading goes on to that of what is read
+pub counts-reading : (failed : Bool) (before begun first last after : Option ℕ) → CountsOn false before begun
+    → CountsOn false before first → last ≡ counted failed first → IfSome begun (λ _. after ≡ last) → CountsOn failed before after
+counts-reading failed None begun first last after was one read ended = tt
+counts-reading failed (Some n) begun first last after was one read ended =
+    subst (λ o. IfSome o (λ _. after ≡ last)) was ended ∙ read ∙ ap (counted failed) one
+
+-- and to the next
+pub counts-next : (failed : Bool) (before between after : Option ℕ) → CountsOn false before between → CountsOn failed between after
+    → CountsOn failed before after
+counts-next failed None between after one two = tt
+counts-next failed (Some n) between after one two = subst (λ o. CountsOn failed o after) one two
+
+-- a second reading refuses nothing
+broken-read : (result : Result ℕ Stopped) → ((fault : OpenFault) → result ≡ Err (Refused fault) → ⊥)
+    → broken_by_read result ≡ stopped_by_read result
+broken-read (Ok n) none = refl
+broken-read (Err (Refused fault)) none = absurd (none fault refl)
+broken-read (Err Changed) none = refl
+broken-read (Err (Broken opening_fault.Read)) none = refl
+broken-read (Err (Broken _)) none = refl
+
 -- the second reading ended it
-pub twice-done : (key header : List ℕ) (most n : ℕ) (bytes left bytes' left' a c : Option (List ℕ)) (r r' w w' : Option ℕ)
+pub twice-done : (key header : List ℕ) (most n : ℕ) (bytes left bytes' left' a c : Option (List ℕ)) (f f' r r' w w' : Option ℕ)
     (result : Result ℕ Stopped)
     → Keeps bytes left → Keeps bytes bytes' → Keeps bytes' left'
     → IfSome left (HasHeader header) → IfSome left (λ input. OpensTo key most input n)
-    → HasWrittenAgain key header most left' a c r r' w w' result → HasOpenedTwice key most bytes a c w w' result
-twice-done key header most n bytes left bytes' left' a c r r' w w' result kept still again named opens wrote = record {
-  written = IfOk-weaker result _ _ (λ k w. back _ (some-of left' _ _
-      (λ input is. subst (λ i. WritesAll key most a c i k) (sym is) w.2) w.3)) wrote.written;
+    → HasWrittenAgain key header most left' a c f f' w w' result → CountsOn (broken_by_read result) r r'
+    → HasOpenedTwice key most bytes a c r r' w w' result
+twice-done key header most n bytes left bytes' left' a c f f' r r' w w' result kept still again named opens wrote counts = record {
+  written = IfOk-weaker result _ _ (λ k w. (w.0, w.2, back _ w.3)) wrote.written;
   unwritten = λ f e. absurd (wrote.checked_before f e);
   refused = λ f e own. absurd (wrote.checked_before f e);
   begun = λ f e.
       some-both bytes _ _ _ (λ input o w. (o.0, o.1, w o.0 o.1)) opened
       (back _ (subst (λ r. OnErr r (IfSome left' (WritesSome key most a c))) e wrote.begun));
   broken = wrote.broken;
+  read = subst (λ b. CountsOn b r r') (broken-read result wrote.checked_before) counts;
   write = wrote.write;
   same = λ e.
       some-both bytes _ _ _ (λ input both w. w both.1.0 both.0 both.1.1)

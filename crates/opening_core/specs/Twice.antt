@@ -23,6 +23,17 @@ broken_by_write (Ok n) = false
 broken_by_write (Err (Broken opening_fault.Write)) = true
 broken_by_write (Err _) = false
 
+-- whether a read failed, or a reading couldn't be begun
+abbrev pub stopped_by_read : Result ℕ Stopped → Bool
+stopped_by_read (Ok n) = false
+stopped_by_read (Err (Refused opening_fault.Read)) = true
+stopped_by_read (Err (Broken opening_fault.Read)) = true
+stopped_by_read (Err _) = false
+
+-- where a count of failed calls is known, it went on, by one if a call failed
+abbrev pub CountsOn : Bool → Option ℕ → Option ℕ → Type 0
+CountsOn failed before after = IfSome before (λ n. after ≡ counted failed (Some n))
+
 -- the input opens, and its plaintext, of n bytes, was written
 abbrev pub WritesAll : List ℕ → ℕ → Option (List ℕ) → Option (List ℕ) → List ℕ → ℕ → Type 0
 WritesAll key most taken taken' input n =
@@ -54,11 +65,13 @@ pub record HasWrittenAgain (key header : List ℕ) (most : ℕ) (left taken take
   pub read : reads' ≡ counted (broken_by_read result) reads
   pub write : writes' ≡ counted (broken_by_write result) writes
 
--- What an opening by two readings did. Each reading gives `bytes`, where they are known.
+-- What an opening by two readings did. Each reading gives `bytes`, where they are known. Failed calls are counted, of both
+-- readings and of the writer.
 pub record HasOpenedTwice (key : List ℕ) (most : ℕ) (bytes taken taken' : Option (List ℕ))
-    (writes writes' : Option ℕ) (result : Result ℕ Stopped) : Type 0 where
+    (reads reads' writes writes' : Option ℕ) (result : Result ℕ Stopped) : Type 0 where
   -- the bytes are a container, and what was written is its plaintext
-  pub written : IfOk result (λ n. IfSome bytes (λ input. WritesAll key most taken taken' input n))
+  pub written : IfOk result (λ n. (input : List ℕ) × WritesAll key most taken taken' input n
+      × IfSome bytes (λ known. known ≡ input))
   -- at a refusal nothing was written, and a fault of the bytes is the first that they have
   pub unwritten : (fault : OpenFault) → result ≡ Err (Refused fault) → Keeps taken taken'
   pub refused : (fault : OpenFault) → result ≡ Err (Refused fault) → IsOfBytes fault
@@ -67,7 +80,8 @@ pub record HasOpenedTwice (key : List ℕ) (most : ℕ) (bytes taken taken' : Op
   pub begun : (fault : OpenFault) → result ≡ Err (Broken fault)
       → IfSome bytes (λ input. (plain : List ℕ) × (opening key most input ≡ Ok plain) × AppendsFront taken taken' plain)
   pub broken : (fault : OpenFault) → result ≡ Err (Broken fault) → IsOfBytes fault → ⊥
-  -- by Write exactly where a write failed
+  -- it is Read or Write exactly where a call failed
+  pub read : CountsOn (stopped_by_read result) reads reads'
   pub write : writes' ≡ counted (broken_by_write result) writes
   -- readings that give the same bytes don't differ
   pub same : result ≡ Err Changed → IfSome bytes (λ _. ⊥)

@@ -5,7 +5,7 @@
 //! another container of the key is refused before a byte is written, and a chunk that was changed before that chunk is
 //! written.
 ghost use Rattle.std.specs.Prelude.{◌≡◌, ℕ, ◌<◌, ◌≤◌, List, [], length, Option, None, Ok, Err};
-ghost use Rattle.std.specs.Prelude.{IfOk, IfErr, IfSome, OnErr};
+ghost use Rattle.std.specs.Prelude.{IfOk, IfErr, IfSome, OnErr, false, is_err};
 ghost use Rattle.container_core.specs.Chunks.{container_limit};
 ghost use Rattle.container_core.specs.Container.{size_in};
 ghost use Rattle.container_core.specs.Faults.{IsOfBytes};
@@ -13,7 +13,7 @@ ghost use Rattle.container_core.specs.Opening.{longest};
 ghost use Rattle.io_core.specs.Streams.{Appends, Keeps, counted};
 ghost use Rattle.opening_core.specs.Engine.{open_read_failed, open_write_failed};
 ghost use Rattle.opening_core.specs.Fronts.{Answers, SaysLength};
-ghost use Rattle.opening_core.specs.Twice.{HasOpenedTwice, HasWrittenAgain, MayWrite, MayWriteIt};
+ghost use Rattle.opening_core.specs.Twice.{CountsOn, HasOpenedTwice, HasWrittenAgain, MayWrite, MayWriteIt};
 ghost use Rattle.opening_core.specs.Twice.{broken_by_read, broken_by_write};
 ghost use Rattle.opening_core.specs.Windows.{HasBegun, HasSent, MayTake};
 
@@ -36,12 +36,12 @@ pub enum Stopped {
     Refused(OpenFault),
     /// The second reading gave other bytes than the first. All that was written had passed the check again.
     Changed,
-    /// Memory was refused or a call failed, after the whole check. A prefix of the plaintext was written, perhaps
-    /// nothing.
+    /// Memory was refused or a call failed, after the whole check. All that was written, perhaps nothing, had passed the
+    /// check again.
     Broken(OpenFault),
 }
 
-/// What can be read more than once from its first byte.
+/// What can be read more than once from its first byte, one reading after the other.
 pub trait Readings {
     /// What reads it once.
     type Reading: Source + Drop;
@@ -49,10 +49,21 @@ pub trait Readings {
     // The bytes that each reading gives, where they are known. The implementor proves that all give the same.
     ghost bytes: { Self → Option (List ℕ) } = { λ _. None };
 
-    /// Begins a reading.
+    // How many calls failed so far, in all readings that ended and at their beginnings, if known.
+    ghost failures: { Self → Option ℕ } = { λ _. None };
+
+    /// Begins a reading. Its count of failed calls goes on from that of the readings before. A reading that can't be begun
+    /// counts as a failed call.
     fn begin(&mut self) -> Result<Self::Reading, Failed>
         ensures left { IfOk result (λ reading. Keeps (bytes self.old) (Self.Reading.left reading)) }
-        ensures same { Keeps (bytes self.old) (bytes self.new) };
+        ensures same { Keeps (bytes self.old) (bytes self.new) }
+        ensures begun { IfOk result (λ reading. CountsOn false (failures self.old) (Self.Reading.failures reading)) }
+        ensures count { CountsOn (is_err result) (failures self.old) (failures self.new) };
+
+    /// Ends a reading, and so knows how many of its calls failed.
+    fn end(&mut self, reading: Self::Reading)
+        ensures same { Keeps (bytes self.old) (bytes self.new) }
+        ensures count { IfSome (failures self.old) (λ _. failures self.new ≡ Self.Reading.failures reading) };
 }
 
 // What a fault of the second reading is returned as.
@@ -176,19 +187,21 @@ pub fn run_open_twice<T: Threads + Sync, S: Readings, W: Output + Drop, G: Gate 
     requires workers { (0 < workers) × (workers ≤ MAX_WORKERS) }
     requires may { IfSome (W.bound writer) (MayWriteIt key.now max_bytes (S.bytes source.old) (W.taken writer)) }
     ensures { HasOpenedTwice key.now max_bytes (S.bytes source.old) (W.taken writer) (W.taken result.1)
-        (W.failures writer) (W.failures result.1) result.0 }
+        (S.failures source.old) (S.failures source.new) (W.failures writer) (W.failures result.1) result.0 }
 {
     let Ok(mut first) = source.begin() else {
         return (Err(Stopped::Refused(OpenFault::Read)), writer);
     };
-    let header = match run_check(rt, alloc, key, &mut first, max_bytes, workers, gate) {
+    let checked = run_check(rt, alloc, key, &mut first, max_bytes, workers, gate);
+    source.end(first);
+    let header = match checked {
         Ok((header, _)) => header,
         Err(fault) => return (Err(Stopped::Refused(fault)), writer),
     };
     let Ok(mut second) = source.begin() else {
         return (Err(Stopped::Refused(OpenFault::Read)), writer);
     };
-    write_again(
+    let (done, writer) = write_again(
         rt,
         alloc,
         key,
@@ -198,5 +211,7 @@ pub fn run_open_twice<T: Threads + Sync, S: Readings, W: Output + Drop, G: Gate 
         max_bytes,
         workers,
         gate,
-    )
+    );
+    source.end(second);
+    (done, writer)
 }
