@@ -1,31 +1,36 @@
 -- What happened for a file whose output was created: it was finished, or given up.
 use Rattle.std.specs.Prelude.{⊤}
 use Rattle.std.proofs.Common.{◌≡◌, ◌≢◌, ◌⊎◌, inl, inr, ℕ, refl, sym, ap, subst, ◌∙◌, List, [], ◌∷◌, ◌++◌, length, append-nil}
-use Rattle.std.proofs.Common.{Option, None, Some, IfSome, Result, Ok, Err, IfErr, IfOk, OnOk}
+use Rattle.std.proofs.Common.{Option, None, Some, IfSome, Result, Ok, Err, IfErr, IfOk, OnOk, Bool, true, false, if◌then◌else◌, append_assoc}
 use Rattle.container_core.specs.declared.fault.OpenFault.{OpenFault}
 use Rattle.container_core.specs.declared.fault.OpenFault.TheVariants as bytes
 use Rattle.container_core.specs.Faults.{IsOfBytes}
 use Rattle.container_core.specs.Opening.{opening}
-use Rattle.io_core.specs.Streams.{Appends, AppendsFront, Keeps}
+use Rattle.io_core.specs.Streams.{Appends, AppendsFront, Keeps, counted}
 use Rattle.opening_core.specs.declared.twice.Stopped.{Stopped}
 use Rattle.opening_core.specs.declared.twice.Stopped.TheVariants as stop
 use Rattle.opening_core.specs.Engine.{HasHeader, OpensTo}
-use Rattle.opening_core.specs.Twice.{MayWrite, WritesAll, WritesSome}
+use Rattle.opening_core.specs.Twice.{MayWrite, WritesAll, WritesSome, broken_by_read, broken_by_write}
 use Rattle.opening_core.specs.Windows.{HasSent}
 use Rattle.output_core.specs.Bounds.{Admits, Allows, Bound, Exactly}
 use Rattle.command_core.specs.declared.folder.FolderFault.{FolderFault}
 use Rattle.command_core.specs.declared.folder.FolderFault.TheVariants as refusal
 use Rattle.command_core.specs.declared.line.FileFault.{FileFault}
-use Rattle.command_core.specs.declared.line.FileFault.TheVariants.{Unopened, OutputExists, CannotCreate, Changed}
-use Rattle.command_core.specs.declared.line.FileOutcome.TheVariants.{Opened, Failed}
+use Rattle.command_core.specs.declared.line.FileFault.TheVariants.{AnotherLabel, CannotOpen, NoNumber, NoSuffix, OutOfMemory, SpoolFailed}
+use Rattle.command_core.specs.declared.line.FileFault.TheVariants.{Unopened, Unsealed, OutputExists, CannotCreate, Changed}
+use Rattle.command_core.specs.declared.line.FileOutcome.{FileOutcome}
+use Rattle.command_core.specs.declared.line.FileOutcome.TheVariants.{Opened, Good, Shown, Failed}
+use Rattle.command_core.specs.declared.facts.Facts.{Facts}
+use Rattle.command_core.specs.Facts.{IsOfHeader}
 use Rattle.command_core.specs.Again.{IsAgainFault, IsBegun, IsGood}
 use Rattle.command_core.specs.Labels.{IsLabelled}
 use Rattle.command_core.specs.Session.{IsBoundChecked, IsBoundTo}
 use Rattle.command_core.specs.Trace.{Event, Created, Finished, Discarded, Reading, Does, Nothing, Opens, Creates, Finishes}
-use Rattle.command_core.specs.Trace.{Discards, FailsToOpen, IsOpenedBy, IsReadAgain, Refuses, tape}
+use Rattle.command_core.specs.Trace.{Closes, FailsToOpen, GivesUp, IsCounted, IsOpenedBy, IsReadAgain, Refuses, Unread, Unwritten, tape}
 use Rattle.command_core.specs.Trace as trace
-use Rattle.command_core.specs.Work.{IsBrokenOff, IsRefused, IsUnrepeated, Opening}
-use Rattle.command_core.proofs.Traces.{chain, known, finished_as, discarded_as, tape_as, weaken}
+use Rattle.command_core.specs.Work.{IsBrokenOff, IsClosedBy, IsFaultOf, IsOfOpening, IsOfVerifying, IsRefused, Opening, Verifying}
+use Rattle.command_core.specs.Work.{closing, file_read_failed, lost, reading_failed}
+use Rattle.command_core.proofs.Traces.{chain, closed_file, closed_quietly, known, finished_as, gave_up, given_up_as, reported_of, tape_as, weaken}
 
 -- ---- what a file had
 
@@ -101,21 +106,67 @@ may_again key header most left taken taken' None kept bounds = tt
 may_again key header most left taken taken' (Some b) kept (input, had, (held, took, is)) =
     (held, input, kept ∙ took, had, inl is)
 
--- ---- a file that can't be read again
+-- ---- a file that has a fault, or can't be read again
 
-pub unrepeated : (key : List ℕ) (most : ℕ) (label : Option (List ℕ)) (name : List ℕ) (left : Option (List ℕ)) (one two three : Option (List Event))
-    → IsGoodIf key most label left → Does (FailsToOpen name) two three → Does (Opens name left) one two
-    → Does (IsUnrepeated key most label name) one three
-unrepeated key most label name left one two three good fails opens =
-    chain (IsUnrepeated key most label name) (λ x y o f.
-    let (plain, is) = known (λ input. (plain : List ℕ) × IsGood key most label input plain) left o.0 o.1 good in
-    (o.0, plain, is, (λ i. o.2 i ++ f i))) one two three opens fails
+refused_file : (key : List ℕ) (most : ℕ) (label : Option (List ℕ)) (name output : List ℕ) (f : FileFault) (input : List ℕ)
+    (events : List Event) → IsFaultOf key most label input f → events ≡ Reading name input ∷ closing name (Failed f)
+    → Opening key most label output name (Failed f) events
+refused_file key most label name output CannotOpen input events why is = absurd why
+refused_file key most label name output NoSuffix input events why is = absurd why
+refused_file key most label name output OutputExists input events why is = absurd why
+refused_file key most label name output CannotCreate input events why is = absurd why
+refused_file key most label name output OutOfMemory input events why is = absurd why
+refused_file key most label name output NoNumber input events why is = absurd why
+refused_file key most label name output AnotherLabel input events why is = (input, why, is)
+refused_file key most label name output Changed input events why is = absurd why
+refused_file key most label name output SpoolFailed input events why is = absurd why
+refused_file key most label name output (Unsealed f) input events why is = absurd why
+refused_file key most label name output (Unopened bytes.TooLong) input events why is = (input, why, is)
+refused_file key most label name output (Unopened bytes.ShortHeader) input events why is = (input, why, is)
+refused_file key most label name output (Unopened bytes.BadMagic) input events why is = (input, why, is)
+refused_file key most label name output (Unopened bytes.BadVersion) input events why is = (input, why, is)
+refused_file key most label name output (Unopened bytes.BadExponent) input events why is = (input, why, is)
+refused_file key most label name output (Unopened bytes.KeyMismatch) input events why is = (input, why, is)
+refused_file key most label name output (Unopened bytes.BadLength) input events why is = (input, why, is)
+refused_file key most label name output (Unopened (bytes.Forged chunk)) input events why is = (input, why, is)
+refused_file key most label name output (Unopened bytes.OutOfMemory) input events why is = inl (input, is)
+refused_file key most label name output (Unopened bytes.Read) input events why is = inl (input, is)
+refused_file key most label name output (Unopened bytes.Write) input events why is = absurd why
+
+pub refused : (key : List ℕ) (most : ℕ) (label : Option (List ℕ)) (name output : List ℕ) (left : Option (List ℕ)) (f : FileFault)
+    (one two : Option (List Event)) → IfSome left (λ input. IsFaultOf key most label input f) → Does (Opens name left) one two
+    → Does (IsClosedBy (Opening key most label output name) name (Failed f)) one two
+refused key most label name output left f one two why opens = weaken (λ events o.
+    refused_file key most label name output f o.0 (events ++ closing name (Failed f))
+    (known (λ input. IsFaultOf key most label input f) left o.0 o.1 why) (ap (λ l. l ++ closing name (Failed f)) o.2)) one two opens
+
+-- a reading has no fault of a spool
+pub read_by_verifying : {A : Type 0} (result : Result A FileFault) (f : FileFault) → result ≡ Err f → IsOfVerifying true (Failed f)
+    → file_read_failed result ≡ reading_failed (Failed f)
+read_by_verifying {A} result f is of = ap (λ r. file_read_failed r) is ∙ by f of
+  where
+    by : (f : FileFault) → IsOfVerifying true (Failed f) → file_read_failed {A = A} (Err f) ≡ reading_failed (Failed f)
+    by SpoolFailed of = absurd of
+    by (Unopened bytes.Read) of = refl
+    by _ of = refl
+
+pub read_by_opening : {A : Type 0} (to : Option (List ℕ)) (name : List ℕ) (result : Result A FileFault) (f : FileFault) → result ≡ Err f
+    → IsOfOpening to name (Failed f) → file_read_failed result ≡ reading_failed (Failed f)
+read_by_opening {A} to name result f is of = ap (λ r. file_read_failed r) is ∙ by f of
+  where
+    by : (f : FileFault) → IsOfOpening to name (Failed f) → file_read_failed {A = A} (Err f) ≡ reading_failed (Failed f)
+    by SpoolFailed of = absurd of
+    by (Unopened bytes.Read) of = refl
+    by _ of = refl
 
 pub not_repeated : (key : List ℕ) (most : ℕ) (label : Option (List ℕ)) (name output : List ℕ) (left : Option (List ℕ))
     (one two three : Option (List Event)) → IsGoodIf key most label left → Does (FailsToOpen name) two three
-    → Does (Opens name left) one two → Does (Opening key most label output name (Failed (Unopened bytes.Read))) one three
+    → Does (Opens name left) one two
+    → Does (IsClosedBy (Opening key most label output name) name (Failed (Unopened bytes.Read))) one three
 not_repeated key most label name output left one two three good fails opens =
-    weaken (λ events u. inr (inl u)) one three (unrepeated key most label name left one two three good fails opens)
+    chain (IsClosedBy (Opening key most label output name) name (Failed (Unopened bytes.Read))) (λ x y o f.
+    let (plain, is) = known (λ input. (plain : List ℕ) × IsGood key most label input plain) left o.0 o.1 good in
+    inr (inl (o.0, plain, is, (λ i. (o.2 i ++ f i) ++ Unread name ∷ [])))) one two three opens fails
 
 pub may_once : (plain : List ℕ) (taken taken' : Option (List ℕ)) (bound : Option Bound) → taken' ≡ taken
     → IfSome bound (IsBoundTo (λ held. Exactly (held ++ plain)) taken) → Admits bound taken' plain
@@ -132,13 +183,21 @@ told_as key most label output name refusal.Exists fault events told is =
 told_as key most label output name refusal.Failed fault events told is =
     subst (λ f. Opening key most label output name (Failed f) events) (sym (told.1 refl)) is
 
+-- nothing is reported of it
+pub refusal_quiet : (refused : FolderFault) (fault : FileFault)
+    → (refused ≡ refusal.Exists → fault ≡ OutputExists) × (refused ≡ refusal.Failed → fault ≡ CannotCreate)
+    → reading_failed (Failed fault) ≡ false
+refusal_quiet refusal.Exists fault told = ap (λ f. reading_failed (Failed f)) (told.0 refl)
+refusal_quiet refusal.Failed fault told = ap (λ f. reading_failed (Failed f)) (told.1 refl)
+
 pub refused_twice : (key : List ℕ) (most : ℕ) (label : Option (List ℕ)) (name output : List ℕ) (left left' : Option (List ℕ))
     (refused : FolderFault) (fault : FileFault) (one two three four : Option (List Event)) → IsGoodIf key most label left
     → (refused ≡ refusal.Exists → fault ≡ OutputExists) × (refused ≡ refusal.Failed → fault ≡ CannotCreate)
     → Does (Refuses output refused) three four → Does (Opens name left') two three → Does (Opens name left) one two
-    → Does (Opening key most label output name (Failed fault)) one four
+    → Does (IsClosedBy (Opening key most label output name) name (Failed fault)) one four
 refused_twice key most label name output left left' refused fault one two three four good told refuses again opens =
-    chain (Opening key most label output name (Failed fault)) (λ x y o e.
+    closed_quietly (Opening key most label output name) name (Failed fault) one four (refusal_quiet refused fault told)
+    (chain (Opening key most label output name (Failed fault)) (λ x y o e.
     let (plain, is) = known (λ input. (plain : List ℕ) × IsGood key most label input plain) left o.0 o.1 good in
     told_as key most label output name refused fault (x ++ y) told (
       o.0,
@@ -149,15 +208,16 @@ refused_twice key most label name output left left' refused fault one two three 
       (λ i. o.2 i ++ e.1 i),
     )) one two four opens
     (chain (λ events. (last : List ℕ) × (events ≡ Reading name last ∷ trace.Refused output refused ∷ []))
-    (λ x y a r. (a.0, (λ i. a.2 i ++ r i))) two three four again refuses)
+    (λ x y a r. (a.0, (λ i. a.2 i ++ r i))) two three four again refuses))
 
 pub refused_once : (key : List ℕ) (most : ℕ) (label : Option (List ℕ)) (name output : List ℕ) (left : Option (List ℕ))
     (refused : FolderFault) (fault : FileFault) (one two three : Option (List Event)) → IsGoodIf key most label left
     → (refused ≡ refusal.Exists → fault ≡ OutputExists) × (refused ≡ refusal.Failed → fault ≡ CannotCreate)
     → Does (Refuses output refused) two three → Does (Opens name left) one two
-    → Does (Opening key most label output name (Failed fault)) one three
+    → Does (IsClosedBy (Opening key most label output name) name (Failed fault)) one three
 refused_once key most label name output left refused fault one two three good told refuses opens =
-    chain (Opening key most label output name (Failed fault)) (λ x y o r.
+    closed_quietly (Opening key most label output name) name (Failed fault) one three (refusal_quiet refused fault told)
+    (chain (Opening key most label output name (Failed fault)) (λ x y o r.
     let (plain, is) = known (λ input. (plain : List ℕ) × IsGood key most label input plain) left o.0 o.1 good in
     told_as key most label output name refused fault (x ++ y) told (
       o.0,
@@ -166,7 +226,7 @@ refused_once key most label name output left refused fault one two three good to
       is,
       inl refl,
       (λ i. o.2 i ++ r i),
-    )) one two three opens refuses
+    )) one two three opens refuses)
 
 -- ---- by two readings
 
@@ -176,10 +236,11 @@ pub opened_twice : (key header : List ℕ) (most n : ℕ) (label : Option (List 
     → IfSome left (HasHeader header) → ((input : List ℕ) → HasHeader header input → IsLabelled label input)
     → (taken' : Option (List ℕ)) × IfSome left' (λ input. HasHeader header input × WritesAll key most taken taken' input n)
     × Does (Finishes taken') four five → Does (Creates output taken) three four → Does (Opens name left') two three
-    → Does (Opens name left) one two → Does (Opening key most label output name (Opened n)) one five
+    → Does (Opens name left) one two → Does (IsClosedBy (Opening key most label output name) name (Opened n)) one five
 opened_twice key header most n label name output left left' taken one two three four five good headed labelled
     (taken', wrote, finishes) creates again opens =
-    chain (Opening key most label output name (Opened n)) (λ x y o e.
+    closed_quietly (Opening key most label output name) name (Opened n) one five refl
+    (chain (Opening key most label output name (Opened n)) (λ x y o e.
     let (plain, is) = known (λ input. (plain : List ℕ) × IsGood key most label input plain) left o.0 o.1 good in
     let (last, whole, same, ok, count, rest) = e in (
       last,
@@ -201,7 +262,7 @@ opened_twice key header most n label name output left left' taken one two three 
     (λ x y c f. λ input had.
     let (same, (whole, ok, grew, count)) = known (λ input. HasHeader header input × WritesAll key most taken taken' input n) left' input had wrote in
     let last : y ≡ Finished output whole ∷ [] = finished_as output [] whole taken taken' y c.0 grew f in
-    (whole, same, ok, count, (λ i. c.1 i ++ last i))) three four five creates finishes))
+    (whole, same, ok, count, (λ i. c.1 i ++ last i))) three four five creates finishes)))
 
 -- what an output was given up with is what was written after its name
 front_as : (output other bytes plain : List ℕ) (taken taken' : Option (List ℕ)) → taken ≡ Some (tape output [])
@@ -270,15 +331,17 @@ given_whole key most n header (Some bytes) taken taken' (input, headed, wrote, i
 
 -- it was given up
 broken : (are : List ℕ → List ℕ → Type 0) (key header : List ℕ) (most : ℕ) (label : Option (List ℕ)) (name output : List ℕ)
-    (left left' taken : Option (List ℕ)) (one two three four five : Option (List Event)) → IsGoodIf key most label left
+    (left left' taken : Option (List ℕ)) (failed : Bool) (fault : FileFault) (one two three four five : Option (List Event))
+    → IsGoodIf key most label left
     → IfSome left (HasHeader header) → ((first last : List ℕ) → left ≡ Some first → left' ≡ Some last → are first last)
-    → (taken' : Option (List ℕ)) × (between : Option (List Event))
-    × IfSome left' (λ input. IsBegun key most header input taken taken') × Does Nothing four between
-    × Does (Discards taken') between five → Does (Creates output taken) three four → Does (Opens name left') two three
-    → Does (Opens name left) one two → Does (IsBrokenOff are key most label output name) one five
-broken are key header most label name output left left' taken one two three four five good headed so
-    (taken', between, wrote, none, discards) creates again opens =
-    chain (IsBrokenOff are key most label output name) (λ x y o e.
+    → (if failed then Unwritten output ∷ [] else []) ≡ lost output fault
+    → (taken' : Option (List ℕ)) × IfSome left' (λ input. IsBegun key most header input taken taken')
+    × Does (GivesUp taken' (counted failed (Some 0))) four five → Does (Creates output taken) three four
+    → Does (Opens name left') two three → Does (Opens name left) one two
+    → Does (λ events. IsBrokenOff are key most label output name fault (events ++ closing name (Failed fault))) one five
+broken are key header most label name output left left' taken failed fault one two three four five good headed so lose
+    (taken', wrote, gives) creates again opens =
+    chain (λ events. IsBrokenOff are key most label output name fault (events ++ closing name (Failed fault))) (λ x y o e.
     let good_first = known (λ input. (plain : List ℕ) × IsGood key most label input plain) left o.0 o.1 good in
     let (last, had, written, begun, rest) = e in (
       header,
@@ -289,27 +352,29 @@ broken are key header most label name output left left' taken one two three four
       so o.0 last o.1 had,
       (known (HasHeader header) left o.0 o.1 headed, good_first, refl),
       begun,
-      (λ i. o.2 i ++ rest i),
+      (λ i. (o.2 i ++ rest i) ++ closing name (Failed fault)) ∙ append_assoc (Reading name o.0 ∷ Reading name last ∷ Created output ∷ lost output fault)
+          (Discarded output written ∷ []) (closing name (Failed fault)),
     )) one two five opens
     (chain (λ events. (last : List ℕ) × (left' ≡ Some last) × (written : List ℕ)
     × IsBegun key most header last (Some []) (Some written)
-    × (events ≡ Reading name last ∷ Created output ∷ Discarded output written ∷ []))
+    × (events ≡ Reading name last ∷ Created output ∷ lost output fault ++ Discarded output written ∷ []))
     (λ x y a e.
     let (written, begun, rest) = e a.0 a.1 in
     (a.0, a.1, written, begun, (λ i. a.2 i ++ rest i)))
     two three five again
     (chain (λ events. (input : List ℕ) → left' ≡ Some input → (written : List ℕ)
-    × IsBegun key most header input (Some []) (Some written) × (events ≡ Created output ∷ Discarded output written ∷ []))
+    × IsBegun key most header input (Some []) (Some written)
+    × (events ≡ Created output ∷ lost output fault ++ Discarded output written ∷ []))
     (λ x y c d. λ input had.
-    let (same, begun) = begun_as key most header input output d.0 d.1 taken taken' c.0 d.2
+    let (same, begun) = begun_as key most header input output d.0 d.1 taken taken' c.0 d.3
     (known (λ input. IsBegun key most header input taken taken') left' input had wrote) in
-    let last : y ≡ Discarded output d.1 ∷ [] = d.3 ∙ ap (λ o. Discarded o d.1 ∷ []) same in
-    (d.1, begun, (λ i. c.1 i ++ last i))) three four five creates
-    (chain (Discards taken') (λ x y n d. (d.0, d.1, d.2, (λ i. n i ++ d.3 i))) four between five none discards)))
+    let last : y ≡ lost output fault ++ Discarded output d.1 ∷ [] =
+    gave_up output d.0 d.1 failed d.2 y same d.4 d.5 ∙ ap (λ l. l ++ Discarded output d.1 ∷ []) lose in
+    (d.1, begun, (λ i. c.1 i ++ last i))) three four five creates gives))
 
 -- and the line says why
 broken_off : (key : List ℕ) (most : ℕ) (label : Option (List ℕ)) (output name : List ℕ) (fault : OpenFault) (events : List Event)
-    → ¬ IsOfBytes fault → IsBrokenOff (λ _ _. ⊤) key most label output name events
+    → ¬ IsOfBytes fault → IsBrokenOff (λ _ _. ⊤) key most label output name (Unopened fault) events
     → Opening key most label output name (Failed (Unopened fault)) events
 broken_off key most label output name bytes.TooLong events other up = absurd (other tt)
 broken_off key most label output name bytes.ShortHeader events other up = absurd (other tt)
@@ -322,6 +387,23 @@ broken_off key most label output name (bytes.Forged chunk) events other up = abs
 broken_off key most label output name bytes.OutOfMemory events other up = inr up
 broken_off key most label output name bytes.Read events other up = inr (inr up)
 broken_off key most label output name bytes.Write events other up = inr up
+
+lost_by : (output : List ℕ) (fault : OpenFault)
+    → (if broken_by_write (Err (stop.Broken fault)) then Unwritten output ∷ [] else []) ≡ lost output (Unopened fault)
+lost_by output bytes.Write = refl
+lost_by output _ = refl
+
+-- the line says `read failed` where a read failed
+pub read_again_failed : (stopped : Stopped) (fault : FileFault) → ((f : OpenFault) → stopped ≡ stop.Refused f → ⊥)
+    → (stopped ≡ stop.Changed → fault ≡ Changed) × ((f : OpenFault) → stopped ≡ stop.Broken f → fault ≡ Unopened f)
+    → broken_by_read (Err stopped) ≡ reading_failed (Failed fault)
+read_again_failed (stop.Refused f) fault none told = absurd (none f refl)
+read_again_failed stop.Changed fault none told = sym (ap (λ f. reading_failed (Failed f)) (told.0 refl))
+read_again_failed (stop.Broken f) fault none told = by f ∙ sym (ap (λ g. reading_failed (Failed g)) (told.1 f refl))
+  where
+    by : (f : OpenFault) → broken_by_read (Err (stop.Broken f)) ≡ reading_failed (Failed (Unopened f))
+    by bytes.Read = refl
+    by _ = refl
 
 -- readings of which the first opens and the second doesn't, or has another header, differ
 pub differ : (key header : List ℕ) (most : ℕ) (label left left' : Option (List ℕ)) → IsGoodIf key most label left
@@ -338,23 +420,23 @@ pub stopped_twice : (key header : List ℕ) (most : ℕ) (label : Option (List �
     (left left' taken : Option (List ℕ)) (stopped : Stopped) (fault : FileFault) (one two three four five : Option (List Event))
     → IsGoodIf key most label left → IfSome left (HasHeader header) → IsAgainFault key header most left' stopped
     → (stopped ≡ stop.Changed → fault ≡ Changed) × ((f : OpenFault) → stopped ≡ stop.Broken f → fault ≡ Unopened f)
-    → (taken' : Option (List ℕ)) × (between : Option (List Event))
-    × IfSome left' (λ input. IsBegun key most header input taken taken') × Does Nothing four between
-    × Does (Discards taken') between five → Does (Creates output taken) three four → Does (Opens name left') two three
-    → Does (Opens name left) one two → Does (Opening key most label output name (Failed fault)) one five
+    → (taken' : Option (List ℕ)) × IfSome left' (λ input. IsBegun key most header input taken taken')
+    × Does (GivesUp taken' (counted (broken_by_write (Err stopped)) (Some 0))) four five
+    → Does (Creates output taken) three four → Does (Opens name left') two three
+    → Does (Opens name left) one two → Does (IsClosedBy (Opening key most label output name) name (Failed fault)) one five
 stopped_twice key header most label name output left left' taken (stop.Refused f) fault one two three four five good headed why told
     wrote creates again opens = absurd why
 stopped_twice key header most label name output left left' taken stop.Changed fault one two three four five good headed why told
     wrote creates again opens =
-    subst (λ x. Does (Opening key most label output name (Failed x)) one five) (sym (told.0 refl))
-    (broken (λ first last. first ≢ last) key header most label name output left left' taken one two three four five good headed
-    (differ key header most label left left' good headed why) wrote creates again opens)
+    subst (λ x. Does (IsClosedBy (Opening key most label output name) name (Failed x)) one five) (sym (told.0 refl))
+    (broken (λ first last. first ≢ last) key header most label name output left left' taken false Changed one two three four five
+    good headed (differ key header most label left left' good headed why) refl wrote creates again opens)
 stopped_twice key header most label name output left left' taken (stop.Broken f) fault one two three four five good headed why told
     wrote creates again opens =
-    subst (λ x. Does (Opening key most label output name (Failed x)) one five) (sym (told.1 f refl))
-    (weaken (λ events. broken_off key most label output name f events why) one five
-    (broken (λ _ _. ⊤) key header most label name output left left' taken one two three four five good headed
-    (λ first last had has. tt) wrote creates again opens))
+    subst (λ x. Does (IsClosedBy (Opening key most label output name) name (Failed x)) one five) (sym (told.1 f refl))
+    (weaken (λ events. broken_off key most label output name f (events ++ closing name (Failed (Unopened f))) why) one five
+    (broken (λ _ _. ⊤) key header most label name output left left' taken (broken_by_write (Err (stop.Broken f))) (Unopened f)
+    one two three four five good headed (λ first last had has. tt) (lost_by output f) wrote creates again opens))
 
 -- ---- by one reading
 
@@ -364,9 +446,10 @@ pub opened_once : (key : List ℕ) (most n : ℕ) (label : Option (List ℕ)) (n
     → IfSome left (λ input. IsGood key most label input plain) → n ≡ length plain
     → (taken' : Option (List ℕ)) × Appends taken taken' plain × Does (Finishes taken') three four
     → Does (Creates output taken) two three → Does (Opens name left) one two
-    → Does (Opening key most label output name (Opened n)) one four
+    → Does (IsClosedBy (Opening key most label output name) name (Opened n)) one four
 opened_once key most n label name output plain left taken one two three four good count (taken', grew, finishes) creates opens =
-    chain (Opening key most label output name (Opened n))
+    closed_quietly (Opening key most label output name) name (Opened n) one four refl
+    (chain (Opening key most label output name (Opened n))
     (λ x y o e. (
       o.0,
       plain,
@@ -381,19 +464,19 @@ opened_once key most n label name output plain left taken one two three four goo
     (λ x y c f.
     let last : y ≡ Finished output plain ∷ [] = finished_as output [] plain taken taken' y c.0 grew f in
     (λ i. c.1 i ++ last i))
-    two three four creates finishes)
+    two three four creates finishes))
 
 -- writing or finishing it failed, and it was given up with what was written
 pub not_written : (key : List ℕ) (most : ℕ) (label : Option (List ℕ)) (name output plain : List ℕ)
-    (left taken : Option (List ℕ)) (one two three five : Option (List Event))
+    (left taken : Option (List ℕ)) (one two three four : Option (List Event))
     → IfSome left (λ input. IsGood key most label input plain)
-    → (taken' : Option (List ℕ)) × (four : Option (List Event)) × AppendsFront taken taken' plain
-    × Does Nothing three four × Does (Discards taken') four five
+    → (taken' : Option (List ℕ)) × AppendsFront taken taken' plain × Does (GivesUp taken' (counted true (Some 0))) three four
     → Does (Creates output taken) two three → Does (Opens name left) one two
-    → Does (Opening key most label output name (Failed (Unopened bytes.Write))) one five
-not_written key most label name output plain left taken one two three five good
-    (taken', four, (front, begins, grew), none, discards) creates opens =
-    chain (Opening key most label output name (Failed (Unopened bytes.Write)))
+    → Does (IsClosedBy (Opening key most label output name) name (Failed (Unopened bytes.Write))) one four
+not_written key most label name output plain left taken one two three four good
+    (taken', (front, begins, grew), gives) creates opens =
+    closed_quietly (Opening key most label output name) name (Failed (Unopened bytes.Write)) one four refl
+    (chain (Opening key most label output name (Failed (Unopened bytes.Write)))
     (λ x y o e. inl (
       o.0,
       plain,
@@ -402,10 +485,75 @@ not_written key most label name output plain left taken one two three five good
       begins,
       (λ i. o.2 i ++ e i),
     ))
-    one two five opens
-    (chain (λ events. events ≡ Created output ∷ Discarded output front ∷ [])
+    one two four opens
+    (chain (λ events. events ≡ Created output ∷ Unwritten output ∷ Discarded output front ∷ [])
     (λ x y c d.
-    let last : y ≡ Discarded output front ∷ [] = discarded_as output [] front taken taken' y c.0 grew d in
+    let last : y ≡ Unwritten output ∷ Discarded output front ∷ [] = given_up_as output [] front taken taken' true y c.0 grew d in
     (λ i. c.1 i ++ last i))
-    two three five creates (chain (Discards taken') (λ x y n d. (d.0, d.1, d.2, (λ i. n i ++ d.3 i))) three four five
-    none discards))
+    two three four creates gives))
+
+-- ---- the file is closed
+
+pub closed_opening : (key : List ℕ) (most : ℕ) (label : Option (List ℕ)) (output name : List ℕ) (left : Option (List ℕ))
+    (outcome : FileOutcome) (first last : Option ℕ) (one read worked closed : Option (List Event))
+    → ((before : Option (List Event)) → Does (Opens name left) before read
+    → Does (IsClosedBy (Opening key most label output name) name outcome) before worked)
+    → IsCounted worked last (counted (reading_failed outcome) first) → IsCounted read first (Some 0)
+    → Does (Opens name left) one read → Does (Closes name last) worked closed → Does (Opening key most label output name outcome) one closed
+closed_opening key most label output name = closed_file (Opening key most label output name) name
+
+-- ---- verifying
+
+-- a file was read, and closed
+abbrev ReadAndClosed : Bool → List ℕ → Option (List ℕ) → List Event → Type 0
+ReadAndClosed failed name left events = (input : List ℕ) × (left ≡ Some input)
+    × (events ≡ Reading name input ∷ (if failed then Unread name ∷ [] else []))
+
+read_and_closed : (failed : Bool) (name : List ℕ) (left : Option (List ℕ)) (first last : Option ℕ) (one two three : Option (List Event))
+    → IsCounted two first (Some 0) → last ≡ counted failed first → Does (Closes name last) two three → Does (Opens name left) one two
+    → Does (ReadAndClosed failed name left) one three
+read_and_closed failed name left first last one two three none count closes opens =
+    chain (ReadAndClosed failed name left) (λ x y o c. (o.0, o.1, (λ i. o.2 i ++ c i))) one two three opens
+    (at two three none closes)
+  where
+    at : (two three : Option (List Event)) → IsCounted two first (Some 0) → Does (Closes name last) two three
+        → Does (λ events. events ≡ (if failed then Unread name ∷ [] else [])) two three
+    at two None none closes = tt
+    at None (Some after) none closes = absurd closes
+    at (Some before) (Some after) none (events, (n, many, said), all) =
+        (events, said ∙ reported_of (Unread name) failed n (sym (count ∙ ap (counted failed) none) ∙ many), all)
+
+pub verified : (key : List ℕ) (most n : ℕ) (label : Option (List ℕ)) (name : List ℕ) (left : Option (List ℕ)) (first last : Option ℕ)
+    (one two three : Option (List Event)) → IfSome left (λ input. OpensTo key most input n × IsLabelled label input)
+    → IsCounted two first (Some 0) → last ≡ first → Does (Closes name last) two three → Does (Opens name left) one two
+    → Does (Verifying key most label name (Good n)) one three
+verified key most n label name left first last one two three good none count closes opens = weaken (λ events r.
+    let is = known (λ input. OpensTo key most input n × IsLabelled label input) left r.0 r.1 good in
+    (r.0, is.0, is.1, r.2)) one three (read_and_closed false name left first last one two three none count closes opens)
+
+pub verified_shown : (key header : List ℕ) (most n : ℕ) (label : Option (List ℕ)) (name : List ℕ) (left : Option (List ℕ)) (facts : Facts)
+    (first last : Option ℕ) (one two three : Option (List Event)) → IfSome left (λ input. OpensTo key most input n × IsLabelled label input)
+    → IfSome left (HasHeader header) → IsOfHeader facts header
+    → IsCounted two first (Some 0) → last ≡ first → Does (Closes name last) two three → Does (Opens name left) one two
+    → Does (Verifying key most label name (Shown n facts)) one three
+verified_shown key header most n label name left facts first last one two three good headed shows none count closes opens = weaken (λ events r.
+    let is = known (λ input. OpensTo key most input n × IsLabelled label input) left r.0 r.1 good in
+    let has = known (HasHeader header) left r.0 r.1 headed in
+    (r.0, is.0, is.1, subst (IsOfHeader facts) has.0 shows, r.2)) one three
+    (read_and_closed false name left first last one two three none count closes opens)
+
+-- by cases on the fault of a file that isn't good
+unverified_as : (key : List ℕ) (most : ℕ) (label : Option (List ℕ)) (name input : List ℕ) (f : FileFault) (events : List Event)
+    → IsFaultOf key most label input f → events ≡ Reading name input ∷ closing name (Failed f)
+    → Verifying key most label name (Failed f) events
+unverified_as key most label name input CannotOpen events why is = absurd why
+unverified_as key most label name input f events why is = (input, why, is)
+
+pub unverified : (key : List ℕ) (most : ℕ) (label : Option (List ℕ)) (name : List ℕ) (left : Option (List ℕ)) (f : FileFault)
+    (failed : Bool) (first last : Option ℕ) (one two three : Option (List Event)) → IfSome left (λ input. IsFaultOf key most label input f)
+    → failed ≡ reading_failed (Failed f) → IsCounted two first (Some 0) → last ≡ counted failed first
+    → Does (Closes name last) two three → Does (Opens name left) one two → Does (Verifying key most label name (Failed f)) one three
+unverified key most label name left f failed first last one two three why is none count closes opens = weaken (λ events r.
+    unverified_as key most label name r.0 f events (known (λ input. IsFaultOf key most label input f) left r.0 r.1 why)
+    (r.2 ∙ ap (λ b. Reading name r.0 ∷ (if b then Unread name ∷ [] else [])) is)) one three
+    (read_and_closed failed name left first last one two three none count closes opens)

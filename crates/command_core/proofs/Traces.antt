@@ -1,9 +1,12 @@
 -- A trace that goes on, where it is known.
 use Rattle.std.proofs.Common.{◌≡◌, ℕ, refl, sym, ap, subst, ◌∙◌, List, [], ◌∷◌, ◌++◌, length, get_or, take, drop}
-use Rattle.std.proofs.Common.{append-nil, append_assoc, Option, None, Some, IfSome}
+use Rattle.std.proofs.Common.{append-nil, append_assoc, Option, None, Some, IfSome, Bool, true, false, if◌then◌else◌}
 use Rattle.std.proofs.Math.Seq.{drop-append_seam, take-append_seam}
-use Rattle.io_core.specs.Streams.{Appends}
+use Rattle.io_core.specs.Streams.{Appends, counted}
+use Rattle.command_core.specs.declared.line.FileOutcome.{FileOutcome}
 use Rattle.command_core.specs.Trace.{Event, Finished, Discarded, Does, Nothing, Finishes, Discards, tape}
+use Rattle.command_core.specs.Trace.{Closes, GivesUp, IsCounted, Opens, Unread, Unwritten, reported}
+use Rattle.command_core.specs.Work.{IsClosedBy, closing, reading_failed}
 
 pub nothing : (told : Option (List Event)) → Does Nothing told told
 nothing None = tt
@@ -25,6 +28,95 @@ chain r f told None (Some after) d e = absurd e
 chain r f None (Some mid) (Some after) d e = absurd d
 chain r f (Some before) (Some mid) (Some after) d e =
     (d.0 ++ e.0, f d.0 e.0 d.1 e.1, e.2 ∙ ap (λ l. l ++ e.0) d.2 ∙ append_assoc before d.0 e.0)
+
+-- ---- counts
+
+pub counted_if : (told : Option (List Event)) (failures count : Option ℕ) → failures ≡ count → IsCounted told failures count
+counted_if None failures count is = tt
+counted_if (Some events) failures count is = is
+
+-- what was known before is known after
+pub counted_on : (p : List Event → Type 0) (one two : Option (List Event)) (failures count : Option ℕ) → Does p one two
+    → IsCounted one failures count → IsCounted two failures count
+counted_on p one None failures count does is = tt
+counted_on p None (Some after) failures count does is = absurd does
+counted_on p (Some before) (Some after) failures count does is = is
+
+-- one count is another
+pub counted_as : (told : Option (List Event)) (failures one two : Option ℕ) → one ≡ two → IsCounted told failures one
+    → IsCounted told failures two
+counted_as None failures one two same is = tt
+counted_as (Some events) failures one two same is = is ∙ same
+
+-- a call after others
+pub counted_more : (told : Option (List Event)) (failed more : Bool) (first next last : Option ℕ)
+    → IsCounted told next (counted failed first) → failed ≡ false → last ≡ counted more next → IsCounted told last (counted more first)
+counted_more None failed more first next last was none is = tt
+counted_more (Some events) failed more first next last was none is =
+    is ∙ ap (counted more) (was ∙ ap (λ b. counted b first) none)
+
+-- over the calls of an opening: the file was read again, the output was created and declared, and it was closed
+pub counted_through : (p q r : List Event → Type 0) (one two three four five : Option (List Event)) (failures count : Option ℕ)
+    → Does p one two → Does q two three → four ≡ three → Does r four five → IsCounted one failures count → IsCounted five failures count
+counted_through p q r one two three four five failures count again made same closed is =
+    counted_on r four five failures count closed (subst (λ t. IsCounted t failures count) (sym same)
+    (counted_on q two three failures count made (counted_on p one two failures count again is)))
+
+-- of a new output, which was only declared what it is to hold
+pub counted_new : (failed : Bool) (told told' : Option (List Event)) (new declared : Option ℕ) → told' ≡ told
+    → IsCounted told new (Some 0) → IsCounted told declared new → IsCounted told' (counted failed declared) (counted failed (Some 0))
+counted_new failed told told' new declared same none kept = subst (λ t. IsCounted t (counted failed declared) (counted failed (Some 0)))
+    (sym same) (both told none kept)
+  where
+    both : (told : Option (List Event)) → IsCounted told new (Some 0) → IsCounted told declared new
+        → IsCounted told (counted failed declared) (counted failed (Some 0))
+    both None none kept = tt
+    both (Some events) none kept = ap (counted failed) (kept ∙ none)
+
+-- what is reported of a count, which was 0
+pub reported_of : (event : Event) (failed : Bool) (n : ℕ) → counted failed (Some 0) ≡ Some n
+    → reported event n ≡ (if failed then event ∷ [] else [])
+reported_of event true n is = let one : n ≡ 1 = cc in ap (reported event) one
+reported_of event false n is = let none : n ≡ 0 = cc in ap (reported event) none
+
+-- the file is closed, in the one case
+closed_step : (does : FileOutcome → List Event → Type 0) (name : List ℕ) (outcome : FileOutcome) (first last : Option ℕ)
+    (one two three : List Event) → first ≡ Some 0 → last ≡ counted (reading_failed outcome) first
+    → Does (IsClosedBy does name outcome) (Some one) (Some two) → Does (Closes name last) (Some two) (Some three)
+    → Does (does outcome) (Some one) (Some three)
+closed_step does name outcome first last one two three none count (events, is, all) (more, (n, many, said), whole) =
+    let ends : more ≡ closing name outcome =
+    said ∙ reported_of (Unread name) (reading_failed outcome) n (sym (count ∙ ap (counted (reading_failed outcome)) none) ∙ many) in (
+      events ++ closing name outcome,
+      is,
+      whole ∙ (λ i. all i ++ ends i) ∙ append_assoc one events (closing name outcome),
+    )
+
+-- a file that was read is closed
+pub closed_file : (does : FileOutcome → List Event → Type 0) (name : List ℕ) (left : Option (List ℕ)) (outcome : FileOutcome)
+    (first last : Option ℕ) (one read worked closed : Option (List Event))
+    → ((before : Option (List Event)) → Does (Opens name left) before read → Does (IsClosedBy does name outcome) before worked)
+    → IsCounted worked last (counted (reading_failed outcome) first) → IsCounted read first (Some 0)
+    → Does (Opens name left) one read → Does (Closes name last) worked closed → Does (does outcome) one closed
+closed_file does name left outcome first last one read worked None works count none opens closes = tt
+closed_file does name left outcome first last one read None (Some c) works count none opens closes = absurd closes
+closed_file does name left outcome first last one None (Some w) (Some c) works count none opens closes = absurd (works None tt)
+closed_file does name left outcome first last None (Some r) (Some w) (Some c) works count none opens closes = absurd opens
+closed_file does name left outcome first last (Some o) (Some r) (Some w) (Some c) works count none opens closes =
+    closed_step does name outcome first last o w c none count (works (Some o) opens) closes
+
+-- nothing is reported then
+pub closed_quietly : (does : FileOutcome → List Event → Type 0) (name : List ℕ) (outcome : FileOutcome) (one two : Option (List Event))
+    → reading_failed outcome ≡ false → Does (does outcome) one two → Does (IsClosedBy does name outcome) one two
+closed_quietly does name outcome one two none did = weaken (λ events is.
+    subst (does outcome) (sym (ap (λ b. events ++ (if b then Unread name ∷ [] else [])) none ∙ append-nil events)) is) one two did
+
+-- what was given up, with another count
+pub gives_up_as : (taken : Option (List ℕ)) (failures count : Option ℕ) (one two : Option (List Event)) → IsCounted one failures count
+    → Does (GivesUp taken failures) one two → Does (GivesUp taken count) one two
+gives_up_as taken failures count one None is did = tt
+gives_up_as taken failures count None (Some after) is did = absurd did
+gives_up_as taken failures count (Some before) (Some after) is did = subst (λ n. Does (GivesUp taken n) (Some before) (Some after)) is did
 
 -- ---- tapes
 
@@ -69,6 +161,22 @@ pub discarded_as : (name bytes more : List ℕ) (taken taken' : Option (List ℕ
 discarded_as name bytes more taken taken' events is grew (other, all, tells, d) =
     let same = tape_as name other bytes more all taken taken' is grew tells in
     d ∙ ap (λ n. Discarded n all ∷ []) same.0 ∙ ap (λ b. Discarded name b ∷ []) same.1
+
+-- or a failed write is reported before
+pub gave_up : (output other bytes : List ℕ) (failed : Bool) (n : ℕ) (events : List Event) → other ≡ output
+    → counted failed (Some 0) ≡ Some n → events ≡ reported (Unwritten other) n ++ Discarded other bytes ∷ []
+    → events ≡ (if failed then Unwritten output ∷ [] else []) ++ Discarded output bytes ∷ []
+gave_up output other bytes failed n events same many said =
+    said ∙ ap (λ l. l ++ Discarded other bytes ∷ []) (reported_of (Unwritten other) failed n many)
+    ∙ ap (λ o. (if failed then Unwritten o ∷ [] else []) ++ Discarded o bytes ∷ []) same
+
+pub given_up_as : (name bytes more : List ℕ) (taken taken' : Option (List ℕ)) (failed : Bool) (events : List Event)
+    → taken ≡ Some (tape name bytes) → Appends taken taken' more → GivesUp taken' (counted failed (Some 0)) events
+    → events ≡ (if failed then Unwritten name ∷ [] else []) ++ Discarded name (bytes ++ more) ∷ []
+given_up_as name bytes more taken taken' failed events is grew (other, all, n, tells, many, said) =
+    let same = tape_as name other bytes more all taken taken' is grew tells in
+    gave_up name other all failed n events same.0 many said
+    ∙ ap (λ b. (if failed then Unwritten name ∷ [] else []) ++ Discarded name b ∷ []) same.1
 
 pub known : (P : List ℕ → Type 0) (left : Option (List ℕ)) (bytes : List ℕ) → left ≡ Some bytes → IfSome left P
     → P bytes

@@ -1,17 +1,19 @@
 -- What a folder reports of a run: which files were read, and what became of its outputs.
-use Rattle.std.specs.Prelude.{⊤, ◌≡◌, ℕ, List, [], ◌∷◌, ◌++◌, length, Option, None, Some, Ok}
+use Rattle.std.specs.Prelude.{⊤, ◌≡◌, ℕ, zero, suc, List, [], ◌∷◌, ◌++◌, length, Option, None, Some, IfSome, Ok}
 use Rattle.container_core.specs.Opening.{opening}
 use Rattle.opening_core.specs.Engine.{HasHeader}
 use Rattle.command_core.specs.declared.folder.FolderFault.{FolderFault}
 
--- A file was opened for reading, and its reader has these bytes; or it could not be opened, or not read again. An output
--- was created; or it could not be created, with this fault. An output was finished, and these are all its bytes; or it
--- was given up with these bytes, and its removal was tried.
+-- A file was opened for reading, and its reader has these bytes; or it could not be opened, or not read again; or it was
+-- closed, after a call of its reader failed. An output was created; or it could not be created, with this fault. A write to an output failed, or its end
+-- was refused. An output was finished, and these are all its bytes; or it was given up with these bytes, and its removal
+-- was tried.
 pub data Event : Type 0 where
   Reading : List ℕ → List ℕ → Event
   Unread : List ℕ → Event
   Created : List ℕ → Event
   Refused : List ℕ → FolderFault → Event
+  Unwritten : List ℕ → Event
   Finished : List ℕ → List ℕ → Event
   Discarded : List ℕ → List ℕ → Event
 
@@ -56,6 +58,24 @@ Finishes taken events =
 abbrev pub Discards : Option (List ℕ) → List Event → Type 0
 Discards taken events =
     (name : List ℕ) × (bytes : List ℕ) × (taken ≡ Some (tape name bytes)) × (events ≡ Discarded name bytes ∷ [])
+
+-- an event that is reported unless this count of failed calls is 0
+abbrev pub reported : Event → ℕ → List Event
+reported event zero = []
+reported event (suc n) = event ∷ []
+
+-- The reader of a file was closed. That is reported where calls of it failed.
+abbrev pub Closes : List ℕ → Option ℕ → List Event → Type 0
+Closes name failures events = (n : ℕ) × (failures ≡ Some n) × (events ≡ reported (Unread name) n)
+
+-- An output of a plaintext was given up. It is reported before where writes of it failed, or its end.
+abbrev pub GivesUp : Option (List ℕ) → Option ℕ → List Event → Type 0
+GivesUp taken failures events = (name : List ℕ) × (bytes : List ℕ) × (n : ℕ) × (taken ≡ Some (tape name bytes))
+    × (failures ≡ Some n) × (events ≡ reported (Unwritten name) n ++ Discarded name bytes ∷ [])
+
+-- A folder that knows what happened knows how many calls of a reader or a writer failed.
+abbrev pub IsCounted : Option (List Event) → Option ℕ → Option ℕ → Type 0
+IsCounted told failures count = IfSome told (λ _. failures ≡ count)
 
 -- a file of this name was read, and its bytes open to this plaintext
 abbrev pub IsOpenedBy : List ℕ → List ℕ → List ℕ → List Event → Type 0

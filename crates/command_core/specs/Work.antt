@@ -1,5 +1,6 @@
 -- What `open_all` and `verify_all` do with a list of files.
-use Rattle.std.specs.Prelude.{◌≡◌, ◌≢◌, ◌⊎◌, ℕ, ◌-◌, ◌<◌, ◌≤◌, Bool, true, false, List, [], ◌∷◌, ◌++◌, length, take}
+use Rattle.std.specs.Prelude.{◌≡◌, ◌≢◌, ◌⊎◌, ℕ, ◌-◌, ◌<◌, ◌≤◌, Bool, true, false, if◌then◌else◌, List, [], ◌∷◌, ◌++◌, length}
+use Rattle.std.specs.Prelude.{take}
 use Rattle.std.specs.Prelude.{map, ⊤, All, Option, None, Some, option_map, flat_map, codes, Result, Ok, Err}
 use Rattle.container_core.specs.declared.fault.OpenFault.TheVariants.{Read, Write}
 use Rattle.container_core.specs.declared.fault.OpenFault.TheVariants as bytes
@@ -92,6 +93,16 @@ abbrev pub file_read_failed : {A : Type 0} → Result A FileFault → Bool
 file_read_failed {A} (Err (Unopened fault)) = open_read_failed {A = A} (Err fault)
 file_read_failed _ = false
 
+-- whether an outcome is that a read failed, or that a file could not be read again
+abbrev pub reading_failed : FileOutcome → Bool
+reading_failed (Failed (Unopened Read)) = true
+reading_failed (Failed SpoolFailed) = true
+reading_failed _ = false
+
+-- what is reported when the file is closed
+abbrev pub closing : List ℕ → FileOutcome → List Event
+closing name outcome = if reading_failed outcome then trace.Unread name ∷ [] else []
+
 -- What came before the last reading of a file, which has this label: nothing, or a first reading that is good and has
 -- the same header.
 abbrev pub AreBefore : List ℕ → ℕ → Option (List ℕ) → List ℕ → List ℕ → List Event → Type 0
@@ -104,10 +115,10 @@ abbrev pub AreReadings : List ℕ → List ℕ → List Event → Type 0
 AreReadings name first readings = (readings ≡ trace.Reading name first ∷ [])
     ⊎ ((last : List ℕ) × (readings ≡ trace.Reading name first ∷ trace.Reading name last ∷ []))
 
--- The events for a file that is good, and could not be read again.
+-- The events for a file that is good, and could not be read again. The last is that of closing it.
 abbrev pub IsUnrepeated : List ℕ → ℕ → Option (List ℕ) → List ℕ → List Event → Type 0
 IsUnrepeated key most label name events = (first : List ℕ) × (plain : List ℕ) × IsGood key most label first plain
-    × (events ≡ trace.Reading name first ∷ trace.Unread name ∷ [])
+    × (events ≡ trace.Reading name first ∷ trace.Unread name ∷ trace.Unread name ∷ [])
 
 -- The events for a file that is good, whose output was refused for this cause.
 abbrev pub IsRefused : List ℕ → ℕ → Option (List ℕ) → List ℕ → List ℕ → FolderFault → List Event → Type 0
@@ -115,37 +126,49 @@ IsRefused key most label output name cause events = (first : List ℕ) × (plain
     × IsGood key most label first plain × AreReadings name first readings
     × (events ≡ readings ++ trace.Refused output cause ∷ [])
 
--- The events for a file that was read once and is good, and whose output was given up with a prefix of the plaintext.
+-- The events for a file that was read once and is good. Its output was given up with a prefix of the plaintext, since a
+-- write failed.
 abbrev pub IsGivenUp : List ℕ → ℕ → Option (List ℕ) → List ℕ → List ℕ → List Event → Type 0
 IsGivenUp key most label output name events = (input : List ℕ) × (plain : List ℕ) × (written : List ℕ)
-    × IsGood key most label input plain × IsFront written plain
-    × (events ≡ trace.Reading name input ∷ trace.Created output ∷ trace.Discarded output written ∷ [])
+    × IsGood key most label input plain × IsFront written plain × (events ≡ trace.Reading name input
+    ∷ trace.Created output ∷ trace.Unwritten output ∷ trace.Discarded output written ∷ [])
 
--- The events for a file that was read twice, and whose output was given up with what was written of the second reading.
--- The two readings are so.
-abbrev pub IsBrokenOff : (List ℕ → List ℕ → Type 0) → List ℕ → ℕ → Option (List ℕ) → List ℕ → List ℕ → List Event → Type 0
-IsBrokenOff are key most label output name events = (header : List ℕ) × (first : List ℕ) × (last : List ℕ)
+-- what is reported of an output that is given up for this fault
+abbrev pub lost : List ℕ → FileFault → List Event
+lost output (Unopened Write) = trace.Unwritten output ∷ []
+lost output _ = []
+
+-- The events for a file that was read twice. Its output was given up, for this fault, with what was written of the
+-- second reading. The two readings are so.
+abbrev pub IsBrokenOff : (List ℕ → List ℕ → Type 0) → List ℕ → ℕ → Option (List ℕ) → List ℕ → List ℕ → FileFault → List Event
+    → Type 0
+IsBrokenOff are key most label output name fault events = (header : List ℕ) × (first : List ℕ) × (last : List ℕ)
     × (written : List ℕ) × (readings : List Event) × are first last
     × IsReadTwice key most label name header first last readings
     × IsBegun key most header last (Some []) (Some written)
-    × (events ≡ readings ++ trace.Created output ∷ trace.Discarded output written ∷ [])
+    × (events ≡ readings ++ trace.Created output ∷ lost output fault ++ trace.Discarded output written
+    ∷ closing name (Failed fault))
 
 -- The events for a file of this name that is to be opened to this output. An output is asked for only after an input
 -- was read that opens and has the label. It is finished with the plaintext of the last reading, once, and then the line
--- says `opened`. Or it is given up, after a write, a read or memory failed, or because the second reading gave other
--- bytes; or it is refused, for the cause in the line. Where a file can't be read again the line says `read failed`.
+-- says `opened`. Or it is refused, for the cause in the line. Or it is given up: after a write, a read or memory failed,
+-- or because the second reading gave other bytes. The line says `write failed` only where a write to the output failed,
+-- or its end. It says `read failed` only where a read failed, or the good file could not be read again.
 abbrev pub Opening : List ℕ → ℕ → Option (List ℕ) → List ℕ → List ℕ → FileOutcome → List Event → Type 0
 Opening key most label output name (Opened n) events = (last : List ℕ) × (plain : List ℕ) × (before : List Event)
     × IsGood key most label last plain × (n ≡ length plain) × AreBefore key most label name last before
     × (events ≡ before ++ trace.Reading name last ∷ trace.Created output ∷ trace.Finished output plain ∷ [])
-Opening key most label output name (Failed (Unopened Write)) events =
-    IsGivenUp key most label output name events ⊎ IsBrokenOff (λ _ _. ⊤) key most label output name events
+Opening key most label output name (Failed (Unopened Write)) events = IsGivenUp key most label output name events
+    ⊎ IsBrokenOff (λ _ _. ⊤) key most label output name (Unopened Write) events
 Opening key most label output name (Failed (Unopened Read)) events =
-    ((input : List ℕ) × (events ≡ trace.Reading name input ∷ []))
-    ⊎ (IsUnrepeated key most label name events ⊎ IsBrokenOff (λ _ _. ⊤) key most label output name events)
+    ((input : List ℕ) × (events ≡ trace.Reading name input ∷ trace.Unread name ∷ []))
+    ⊎ (IsUnrepeated key most label name events
+    ⊎ IsBrokenOff (λ _ _. ⊤) key most label output name (Unopened Read) events)
 Opening key most label output name (Failed (Unopened bytes.OutOfMemory)) events =
-    ((input : List ℕ) × (events ≡ trace.Reading name input ∷ [])) ⊎ IsBrokenOff (λ _ _. ⊤) key most label output name events
-Opening key most label output name (Failed Changed) events = IsBrokenOff (λ first last. first ≢ last) key most label output name events
+    ((input : List ℕ) × (events ≡ trace.Reading name input ∷ []))
+    ⊎ IsBrokenOff (λ _ _. ⊤) key most label output name (Unopened bytes.OutOfMemory) events
+Opening key most label output name (Failed Changed) events =
+    IsBrokenOff (λ first last. first ≢ last) key most label output name Changed events
 Opening key most label output name (Failed OutputExists) events = IsRefused key most label output name refusal.Exists events
 Opening key most label output name (Failed CannotCreate) events = IsRefused key most label output name refusal.Failed events
 Opening key most label output name (Failed NoSuffix) events = events ≡ []
@@ -154,8 +177,12 @@ Opening key most label output name (Failed fault) events =
     (input : List ℕ) × IsFaultOf key most label input fault × (events ≡ trace.Reading name input ∷ [])
 Opening key most label output name _ events = ⊥
 
+-- these events, where what is reported as the file is closed is still to come
+abbrev pub IsClosedBy : (FileOutcome → List Event → Type 0) → List ℕ → FileOutcome → List Event → Type 0
+IsClosedBy does name outcome events = does outcome (events ++ closing name outcome)
+
 -- The events for a file of this name that is to be verified: its input was read, and is as the line says, or it could
--- not be opened. No output is asked for.
+-- not be opened. A failed read is reported. No output is asked for.
 abbrev pub Verifying : List ℕ → ℕ → Option (List ℕ) → List ℕ → FileOutcome → List Event → Type 0
 Verifying key most label name (Good n) events =
     (input : List ℕ) × OpensTo key most input n × IsLabelled label input × (events ≡ trace.Reading name input ∷ [])
@@ -163,8 +190,8 @@ Verifying key most label name (Shown n facts) events = (input : List ℕ) × Ope
     × IsLabelled label input × IsOfHeader facts (take (header_length input) input)
     × (events ≡ trace.Reading name input ∷ [])
 Verifying key most label name (Failed CannotOpen) events = events ≡ trace.Unread name ∷ []
-Verifying key most label name (Failed fault) events =
-    (input : List ℕ) × IsFaultOf key most label input fault × (events ≡ trace.Reading name input ∷ [])
+Verifying key most label name (Failed fault) events = (input : List ℕ) × IsFaultOf key most label input fault
+    × (events ≡ trace.Reading name input ∷ closing name (Failed fault))
 Verifying key most label name _ events = ⊥
 
 -- a file's line, and what happened for it

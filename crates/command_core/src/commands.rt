@@ -5,12 +5,13 @@
 ghost use Rattle.std.specs.Prelude.{◌≡◌, ℕ, ◌<◌, ◌≤◌, List, [], ◌∷◌, ◌++◌, length, map, take, Option, Ok, Err, IfSome};
 ghost use Rattle.std.specs.Prelude.{Bool, if◌then◌else◌, option_map, IfOk, IfErr, MatchOption};
 ghost use Rattle.command_core.specs.Lines.{FileLine, is_failed};
-ghost use Rattle.command_core.specs.Trace.{Does, Event, Opens};
-ghost use Rattle.command_core.specs.Work.{AreInRange, AreTold, AreWorked, IsOfOpening, IsOfVerifying, IsOpenable, Opening};
-ghost use Rattle.command_core.specs.Work.{Verifying, asked_label, asked_output, output_for};
+ghost use Rattle.io_core.specs.Streams.{counted};
+ghost use Rattle.command_core.specs.Trace.{Does, Event, IsCounted, Opens};
+ghost use Rattle.command_core.specs.Work.{AreInRange, AreTold, AreWorked, IsClosedBy, IsOfOpening, IsOfVerifying, IsOpenable};
+ghost use Rattle.command_core.specs.Work.{Opening, Verifying, asked_label, asked_output, output_for, reading_failed};
 
 use crate::facts::Facts;
-use crate::folder::{Folder, FolderFault, OpeningFolder, write_again_or_discard, write_or_discard};
+use crate::folder::{Folder, FolderFault, OpeningFolder, write_again_or_give_up, write_or_give_up};
 use crate::line::{FileFault, FileOutcome, Line};
 use crate::reading::{check_labelled, read_labelled};
 use crate::report::Report;
@@ -112,7 +113,7 @@ fn open_again<T: Threads + Sync, F: OpeningFolder>(
     alloc: Global,
     key: &Key,
     folder: &mut F,
-    reader: F::Reader,
+    reader: &mut F::Reader,
     name: &str,
     output: &str,
     options: &OpenOptions,
@@ -120,20 +121,21 @@ fn open_again<T: Threads + Sync, F: OpeningFolder>(
     requires range { AreInRange options.now }
     requires name { IsOpenable (asked_output options.now) name.now }
     requires opened { (before : Option (List Event))
-        × Does (Opens name.now (F.Reader.left reader)) before (F.told folder.old) }
+        × Does (Opens name.now (F.Reader.left reader.old)) before (F.told folder.old) }
     ensures outcome { IsOfOpening (asked_output options.now) name.now result }
     ensures events { (before : Option (List Event))
-        → Does (Opens name.now (F.Reader.left reader)) before (F.told folder.old)
-        → Does (Opening key.now options.now.max_bytes (asked_label options.now) output.now name.now result)
-        before (F.told folder.new) }
+        → Does (Opens name.now (F.Reader.left reader.old)) before (F.told folder.old)
+        → Does (IsClosedBy (Opening key.now options.now.max_bytes (asked_label options.now) output.now name.now)
+        name.now result) before (F.told folder.new) }
+    ensures count { IsCounted (F.told folder.new) (F.Reader.failures reader.new)
+        (counted (reading_failed result) (F.Reader.failures reader.old)) }
 {
     let (most, workers) = (options.max_bytes, options.workers);
-    let mut reader = reader;
-    let header = match check_labelled(rt, alloc, key, &mut reader, most, workers, options.label) {
+    let header = match check_labelled(rt, alloc, key, reader, most, workers, options.label) {
         Ok((header, _)) => header,
         Err(fault) => return FileOutcome::Failed(fault),
     };
-    match folder.again(name, &mut reader) {
+    match folder.again(name, reader) {
         Ok(()) => {}
         Err(Failed) => return FileOutcome::Failed(FileFault::Unopened(OpenFault::Read)),
     }
@@ -141,17 +143,9 @@ fn open_again<T: Threads + Sync, F: OpeningFolder>(
         Ok(writer) => writer,
         Err(fault) => return FileOutcome::Failed(refusal(fault)),
     };
-    folder.allow_checked(&mut writer, key, &header, name, &reader);
-    match write_again_or_discard(
-        rt,
-        alloc,
-        key,
-        &header,
-        &mut reader,
-        folder,
-        writer,
-        most,
-        workers,
+    folder.allow_checked(&mut writer, key, &header, name, reader);
+    match write_again_or_give_up(
+        rt, alloc, key, &header, reader, folder, writer, most, workers,
     ) {
         Ok(n) => FileOutcome::Opened(n),
         Err(stopped) => FileOutcome::Failed(fault_again(stopped)),
@@ -164,7 +158,7 @@ fn open_once<T: Threads + Sync, F: OpeningFolder>(
     alloc: Global,
     key: &Key,
     folder: &mut F,
-    reader: F::Reader,
+    reader: &mut F::Reader,
     name: &str,
     output: &str,
     options: &OpenOptions,
@@ -172,16 +166,17 @@ fn open_once<T: Threads + Sync, F: OpeningFolder>(
     requires range { AreInRange options.now }
     requires name { IsOpenable (asked_output options.now) name.now }
     requires opened { (before : Option (List Event))
-        × Does (Opens name.now (F.Reader.left reader)) before (F.told folder.old) }
+        × Does (Opens name.now (F.Reader.left reader.old)) before (F.told folder.old) }
     ensures outcome { IsOfOpening (asked_output options.now) name.now result }
     ensures events { (before : Option (List Event))
-        → Does (Opens name.now (F.Reader.left reader)) before (F.told folder.old)
-        → Does (Opening key.now options.now.max_bytes (asked_label options.now) output.now name.now result)
-        before (F.told folder.new) }
+        → Does (Opens name.now (F.Reader.left reader.old)) before (F.told folder.old)
+        → Does (IsClosedBy (Opening key.now options.now.max_bytes (asked_label options.now) output.now name.now)
+        name.now result) before (F.told folder.new) }
+    ensures count { IsCounted (F.told folder.new) (F.Reader.failures reader.new)
+        (counted (reading_failed result) (F.Reader.failures reader.old)) }
 {
     let (most, workers) = (options.max_bytes, options.workers);
-    let mut reader = reader;
-    let plain = match read_labelled(rt, alloc, key, &mut reader, most, workers, options.label) {
+    let plain = match read_labelled(rt, alloc, key, reader, most, workers, options.label) {
         Ok(plain) => plain,
         Err(fault) => return FileOutcome::Failed(fault),
     };
@@ -190,9 +185,39 @@ fn open_once<T: Threads + Sync, F: OpeningFolder>(
         Err(fault) => return FileOutcome::Failed(refusal(fault)),
     };
     folder.allow_plain(&mut writer, key, name, &plain);
-    match write_or_discard(folder, writer, &plain) {
+    match write_or_give_up(folder, writer, &plain) {
         Ok(()) => FileOutcome::Opened(plain.len()),
         Err(Failed) => FileOutcome::Failed(FileFault::Unopened(OpenFault::Write)),
+    }
+}
+
+// Opens a file that is read, in one of the two ways.
+fn open_read<T: Threads + Sync, F: OpeningFolder>(
+    rt: &T,
+    alloc: Global,
+    key: &Key,
+    folder: &mut F,
+    reader: &mut F::Reader,
+    name: &str,
+    output: &str,
+    options: &OpenOptions,
+) -> FileOutcome
+    requires range { AreInRange options.now }
+    requires name { IsOpenable (asked_output options.now) name.now }
+    requires opened { (before : Option (List Event))
+        × Does (Opens name.now (F.Reader.left reader.old)) before (F.told folder.old) }
+    ensures outcome { IsOfOpening (asked_output options.now) name.now result }
+    ensures events { (before : Option (List Event))
+        → Does (Opens name.now (F.Reader.left reader.old)) before (F.told folder.old)
+        → Does (IsClosedBy (Opening key.now options.now.max_bytes (asked_label options.now) output.now name.now)
+        name.now result) before (F.told folder.new) }
+    ensures count { IsCounted (F.told folder.new) (F.Reader.failures reader.new)
+        (counted (reading_failed result) (F.Reader.failures reader.old)) }
+{
+    if folder.can_repeat(reader) {
+        open_again(rt, alloc, key, folder, reader, name, output, options)
+    } else {
+        open_once(rt, alloc, key, folder, reader, name, output, options)
     }
 }
 
@@ -213,14 +238,12 @@ fn open_file<T: Threads + Sync, F: OpeningFolder>(
     let Some(output) = output_name(name, options.to) else {
         return FileOutcome::Failed(FileFault::NoSuffix);
     };
-    let Ok(reader) = folder.open(name) else {
+    let Ok(mut reader) = folder.open(name) else {
         return FileOutcome::Failed(FileFault::CannotOpen);
     };
-    if folder.can_repeat(&reader) {
-        open_again(rt, alloc, key, folder, reader, name, output, options)
-    } else {
-        open_once(rt, alloc, key, folder, reader, name, output, options)
-    }
+    let outcome = open_read(rt, alloc, key, folder, &mut reader, name, output, options);
+    folder.close(name, reader);
+    outcome
 }
 
 // Checks the whole container of one file.
@@ -241,7 +264,9 @@ fn verify_file<T: Threads + Sync, F: Folder>(
         return FileOutcome::Failed(FileFault::CannotOpen);
     };
     let (most, workers) = (options.max_bytes, options.workers);
-    match check_labelled(rt, alloc, key, &mut reader, most, workers, options.label) {
+    let checked = check_labelled(rt, alloc, key, &mut reader, most, workers, options.label);
+    folder.close(name, reader);
+    match checked {
         Ok((header, bytes)) if options.show => FileOutcome::Shown {
             bytes,
             facts: Facts::of(&header),

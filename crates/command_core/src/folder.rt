@@ -1,14 +1,14 @@
 //! Folders: what the commands read files from and create outputs in.
 ghost use Rattle.std.specs.Prelude.{◌≡◌, ◌≢◌, ℕ, ◌<◌, ◌≤◌, List, ◌++◌, Option, None, Some, Err, IfOk, IfErr, IfSome};
-ghost use Rattle.std.specs.Prelude.{OnOk, OnErr};
-ghost use Rattle.io_core.specs.Streams.{Appends, AppendsFront};
+ghost use Rattle.std.specs.Prelude.{OnOk, OnErr, is_err, true};
+ghost use Rattle.io_core.specs.Streams.{Appends, AppendsFront, counted};
 ghost use Rattle.opening_core.specs.Engine.{HasHeader};
-ghost use Rattle.opening_core.specs.Twice.{MayWrite, WritesAll};
+ghost use Rattle.opening_core.specs.Twice.{MayWrite, WritesAll, broken_by_read, broken_by_write};
 ghost use Rattle.output_core.specs.Bounds.{Admits, Exactly};
 ghost use Rattle.command_core.specs.Again.{IsAgainFault, IsBegun};
 ghost use Rattle.command_core.specs.Session.{IsBoundChecked, IsBoundTo, IsNew, IsSound, Session};
-ghost use Rattle.command_core.specs.Trace.{Event, Creates, Discards, Does, FailsToOpen, Finishes, Nothing, Opens};
-ghost use Rattle.command_core.specs.Trace.{IsOpenedBy, IsReadAgain, Refuses};
+ghost use Rattle.command_core.specs.Trace.{Event, Closes, Creates, Discards, Does, FailsToOpen, Finishes, GivesUp};
+ghost use Rattle.command_core.specs.Trace.{IsCounted, IsOpenedBy, IsReadAgain, Nothing, Opens, Refuses};
 
 use container_core::{Header, Key, MAX_OPENED, OpenFault};
 use gate_core::{Free, MAX_WORKERS};
@@ -50,17 +50,26 @@ pub trait Folder {
         ensures opened { IfOk result (λ reader.
             Does (Opens name.now (Self.Reader.left reader)) (told self.old) (told self.new)) }
         ensures unopened { OnErr result (Does (FailsToOpen name.now) (told self.old) (told self.new)) }
+        ensures count { IfOk result (λ reader. IsCounted (told self.new) (Self.Reader.failures reader) (Some 0)) }
         ensures session { session self.new ≡ session self.old };
 
     /// Whether the file of a reader can be read again. A pipe can't.
     fn can_repeat(&self, reader: &Self::Reader) -> bool;
 
     /// Goes back to the first byte of a file that was opened by this name: of the same open file, whatever has the name
-    /// by now. Fails if the file can't be read again, which is reported as a file that can't be opened.
+    /// by now. Fails if the file can't be read again. That is reported, and counts as a failed call of its reader.
     fn again(&mut self, name: &str, reader: &mut Self::Reader) -> Result<(), Failed>
         ensures again { OnOk result
             (Does (Opens name.now (Self.Reader.left reader.new)) (told self.old) (told self.new)) }
         ensures refused { OnErr result (Does (FailsToOpen name.now) (told self.old) (told self.new)) }
+        ensures count { IsCounted (told self.old) (Self.Reader.failures reader.new)
+            (counted (is_err result) (Self.Reader.failures reader.old)) }
+        ensures session { session self.new ≡ session self.old };
+
+    /// Closes a file that was opened by this name. It is reported if a call of its reader failed. A reader can also be
+    /// dropped; then nothing is reported.
+    fn close(&mut self, name: &str, reader: Self::Reader)
+        ensures closed { Does (Closes name.now (Self.Reader.failures reader)) (told self.old) (told self.new) }
         ensures session { session self.new ≡ session self.old };
 
     /// Creates an empty output. It never replaces a file: `Exists` if the name exists, `Failed` for any other cause.
@@ -71,15 +80,18 @@ pub trait Folder {
         ensures new { IfOk result (λ output. IsNew (Self.Writer.bound output) (Self.Writer.taken output)) }
         ensures uncreated { IfErr result (λ fault.
             Does (Refuses name.now fault) (told self.old) (told self.new)) }
+        ensures count { IfOk result (λ output. IsCounted (told self.new) (Self.Writer.failures output) (Some 0)) }
         ensures session { session self.new ≡ session self.old };
 
     /// Ends the output: nothing more is written to it. A folder over real files syncs it to the disk if that was asked
-    /// for. On failure the output comes back, to be given up.
+    /// for. On failure the output comes back, to be given up, and that counts as a failed write.
     fn finish(&mut self, output: Self::Writer) -> Result<(), Self::Writer>
         ensures finished { OnOk result
             (Does (Finishes (Self.Writer.taken output)) (told self.old) (told self.new)) }
         ensures back { IfErr result (λ back. Self.Writer.taken back ≡ Self.Writer.taken output) }
         ensures unfinished { OnErr result (Does Nothing (told self.old) (told self.new)) }
+        ensures count { IfErr result (λ back. IsCounted (told self.old) (Self.Writer.failures back)
+            (counted true (Self.Writer.failures output))) }
         ensures session { session self.new ≡ session self.old };
 
     /// Gives an output up: drops its writer and removes its file. Its only fault is `Failed`.
@@ -102,6 +114,7 @@ pub trait OpeningFolder: Folder {
         ensures told { Self.told self.new ≡ Self.told self.old }
         ensures session { Self.session self.new ≡ Self.session self.old }
         ensures taken { Self.Writer.taken output.new ≡ Self.Writer.taken output.old }
+        ensures count { IsCounted (Self.told self.old) (Self.Writer.failures output.new) (Self.Writer.failures output.old) }
         ensures bound { IfSome (Self.Writer.bound output.new)
             (IsBoundTo (λ held. Exactly (held ++ plain.now)) (Self.Writer.taken output.old)) };
 
@@ -121,29 +134,38 @@ pub trait OpeningFolder: Folder {
         ensures told { Self.told self.new ≡ Self.told self.old }
         ensures session { Self.session self.new ≡ Self.session self.old }
         ensures taken { Self.Writer.taken output.new ≡ Self.Writer.taken output.old }
+        ensures count { IsCounted (Self.told self.old) (Self.Writer.failures output.new) (Self.Writer.failures output.old) }
         // A folder that bounds its outputs knows what the second reading gives. It may be anything.
         ensures bound { IfSome (Self.Writer.bound output.new)
             (IsBoundChecked key.now header.now (Self.Reader.left reader.now) (Self.Writer.taken output.old)) };
+
+    /// Gives up the output of a plaintext, as `discard` does. Before that it is reported if a write to it failed, or its
+    /// end.
+    fn give_up(&mut self, output: Self::Writer)
+        ensures given_up { Does (GivesUp (Self.Writer.taken output) (Self.Writer.failures output))
+            (Self.told self.old) (Self.told self.new) }
+        ensures session { Self.session self.new ≡ Self.session self.old };
 }
 
 // Finishes an output, or gives it up.
-fn finish_or_discard<F: Folder>(folder: &mut F, output: F::Writer) -> Result<(), Failed>
+fn finish_or_give_up<F: OpeningFolder>(folder: &mut F, output: F::Writer) -> Result<(), Failed>
     ensures ok { OnOk result (Does (Finishes (F.Writer.taken output)) (F.told folder.old) (F.told folder.new)) }
-    ensures err { OnErr result ((between : Option (List Event)) × Does Nothing (F.told folder.old) between
-        × Does (Discards (F.Writer.taken output)) between (F.told folder.new)) }
+    ensures err { OnErr result (Does (GivesUp (F.Writer.taken output) (counted true (F.Writer.failures output)))
+        (F.told folder.old) (F.told folder.new)) }
     ensures session { F.session folder.new ≡ F.session folder.old }
 {
     match folder.finish(output) {
         Ok(()) => Ok(()),
         Err(output) => {
-            let _ = folder.discard(output);
+            folder.give_up(output);
             Err(Failed)
         }
     }
 }
 
-// Writes a plaintext to an output that may hold it, and finishes the output. On failure the output is given up.
-pub(crate) fn write_or_discard<F: Folder>(
+// Writes a plaintext to an output that may hold it, and finishes the output. If a write fails, or the end, the output is
+// given up.
+pub(crate) fn write_or_give_up<F: OpeningFolder>(
     folder: &mut F,
     output: F::Writer,
     plain: &Plaintext,
@@ -151,16 +173,15 @@ pub(crate) fn write_or_discard<F: Folder>(
     requires may { Admits (F.Writer.bound output) (F.Writer.taken output) plain.now }
     ensures ok { OnOk result ((taken : Option (List ℕ)) × Appends (F.Writer.taken output) taken plain.now
         × Does (Finishes taken) (F.told folder.old) (F.told folder.new)) }
-    ensures err { OnErr result ((taken : Option (List ℕ)) × (between : Option (List Event))
-        × AppendsFront (F.Writer.taken output) taken plain.now × Does Nothing (F.told folder.old) between
-        × Does (Discards taken) between (F.told folder.new)) }
+    ensures err { OnErr result ((taken : Option (List ℕ)) × AppendsFront (F.Writer.taken output) taken plain.now
+        × Does (GivesUp taken (counted true (F.Writer.failures output))) (F.told folder.old) (F.told folder.new)) }
     ensures session { F.session folder.new ≡ F.session folder.old }
 {
     let mut output = output;
     match plain.put_to(&mut output) {
-        Ok(()) => finish_or_discard(folder, output),
+        Ok(()) => finish_or_give_up(folder, output),
         Err(Failed) => {
-            let _ = folder.discard(output);
+            folder.give_up(output);
             Err(Failed)
         }
     }
@@ -168,7 +189,7 @@ pub(crate) fn write_or_discard<F: Folder>(
 
 // Writes the plaintext of a container that was checked, by reading it once more, to an output that may hold it. Then
 // finishes the output. On failure the output is given up.
-pub(crate) fn write_again_or_discard<T: Threads + Sync, F: Folder, R: Source>(
+pub(crate) fn write_again_or_give_up<T: Threads + Sync, F: OpeningFolder, R: Source>(
     rt: &T,
     alloc: Global,
     key: &Key,
@@ -187,21 +208,23 @@ pub(crate) fn write_again_or_discard<T: Threads + Sync, F: Folder, R: Source>(
         × IfSome (R.left reader.old) (λ input. HasHeader header.now input
         × WritesAll key.now max_bytes (F.Writer.taken output) taken input n)
         × Does (Finishes taken) (F.told folder.old) (F.told folder.new)) }
-    ensures err { OnErr result ((taken : Option (List ℕ)) × (between : Option (List Event))
+    ensures err { OnErr result ((taken : Option (List ℕ))
         × IfSome (R.left reader.old) (λ input. IsBegun key.now max_bytes header.now input (F.Writer.taken output) taken)
-        × Does Nothing (F.told folder.old) between × Does (Discards taken) between (F.told folder.new)) }
+        × Does (GivesUp taken (counted (broken_by_write result) (F.Writer.failures output)))
+        (F.told folder.old) (F.told folder.new)) }
     ensures fault { IfErr result (IsAgainFault key.now header.now max_bytes (R.left reader.old)) }
+    ensures read { R.failures reader.new ≡ counted (broken_by_read result) (R.failures reader.old) }
     ensures session { F.session folder.new ≡ F.session folder.old }
 {
     match write_again(
         rt, alloc, key, header, reader, output, max_bytes, workers, &Free,
     ) {
-        (Ok(n), output) => match finish_or_discard(folder, output) {
+        (Ok(n), output) => match finish_or_give_up(folder, output) {
             Ok(()) => Ok(n),
             Err(Failed) => Err(Stopped::Broken(OpenFault::Write)),
         },
         (Err(stopped), output) => {
-            let _ = folder.discard(output);
+            folder.give_up(output);
             Err(stopped)
         }
     }

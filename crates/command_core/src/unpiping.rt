@@ -1,9 +1,10 @@
 //! Opening one file or stream to a stream: `unpipe`.
 ghost use Rattle.std.specs.Prelude.{◌≡◌, ℕ, ◌<◌, ◌≤◌, List, [], ◌∷◌, Option, IfSome, option_map};
 ghost use Rattle.command_core.specs.Session.{IsBoundChecked, IsShut};
-ghost use Rattle.command_core.specs.Trace.{Event, IsReadAgain};
-ghost use Rattle.command_core.specs.Unpiping.{HasUnpiped};
-ghost use Rattle.command_core.specs.Work.{AreTold};
+ghost use Rattle.io_core.specs.Streams.{counted};
+ghost use Rattle.command_core.specs.Trace.{Does, Event, IsCounted, IsReadAgain, Opens};
+ghost use Rattle.command_core.specs.Unpiping.{HasUnpiped, HasUnpipedRead};
+ghost use Rattle.command_core.specs.Work.{AreTold, reading_failed};
 
 use crate::commands::{MAX_OPENED_BYTES, fault_again, tell};
 use crate::folder::Folder;
@@ -65,7 +66,50 @@ impl<W: Sink> OpeningStream for W {
     ) {}
 }
 
-// Opens a file, checks its whole container, and writes its plaintext by reading it again. Returns the stream too.
+// Checks the whole container of a file that is read, and writes its plaintext by reading it again. Returns the stream
+// too.
+fn unpipe_read<T: Threads + Sync, F: Folder, W: OpeningStream + Drop>(
+    rt: &T,
+    alloc: Global,
+    key: &Key,
+    folder: &mut F,
+    reader: &mut F::Reader,
+    name: &str,
+    stream: W,
+    options: &UnpipeOptions,
+) -> (FileOutcome, W)
+    requires workers { (0 < options.now.workers) × (options.now.workers ≤ MAX_WORKERS) }
+    requires max_bytes { options.now.max_bytes ≤ MAX_OPENED_BYTES }
+    requires shut { IsShut (W.bound stream) (W.taken stream) }
+    requires opened { (before : Option (List Event))
+        × Does (Opens name.now (F.Reader.left reader.old)) before (F.told folder.old) }
+    ensures run { (before : Option (List Event))
+        → Does (Opens name.now (F.Reader.left reader.old)) before (F.told folder.old)
+        → HasUnpipedRead key.now options.now.max_bytes (option_map (λ b. b.now) options.now.label) name.now
+        (W.taken stream) (W.taken result.1) (W.failures stream) (W.failures result.1) before (F.told folder.new) result.0 }
+    ensures count { IsCounted (F.told folder.new) (F.Reader.failures reader.new)
+        (counted (reading_failed result.0) (F.Reader.failures reader.old)) }
+{
+    let (most, workers) = (options.max_bytes, options.workers);
+    let header = match check_labelled(rt, alloc, key, reader, most, workers, options.label) {
+        Ok((header, _)) => header,
+        Err(fault) => return (FileOutcome::Failed(fault), stream),
+    };
+    match folder.again(name, reader) {
+        Ok(()) => {}
+        Err(Failed) => return (FileOutcome::Failed(FileFault::SpoolFailed), stream),
+    }
+    let mut stream = stream;
+    stream.allow_checked(folder, key, &header, name, reader);
+    match write_again(
+        rt, alloc, key, &header, reader, stream, most, workers, &Free,
+    ) {
+        (Ok(n), stream) => (FileOutcome::Opened(n), stream),
+        (Err(stopped), stream) => (FileOutcome::Failed(fault_again(stopped)), stream),
+    }
+}
+
+// Opens a file, and unpipes what is read of it. Returns the stream too.
 fn unpipe<T: Threads + Sync, F: Folder, W: OpeningStream + Drop>(
     rt: &T,
     alloc: Global,
@@ -82,34 +126,12 @@ fn unpipe<T: Threads + Sync, F: Folder, W: OpeningStream + Drop>(
         (W.taken stream) (W.taken result.1) (W.failures stream) (W.failures result.1)
         (F.told folder.old) (F.told folder.new) result.0 }
 {
-    let (most, workers) = (options.max_bytes, options.workers);
     let Ok(mut reader) = folder.open(name) else {
         return (FileOutcome::Failed(FileFault::CannotOpen), stream);
     };
-    let header = match check_labelled(rt, alloc, key, &mut reader, most, workers, options.label) {
-        Ok((header, _)) => header,
-        Err(fault) => return (FileOutcome::Failed(fault), stream),
-    };
-    match folder.again(name, &mut reader) {
-        Ok(()) => {}
-        Err(Failed) => return (FileOutcome::Failed(FileFault::SpoolFailed), stream),
-    }
-    let mut stream = stream;
-    stream.allow_checked(folder, key, &header, name, &reader);
-    match write_again(
-        rt,
-        alloc,
-        key,
-        &header,
-        &mut reader,
-        stream,
-        most,
-        workers,
-        &Free,
-    ) {
-        (Ok(n), stream) => (FileOutcome::Opened(n), stream),
-        (Err(stopped), stream) => (FileOutcome::Failed(fault_again(stopped)), stream),
-    }
+    let (outcome, stream) = unpipe_read(rt, alloc, key, folder, &mut reader, name, stream, options);
+    folder.close(name, reader);
+    (outcome, stream)
 }
 
 /// Opens the container in a file of a folder, to its end, and writes the plaintext to a stream. The file is read twice.

@@ -12,7 +12,7 @@ use Rattle.folder_memory.specs.declared.session.SessionNote.{SessionNote}
 use Rattle.folder_memory.specs.declared.streams.Pace.{Pace}
 use Rattle.folder_memory.specs.Noted.{session_of}
 use Rattle.folder_memory.specs.declared.told.Told.{Told}
-use Rattle.folder_memory.specs.declared.told.Told.TheVariants.{Reading, Unread, Created, Refused, Finished, Discarded}
+use Rattle.folder_memory.specs.declared.told.Told.TheVariants.{Reading, Unread, Created, Refused, Unwritten, Finished, Discarded}
 
 -- a file's name, and its bytes once it is whole: put into the folder, or finished
 pub record FileView : Type 0 where
@@ -64,13 +64,14 @@ name_of writer = string_bytes writer.name
 abbrev pub taken_by : MemoryWriter → Option (List ℕ)
 taken_by writer = Some (tape (name_of writer) writer.bytes.taken)
 
--- all bytes of a file that is read, and those that are left
+-- all bytes of a file that is read, those that are left, and how many calls of its reader failed
 pub record ReaderView : Type 0 where
   pub whole : List ℕ
   pub left : List ℕ
+  pub failures : Option ℕ
 
-abbrev pub reader_view : List ℕ → List ℕ → ReaderView
-reader_view whole left = record { whole = whole; left = left }
+abbrev pub reader_view : List ℕ → List ℕ → Option ℕ → ReaderView
+reader_view whole left failures = record { whole = whole; left = left; failures = failures }
 
 -- its files, how many calls succeed before one fails, how readers and writers made from now on move their bytes, what
 -- happened (unless something was forgotten), and the note of the session, if there is one
@@ -101,6 +102,7 @@ event_of (Reading name bytes) = trace.Reading (string_bytes name) bytes.items
 event_of (Unread name) = trace.Unread (string_bytes name)
 event_of (Created name) = trace.Created (string_bytes name)
 event_of (Refused name fault) = trace.Refused (string_bytes name) fault
+event_of (Unwritten name) = trace.Unwritten (string_bytes name)
 event_of (Finished name bytes) = trace.Finished (string_bytes name) bytes.items
 event_of (Discarded name bytes) = trace.Discarded (string_bytes name) bytes.items
 
@@ -119,6 +121,7 @@ left_by name left (trace.Reading other bytes) = left
 left_by name left (trace.Unread other) = left
 left_by name left (trace.Created other) = left
 left_by name left (trace.Refused other fault) = left
+left_by name left (trace.Unwritten other) = left
 left_by name left (trace.Finished other bytes) = if bytes_eq other name then Some bytes else left
 left_by name left (trace.Discarded other bytes) = if bytes_eq other name then None else left
 

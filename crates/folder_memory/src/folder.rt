@@ -1,7 +1,9 @@
 //! The folder in memory as the commands see it: its calls, and what each records.
 ghost use Rattle.std.specs.Prelude.{◌≡◌, ◌≢◌, ◌⊎◌, ◌↔◌, Err, ◌∷◌, ◌++◌, [], None, Some, true, false};
-ghost use Rattle.std.specs.Prelude.{IfErr, IfOk, IfSome, OnErr, OnOk, option_map};
-ghost use Rattle.command_core.specs.Trace.{Creates, Discards, Does, FailsToOpen, Finishes, Nothing, Opens, Refuses};
+ghost use Rattle.std.specs.Prelude.{ℕ, IfErr, IfOk, IfSome, OnErr, OnOk, is_err, option_map};
+ghost use Rattle.io_core.specs.Streams.{counted};
+ghost use Rattle.command_core.specs.Trace.{Closes, Creates, Discards, Does, FailsToOpen, Finishes, IsCounted, Nothing, Opens};
+ghost use Rattle.command_core.specs.Trace.{Refuses, Unwritten, reported};
 ghost use Rattle.command_core.specs.Session.{IsFree, Session, started, with_begun};
 ghost use Rattle.container_core.specs.Shape.{IsShape};
 ghost use Rattle.front_core.specs.Range.{IsHeld};
@@ -14,7 +16,7 @@ ghost use Rattle.folder_memory.specs.Memory.{with_bytes, without};
 use crate::memory::{Content, MemoryFolder, place_of};
 use crate::session::{SessionNote, is_shape};
 use crate::streams::{MemoryReader, MemoryWriter};
-use crate::told::{created, discarded, finished, reading, refused, tell, unread};
+use crate::told::{created, discarded, finished, reading, refused, tell, unread, unwritten};
 use command_core::{Folder, FolderFault, OpeningFolder, Plaintext};
 use container_core::{Header, Key, Shape};
 use front_core::SealingFolder;
@@ -34,6 +36,7 @@ impl Folder for MemoryFolder {
         ensures fault { result ≢ Err FolderFault.Exists }
         ensures opened { IfOk result (λ reader. Does (Opens name.now (Some reader.left)) self.old.log self.new.log) }
         ensures first { IfOk result (λ reader. reader.whole ≡ reader.left) }
+        ensures count { IfOk result (λ reader. IsCounted self.new.log reader.failures (Some 0)) }
         ensures unopened { OnErr result (Does (FailsToOpen name.now) self.old.log self.new.log) }
         // Its reader gives the bytes of the file, if that is whole.
         ensures held { IfOk result (λ reader. IfSome (bytes_of self.old.files name.now) (λ whole. reader.left ≡ whole)) }
@@ -66,10 +69,12 @@ impl Folder for MemoryFolder {
     fn again(&mut self, name: &str, reader: &mut MemoryReader) -> Result<(), Failed>
         ensures again { OnOk result (Does (Opens name.now (Some reader.new.left)) self.old.log self.new.log) }
         ensures refused { OnErr result (Does (FailsToOpen name.now) self.old.log self.new.log) }
+        ensures count { IsCounted self.old.log reader.new.failures (counted (is_err result) reader.old.failures) }
         // On success its reader gives all bytes that it had when it was opened, whatever the file has by now. On failure
         // it goes on where it was.
-        ensures whole { OnOk result (reader.new ≡ reader_view reader.old.whole reader.old.whole) }
-        ensures same { OnErr result (reader.new ≡ reader.old) }
+        ensures whole { OnOk result
+            (reader.new ≡ reader_view reader.old.whole reader.old.whole reader.old.failures) }
+        ensures same { OnErr result (reader.new.left ≡ reader.old.left) }
         // It fails exactly if this call was to fail.
         ensures there { OnOk result (fails_now self.old.refused ≡ false) }
         ensures cause { OnErr result (fails_now self.old.refused ≡ true) }
@@ -78,6 +83,7 @@ impl Folder for MemoryFolder {
         ensures session { self.new.session ≡ self.old.session }
     {
         if self.is_refused() {
+            reader.fail();
             let event = unread(self.alloc, name);
             tell(&mut self.told, event);
             return Err(Failed);
@@ -88,9 +94,26 @@ impl Folder for MemoryFolder {
         Ok(())
     }
 
+    fn close(&mut self, name: &str, reader: MemoryReader)
+        ensures closed { Does (Closes name.now reader.failures) self.old.log self.new.log }
+        ensures kept { self.new.files ≡ self.old.files }
+        ensures counted { self.new.refused ≡ self.old.refused }
+        ensures session { self.new.session ≡ self.old.session }
+    {
+        match reader.failures() {
+            Some(0) => {}
+            Some(_) => {
+                let event = unread(self.alloc, name);
+                tell(&mut self.told, event);
+            }
+            None => self.told = None,
+        }
+    }
+
     fn create(&mut self, name: &str) -> Result<MemoryWriter, FolderFault>
         ensures created { IfOk result (λ output. Does (Creates name.now (taken_by output)) self.old.log self.new.log) }
         ensures uncreated { IfErr result (λ fault. Does (Refuses name.now fault) self.old.log self.new.log) }
+        ensures count { IfOk result (λ output. IsCounted self.new.log output.failures (Some 0)) }
         // One more file, of this name and without bytes. No file had the name, and this call wasn't to fail.
         ensures added { OnOk result (self.new.files ≡ self.old.files ++ file_view name.now None ∷ []) }
         ensures unnamed { OnOk result
@@ -122,6 +145,7 @@ impl Folder for MemoryFolder {
         ensures finished { OnOk result (Does (Finishes (taken_by output)) self.old.log self.new.log) }
         ensures back { IfErr result (λ back. taken_by back ≡ taken_by output) }
         ensures unfinished { OnErr result (Does Nothing self.old.log self.new.log) }
+        ensures count { IfErr result (λ back. IsCounted self.old.log back.failures (counted true output.failures)) }
         // On success the file of its name is whole, and the others are as they were. There is such a file, and this
         // call wasn't to fail. Otherwise there is none, the call was to fail, or the folder forgot.
         ensures whole { OnOk result
@@ -135,14 +159,14 @@ impl Folder for MemoryFolder {
         ensures session { self.new.session ≡ self.old.session }
     {
         if self.is_refused() {
-            return Err(output);
+            return Err(output.failed());
         }
         let Some(place) = place_of(self.files.as_slice(), output.name.as_str()) else {
-            return Err(output);
+            return Err(output.failed());
         };
         let Ok(bytes) = Vec::from_slice(self.alloc, output.bytes.bytes()) else {
             self.told = None;
-            return Err(output);
+            return Err(output.failed());
         };
         self.files[place].content = Content::Whole(bytes);
         let event = finished(self.alloc, output.name.as_str(), output.bytes.bytes());
@@ -205,6 +229,29 @@ impl OpeningFolder for MemoryFolder {
         ensures folder { self.new ≡ self.old }
         ensures output { output.new ≡ output.old }
     {}
+
+    fn give_up(&mut self, output: MemoryWriter) {
+        self.tell_failures(&output);
+        let _ = self.discard(output);
+    }
+}
+
+impl MemoryFolder {
+    // Records that a write to an output failed, if one did.
+    fn tell_failures(&mut self, output: &MemoryWriter)
+        ensures told { Does (λ events. (n : ℕ) × (output.now.failures ≡ Some n)
+            × (events ≡ reported (Unwritten (name_of output.now)) n)) self.old.log self.new.log }
+        ensures session { self.new.session ≡ self.old.session }
+    {
+        match output.failures {
+            Some(0) => {}
+            Some(_) => {
+                let event = unwritten(self.alloc, output.name.as_str());
+                tell(&mut self.told, event);
+            }
+            None => self.told = None,
+        }
+    }
 }
 
 // It gives no bound for an output. Both calls leave the files, the record and the calls that are to fail as they are.

@@ -199,7 +199,8 @@ impl MemoryFolder {
 
     // A new output in the folder, unless this call fails.
     pub(crate) fn new_output(&mut self, name: &str) -> Result<MemoryWriter, FolderFault>
-        ensures empty { IfOk result (λ writer. (string_bytes writer.name ≡ name.now) × (writer.bytes.taken ≡ [])) }
+        ensures empty { IfOk result (λ writer. (string_bytes writer.name ≡ name.now) × (writer.bytes.taken ≡ [])
+            × (writer.failures ≡ Some 0)) }
         ensures added { OnOk result (self.new ≡ record self.old {
           files = self.old.files ++ file_view name.now None ∷ [];
           refused = after_call self.old.refused;
@@ -230,7 +231,8 @@ impl MemoryFolder {
 
     // The writer of an output that was added, unless memory is refused or the name is in use.
     fn added(&mut self, name: &str) -> Option<MemoryWriter>
-        ensures empty { IfSome result (λ writer. (string_bytes writer.name ≡ name.now) × (writer.bytes.taken ≡ [])) }
+        ensures empty { IfSome result (λ writer. (string_bytes writer.name ≡ name.now) × (writer.bytes.taken ≡ [])
+            × (writer.failures ≡ Some 0)) }
         ensures some { IfSome result (λ writer.
             self.new ≡ record self.old { files = self.old.files ++ file_view name.now None ∷ [] }) }
         ensures none { IfNone result (self.new ≡ self.old) }

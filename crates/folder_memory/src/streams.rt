@@ -1,7 +1,8 @@
 //! Readers and writers of the files of a folder in memory. They move their bytes at a pace, and contracts see the
 //! bytes.
-ghost use Rattle.std.specs.Prelude.{◌≡◌, [], IfOk, string_bytes};
-ghost use Rattle.folder_memory.specs.Memory.{reader_view};
+ghost use Rattle.std.specs.Prelude.{◌≡◌, [], IfOk, Some, string_bytes, true};
+ghost use Rattle.io_core.specs.Streams.{counted};
+ghost use Rattle.folder_memory.specs.Memory.{reader_view, taken_by};
 
 use io_memory::{FromMemory, Schedule, ToMemory};
 use ledger_core::{Failed, Sink, Source};
@@ -25,6 +26,16 @@ pub const STEADY: Pace = Pace {
     schedule: Schedule::Never,
 };
 
+// A count of failed calls after one more. Past 64 bits it is unknown.
+fn one_more(count: Option<u64>) -> Option<u64>
+    ensures { result ≡ counted true count }
+{
+    match count {
+        None => None,
+        Some(n) => { if n < u64::MAX { Some(n + 1) } else { None } }
+    }
+}
+
 /// A reader of the bytes that a file had when it was opened.
 #[derive(Drop)]
 pub struct MemoryReader {
@@ -34,16 +45,17 @@ pub struct MemoryReader {
     calls: u64,
     moved: u64,
     pace: Pace,
+    failures: Option<u64>,
 }
 
-// Contracts see all bytes, and those that are left.
+// Contracts see all bytes, those that are left, and how many calls failed.
 impl Model for MemoryReader {
     ghost use Rattle.std.specs.Prelude.{◌≤◌, drop, length};
     ghost use Rattle.folder_memory.specs.Memory.{ReaderView, reader_view};
 
     ghost Value = { ReaderView };
 
-    ghost view = { λ r. reader_view r.bytes.items (drop r.at r.bytes.items) };
+    ghost view = { λ r. reader_view r.bytes.items (drop r.at r.bytes.items) r.failures };
 
     ghost invariant = { λ r. r.at ≤ length r.bytes.items };
 }
@@ -51,7 +63,7 @@ impl Model for MemoryReader {
 impl MemoryReader {
     // A reader of all these bytes.
     pub(crate) fn new(bytes: Vec<u8>, pace: Pace) -> MemoryReader
-        ensures { result ≡ reader_view bytes.items bytes.items }
+        ensures { result ≡ reader_view bytes.items bytes.items (Some 0) }
     {
         MemoryReader {
             bytes,
@@ -59,6 +71,7 @@ impl MemoryReader {
             calls: 0,
             moved: 0,
             pace,
+            failures: Some(0),
         }
     }
 
@@ -71,23 +84,43 @@ impl MemoryReader {
 
     // Goes back to the first byte.
     pub(crate) fn rewind(&mut self)
-        ensures { self.new ≡ reader_view self.old.whole self.old.whole }
+        ensures { self.new ≡ reader_view self.old.whole self.old.whole self.old.failures }
     {
         self.at = 0;
+    }
+
+    // How many calls failed so far.
+    pub(crate) fn failures(&self) -> Option<u64>
+        ensures { result ≡ self.now.failures }
+    {
+        self.failures
+    }
+
+    // Counts one more failed call.
+    pub(crate) fn fail(&mut self)
+        ensures { self.new ≡ reader_view self.old.whole self.old.left (counted true self.old.failures) }
+    {
+        self.failures = one_more(self.failures);
     }
 }
 
 impl Source for MemoryReader {
-    ghost use Rattle.std.specs.Prelude.{Some};
-
     ghost left = { λ r. Some r.left };
+
+    ghost failures = { λ r. r.failures };
 
     fn read(&mut self, buffer: &mut [u8]) -> Result<usize, Failed> {
         let at = self.at;
         let schedule = schedule_after(self.pace.schedule, self.calls, self.moved);
         self.calls = self.calls.saturating_add(1);
         let mut rest = FromMemory::new(&self.bytes.as_slice()[at..], self.pace.most, schedule);
-        let n = rest.read(buffer)?;
+        let n = match rest.read(buffer) {
+            Ok(n) => n,
+            Err(Failed) => {
+                self.failures = one_more(self.failures);
+                return Err(Failed);
+            }
+        };
         self.at += n;
         self.moved = self.moved.saturating_add(n as u64);
         Ok(n)
@@ -118,27 +151,53 @@ pub struct MemoryWriter {
     pub(crate) name: String,
     pub(crate) bytes: ToMemory,
     pub(crate) shown: Shown,
+    pub(crate) failures: Option<u64>,
+}
+
+impl MemoryWriter {
+    // Counts one more failed write.
+    pub(crate) fn failed(self) -> MemoryWriter
+        ensures taken { taken_by result ≡ taken_by self }
+        ensures count { result.failures ≡ counted true self.failures }
+    {
+        let mut writer = self;
+        writer.failures = one_more(writer.failures);
+        writer
+    }
 }
 
 // A writer of an output of this name, which took nothing.
 pub(crate) fn new_writer(alloc: Global, name: &str, pace: Pace) -> Result<MemoryWriter, AllocError>
-    ensures { IfOk result (λ writer. (string_bytes writer.name ≡ name.now) × (writer.bytes.taken ≡ [])) }
+    ensures { IfOk result (λ writer. (string_bytes writer.name ≡ name.now) × (writer.bytes.taken ≡ [])
+        × (writer.failures ≡ Some 0)) }
 {
     let name = String::from_str(alloc, name)?;
     let bytes = ToMemory::new(alloc, 0, pace.most, pace.schedule)?;
     let shown = Rc::new(alloc, RefCell::new(Vec::new(alloc)))?;
-    Ok(MemoryWriter { name, bytes, shown })
+    Ok(MemoryWriter {
+        name,
+        bytes,
+        shown,
+        failures: Some(0),
+    })
 }
 
 impl Sink for MemoryWriter {
-    ghost use Rattle.folder_memory.specs.Memory.{taken_by};
-
     ghost taken = { taken_by };
 
+    ghost failures = { λ w. w.failures };
+
     fn write(&mut self, bytes: &[u8]) -> Result<usize, Failed> {
-        let n = self.bytes.write(bytes)?;
-        show(&self.shown, &bytes[..n]);
-        Ok(n)
+        match self.bytes.write(bytes) {
+            Ok(n) => {
+                show(&self.shown, &bytes[..n]);
+                Ok(n)
+            }
+            Err(Failed) => {
+                self.failures = one_more(self.failures);
+                Err(Failed)
+            }
+        }
     }
 }
 

@@ -1,6 +1,6 @@
 //! What happened in a folder in memory, and how it is recorded.
 ghost use Rattle.std.specs.Prelude.{◌≡◌, IfSome, map, option_map};
-ghost use Rattle.command_core.specs.Trace.{Created, Discarded, Does, Finished, Reading, Refused, Unread};
+ghost use Rattle.command_core.specs.Trace.{Created, Discarded, Does, Finished, Reading, Refused, Unread, Unwritten};
 ghost use Rattle.folder_memory.specs.Memory.{IsEvent, event_of};
 
 use command_core::FolderFault;
@@ -11,12 +11,14 @@ use std::alloc::Global;
 pub enum Told {
     /// A file of this name was opened for reading, or read again, and these were its bytes.
     Reading(String, Vec<u8>),
-    /// A file could not be opened.
+    /// A file could not be opened, or a call of its reader failed.
     Unread(String),
     /// An output was created.
     Created(String),
     /// An output could not be created, with this fault.
     Refused(String, FolderFault),
+    /// A write to an output failed, or its end was refused.
+    Unwritten(String),
     /// An output was finished, and these were all its bytes.
     Finished(String, Vec<u8>),
     /// An output was discarded with these bytes, and its removal was tried.
@@ -50,7 +52,7 @@ pub(crate) fn reading(alloc: Global, name: &str, bytes: &[u8]) -> Option<Told>
     Some(Told::Reading(name, bytes))
 }
 
-/// The event that a file could not be opened.
+/// The event that a file could not be opened, or a call of its reader failed.
 pub(crate) fn unread(alloc: Global, name: &str) -> Option<Told>
     ensures { IfSome result (λ told. event_of told ≡ Unread name.now) }
 {
@@ -72,6 +74,14 @@ pub(crate) fn refused(alloc: Global, name: &str, fault: FolderFault) -> Option<T
 {
     let name = String::from_str(alloc, name).ok()?;
     Some(Told::Refused(name, fault))
+}
+
+/// The event that a write to an output failed, or its end.
+pub(crate) fn unwritten(alloc: Global, name: &str) -> Option<Told>
+    ensures { IfSome result (λ told. event_of told ≡ Unwritten name.now) }
+{
+    let name = String::from_str(alloc, name).ok()?;
+    Some(Told::Unwritten(name))
 }
 
 /// The event that an output was finished.

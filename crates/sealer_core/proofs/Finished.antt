@@ -1,7 +1,8 @@
 -- What was finished, among the events of a call. An output that a run of `seal_all` finished has the container of an
 -- input that was read of its file before. One that `open_all` finished was opened of the last reading of a file, right
 -- before. Both go file by file: what is among the events of all files is among those of one.
-use Rattle.std.proofs.Common.{◌≡◌, ◌≢◌, ◌⊎◌, inl, inr, ℕ, sym, ap, ◌∙◌, subst, List, [], ◌∷◌, ◌++◌, All, Option, Ok, append_assoc}
+use Rattle.std.proofs.Common.{◌≡◌, ◌≢◌, ◌⊎◌, inl, inr, ℕ, refl, sym, ap, ◌∙◌, subst, List, [], ◌∷◌, ◌++◌, All, Option, Ok, append_assoc}
+use Rattle.std.proofs.Common.{Bool, true, false, if◌then◌else◌}
 use Rattle.std.specs.Prelude.{⊤, flat_map}
 use Rattle.std.proofs.lemmas.List.Elements.{All-head, All-tail}
 use Rattle.container_core.specs.Container.{container}
@@ -15,8 +16,8 @@ use Rattle.command_core.specs.declared.line.FileFault.{FileFault}
 use Rattle.command_core.specs.declared.line.FileFault.TheVariants.{CannotOpen, NoSuffix, OutputExists, CannotCreate, OutOfMemory, Unopened, Changed}
 use Rattle.command_core.specs.declared.line.FileOutcome.{FileOutcome}
 use Rattle.command_core.specs.declared.line.FileOutcome.TheVariants.{Sealed, Opened, Failed}
-use Rattle.command_core.specs.Trace.{Event, Reading, Unread, Created, Refused, Finished, Discarded}
-use Rattle.command_core.specs.Work.{AreBefore, IsBrokenOff, IsGivenUp, IsRefused, Opening, Work, output_for}
+use Rattle.command_core.specs.Trace.{Event, Reading, Unread, Created, Refused, Unwritten, Finished, Discarded}
+use Rattle.command_core.specs.Work.{AreBefore, IsBrokenOff, IsGivenUp, IsRefused, Opening, Work, closing, lost, output_for, reading_failed}
 use Rattle.sealer_core.specs.Sealing.{IsDiscarded, IsUncreated, Part, Sealing, group_events, sealed_name}
 use Rattle.sealer_core.specs.Theorem.{IsAmong, WasOpened, WasSealed}
 use Rattle.sealer_core.proofs.Happened.{IsPart}
@@ -228,6 +229,7 @@ abbrev IsQuiet : Event → Type 0
 IsQuiet (Reading name bytes) = ⊤
 IsQuiet (Unread name) = ⊤
 IsQuiet (Refused name fault) = ⊤
+IsQuiet (Unwritten name) = ⊥
 IsQuiet (Created name) = ⊥
 IsQuiet (Finished name bytes) = ⊥
 IsQuiet (Discarded name bytes) = ⊥
@@ -236,11 +238,29 @@ abbrev AreQuiet : List Event → Type 0
 AreQuiet [] = ⊤
 AreQuiet (event ∷ events) = IsQuiet event × AreQuiet events
 
+-- an output was given up, or a call failed
+abbrev IsLoss : Event → Type 0
+IsLoss (Unread name) = ⊤
+IsLoss (Unwritten name) = ⊤
+IsLoss (Discarded name bytes) = ⊤
+IsLoss (Reading name bytes) = ⊥
+IsLoss (Created name) = ⊥
+IsLoss (Refused name fault) = ⊥
+IsLoss (Finished name bytes) = ⊥
+
+abbrev AreLosses : List Event → Type 0
+AreLosses [] = ⊤
+AreLosses (event ∷ events) = IsLoss event × AreLosses events
+
+losses-append : (one two : List Event) → AreLosses one → AreLosses two → AreLosses (one ++ two)
+losses-append [] two none others = others
+losses-append (event ∷ one) two (first, rest) others = (first, losses-append one two rest others)
+
 module _ (key : List ℕ) (most : ℕ) where
   -- after such events a last reading, and an output that was given up
   abbrev IsLeft : List ℕ → List ℕ → List Event → Type 0
-  IsLeft output name events = (before : List Event) × (last : List ℕ) × (held : List ℕ) × AreQuiet before
-      × (events ≡ before ++ Reading name last ∷ Created output ∷ Discarded output held ∷ [])
+  IsLeft output name events = (before : List Event) × (last : List ℕ) × (losses : List Event) × AreQuiet before × AreLosses losses
+      × (losses ≢ []) × (events ≡ before ++ Reading name last ∷ Created output ∷ losses)
 
   -- or one that was finished, with what that reading opens to
   abbrev IsWhole : List ℕ → List ℕ → List Event → Type 0
@@ -263,30 +283,48 @@ module _ (key : List ℕ) (most : ℕ) (label : Option (List ℕ)) (output name 
       subst AreQuiet (sym (did ∙ ap (λ l. l ++ Refused output cause ∷ []) two)) (tt, (tt, (tt, tt)))
 
   up_left : (events : List Event) → IsGivenUp key most label output name events → IsLeft key most output name events
-  up_left events (input, plain, written, good, begun, did) = ([], input, written, tt, did)
+  up_left events (input, plain, written, good, begun, did) =
+      ([], input, Unwritten output ∷ Discarded output written ∷ [], tt, (tt, (tt, tt)), (λ is. cc), did)
 
-  broken_left : (are : List ℕ → List ℕ → Type 0) (events : List Event) → IsBrokenOff are key most label output name events → IsLeft key most output name events
-  broken_left are events (header, first, last, written, readings, related, twice, begun, did) =
-      (Reading name first ∷ [], last, written, (tt, tt), did ∙ ap (λ l. l ++ Created output ∷ Discarded output written ∷ []) twice.2)
+  lost_losses : (fault : FileFault) → AreLosses (lost output fault)
+  lost_losses (Unopened open_fault.Write) = (tt, tt)
+  lost_losses _ = tt
+
+  some_lost : (losses : List Event) (event : Event) (rest : List Event) → losses ++ event ∷ rest ≢ []
+  some_lost [] event rest is = cc
+  some_lost (loss ∷ losses) event rest is = cc
+
+  closing_losses : (failed : Bool) → AreLosses (if failed then Unread name ∷ [] else [])
+  closing_losses true = (tt, tt)
+  closing_losses false = tt
+
+  broken_left : (are : List ℕ → List ℕ → Type 0) (fault : FileFault) (events : List Event)
+      → IsBrokenOff are key most label output name fault events → IsLeft key most output name events
+  broken_left are fault events (header, first, last, written, readings, related, twice, begun, did) = (
+    Reading name first ∷ [],
+    last,
+    lost output fault ++ Discarded output written ∷ closing name (Failed fault),
+    (tt, tt),
+    losses-append (lost output fault) (Discarded output written ∷ closing name (Failed fault)) (lost_losses fault)
+        (tt, closing_losses (reading_failed (Failed fault))),
+    some_lost (lost output fault) (Discarded output written) (closing name (Failed fault)),
+    did ∙ ap (λ l. l ++ Created output ∷ lost output fault ++ Discarded output written ∷ closing name (Failed fault)) twice.2,
+  )
 
   read_quiet : (read : List ℕ) (events : List Event) → events ≡ Reading name read ∷ [] → AreQuiet events
   read_quiet read events did = subst AreQuiet (sym did) (tt, tt)
 
-  either_ended : (events : List Event)
-      → ((input : List ℕ) × (events ≡ Reading name input ∷ [])) ⊎ IsBrokenOff (λ _ _. ⊤) key most label output name events
-      → IsEnded key most output name events
-  either_ended events (inl (read, did)) = inl (read_quiet read events did)
-  either_ended events (inr broken) = inr (inl (broken_left (λ _ _. ⊤) events broken))
-
   ended : (outcome : FileOutcome) (events : List Event) → Opening key most label output name outcome events → IsEnded key most output name events
   ended (Opened n) events (last, text, before, good, long, first, did) = inr (inr (before, last, text, before_quiet last before first, good.0, did))
   ended (Failed (Unopened open_fault.Write)) events (inl up) = inr (inl (up_left events up))
-  ended (Failed (Unopened open_fault.Write)) events (inr broken) = inr (inl (broken_left (λ _ _. ⊤) events broken))
-  ended (Failed (Unopened open_fault.Read)) events (inl (read, did)) = inl (read_quiet read events did)
-  ended (Failed (Unopened open_fault.Read)) events (inr (inl (first, plain, good, did))) = inl (subst AreQuiet (sym did) (tt, (tt, tt)))
-  ended (Failed (Unopened open_fault.Read)) events (inr (inr broken)) = inr (inl (broken_left (λ _ _. ⊤) events broken))
-  ended (Failed (Unopened open_fault.OutOfMemory)) events either = either_ended events either
-  ended (Failed Changed) events broken = inr (inl (broken_left (λ first last. first ≢ last) events broken))
+  ended (Failed (Unopened open_fault.Write)) events (inr broken) = inr (inl (broken_left (λ _ _. ⊤) (Unopened open_fault.Write) events broken))
+  ended (Failed (Unopened open_fault.Read)) events (inl (read, did)) = inl (subst AreQuiet (sym did) (tt, (tt, tt)))
+  ended (Failed (Unopened open_fault.Read)) events (inr (inl (first, plain, good, did))) = inl (subst AreQuiet (sym did) (tt, (tt, (tt, tt))))
+  ended (Failed (Unopened open_fault.Read)) events (inr (inr broken)) = inr (inl (broken_left (λ _ _. ⊤) (Unopened open_fault.Read) events broken))
+  ended (Failed (Unopened open_fault.OutOfMemory)) events (inl (read, did)) = inl (read_quiet read events did)
+  ended (Failed (Unopened open_fault.OutOfMemory)) events (inr broken) =
+      inr (inl (broken_left (λ _ _. ⊤) (Unopened open_fault.OutOfMemory) events broken))
+  ended (Failed Changed) events broken = inr (inl (broken_left (λ first last. first ≢ last) Changed events broken))
   ended (Failed OutputExists) events refused = inl (refused_quiet refusal.Exists events refused)
   ended (Failed CannotCreate) events refused = inl (refused_quiet refusal.Failed events refused)
   ended (Failed NoSuffix) events did = inl (subst AreQuiet (sym did) tt)
@@ -329,13 +367,25 @@ module _ (key : List ℕ) (most : ℕ) (label to : Option (List ℕ)) where
     clear_quiet [] rest quiet clear = clear
     clear_quiet (event ∷ events) rest (first, others) clear = clear_first event (events ++ rest) first (clear_quiet events rest others clear)
 
-    clear_left : (output name last held : List ℕ) (rest : List Event) → IsClear rest → IsClear (Reading name last ∷ Created output ∷ Discarded output held ∷ rest)
-    clear_left output name last held rest (fine, none) = (
-      fine_first (Reading name last) (Created output ∷ Discarded output held ∷ rest) (λ after is ends. absurd (cc))
-          (fine_first (Created output) (Discarded output held ∷ rest) (λ after is ends. absurd (cc))
-          (fine_first (Discarded output held) rest (λ after is ends. absurd (cc)) fine)),
+    fine_losses : (losses rest : List Event) → AreLosses losses → IsFine rest → IsFine (losses ++ rest)
+    fine_losses [] rest none fine = fine
+    fine_losses (event ∷ losses) rest (first, others) fine =
+        fine_first event (losses ++ rest) (λ after is ends. absurd (subst IsLoss is first)) (fine_losses losses rest others fine)
+
+    clear_left : (output name last : List ℕ) (losses rest : List Event) → AreLosses losses → losses ≢ [] → IsClear rest
+        → IsClear (Reading name last ∷ Created output ∷ losses ++ rest)
+    clear_left output name last losses rest lost some (fine, none) = (
+      fine_first (Reading name last) (Created output ∷ losses ++ rest) (λ after is ends. unfinished losses lost some after ends)
+          (fine_first (Created output) (losses ++ rest) (λ after is ends. absurd (cc)) (fine_losses losses rest lost fine)),
       λ other more same. cc,
     )
+      where
+        -- no loss is the end of an output
+        unfinished : (losses : List Event) → AreLosses losses → losses ≢ [] → (after : List Event)
+            → Created output ∷ losses ++ rest ≡ gives to file plain after → opening key most bytes ≡ Ok plain
+        unfinished [] lost some after ends = absurd (some refl)
+        unfinished (event ∷ losses) lost some after ends =
+            let is : event ≡ Finished (output_for to file) plain = cc in absurd (subst IsLoss is lost.0)
 
     clear_whole : (output name last text : List ℕ) (rest : List Event) → opening key most last ≡ Ok text → IsClear rest
         → IsClear (Reading name last ∷ Created output ∷ Finished output text ∷ rest)
@@ -352,9 +402,9 @@ module _ (key : List ℕ) (most : ℕ) (label to : Option (List ℕ)) where
 
     clear_ended : (output name : List ℕ) (events rest : List Event) → IsEnded key most output name events → IsClear rest → IsClear (events ++ rest)
     clear_ended output name events rest (inl quiet) clear = clear_quiet events rest quiet clear
-    clear_ended output name events rest (inr (inl (before, last, held, quiet, did))) clear =
-        subst IsClear (sym (ap (λ l. l ++ rest) did ∙ append_assoc before (Reading name last ∷ Created output ∷ Discarded output held ∷ []) rest))
-        (clear_quiet before (Reading name last ∷ Created output ∷ Discarded output held ∷ rest) quiet (clear_left output name last held rest clear))
+    clear_ended output name events rest (inr (inl (before, last, losses, quiet, lost, some, did))) clear =
+        subst IsClear (sym (ap (λ l. l ++ rest) did ∙ append_assoc before (Reading name last ∷ Created output ∷ losses) rest))
+        (clear_quiet before (Reading name last ∷ Created output ∷ losses ++ rest) quiet (clear_left output name last losses rest lost some clear))
     clear_ended output name events rest (inr (inr (before, last, text, quiet, good, did))) clear =
         subst IsClear (sym (ap (λ l. l ++ rest) did ∙ append_assoc before (Reading name last ∷ Created output ∷ Finished output text ∷ []) rest))
         (clear_quiet before (Reading name last ∷ Created output ∷ Finished output text ∷ rest) quiet (clear_whole output name last text rest good clear))
@@ -398,11 +448,26 @@ module _ (key : List ℕ) (most : ℕ) (label to : Option (List ℕ)) where
       ]
     ]
 
+    losses_unfinished : (losses : List Event) → AreLosses losses → Ended losses → ⊥
+    losses_unfinished [] lost at = among_none (Finished output plain) at
+    losses_unfinished (event ∷ losses) (first, others) at = elim (among_cons (Finished output plain) event losses at) [
+      | inl is ↦ subst IsLoss is first
+      | inr more ↦ losses_unfinished losses others more
+    ]
+
     finished_of : (name : List ℕ) (events : List Event) → IsEnded key most (output_for to name) name events → Ended events → IsOpened events
     finished_of name events (inl quiet) at = absurd (quiet_unfinished events quiet at)
-    finished_of name events (inr (inl (before, last, held, quiet, did))) at =
-        let is = ends_with before name last (output_for to name) (Discarded (output_for to name) held) quiet (subst Ended did at) in
-        absurd (cc)
+    finished_of name events (inr (inl (before, last, losses, quiet, lost, some, did))) at =
+        elim (among_append (Finished output plain) before (Reading name last ∷ Created (output_for to name) ∷ losses) (subst Ended did at)) [
+          | inl early ↦ absurd (quiet_unfinished before quiet early)
+          | inr late ↦ elim (among_cons (Finished output plain) (Reading name last) (Created (output_for to name) ∷ losses) late) [
+            | inl is ↦ absurd (cc)
+            | inr more ↦ elim (among_cons (Finished output plain) (Created (output_for to name)) losses more) [
+              | inl is ↦ absurd (cc)
+              | inr one ↦ absurd (losses_unfinished losses lost one)
+            ]
+          ]
+        ]
     finished_of name events (inr (inr (before, last, text, quiet, good, did))) at =
         let is = ends_with before name last (output_for to name) (Finished (output_for to name) text) quiet (subst Ended did at) in
         let named : output ≡ output_for to name = cc in

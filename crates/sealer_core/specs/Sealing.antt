@@ -287,6 +287,7 @@ written_in (trace.Reading name bytes ∷ events) = written_in events
 written_in (trace.Unread name ∷ events) = written_in events
 written_in (trace.Created name ∷ events) = written_in events
 written_in (trace.Refused name fault ∷ events) = written_in events
+written_in (trace.Unwritten name ∷ events) = written_in events
 written_in (trace.Finished name bytes ∷ events) = held_in bytes ++ written_in events
 written_in (trace.Discarded name bytes ∷ events) = held_in bytes ++ written_in events
 

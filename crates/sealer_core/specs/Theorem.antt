@@ -35,7 +35,7 @@ use Rattle.ranges_core.specs.Reservations.{Lists, next_of}
 use Rattle.reserve_core.specs.NextRun.{AreIn, PassInTurn}
 use Rattle.command_core.specs.declared.line.FileOutcome.{FileOutcome}
 use Rattle.command_core.specs.Session.{Begun, IsSound, Session}
-use Rattle.command_core.specs.Trace.{Event, Reading, Unread, Created, Refused, Finished, Discarded}
+use Rattle.command_core.specs.Trace.{Event, Reading, Unread, Created, Refused, Unwritten, Finished, Discarded}
 use Rattle.command_core.specs.Work.{AreWorked, IsOfOpening, Opening, output_for}
 use Rattle.sealer_core.specs.Piping.{HasSealedStream}
 use Rattle.sealer_core.specs.Sealing.{Happened, HasSealed, held_in, sealed_name, written_in}
@@ -197,6 +197,7 @@ read_in (Reading name bytes ∷ events) = bytes ∷ read_in events
 read_in (Unread name ∷ events) = read_in events
 read_in (Created name ∷ events) = read_in events
 read_in (Refused name fault ∷ events) = read_in events
+read_in (Unwritten name ∷ events) = read_in events
 read_in (Finished name bytes ∷ events) = read_in events
 read_in (Discarded name bytes ∷ events) = read_in events
 
@@ -207,6 +208,7 @@ finished_in (Reading name bytes ∷ events) = finished_in events
 finished_in (Unread name ∷ events) = finished_in events
 finished_in (Created name ∷ events) = finished_in events
 finished_in (Refused name fault ∷ events) = finished_in events
+finished_in (Unwritten name ∷ events) = finished_in events
 finished_in (Finished name bytes ∷ events) = bytes ∷ finished_in events
 finished_in (Discarded name bytes ∷ events) = finished_in events
 

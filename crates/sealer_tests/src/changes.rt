@@ -49,6 +49,8 @@ impl<'a> Folder for Changing<'a> {
         reader.again()
     }
 
+    fn close(&mut self, _name: &str, _reader: Input<'a>) {}
+
     fn create(&mut self, name: &str) -> Result<MemoryWriter, FolderFault> {
         self.folder.create(name)
     }
@@ -81,6 +83,10 @@ impl<'a> OpeningFolder for Changing<'a> {
         _name: &str,
         _reader: &Input<'a>,
     ) {}
+
+    fn give_up(&mut self, output: MemoryWriter) {
+        self.folder.give_up(output);
+    }
 }
 
 // Whether an output was created, and discarded with the first bytes of the plaintext.

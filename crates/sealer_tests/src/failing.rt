@@ -158,6 +158,11 @@ impl<'a> Folder for Failing<'a> {
         self.folder.again(name, &mut reader.reader)
     }
 
+    fn close(&mut self, name: &str, reader: FailingReader<'a>) {
+        let FailingReader { reader, calls: _ } = reader;
+        self.folder.close(name, reader);
+    }
+
     fn create(&mut self, name: &str) -> Result<FailingWriter<'a>, FolderFault> {
         let calls = self.calls;
         if calls.fails(Act::Create) {
@@ -211,6 +216,10 @@ impl<'a> OpeningFolder for Failing<'a> {
         _name: &str,
         _reader: &FailingReader<'a>,
     ) {}
+
+    fn give_up(&mut self, output: FailingWriter<'a>) {
+        let _ = self.discard(output);
+    }
 }
 
 impl<'a> SealingFolder for Failing<'a> {

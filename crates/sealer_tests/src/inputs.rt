@@ -165,6 +165,8 @@ impl<I: FileReader + Drop> Folder for OneFile<I> {
         reader.again()
     }
 
+    fn close(&mut self, _name: &str, _reader: I) {}
+
     fn create(&mut self, _name: &str) -> Result<ToMemory, FolderFault> {
         Err(FolderFault::Failed)
     }

@@ -16,6 +16,7 @@ pub(crate) enum Seen<'a> {
     Unread(&'a str),
     Created(&'a str),
     Refused(&'a str, FolderFault),
+    Unwritten(&'a str),
     Finished(&'a str, &'a [u8]),
     Discarded(&'a str, &'a [u8]),
 }
@@ -36,6 +37,10 @@ fn is_seen(told: &Told, seen: Seen) -> bool {
         },
         Seen::Refused(name, fault) => match told {
             Told::Refused(own, cause) => own.as_str() == name && *cause == fault,
+            _ => false,
+        },
+        Seen::Unwritten(name) => match told {
+            Told::Unwritten(own) => own.as_str() == name,
             _ => false,
         },
         Seen::Finished(name, bytes) => match told {
@@ -142,6 +147,7 @@ static OPENED: [(&str, Case, &[Seen]); 8] = [
             Seen::Reading("a.stm", &SECRET),
             Seen::Reading("a.stm", &SECRET),
             Seen::Created("a"),
+            Seen::Unwritten("a"),
             Seen::Discarded("a", b"a sec"),
             Seen::Reading("b.stm", &EMPTY),
             Seen::Reading("b.stm", &EMPTY),
@@ -168,6 +174,7 @@ static OPENED: [(&str, Case, &[Seen]); 8] = [
             Seen::Reading("a.stm", &SECRET),
             Seen::Reading("a.stm", &SECRET),
             Seen::Created("a"),
+            Seen::Unwritten("a"),
             Seen::Discarded("a", b"a secret"),
         ],
     ),
@@ -209,7 +216,7 @@ static OPENED: [(&str, Case, &[Seen]); 8] = [
             journal: b"",
             left: &[("a", Left::Absent)],
         },
-        &[Seen::Reading("a.stm", &SECRET)],
+        &[Seen::Reading("a.stm", &SECRET), Seen::Unread("a.stm")],
     ),
     (
         // The calls are to open the input and read it again.
@@ -226,7 +233,11 @@ static OPENED: [(&str, Case, &[Seen]); 8] = [
             journal: b"",
             left: &[("a", Left::Absent)],
         },
-        &[Seen::Reading("a.stm", &SECRET), Seen::Unread("a.stm")],
+        &[
+            Seen::Reading("a.stm", &SECRET),
+            Seen::Unread("a.stm"),
+            Seen::Unread("a.stm"),
+        ],
     ),
     (
         "the output that is given is created, and no other",

@@ -306,7 +306,11 @@ static IN_FOLDER: [InFolder; 6] = [
         status: 1,
         line: b"failed a.stm: spool failed\n",
         written: b"",
-        seen: &[Seen::Reading("a.stm", &SECRET), Seen::Unread("a.stm")],
+        seen: &[
+            Seen::Reading("a.stm", &SECRET),
+            Seen::Unread("a.stm"),
+            Seen::Unread("a.stm"),
+        ],
     },
     InFolder {
         what: "a file that is damaged is not read again",

@@ -301,6 +301,8 @@ impl<'p, 'r, R: Files + AllocGlobal + Clock + Eprint, I: Read + Drop> Folder
         }
     }
 
+    fn close(&mut self, _name: &str, _reader: Self::Reader) {}
+
     fn create(&mut self, name: &str) -> Result<Self::Writer, FolderFault> {
         let Some(path) = path_of(self.rt.alloc(), self.into, name) else {
             return Err(FolderFault::Failed);
@@ -346,6 +348,10 @@ impl<'p, 'r, R: Files + AllocGlobal + Clock + Eprint, I: Read + Drop> OpeningFol
         _name: &str,
         _reader: &Self::Reader,
     ) {}
+
+    fn give_up(&mut self, output: Self::Writer) {
+        let _ = outputs::discard(self.rt, output.0);
+    }
 }
 
 impl<'p, 'r, R: Files + AllocGlobal + Clock + Eprint, I: Read + Drop> SealingFolder
