@@ -1,4 +1,4 @@
--- What holds of a second reading, of which nothing is known.
+-- What holds of a second reading, which isn't tied to the first.
 use Rattle.std.proofs.Common.{Result, Ok, Err, OnOk}
 use Rattle.std.specs.Bool.{⊤}
 

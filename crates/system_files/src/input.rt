@@ -2,7 +2,6 @@
 ghost use Rattle.std.specs.Prelude.{◌≡◌, ◌≢◌, Err, IfOk, IsErr, false};
 ghost use Rattle.std.specs.Io.Buffered.{reader_remaining};
 ghost use Rattle.either.specs.Either.{either};
-ghost use Rattle.system_files.specs.Inputs.{left_unless};
 
 use crate::own::{FileId, STANDARD_INPUT, regular_at};
 use crate::progress::Progress;
@@ -76,8 +75,6 @@ fn is_input_unread<R: Files>(rt: &R) -> bool {
 pub struct FileInput<R: Files, I: Read + Drop> {
     /// Whether it can be read again: it is a regular file, and its first byte can be sought.
     pub can_repeat: bool,
-    // Whether it went back to its first byte.
-    is_again: bool,
     reader: FromRead<Either<BufReader<R::File>, I>>,
 }
 
@@ -102,7 +99,6 @@ impl<R: Files, I: Read + Drop> FileInput<R, I> {
         match BufReader::with_capacity(alloc, BUFFER, file) {
             Ok(reader) => Ok(FileInput {
                 can_repeat,
-                is_again: false,
                 reader: FromRead(Either::Left(reader)),
             }),
             Err(_) => Err(FolderFault::Failed),
@@ -115,16 +111,14 @@ impl<R: Files, I: Read + Drop> FileInput<R, I> {
     {
         FileInput {
             can_repeat: false,
-            is_again: false,
             reader: FromRead(Either::Right(input)),
         }
     }
 }
 
 impl<R: Files, I: Read + Drop> Source for FileInput<R, I> {
-    // It isn't known of a second reading: no contract of std says what is left after a seek.
-    ghost left = { λ f. left_unless f.is_again
-        (either (reader_remaining R.File.remaining) I.remaining f.reader.0) };
+    // A second reading has bytes of its own. No contract of std says that these are the first ones again.
+    ghost left = { λ f. either (reader_remaining R.File.remaining) I.remaining f.reader.0 };
 
     fn read(&mut self, buffer: &mut [u8]) -> Result<usize, Failed> {
         self.reader.read(buffer)
@@ -143,7 +137,6 @@ impl<R: Files, I: Read + Drop> FileReader for FileInput<R, I> {
         if !self.can_repeat {
             return Err(Failed);
         }
-        self.is_again = true;
         match &mut self.reader.0 {
             Either::Left(file) => match file.rewind() {
                 Ok(()) => Ok(()),
