@@ -29,7 +29,7 @@ complete -c sealer -n 'not __sealer_command seal pipe unpipe open verify audit l
 
 complete -c sealer -n '__sealer_command seal pipe unpipe open verify' -l key -rF -d 'The key file: 64 hex digits, then nothing or one end of line'
 complete -c sealer -n '__sealer_command seal pipe unpipe open verify' -l workers -x -a 'auto 1 2 4 8 16' -d 'Workers on one file or stream, side by side, 1 to 16, or auto: as many as there are processors'
-complete -c sealer -n '__sealer_command seal pipe unpipe open verify' -l verbose -d 'Print the cause of a fault before the first FILE, and warn of a key file that is open to others'
+complete -c sealer -n '__sealer_command seal pipe unpipe open verify' -l verbose -d 'Print the cause of a fault before any input, and warn of a key file that is open to others'
 
 complete -c sealer -n '__sealer_command seal open verify' -l files-from -rF -d 'Read further FILEs from a list, one a line, after those of the command line'
 complete -c sealer -n '__sealer_command seal open verify' -l null -d 'FILEs in the list of --files-from end with a NUL byte, not a line feed'

@@ -81,7 +81,7 @@ pub(crate) static KEY_ROWS: [Row; 3] = [
     Row {
         name: "verbose",
         takes: Takes::Nothing,
-        help: "Print the cause of a fault before the first FILE, and warn of a key file\n\
+        help: "Print the cause of a fault before any input, and warn of a key file\n\
             that is open to others; done anyway if standard error is a terminal",
     },
 ];
@@ -309,7 +309,7 @@ pub(crate) static PIPE_ROWS: [Row; 2] = [
             absent: Absent::Default("16384"),
         },
         help: "Refuse a stream of more chunks, once the next one begins,\n\
-            1 to 4294967295, or max; N may end in K, M, G or T,\n\
+            1 to 4294967295, or max; N may end in K, M or G,\n\
             powers of 1024",
     },
 ];
