@@ -15,6 +15,30 @@ use std::thread::Threads;
 
 const MOST: usize = usize::MAX;
 
+// A reading of bytes in memory. No contract says how many of its calls failed.
+#[derive(Drop)]
+struct Untold<'a> {
+    rest: FromMemory<'a>,
+}
+
+impl<'a> Untold<'a> {
+    fn new(bytes: &'a [u8], schedule: Schedule) -> Untold<'a>
+        ensures { result.rest.left ≡ bytes.now }
+    {
+        Untold {
+            rest: FromMemory::new(bytes, MOST, schedule),
+        }
+    }
+}
+
+impl<'a> Source for Untold<'a> {
+    ghost left = { λ u. Some u.rest.left };
+
+    fn read(&mut self, buffer: &mut [u8]) -> Result<usize, Failed> {
+        self.rest.read(buffer)
+    }
+}
+
 // Bytes in memory: each reading returns the same.
 #[derive(Drop)]
 struct Same<'a> {
@@ -22,15 +46,15 @@ struct Same<'a> {
 }
 
 impl<'a> Readings for Same<'a> {
-    type Reading = FromMemory<'a>;
+    type Reading = Untold<'a>;
 
     ghost bytes = { λ s. Some s.bytes.now };
 
     fn begin(&mut self) -> Result<Self::Reading, Failed> {
-        Ok(FromMemory::new(self.bytes, MOST, Schedule::Never))
+        Ok(Untold::new(self.bytes, Schedule::Never))
     }
 
-    fn end(&mut self, _reading: FromMemory<'a>) {}
+    fn end(&mut self, _reading: Untold<'a>) {}
 }
 
 // Bytes that differ at the second reading. No contract describes them.
@@ -44,17 +68,17 @@ struct Changed<'a> {
 }
 
 impl<'a> Readings for Changed<'a> {
-    type Reading = FromMemory<'a>;
+    type Reading = Untold<'a>;
 
     fn begin(&mut self) -> Result<Self::Reading, Failed> {
         if self.began {
-            return Ok(FromMemory::new(self.second, MOST, self.schedule));
+            return Ok(Untold::new(self.second, self.schedule));
         }
         self.began = true;
-        Ok(FromMemory::new(self.first, MOST, Schedule::Never))
+        Ok(Untold::new(self.first, Schedule::Never))
     }
 
-    fn end(&mut self, _reading: FromMemory<'a>) {}
+    fn end(&mut self, _reading: Untold<'a>) {}
 }
 
 // Bytes in memory. It is known how many calls failed, in both readings and at their beginnings.
@@ -112,9 +136,12 @@ impl<'a> Readings for Tallied<'a> {
             return Err(Failed);
         };
         self.schedules = [next, None];
+        // The reading has the count until it ends.
+        let failures = self.failures;
+        self.failures = None;
         Ok(Tally {
             rest: FromMemory::new(self.bytes, MOST, schedule),
-            failures: self.failures,
+            failures,
         })
     }
 

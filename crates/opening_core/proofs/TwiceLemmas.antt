@@ -188,30 +188,11 @@ kept-some None b P kept p = tt
 kept-some (Some x) None P kept p = absurd kept
 kept-some (Some x) (Some y) P kept p = subst P kept p
 
--- nothing was written
-pub twice-refused : (key : List ℕ) (most : ℕ) (fault : OpenFault) (bytes left a : Option (List ℕ)) (r r' w : Option ℕ) → Keeps bytes left
-    → (IsOfBytes fault → IfSome left (λ input. opening key most input ≡ Err fault))
-    → CountsOn (stopped_by_read (Err (Refused fault))) r r' → HasOpenedTwice key most bytes a a r r' w w (Err (Refused fault))
-twice-refused key most fault bytes left a r r' w kept refused read = record {
-  written = tt;
-  unwritten = λ f e. Keeps-refl a;
-  refused = λ f e own.
-      let is : fault ≡ f = cc in
-      kept-some bytes left (λ input. opening key most input ≡ Err f) kept
-      (subst (λ g. IfSome left (λ input. opening key most input ≡ Err g)) is (refused (subst IsOfBytes (sym is) own)));
-  begun = λ f e. cc;
-  broken = λ f e own. cc;
-  read = read;
-  write = refl;
-  same = λ e. cc;
-}
-
 -- the count of a reading goes on to that of what is read
-pub counts-reading : (failed : Bool) (before begun first last after : Option ℕ) → CountsOn false before begun
-    → CountsOn false before first → last ≡ counted failed first → IfSome begun (λ _. after ≡ last) → CountsOn failed before after
-counts-reading failed None begun first last after was one read ended = tt
-counts-reading failed (Some n) begun first last after was one read ended =
-    subst (λ o. IfSome o (λ _. after ≡ last)) was ended ∙ read ∙ ap (counted failed) one
+pub counts-reading : (failed : Bool) (before first last after : Option ℕ) → CountsOn false before first
+    → last ≡ counted failed first → after ≡ last → CountsOn failed before after
+counts-reading failed None first last after one read ended = tt
+counts-reading failed (Some n) first last after one read ended = ended ∙ read ∙ ap (counted failed) one
 
 -- and to the next
 pub counts-next : (failed : Bool) (before between after : Option ℕ) → CountsOn false before between → CountsOn failed between after

@@ -69,7 +69,7 @@ pub record HasWrittenAgain (key header : List ℕ) (most : ℕ) (left taken take
 -- readings and of the writer.
 pub record HasOpenedTwice (key : List ℕ) (most : ℕ) (bytes taken taken' : Option (List ℕ))
     (reads reads' writes writes' : Option ℕ) (result : Result ℕ Stopped) : Type 0 where
-  -- the bytes are a container, and what was written is its plaintext
+  -- the bytes are a container, and what was written is its plaintext (where the bytes aren't known: that of some)
   pub written : IfOk result (λ n. (input : List ℕ) × WritesAll key most taken taken' input n
       × IfSome bytes (λ known. known ≡ input))
   -- at a refusal nothing was written, and a fault of the bytes is the first that they have
@@ -80,7 +80,7 @@ pub record HasOpenedTwice (key : List ℕ) (most : ℕ) (bytes taken taken' : Op
   pub begun : (fault : OpenFault) → result ≡ Err (Broken fault)
       → IfSome bytes (λ input. (plain : List ℕ) × (opening key most input ≡ Ok plain) × AppendsFront taken taken' plain)
   pub broken : (fault : OpenFault) → result ≡ Err (Broken fault) → IsOfBytes fault → ⊥
-  -- it is Read or Write exactly where a call failed
+  -- it is Read or Write exactly where a call failed; each reading was ended
   pub read : CountsOn (stopped_by_read result) reads reads'
   pub write : writes' ≡ counted (broken_by_write result) writes
   -- readings that give the same bytes don't differ

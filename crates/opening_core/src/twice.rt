@@ -5,7 +5,7 @@
 //! another container of the key is refused before a byte is written, and a chunk that was changed before that chunk is
 //! written.
 ghost use Rattle.std.specs.Prelude.{◌≡◌, ℕ, ◌<◌, ◌≤◌, List, [], length, Option, None, Ok, Err};
-ghost use Rattle.std.specs.Prelude.{IfOk, IfErr, IfSome, OnErr, false, is_err};
+ghost use Rattle.std.specs.Prelude.{IfOk, IfErr, IfSome, OnErr, OnOk, false, true};
 ghost use Rattle.container_core.specs.Chunks.{container_limit};
 ghost use Rattle.container_core.specs.Container.{size_in};
 ghost use Rattle.container_core.specs.Faults.{IsOfBytes};
@@ -49,7 +49,8 @@ pub trait Readings {
     // The bytes that each reading gives, where they are known. The implementor proves that all give the same.
     ghost bytes: { Self → Option (List ℕ) } = { λ _. None };
 
-    // How many calls failed so far, in all readings that ended and at their beginnings, if known.
+    // How many calls failed so far, in all readings that ended and at their beginnings, if known. While a reading goes
+    // on, that one has the count.
     ghost failures: { Self → Option ℕ } = { λ _. None };
 
     /// Begins a reading. Its count of failed calls goes on from that of the readings before. A reading that can't be begun
@@ -58,12 +59,13 @@ pub trait Readings {
         ensures left { IfOk result (λ reading. Keeps (bytes self.old) (Self.Reading.left reading)) }
         ensures same { Keeps (bytes self.old) (bytes self.new) }
         ensures begun { IfOk result (λ reading. CountsOn false (failures self.old) (Self.Reading.failures reading)) }
-        ensures count { CountsOn (is_err result) (failures self.old) (failures self.new) };
+        ensures open { OnOk result (failures self.new ≡ None) }
+        ensures refused { OnErr result (CountsOn true (failures self.old) (failures self.new)) };
 
     /// Ends a reading, and so knows how many of its calls failed.
     fn end(&mut self, reading: Self::Reading)
         ensures same { Keeps (bytes self.old) (bytes self.new) }
-        ensures count { IfSome (failures self.old) (λ _. failures self.new ≡ Self.Reading.failures reading) };
+        ensures count { failures self.new ≡ Self.Reading.failures reading };
 }
 
 // What a fault of the second reading is returned as.

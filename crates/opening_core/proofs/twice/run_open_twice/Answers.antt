@@ -15,5 +15,5 @@ returns g c =
     (Keeps-trans _ _ _ c.begin.ensures.same c.end.ensures.same) c.in-Ok-begin.ensures.left c.in-Ok-checked.ensures.header
     c.in-Ok-checked.ensures.length c.write_again-done.ensures
     (counts-next _ _ _ _
-    (counts-reading false _ _ _ _ _ c.in-Ok.ensures.count c.in-Ok.ensures.begun c.in-Ok-checked.ensures.reads.read c.end.ensures.count)
-    (counts-reading (broken_by_read c.write_again-done.result.0) _ _ _ _ _ c.in-Ok-begin.ensures.count c.in-Ok-begin.ensures.begun c.write_again-done.ensures.read c.end-2.ensures.count))
+    (counts-reading false _ _ _ _ c.in-Ok.ensures.begun c.in-Ok-checked.ensures.reads.read c.end.ensures.count)
+    (counts-reading (broken_by_read c.write_again-done.result.0) _ _ _ _ c.in-Ok-begin.ensures.begun c.write_again-done.ensures.read c.end-2.ensures.count))
