@@ -1,7 +1,7 @@
 -- What happened for a file whose output was created: it was finished, or given up.
 use Rattle.std.specs.Prelude.{⊤}
 use Rattle.std.proofs.Common.{◌≡◌, ◌≢◌, ◌⊎◌, inl, inr, ℕ, refl, sym, ap, subst, ◌∙◌, List, [], ◌∷◌, ◌++◌, length, append-nil}
-use Rattle.std.proofs.Common.{Option, None, Some, IfSome, Result, Ok, Err, IfErr, IfOk, OnOk, Bool, true, false, if◌then◌else◌, append_assoc}
+use Rattle.std.proofs.Common.{Option, None, Some, IfSome, Result, Ok, Err, Bool, true, false}
 use Rattle.container_core.specs.declared.fault.OpenFault.{OpenFault}
 use Rattle.container_core.specs.declared.fault.OpenFault.TheVariants as bytes
 use Rattle.container_core.specs.Faults.{IsOfBytes}
@@ -25,26 +25,14 @@ use Rattle.command_core.specs.Facts.{IsOfHeader}
 use Rattle.command_core.specs.Again.{IsAgainFault, IsBegun, IsGood}
 use Rattle.command_core.specs.Labels.{IsLabelled}
 use Rattle.command_core.specs.Session.{IsBoundChecked, IsBoundTo}
-use Rattle.command_core.specs.Trace.{Event, Created, Finished, Discarded, Reading, Does, Nothing, Opens, Creates, Finishes}
-use Rattle.command_core.specs.Trace.{Closes, FailsToOpen, GivesUp, IsCounted, IsOpenedBy, IsReadAgain, Refuses, Unread, Unwritten, tape}
+use Rattle.command_core.specs.Trace.{Event, Created, Finished, Discarded, Done, Reading, Rewound, Does, Opens, Creates, Ends, Rewinds}
+use Rattle.command_core.specs.Trace.{Closes, FailsToRewind, IsCounted, IsOpenedBy, IsReadAgain, Refuses, tape}
 use Rattle.command_core.specs.Trace as trace
-use Rattle.command_core.specs.Work.{IsBrokenOff, IsClosedBy, IsFaultOf, IsOfOpening, IsOfVerifying, IsRefused, Opening, Verifying}
-use Rattle.command_core.specs.Work.{closing, file_read_failed, lost, reading_failed}
-use Rattle.command_core.proofs.Traces.{chain, closed_file, closed_quietly, known, finished_as, gave_up, given_up_as, reported_of, tape_as, weaken}
+use Rattle.command_core.specs.Work.{IsBrokenOff, IsClosedBy, IsFaultOf, IsOfOpening, IsOfVerifying, IsRefused, Opening, OpeningRead}
+use Rattle.command_core.specs.Work.{Verifying, VerifyingRead, file_read_failed, reading_failed, write_failed}
+use Rattle.command_core.proofs.Traces.{chain, closed_file, counted_if, ended_as, ended_under, known, tape_as, weaken}
 
 -- ---- what a file had
-
-pub on_ok : {A B : Type 0} (P : Type 0) (r : Result A B) (x : A) → r ≡ Ok x → OnOk r P → P
-on_ok P (Ok y) x is p = p
-on_ok P (Err e) x is p = absurd (cc)
-
-pub if_ok : {A B : Type 0} (P : A → Type 0) (r : Result A B) (x : A) → r ≡ Ok x → IfOk r P → P x
-if_ok P (Ok y) x is p = let same : y ≡ x = cc in subst P same p
-if_ok P (Err e) x is p = absurd (cc)
-
-pub if_err : {A B : Type 0} (P : B → Type 0) (r : Result A B) (x : B) → r ≡ Err x → IfErr r P → P x
-if_err P (Ok y) x is p = absurd (cc)
-if_err P (Err e) x is p = let same : e ≡ x = cc in subst P same p
 
 -- a reading is good, if its bytes are known
 abbrev pub IsGoodIf : List ℕ → ℕ → Option (List ℕ) → Option (List ℕ) → Type 0
@@ -85,19 +73,21 @@ read_once k key most label name plain left one two three does good opens =
 
 pub read_again : (k : List Event → Type 0) (key header : List ℕ) (most : ℕ) (label : Option (List ℕ)) (name : List ℕ)
     (left left' : Option (List ℕ)) (one two three four : Option (List Event)) → Does k three four
-    → IsGoodIf key most label left → IfSome left (HasHeader header) → Does (Opens name left') two three
+    → IsGoodIf key most label left → IfSome left (HasHeader header) → Does (Rewinds name left') two three
     → Does (Opens name left) one two → IfSome four (IsReadAgain key header name left')
 read_again k key header most label name left left' one two three four later good headed again opens =
     came (IsReadAgain key header name left') one four
     (λ before events is. (is.0, is.1, is.2, most, before, is.3, (λ i. before ++ is.4 i), is.5, is.6, is.7))
     (chain (λ events. (first : List ℕ) × (last : List ℕ) × (plain : List ℕ) × (after : List Event)
-    × (events ≡ Reading name first ∷ Reading name last ∷ after) × (left' ≡ Some last) × (opening key most first ≡ Ok plain)
+    × (events ≡ Reading name first ∷ Rewound name false ∷ Reading name last ∷ after) × (left' ≡ Some last)
+    × (opening key most first ≡ Ok plain)
     × HasHeader header first)
     (λ x y o e.
     let (plain, is) = known (λ input. (plain : List ℕ) × IsGood key most label input plain) left o.0 o.1 good in
     (o.0, e.0, plain, e.1, (λ i. o.2 i ++ e.3 i), e.2, is.0, known (HasHeader header) left o.0 o.1 headed))
     one two four opens
-    (chain (λ events. (last : List ℕ) × (after : List Event) × (left' ≡ Some last) × (events ≡ Reading name last ∷ after))
+    (chain (λ events. (last : List ℕ) × (after : List Event) × (left' ≡ Some last)
+    × (events ≡ Rewound name false ∷ Reading name last ∷ after))
     (λ x y a e. (a.0, y, a.1, (λ i. a.2 i ++ y))) two three four again later))
 
 pub may_again : (key header : List ℕ) (most : ℕ) (left taken taken' : Option (List ℕ)) (bound : Option Bound) → taken' ≡ taken
@@ -109,8 +99,8 @@ may_again key header most left taken taken' (Some b) kept (input, had, (held, to
 -- ---- a file that has a fault, or can't be read again
 
 refused_file : (key : List ℕ) (most : ℕ) (label : Option (List ℕ)) (name output : List ℕ) (f : FileFault) (input : List ℕ)
-    (events : List Event) → IsFaultOf key most label input f → events ≡ Reading name input ∷ closing name (Failed f)
-    → Opening key most label output name (Failed f) events
+    (events : List Event) → IsFaultOf key most label input f → events ≡ Reading name input ∷ []
+    → OpeningRead key most label output name (Failed f) events
 refused_file key most label name output CannotOpen input events why is = absurd why
 refused_file key most label name output NoSuffix input events why is = absurd why
 refused_file key most label name output OutputExists input events why is = absurd why
@@ -129,16 +119,16 @@ refused_file key most label name output (Unopened bytes.BadExponent) input event
 refused_file key most label name output (Unopened bytes.KeyMismatch) input events why is = (input, why, is)
 refused_file key most label name output (Unopened bytes.BadLength) input events why is = (input, why, is)
 refused_file key most label name output (Unopened (bytes.Forged chunk)) input events why is = (input, why, is)
-refused_file key most label name output (Unopened bytes.OutOfMemory) input events why is = inl (input, is)
+refused_file key most label name output (Unopened bytes.OutOfMemory) input events why is = inl (input, why, is)
 refused_file key most label name output (Unopened bytes.Read) input events why is = inl (input, is)
 refused_file key most label name output (Unopened bytes.Write) input events why is = absurd why
 
 pub refused : (key : List ℕ) (most : ℕ) (label : Option (List ℕ)) (name output : List ℕ) (left : Option (List ℕ)) (f : FileFault)
     (one two : Option (List Event)) → IfSome left (λ input. IsFaultOf key most label input f) → Does (Opens name left) one two
-    → Does (IsClosedBy (Opening key most label output name) name (Failed f)) one two
+    → Does (OpeningRead key most label output name (Failed f)) one two
 refused key most label name output left f one two why opens = weaken (λ events o.
-    refused_file key most label name output f o.0 (events ++ closing name (Failed f))
-    (known (λ input. IsFaultOf key most label input f) left o.0 o.1 why) (ap (λ l. l ++ closing name (Failed f)) o.2)) one two opens
+    refused_file key most label name output f o.0 events (known (λ input. IsFaultOf key most label input f) left o.0 o.1 why) o.2)
+    one two opens
 
 -- a reading has no fault of a spool
 pub read_by_verifying : {A : Type 0} (result : Result A FileFault) (f : FileFault) → result ≡ Err f → IsOfVerifying true (Failed f)
@@ -160,13 +150,13 @@ read_by_opening {A} to name result f is of = ap (λ r. file_read_failed r) is �
     by _ of = refl
 
 pub not_repeated : (key : List ℕ) (most : ℕ) (label : Option (List ℕ)) (name output : List ℕ) (left : Option (List ℕ))
-    (one two three : Option (List Event)) → IsGoodIf key most label left → Does (FailsToOpen name) two three
+    (one two three : Option (List Event)) → IsGoodIf key most label left → Does (FailsToRewind name) two three
     → Does (Opens name left) one two
-    → Does (IsClosedBy (Opening key most label output name) name (Failed (Unopened bytes.Read))) one three
+    → Does (OpeningRead key most label output name (Failed (Unopened bytes.Read))) one three
 not_repeated key most label name output left one two three good fails opens =
-    chain (IsClosedBy (Opening key most label output name) name (Failed (Unopened bytes.Read))) (λ x y o f.
+    chain (OpeningRead key most label output name (Failed (Unopened bytes.Read))) (λ x y o f.
     let (plain, is) = known (λ input. (plain : List ℕ) × IsGood key most label input plain) left o.0 o.1 good in
-    inr (inl (o.0, plain, is, (λ i. (o.2 i ++ f i) ++ Unread name ∷ [])))) one two three opens fails
+    inr (inl (o.0, plain, is, (λ i. o.2 i ++ f i)))) one two three opens fails
 
 pub may_once : (plain : List ℕ) (taken taken' : Option (List ℕ)) (bound : Option Bound) → taken' ≡ taken
     → IfSome bound (IsBoundTo (λ held. Exactly (held ++ plain)) taken) → Admits bound taken' plain
@@ -177,11 +167,11 @@ may_once plain taken taken' (Some b) kept (held, took, is) = (held, kept ∙ too
 
 told_as : (key : List ℕ) (most : ℕ) (label : Option (List ℕ)) (output name : List ℕ) (refused : FolderFault) (fault : FileFault)
     (events : List Event) → (refused ≡ refusal.Exists → fault ≡ OutputExists) × (refused ≡ refusal.Failed → fault ≡ CannotCreate)
-    → IsRefused key most label output name refused events → Opening key most label output name (Failed fault) events
+    → IsRefused key most label output name refused events → OpeningRead key most label output name (Failed fault) events
 told_as key most label output name refusal.Exists fault events told is =
-    subst (λ f. Opening key most label output name (Failed f) events) (sym (told.0 refl)) is
+    subst (λ f. OpeningRead key most label output name (Failed f) events) (sym (told.0 refl)) is
 told_as key most label output name refusal.Failed fault events told is =
-    subst (λ f. Opening key most label output name (Failed f) events) (sym (told.1 refl)) is
+    subst (λ f. OpeningRead key most label output name (Failed f) events) (sym (told.1 refl)) is
 
 -- nothing is reported of it
 pub refusal_quiet : (refused : FolderFault) (fault : FileFault)
@@ -193,31 +183,30 @@ refusal_quiet refusal.Failed fault told = ap (λ f. reading_failed (Failed f)) (
 pub refused_twice : (key : List ℕ) (most : ℕ) (label : Option (List ℕ)) (name output : List ℕ) (left left' : Option (List ℕ))
     (refused : FolderFault) (fault : FileFault) (one two three four : Option (List Event)) → IsGoodIf key most label left
     → (refused ≡ refusal.Exists → fault ≡ OutputExists) × (refused ≡ refusal.Failed → fault ≡ CannotCreate)
-    → Does (Refuses output refused) three four → Does (Opens name left') two three → Does (Opens name left) one two
-    → Does (IsClosedBy (Opening key most label output name) name (Failed fault)) one four
+    → Does (Refuses output refused) three four → Does (Rewinds name left') two three → Does (Opens name left) one two
+    → Does (OpeningRead key most label output name (Failed fault)) one four
 refused_twice key most label name output left left' refused fault one two three four good told refuses again opens =
-    closed_quietly (Opening key most label output name) name (Failed fault) one four (refusal_quiet refused fault told)
-    (chain (Opening key most label output name (Failed fault)) (λ x y o e.
+    chain (OpeningRead key most label output name (Failed fault)) (λ x y o e.
     let (plain, is) = known (λ input. (plain : List ℕ) × IsGood key most label input plain) left o.0 o.1 good in
     told_as key most label output name refused fault (x ++ y) told (
       o.0,
       plain,
-      Reading name o.0 ∷ Reading name e.0 ∷ [],
+      Reading name o.0 ∷ Rewound name false ∷ Reading name e.0 ∷ [],
       is,
       inr (e.0, refl),
       (λ i. o.2 i ++ e.1 i),
     )) one two four opens
-    (chain (λ events. (last : List ℕ) × (events ≡ Reading name last ∷ trace.Refused output refused ∷ []))
-    (λ x y a r. (a.0, (λ i. a.2 i ++ r i))) two three four again refuses))
+    (chain (λ events. (last : List ℕ)
+    × (events ≡ Rewound name false ∷ Reading name last ∷ trace.Refused output refused ∷ []))
+    (λ x y a r. (a.0, (λ i. a.2 i ++ r i))) two three four again refuses)
 
 pub refused_once : (key : List ℕ) (most : ℕ) (label : Option (List ℕ)) (name output : List ℕ) (left : Option (List ℕ))
     (refused : FolderFault) (fault : FileFault) (one two three : Option (List Event)) → IsGoodIf key most label left
     → (refused ≡ refusal.Exists → fault ≡ OutputExists) × (refused ≡ refusal.Failed → fault ≡ CannotCreate)
     → Does (Refuses output refused) two three → Does (Opens name left) one two
-    → Does (IsClosedBy (Opening key most label output name) name (Failed fault)) one three
+    → Does (OpeningRead key most label output name (Failed fault)) one three
 refused_once key most label name output left refused fault one two three good told refuses opens =
-    closed_quietly (Opening key most label output name) name (Failed fault) one three (refusal_quiet refused fault told)
-    (chain (Opening key most label output name (Failed fault)) (λ x y o r.
+    chain (OpeningRead key most label output name (Failed fault)) (λ x y o r.
     let (plain, is) = known (λ input. (plain : List ℕ) × IsGood key most label input plain) left o.0 o.1 good in
     told_as key most label output name refused fault (x ++ y) told (
       o.0,
@@ -226,7 +215,7 @@ refused_once key most label name output left refused fault one two three good to
       is,
       inl refl,
       (λ i. o.2 i ++ r i),
-    )) one two three opens refuses)
+    )) one two three opens refuses
 
 -- ---- by two readings
 
@@ -235,34 +224,35 @@ pub opened_twice : (key header : List ℕ) (most n : ℕ) (label : Option (List 
     (left left' taken : Option (List ℕ)) (one two three four five : Option (List Event)) → IsGoodIf key most label left
     → IfSome left (HasHeader header) → ((input : List ℕ) → HasHeader header input → IsLabelled label input)
     → (taken' : Option (List ℕ)) × IfSome left' (λ input. HasHeader header input × WritesAll key most taken taken' input n)
-    × Does (Finishes taken') four five → Does (Creates output taken) three four → Does (Opens name left') two three
-    → Does (Opens name left) one two → Does (IsClosedBy (Opening key most label output name) name (Opened n)) one five
+    × Does (Ends Finished taken' (Some 0)) four five → Does (Creates output taken) three four → Does (Rewinds name left') two three
+    → Does (Opens name left) one two → Does (OpeningRead key most label output name (Opened n)) one five
 opened_twice key header most n label name output left left' taken one two three four five good headed labelled
     (taken', wrote, finishes) creates again opens =
-    closed_quietly (Opening key most label output name) name (Opened n) one five refl
-    (chain (Opening key most label output name (Opened n)) (λ x y o e.
+    chain (OpeningRead key most label output name (Opened n)) (λ x y o e.
     let (plain, is) = known (λ input. (plain : List ℕ) × IsGood key most label input plain) left o.0 o.1 good in
     let (last, whole, same, ok, count, rest) = e in (
       last,
       whole,
-      Reading name o.0 ∷ [],
+      Reading name o.0 ∷ Rewound name false ∷ [],
       (ok, labelled last same),
       count,
       inr (header, o.0, plain, is, known (HasHeader header) left o.0 o.1 headed, same, refl),
       (λ i. o.2 i ++ rest i),
     )) one two five opens
     (chain (λ events. (last : List ℕ) × (whole : List ℕ) × HasHeader header last × (opening key most last ≡ Ok whole)
-    × (n ≡ length whole) × (events ≡ Reading name last ∷ Created output ∷ Finished output whole ∷ []))
+    × (n ≡ length whole)
+    × (events ≡ Rewound name false ∷ Reading name last ∷ Created output ∷ Finished output whole ∷ Done output false ∷ []))
     (λ x y a e.
     let (whole, same, ok, count, rest) = e a.0 a.1 in
     (a.0, whole, same, ok, count, (λ i. a.2 i ++ rest i)))
     two three five again
     (chain (λ events. (input : List ℕ) → left' ≡ Some input → (whole : List ℕ) × HasHeader header input
-    × (opening key most input ≡ Ok whole) × (n ≡ length whole) × (events ≡ Created output ∷ Finished output whole ∷ []))
+    × (opening key most input ≡ Ok whole) × (n ≡ length whole)
+    × (events ≡ Created output ∷ Finished output whole ∷ Done output false ∷ []))
     (λ x y c f. λ input had.
     let (same, (whole, ok, grew, count)) = known (λ input. HasHeader header input × WritesAll key most taken taken' input n) left' input had wrote in
-    let last : y ≡ Finished output whole ∷ [] = finished_as output [] whole taken taken' y c.0 grew f in
-    (whole, same, ok, count, (λ i. c.1 i ++ last i))) three four five creates finishes)))
+    let last : y ≡ Finished output whole ∷ Done output false ∷ [] = ended_as Finished output [] whole taken taken' false y c.0 grew f in
+    (whole, same, ok, count, (λ i. c.1 i ++ last i))) three four five creates finishes))
 
 -- what an output was given up with is what was written after its name
 front_as : (output other bytes plain : List ℕ) (taken taken' : Option (List ℕ)) → taken ≡ Some (tape output [])
@@ -334,48 +324,48 @@ broken : (are : List ℕ → List ℕ → Type 0) (key header : List ℕ) (most 
     (left left' taken : Option (List ℕ)) (failed : Bool) (fault : FileFault) (one two three four five : Option (List Event))
     → IsGoodIf key most label left
     → IfSome left (HasHeader header) → ((first last : List ℕ) → left ≡ Some first → left' ≡ Some last → are first last)
-    → (if failed then Unwritten output ∷ [] else []) ≡ lost output fault
+    → failed ≡ write_failed (Failed fault)
     → (taken' : Option (List ℕ)) × IfSome left' (λ input. IsBegun key most header input taken taken')
-    × Does (GivesUp taken' (counted failed (Some 0))) four five → Does (Creates output taken) three four
-    → Does (Opens name left') two three → Does (Opens name left) one two
-    → Does (λ events. IsBrokenOff are key most label output name fault (events ++ closing name (Failed fault))) one five
+    × Does (Ends Discarded taken' (counted failed (Some 0))) four five → Does (Creates output taken) three four
+    → Does (Rewinds name left') two three → Does (Opens name left) one two
+    → Does (IsBrokenOff are key most label output name fault) one five
 broken are key header most label name output left left' taken failed fault one two three four five good headed so lose
     (taken', wrote, gives) creates again opens =
-    chain (λ events. IsBrokenOff are key most label output name fault (events ++ closing name (Failed fault))) (λ x y o e.
+    let done : List Event = Done output (write_failed (Failed fault)) ∷ [] in
+    chain (IsBrokenOff are key most label output name fault) (λ x y o e.
     let good_first = known (λ input. (plain : List ℕ) × IsGood key most label input plain) left o.0 o.1 good in
     let (last, had, written, begun, rest) = e in (
       header,
       o.0,
       last,
       written,
-      Reading name o.0 ∷ Reading name last ∷ [],
+      Reading name o.0 ∷ Rewound name false ∷ Reading name last ∷ [],
       so o.0 last o.1 had,
       (known (HasHeader header) left o.0 o.1 headed, good_first, refl),
       begun,
-      (λ i. (o.2 i ++ rest i) ++ closing name (Failed fault)) ∙ append_assoc (Reading name o.0 ∷ Reading name last ∷ Created output ∷ lost output fault)
-          (Discarded output written ∷ []) (closing name (Failed fault)),
+      (λ i. o.2 i ++ rest i),
     )) one two five opens
     (chain (λ events. (last : List ℕ) × (left' ≡ Some last) × (written : List ℕ)
     × IsBegun key most header last (Some []) (Some written)
-    × (events ≡ Reading name last ∷ Created output ∷ lost output fault ++ Discarded output written ∷ []))
+    × (events ≡ Rewound name false ∷ Reading name last ∷ Created output ∷ Discarded output written ∷ done))
     (λ x y a e.
     let (written, begun, rest) = e a.0 a.1 in
     (a.0, a.1, written, begun, (λ i. a.2 i ++ rest i)))
     two three five again
     (chain (λ events. (input : List ℕ) → left' ≡ Some input → (written : List ℕ)
     × IsBegun key most header input (Some []) (Some written)
-    × (events ≡ Created output ∷ lost output fault ++ Discarded output written ∷ []))
+    × (events ≡ Created output ∷ Discarded output written ∷ done))
     (λ x y c d. λ input had.
     let (same, begun) = begun_as key most header input output d.0 d.1 taken taken' c.0 d.3
     (known (λ input. IsBegun key most header input taken taken') left' input had wrote) in
-    let last : y ≡ lost output fault ++ Discarded output d.1 ∷ [] =
-    gave_up output d.0 d.1 failed d.2 y same d.4 d.5 ∙ ap (λ l. l ++ Discarded output d.1 ∷ []) lose in
+    let last : y ≡ Discarded output d.1 ∷ done =
+    ended_under Discarded output d.0 d.1 failed d.2 y same d.4 d.5 ∙ ap (λ f. Discarded output d.1 ∷ Done output f ∷ []) lose in
     (d.1, begun, (λ i. c.1 i ++ last i))) three four five creates gives))
 
 -- and the line says why
 broken_off : (key : List ℕ) (most : ℕ) (label : Option (List ℕ)) (output name : List ℕ) (fault : OpenFault) (events : List Event)
     → ¬ IsOfBytes fault → IsBrokenOff (λ _ _. ⊤) key most label output name (Unopened fault) events
-    → Opening key most label output name (Failed (Unopened fault)) events
+    → OpeningRead key most label output name (Failed (Unopened fault)) events
 broken_off key most label output name bytes.TooLong events other up = absurd (other tt)
 broken_off key most label output name bytes.ShortHeader events other up = absurd (other tt)
 broken_off key most label output name bytes.BadMagic events other up = absurd (other tt)
@@ -388,10 +378,9 @@ broken_off key most label output name bytes.OutOfMemory events other up = inr up
 broken_off key most label output name bytes.Read events other up = inr (inr up)
 broken_off key most label output name bytes.Write events other up = inr up
 
-lost_by : (output : List ℕ) (fault : OpenFault)
-    → (if broken_by_write (Err (stop.Broken fault)) then Unwritten output ∷ [] else []) ≡ lost output (Unopened fault)
-lost_by output bytes.Write = refl
-lost_by output _ = refl
+lost_by : (fault : OpenFault) → broken_by_write (Err (stop.Broken fault)) ≡ write_failed (Failed (Unopened fault))
+lost_by bytes.Write = refl
+lost_by _ = refl
 
 -- the line says `read failed` where a read failed
 pub read_again_failed : (stopped : Stopped) (fault : FileFault) → ((f : OpenFault) → stopped ≡ stop.Refused f → ⊥)
@@ -421,22 +410,22 @@ pub stopped_twice : (key header : List ℕ) (most : ℕ) (label : Option (List �
     → IsGoodIf key most label left → IfSome left (HasHeader header) → IsAgainFault key header most left' stopped
     → (stopped ≡ stop.Changed → fault ≡ Changed) × ((f : OpenFault) → stopped ≡ stop.Broken f → fault ≡ Unopened f)
     → (taken' : Option (List ℕ)) × IfSome left' (λ input. IsBegun key most header input taken taken')
-    × Does (GivesUp taken' (counted (broken_by_write (Err stopped)) (Some 0))) four five
-    → Does (Creates output taken) three four → Does (Opens name left') two three
-    → Does (Opens name left) one two → Does (IsClosedBy (Opening key most label output name) name (Failed fault)) one five
+    × Does (Ends Discarded taken' (counted (broken_by_write (Err stopped)) (Some 0))) four five
+    → Does (Creates output taken) three four → Does (Rewinds name left') two three
+    → Does (Opens name left) one two → Does (OpeningRead key most label output name (Failed fault)) one five
 stopped_twice key header most label name output left left' taken (stop.Refused f) fault one two three four five good headed why told
     wrote creates again opens = absurd why
 stopped_twice key header most label name output left left' taken stop.Changed fault one two three four five good headed why told
     wrote creates again opens =
-    subst (λ x. Does (IsClosedBy (Opening key most label output name) name (Failed x)) one five) (sym (told.0 refl))
+    subst (λ x. Does (OpeningRead key most label output name (Failed x)) one five) (sym (told.0 refl))
     (broken (λ first last. first ≢ last) key header most label name output left left' taken false Changed one two three four five
     good headed (differ key header most label left left' good headed why) refl wrote creates again opens)
 stopped_twice key header most label name output left left' taken (stop.Broken f) fault one two three four five good headed why told
     wrote creates again opens =
-    subst (λ x. Does (IsClosedBy (Opening key most label output name) name (Failed x)) one five) (sym (told.1 f refl))
-    (weaken (λ events. broken_off key most label output name f (events ++ closing name (Failed (Unopened f))) why) one five
+    subst (λ x. Does (OpeningRead key most label output name (Failed x)) one five) (sym (told.1 f refl))
+    (weaken (λ events. broken_off key most label output name f events why) one five
     (broken (λ _ _. ⊤) key header most label name output left left' taken (broken_by_write (Err (stop.Broken f))) (Unopened f)
-    one two three four five good headed (λ first last had has. tt) (lost_by output f) wrote creates again opens))
+    one two three four five good headed (λ first last had has. tt) (lost_by f) wrote creates again opens))
 
 -- ---- by one reading
 
@@ -444,12 +433,11 @@ stopped_twice key header most label name output left left' taken (stop.Broken f)
 pub opened_once : (key : List ℕ) (most n : ℕ) (label : Option (List ℕ)) (name output plain : List ℕ)
     (left taken : Option (List ℕ)) (one two three four : Option (List Event))
     → IfSome left (λ input. IsGood key most label input plain) → n ≡ length plain
-    → (taken' : Option (List ℕ)) × Appends taken taken' plain × Does (Finishes taken') three four
+    → (taken' : Option (List ℕ)) × Appends taken taken' plain × Does (Ends Finished taken' (Some 0)) three four
     → Does (Creates output taken) two three → Does (Opens name left) one two
-    → Does (IsClosedBy (Opening key most label output name) name (Opened n)) one four
+    → Does (OpeningRead key most label output name (Opened n)) one four
 opened_once key most n label name output plain left taken one two three four good count (taken', grew, finishes) creates opens =
-    closed_quietly (Opening key most label output name) name (Opened n) one four refl
-    (chain (Opening key most label output name (Opened n))
+    chain (OpeningRead key most label output name (Opened n))
     (λ x y o e. (
       o.0,
       plain,
@@ -460,23 +448,23 @@ opened_once key most n label name output plain left taken one two three four goo
       (λ i. o.2 i ++ e i),
     ))
     one two four opens
-    (chain (λ events. events ≡ Created output ∷ Finished output plain ∷ [])
+    (chain (λ events. events ≡ Created output ∷ Finished output plain ∷ Done output false ∷ [])
     (λ x y c f.
-    let last : y ≡ Finished output plain ∷ [] = finished_as output [] plain taken taken' y c.0 grew f in
+    let last : y ≡ Finished output plain ∷ Done output false ∷ [] = ended_as Finished output [] plain taken taken' false y c.0 grew f in
     (λ i. c.1 i ++ last i))
-    two three four creates finishes))
+    two three four creates finishes)
 
 -- writing or finishing it failed, and it was given up with what was written
 pub not_written : (key : List ℕ) (most : ℕ) (label : Option (List ℕ)) (name output plain : List ℕ)
     (left taken : Option (List ℕ)) (one two three four : Option (List Event))
     → IfSome left (λ input. IsGood key most label input plain)
-    → (taken' : Option (List ℕ)) × AppendsFront taken taken' plain × Does (GivesUp taken' (counted true (Some 0))) three four
+    → (taken' : Option (List ℕ)) × AppendsFront taken taken' plain
+    × Does (Ends Discarded taken' (counted true (Some 0))) three four
     → Does (Creates output taken) two three → Does (Opens name left) one two
-    → Does (IsClosedBy (Opening key most label output name) name (Failed (Unopened bytes.Write))) one four
+    → Does (OpeningRead key most label output name (Failed (Unopened bytes.Write))) one four
 not_written key most label name output plain left taken one two three four good
     (taken', (front, begins, grew), gives) creates opens =
-    closed_quietly (Opening key most label output name) name (Failed (Unopened bytes.Write)) one four refl
-    (chain (Opening key most label output name (Failed (Unopened bytes.Write)))
+    chain (OpeningRead key most label output name (Failed (Unopened bytes.Write)))
     (λ x y o e. inl (
       o.0,
       plain,
@@ -486,74 +474,87 @@ not_written key most label name output plain left taken one two three four good
       (λ i. o.2 i ++ e i),
     ))
     one two four opens
-    (chain (λ events. events ≡ Created output ∷ Unwritten output ∷ Discarded output front ∷ [])
+    (chain (λ events. events ≡ Created output ∷ Discarded output front ∷ Done output true ∷ [])
     (λ x y c d.
-    let last : y ≡ Unwritten output ∷ Discarded output front ∷ [] = given_up_as output [] front taken taken' true y c.0 grew d in
+    let last : y ≡ Discarded output front ∷ Done output true ∷ [] = ended_as Discarded output [] front taken taken' true y c.0 grew d in
     (λ i. c.1 i ++ last i))
-    two three four creates gives))
+    two three four creates gives)
 
 -- ---- the file is closed
+
+-- what is open has a name, and was opened
+opening_of : (key : List ℕ) (most : ℕ) (label : Option (List ℕ)) (output name : List ℕ) (outcome : FileOutcome) (events : List Event)
+    → IsClosedBy (OpeningRead key most label output name) name outcome events → Opening key most label output name outcome events
+opening_of key most label output name (Failed NoSuffix) events (worked, (input, why, is), all) = absurd why
+opening_of key most label output name (Failed CannotOpen) events (worked, (input, why, is), all) = absurd why
+opening_of key most label output name outcome events closed = closed
 
 pub closed_opening : (key : List ℕ) (most : ℕ) (label : Option (List ℕ)) (output name : List ℕ) (left : Option (List ℕ))
     (outcome : FileOutcome) (first last : Option ℕ) (one read worked closed : Option (List Event))
     → ((before : Option (List Event)) → Does (Opens name left) before read
-    → Does (IsClosedBy (Opening key most label output name) name outcome) before worked)
+    → Does (OpeningRead key most label output name outcome) before worked)
     → IsCounted worked last (counted (reading_failed outcome) first) → IsCounted read first (Some 0)
     → Does (Opens name left) one read → Does (Closes name last) worked closed → Does (Opening key most label output name outcome) one closed
-closed_opening key most label output name = closed_file (Opening key most label output name) name
+closed_opening key most label output name left outcome first last one read worked closed works count none opens closes =
+    weaken (opening_of key most label output name outcome) one closed
+    (closed_file (OpeningRead key most label output name) name left outcome first last one read worked closed works count none opens closes)
 
 -- ---- verifying
 
--- a file was read, and closed
-abbrev ReadAndClosed : Bool → List ℕ → Option (List ℕ) → List Event → Type 0
-ReadAndClosed failed name left events = (input : List ℕ) × (left ≡ Some input)
-    × (events ≡ Reading name input ∷ (if failed then Unread name ∷ [] else []))
+verifying_of : (key : List ℕ) (most : ℕ) (label : Option (List ℕ)) (name : List ℕ) (outcome : FileOutcome) (events : List Event)
+    → IsClosedBy (VerifyingRead key most label name) name outcome events → Verifying key most label name outcome events
+verifying_of key most label name (Failed CannotOpen) events (worked, (input, why, is), all) = absurd why
+verifying_of key most label name outcome events closed = closed
 
-read_and_closed : (failed : Bool) (name : List ℕ) (left : Option (List ℕ)) (first last : Option ℕ) (one two three : Option (List Event))
-    → IsCounted two first (Some 0) → last ≡ counted failed first → Does (Closes name last) two three → Does (Opens name left) one two
-    → Does (ReadAndClosed failed name left) one three
-read_and_closed failed name left first last one two three none count closes opens =
-    chain (ReadAndClosed failed name left) (λ x y o c. (o.0, o.1, (λ i. o.2 i ++ c i))) one two three opens
-    (at two three none closes)
-  where
-    at : (two three : Option (List Event)) → IsCounted two first (Some 0) → Does (Closes name last) two three
-        → Does (λ events. events ≡ (if failed then Unread name ∷ [] else [])) two three
-    at two None none closes = tt
-    at None (Some after) none closes = absurd closes
-    at (Some before) (Some after) none (events, (n, many, said), all) =
-        (events, said ∙ reported_of (Unread name) failed n (sym (count ∙ ap (counted failed) none) ∙ many), all)
+-- a file was read, and closed: with what is known of its bytes the outcome is so
+verified : (key : List ℕ) (most : ℕ) (label : Option (List ℕ)) (name : List ℕ) (left : Option (List ℕ)) (outcome : FileOutcome)
+    (failed : Bool) (first last : Option ℕ) (one two three : Option (List Event))
+    → IfSome left (λ input. VerifyingRead key most label name outcome (Reading name input ∷ []))
+    → failed ≡ reading_failed outcome → IsCounted two first (Some 0) → last ≡ counted failed first
+    → Does (Closes name last) two three → Does (Opens name left) one two → Does (Verifying key most label name outcome) one three
+verified key most label name left outcome failed first last one two three is same none count closes opens =
+    weaken (verifying_of key most label name outcome) one three
+    (closed_file (VerifyingRead key most label name) name left outcome first last one two two three
+    (λ before opens. weaken (λ events o. subst (VerifyingRead key most label name outcome) (sym o.2)
+    (known (λ input. VerifyingRead key most label name outcome (Reading name input ∷ [])) left o.0 o.1 is)) before two opens)
+    (counted_if two last (counted (reading_failed outcome) first) (count ∙ ap (λ b. counted b first) same)) none opens closes)
 
-pub verified : (key : List ℕ) (most n : ℕ) (label : Option (List ℕ)) (name : List ℕ) (left : Option (List ℕ)) (first last : Option ℕ)
+-- a good file
+pub verified_good : (key : List ℕ) (most n : ℕ) (label : Option (List ℕ)) (name : List ℕ) (left : Option (List ℕ)) (first last : Option ℕ)
     (one two three : Option (List Event)) → IfSome left (λ input. OpensTo key most input n × IsLabelled label input)
     → IsCounted two first (Some 0) → last ≡ first → Does (Closes name last) two three → Does (Opens name left) one two
     → Does (Verifying key most label name (Good n)) one three
-verified key most n label name left first last one two three good none count closes opens = weaken (λ events r.
-    let is = known (λ input. OpensTo key most input n × IsLabelled label input) left r.0 r.1 good in
-    (r.0, is.0, is.1, r.2)) one three (read_and_closed false name left first last one two three none count closes opens)
+verified_good key most n label name left first last one two three good =
+    verified key most label name left (Good n) false first last one two three (by left good) refl
+  where
+    by : (left : Option (List ℕ)) → IfSome left (λ input. OpensTo key most input n × IsLabelled label input)
+        → IfSome left (λ input. VerifyingRead key most label name (Good n) (Reading name input ∷ []))
+    by None good = tt
+    by (Some input) (opens, labelled) = (input, opens, labelled, refl)
 
 pub verified_shown : (key header : List ℕ) (most n : ℕ) (label : Option (List ℕ)) (name : List ℕ) (left : Option (List ℕ)) (facts : Facts)
     (first last : Option ℕ) (one two three : Option (List Event)) → IfSome left (λ input. OpensTo key most input n × IsLabelled label input)
     → IfSome left (HasHeader header) → IsOfHeader facts header
     → IsCounted two first (Some 0) → last ≡ first → Does (Closes name last) two three → Does (Opens name left) one two
     → Does (Verifying key most label name (Shown n facts)) one three
-verified_shown key header most n label name left facts first last one two three good headed shows none count closes opens = weaken (λ events r.
-    let is = known (λ input. OpensTo key most input n × IsLabelled label input) left r.0 r.1 good in
-    let has = known (HasHeader header) left r.0 r.1 headed in
-    (r.0, is.0, is.1, subst (IsOfHeader facts) has.0 shows, r.2)) one three
-    (read_and_closed false name left first last one two three none count closes opens)
+verified_shown key header most n label name left facts first last one two three good headed shows =
+    verified key most label name left (Shown n facts) false first last one two three (by left good headed) refl
+  where
+    by : (left : Option (List ℕ)) → IfSome left (λ input. OpensTo key most input n × IsLabelled label input)
+        → IfSome left (HasHeader header)
+        → IfSome left (λ input. VerifyingRead key most label name (Shown n facts) (Reading name input ∷ []))
+    by None good headed = tt
+    by (Some input) (opens, labelled) (same, rest) = (input, opens, labelled, subst (IsOfHeader facts) same shows, refl)
 
--- by cases on the fault of a file that isn't good
-unverified_as : (key : List ℕ) (most : ℕ) (label : Option (List ℕ)) (name input : List ℕ) (f : FileFault) (events : List Event)
-    → IsFaultOf key most label input f → events ≡ Reading name input ∷ closing name (Failed f)
-    → Verifying key most label name (Failed f) events
-unverified_as key most label name input CannotOpen events why is = absurd why
-unverified_as key most label name input f events why is = (input, why, is)
-
+-- one that has a fault
 pub unverified : (key : List ℕ) (most : ℕ) (label : Option (List ℕ)) (name : List ℕ) (left : Option (List ℕ)) (f : FileFault)
     (failed : Bool) (first last : Option ℕ) (one two three : Option (List Event)) → IfSome left (λ input. IsFaultOf key most label input f)
     → failed ≡ reading_failed (Failed f) → IsCounted two first (Some 0) → last ≡ counted failed first
     → Does (Closes name last) two three → Does (Opens name left) one two → Does (Verifying key most label name (Failed f)) one three
-unverified key most label name left f failed first last one two three why is none count closes opens = weaken (λ events r.
-    unverified_as key most label name r.0 f events (known (λ input. IsFaultOf key most label input f) left r.0 r.1 why)
-    (r.2 ∙ ap (λ b. Reading name r.0 ∷ (if b then Unread name ∷ [] else [])) is)) one three
-    (read_and_closed failed name left first last one two three none count closes opens)
+unverified key most label name left f failed first last one two three why =
+    verified key most label name left (Failed f) failed first last one two three (by left why)
+  where
+    by : (left : Option (List ℕ)) → IfSome left (λ input. IsFaultOf key most label input f)
+        → IfSome left (λ input. VerifyingRead key most label name (Failed f) (Reading name input ∷ []))
+    by None why = tt
+    by (Some input) why = (input, why, refl)

@@ -1,12 +1,12 @@
 -- A trace that goes on, where it is known.
 use Rattle.std.proofs.Common.{◌≡◌, ℕ, refl, sym, ap, subst, ◌∙◌, List, [], ◌∷◌, ◌++◌, length, get_or, take, drop}
-use Rattle.std.proofs.Common.{append-nil, append_assoc, Option, None, Some, IfSome, Bool, true, false, if◌then◌else◌}
+use Rattle.std.proofs.Common.{append-nil, append_assoc, Option, None, Some, IfSome, Bool, true, false}
 use Rattle.std.proofs.Math.Seq.{drop-append_seam, take-append_seam}
 use Rattle.io_core.specs.Streams.{Appends, counted}
 use Rattle.command_core.specs.declared.line.FileOutcome.{FileOutcome}
 use Rattle.command_core.specs.Trace.{Event, Finished, Discarded, Does, Nothing, Finishes, Discards, tape}
-use Rattle.command_core.specs.Trace.{Closes, GivesUp, IsCounted, Opens, Unread, Unwritten, reported}
-use Rattle.command_core.specs.Work.{IsClosedBy, closing, reading_failed}
+use Rattle.command_core.specs.Trace.{Closed, Closes, Done, Ends, IsCounted, Opens, has_failed}
+use Rattle.command_core.specs.Work.{IsClosedBy, reading_failed}
 
 pub nothing : (told : Option (List Event)) → Does Nothing told told
 nothing None = tt
@@ -73,31 +73,30 @@ counted_new failed told told' new declared same none kept = subst (λ t. IsCount
     both None none kept = tt
     both (Some events) none kept = ap (counted failed) (kept ∙ none)
 
--- what is reported of a count, which was 0
-pub reported_of : (event : Event) (failed : Bool) (n : ℕ) → counted failed (Some 0) ≡ Some n
-    → reported event n ≡ (if failed then event ∷ [] else [])
-reported_of event true n is = let one : n ≡ 1 = cc in ap (reported event) one
-reported_of event false n is = let none : n ≡ 0 = cc in ap (reported event) none
+-- whether a call failed, by a count that was 0
+pub has_failed_of : (failed : Bool) (n : ℕ) → counted failed (Some 0) ≡ Some n → has_failed n ≡ failed
+has_failed_of true n is = let one : n ≡ 1 = cc in ap has_failed one
+has_failed_of false n is = let none : n ≡ 0 = cc in ap has_failed none
 
 -- the file is closed, in the one case
 closed_step : (does : FileOutcome → List Event → Type 0) (name : List ℕ) (outcome : FileOutcome) (first last : Option ℕ)
     (one two three : List Event) → first ≡ Some 0 → last ≡ counted (reading_failed outcome) first
-    → Does (IsClosedBy does name outcome) (Some one) (Some two) → Does (Closes name last) (Some two) (Some three)
-    → Does (does outcome) (Some one) (Some three)
+    → Does (does outcome) (Some one) (Some two) → Does (Closes name last) (Some two) (Some three)
+    → Does (IsClosedBy does name outcome) (Some one) (Some three)
 closed_step does name outcome first last one two three none count (events, is, all) (more, (n, many, said), whole) =
-    let ends : more ≡ closing name outcome =
-    said ∙ reported_of (Unread name) (reading_failed outcome) n (sym (count ∙ ap (counted (reading_failed outcome)) none) ∙ many) in (
-      events ++ closing name outcome,
-      is,
-      whole ∙ (λ i. all i ++ ends i) ∙ append_assoc one events (closing name outcome),
+    let ends : more ≡ Closed name (reading_failed outcome) ∷ [] = said ∙ ap (λ b. Closed name b ∷ [])
+    (has_failed_of (reading_failed outcome) n (sym (count ∙ ap (counted (reading_failed outcome)) none) ∙ many)) in (
+      events ++ Closed name (reading_failed outcome) ∷ [],
+      (events, is, refl),
+      whole ∙ (λ i. all i ++ ends i) ∙ append_assoc one events (Closed name (reading_failed outcome) ∷ []),
     )
 
 -- a file that was read is closed
 pub closed_file : (does : FileOutcome → List Event → Type 0) (name : List ℕ) (left : Option (List ℕ)) (outcome : FileOutcome)
     (first last : Option ℕ) (one read worked closed : Option (List Event))
-    → ((before : Option (List Event)) → Does (Opens name left) before read → Does (IsClosedBy does name outcome) before worked)
+    → ((before : Option (List Event)) → Does (Opens name left) before read → Does (does outcome) before worked)
     → IsCounted worked last (counted (reading_failed outcome) first) → IsCounted read first (Some 0)
-    → Does (Opens name left) one read → Does (Closes name last) worked closed → Does (does outcome) one closed
+    → Does (Opens name left) one read → Does (Closes name last) worked closed → Does (IsClosedBy does name outcome) one closed
 closed_file does name left outcome first last one read worked None works count none opens closes = tt
 closed_file does name left outcome first last one read None (Some c) works count none opens closes = absurd closes
 closed_file does name left outcome first last one None (Some w) (Some c) works count none opens closes = absurd (works None tt)
@@ -105,18 +104,12 @@ closed_file does name left outcome first last None (Some r) (Some w) (Some c) wo
 closed_file does name left outcome first last (Some o) (Some r) (Some w) (Some c) works count none opens closes =
     closed_step does name outcome first last o w c none count (works (Some o) opens) closes
 
--- nothing is reported then
-pub closed_quietly : (does : FileOutcome → List Event → Type 0) (name : List ℕ) (outcome : FileOutcome) (one two : Option (List Event))
-    → reading_failed outcome ≡ false → Does (does outcome) one two → Does (IsClosedBy does name outcome) one two
-closed_quietly does name outcome one two none did = weaken (λ events is.
-    subst (does outcome) (sym (ap (λ b. events ++ (if b then Unread name ∷ [] else [])) none ∙ append-nil events)) is) one two did
-
--- what was given up, with another count
-pub gives_up_as : (taken : Option (List ℕ)) (failures count : Option ℕ) (one two : Option (List Event)) → IsCounted one failures count
-    → Does (GivesUp taken failures) one two → Does (GivesUp taken count) one two
-gives_up_as taken failures count one None is did = tt
-gives_up_as taken failures count None (Some after) is did = absurd did
-gives_up_as taken failures count (Some before) (Some after) is did = subst (λ n. Does (GivesUp taken n) (Some before) (Some after)) is did
+-- what happened, with another count
+pub ends_as : (kind : Option ℕ → List Event → Type 0) (failures count : Option ℕ) (one two : Option (List Event))
+    → IsCounted one failures count → Does (kind failures) one two → Does (kind count) one two
+ends_as kind failures count one None is did = tt
+ends_as kind failures count None (Some after) is did = absurd did
+ends_as kind failures count (Some before) (Some after) is did = subst (λ n. Does (kind n) (Some before) (Some after)) is did
 
 -- ---- tapes
 
@@ -162,21 +155,19 @@ discarded_as name bytes more taken taken' events is grew (other, all, tells, d) 
     let same = tape_as name other bytes more all taken taken' is grew tells in
     d ∙ ap (λ n. Discarded n all ∷ []) same.0 ∙ ap (λ b. Discarded name b ∷ []) same.1
 
--- or a failed write is reported before
-pub gave_up : (output other bytes : List ℕ) (failed : Bool) (n : ℕ) (events : List Event) → other ≡ output
-    → counted failed (Some 0) ≡ Some n → events ≡ reported (Unwritten other) n ++ Discarded other bytes ∷ []
-    → events ≡ (if failed then Unwritten output ∷ [] else []) ++ Discarded output bytes ∷ []
-gave_up output other bytes failed n events same many said =
-    said ∙ ap (λ l. l ++ Discarded other bytes ∷ []) (reported_of (Unwritten other) failed n many)
-    ∙ ap (λ o. (if failed then Unwritten o ∷ [] else []) ++ Discarded o bytes ∷ []) same
+-- that of a plaintext came to its end under its own name, and it is reported whether a write failed
+pub ended_under : (end : List ℕ → List ℕ → Event) (output other bytes : List ℕ) (failed : Bool) (n : ℕ) (events : List Event)
+    → other ≡ output → counted failed (Some 0) ≡ Some n → events ≡ end other bytes ∷ Done other (has_failed n) ∷ []
+    → events ≡ end output bytes ∷ Done output failed ∷ []
+ended_under end output other bytes failed n events same many said =
+    said ∙ ap (λ f. end other bytes ∷ Done other f ∷ []) (has_failed_of failed n many) ∙ ap (λ o. end o bytes ∷ Done o failed ∷ []) same
 
-pub given_up_as : (name bytes more : List ℕ) (taken taken' : Option (List ℕ)) (failed : Bool) (events : List Event)
-    → taken ≡ Some (tape name bytes) → Appends taken taken' more → GivesUp taken' (counted failed (Some 0)) events
-    → events ≡ (if failed then Unwritten name ∷ [] else []) ++ Discarded name (bytes ++ more) ∷ []
-given_up_as name bytes more taken taken' failed events is grew (other, all, n, tells, many, said) =
+pub ended_as : (end : List ℕ → List ℕ → Event) (name bytes more : List ℕ) (taken taken' : Option (List ℕ)) (failed : Bool)
+    (events : List Event) → taken ≡ Some (tape name bytes) → Appends taken taken' more
+    → Ends end taken' (counted failed (Some 0)) events → events ≡ end name (bytes ++ more) ∷ Done name failed ∷ []
+ended_as end name bytes more taken taken' failed events is grew (other, all, n, tells, many, said) =
     let same = tape_as name other bytes more all taken taken' is grew tells in
-    gave_up name other all failed n events same.0 many said
-    ∙ ap (λ b. (if failed then Unwritten name ∷ [] else []) ++ Discarded name b ∷ []) same.1
+    ended_under end name other all failed n events same.0 many said ∙ ap (λ b. end name b ∷ Done name failed ∷ []) same.1
 
 pub known : (P : List ℕ → Type 0) (left : Option (List ℕ)) (bytes : List ℕ) → left ≡ Some bytes → IfSome left P
     → P bytes

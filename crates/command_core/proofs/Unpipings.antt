@@ -19,17 +19,17 @@ use Rattle.command_core.specs.declared.line.FileOutcome.{FileOutcome}
 use Rattle.command_core.specs.declared.line.FileOutcome.TheVariants.{Failed, Opened}
 use Rattle.command_core.specs.Again.{IsBegun, IsGood}
 use Rattle.command_core.specs.Labels.{IsLabelled}
-use Rattle.command_core.specs.Trace.{Closes, Does, Event, FailsToOpen, IsCounted, Opens, Reading, Unread}
-use Rattle.command_core.specs.Unpiping.{HasUnpiped, HasUnpipedRead, IsCutShort, IsOfUnpiping, Unpipes, write_failed}
-use Rattle.command_core.specs.Work.{IsClosedBy, IsFaultOf, IsOfVerifying, closing, reading_failed}
+use Rattle.command_core.specs.Trace.{Closes, Does, Event, FailsToRewind, IsCounted, Opens, Reading, Rewinds}
+use Rattle.command_core.specs.Unpiping.{HasUnpiped, HasUnpipedRead, IsCutShort, IsOfUnpiping, Unpipes, UnpipesRead}
+use Rattle.command_core.specs.Work.{IsClosedBy, IsFaultOf, IsOfVerifying, reading_failed, write_failed}
 use Rattle.command_core.proofs.Openings.{IsGoodIf, begun_part, differ, given_whole}
 use Rattle.command_core.proofs.Traces.{chain, closed_file, known, weaken}
 
 -- ---- nothing was written
 
 refused_works : (key : List ℕ) (most : ℕ) (label : Option (List ℕ)) (name : List ℕ) (taken : Option (List ℕ)) (f : FileFault)
-    (input : List ℕ) (events : List Event) → IsFaultOf key most label input f → events ≡ Reading name input ∷ closing name (Failed f)
-    → Unpipes key most label name taken taken (Failed f) events
+    (input : List ℕ) (events : List Event) → IsFaultOf key most label input f → events ≡ Reading name input ∷ []
+    → UnpipesRead key most label name taken taken (Failed f) events
 refused_works key most label name taken fault.CannotOpen input events why is = absurd why
 refused_works key most label name taken fault.NoSuffix input events why is = absurd why
 refused_works key most label name taken fault.OutputExists input events why is = absurd why
@@ -48,7 +48,7 @@ refused_works key most label name taken (fault.Unopened bytes.BadExponent) input
 refused_works key most label name taken (fault.Unopened bytes.KeyMismatch) input events why is = (input, why, is)
 refused_works key most label name taken (fault.Unopened bytes.BadLength) input events why is = (input, why, is)
 refused_works key most label name taken (fault.Unopened (bytes.Forged chunk)) input events why is = (input, why, is)
-refused_works key most label name taken (fault.Unopened bytes.OutOfMemory) input events why is = inl (Keeps-refl taken, input, is)
+refused_works key most label name taken (fault.Unopened bytes.OutOfMemory) input events why is = inl (Keeps-refl taken, input, why, is)
 refused_works key most label name taken (fault.Unopened bytes.Read) input events why is = inl (Keeps-refl taken, input, is)
 refused_works key most label name taken (fault.Unopened bytes.Write) input events why is = absurd why
 
@@ -93,20 +93,20 @@ pub refused_unpipes : (key : List ℕ) (most : ℕ) (label : Option (List ℕ)) 
     → IfSome left (λ input. IsFaultOf key most label input f) → Does (Opens name left) one two
     → HasUnpipedRead key most label name taken taken failures failures one two (Failed f)
 refused_unpipes key most label name left taken failures one two f of why opens = record {
-  works = weaken (λ events o. refused_works key most label name taken f o.0 (events ++ closing name (Failed f))
-      (known (λ input. IsFaultOf key most label input f) left o.0 o.1 why) (ap (λ l. l ++ closing name (Failed f)) o.2)) one two opens;
+  works = weaken (λ events o. refused_works key most label name taken f o.0 events
+      (known (λ input. IsFaultOf key most label input f) left o.0 o.1 why) o.2) one two opens;
   kept = refused_kept taken f of;
   write = sym (ap (λ b. counted b failures) (no_write f of));
 }
 
 pub lost_unpipes : (key : List ℕ) (most : ℕ) (label : Option (List ℕ)) (name : List ℕ) (left taken : Option (List ℕ))
-    (failures : Option ℕ) (one two three : Option (List Event)) → IsGoodIf key most label left → Does (FailsToOpen name) two three
+    (failures : Option ℕ) (one two three : Option (List Event)) → IsGoodIf key most label left → Does (FailsToRewind name) two three
     → Does (Opens name left) one two
     → HasUnpipedRead key most label name taken taken failures failures one three (Failed fault.SpoolFailed)
 lost_unpipes key most label name left taken failures one two three good fails opens = record {
-  works = chain (IsClosedBy (Unpipes key most label name taken taken) name (Failed fault.SpoolFailed)) (λ x y o n.
+  works = chain (UnpipesRead key most label name taken taken (Failed fault.SpoolFailed)) (λ x y o n.
       let (plain, is) = known (λ input. (plain : List ℕ) × IsGood key most label input plain) left o.0 o.1 good in
-      (o.0, plain, is, (λ i. (o.2 i ++ n i) ++ Unread name ∷ []))) one two three opens fails;
+      (o.0, plain, is, (λ i. o.2 i ++ n i))) one two three opens fails;
   kept = Keeps-refl taken;
   write = refl;
 }
@@ -118,12 +118,12 @@ pub opened_unpipes : (key header : List ℕ) (most n : ℕ) (label : Option (Lis
     (one two three : Option (List Event)) → IsGoodIf key most label left → IfSome left (HasHeader header)
     → ((input : List ℕ) → HasHeader header input → IsLabelled label input)
     → HasWrittenAgain key header most left' taken taken' reads reads' failures failures' result → result ≡ Ok n
-    → Does (Opens name left') two three → Does (Opens name left) one two
+    → Does (Rewinds name left') two three → Does (Opens name left) one two
     → HasUnpipedRead key most label name taken taken' failures failures' one three (Opened n)
 opened_unpipes key header most n label name left left' taken taken' reads reads' failures failures' result one two three good headed
     labelled wrote is again opens =
     let (input, first_header, (plain, opened, written, long), given) = IfOk-at_ok _ is wrote.written in record {
-      works = chain (IsClosedBy (Unpipes key most label name taken taken') name (Opened n)) (λ x y o a.
+      works = chain (UnpipesRead key most label name taken taken' (Opened n)) (λ x y o a.
           let first = known (λ input. (plain : List ℕ) × IsGood key most label input plain) left o.0 o.1 good in
           let (same, (whole, ok, grew, count)) = known (λ input. HasHeader header input × WritesAll key most taken taken' input n) left' a.0 a.1
           (given_whole key most n header left' taken taken' (IfOk-at_ok _ is wrote.written)) in (
@@ -131,7 +131,7 @@ opened_unpipes key header most n label name left left' taken taken' reads reads'
             o.0,
             a.0,
             whole,
-            (known (HasHeader header) left o.0 o.1 headed, first, (λ i. (o.2 i ++ a.2 i) ++ [])),
+            (known (HasHeader header) left o.0 o.1 headed, first, (λ i. o.2 i ++ a.2 i)),
             same,
             (ok, labelled a.0 same),
             count,
@@ -151,31 +151,28 @@ begun_of key header most left taken taken' reads reads' failures failures' resul
     (subst (λ r. OnErr r (Keeps taken taken' ⊎ HasSent key header header left taken taken')) is wrote.checked))
 
 cut_short : (are : List ℕ → List ℕ → Type 0) (key header : List ℕ) (most : ℕ) (label : Option (List ℕ)) (name : List ℕ)
-    (left left' taken taken' : Option (List ℕ)) (f : FileFault) (one two three : Option (List Event)) → IsGoodIf key most label left
+    (left left' taken taken' : Option (List ℕ)) (one two three : Option (List Event)) → IsGoodIf key most label left
     → IfSome left (HasHeader header) → ((first last : List ℕ) → left ≡ Some first → left' ≡ Some last → are first last)
     → ((input : List ℕ) → left' ≡ Some input → IsBegun key most header input taken taken')
-    → Does (Opens name left') two three → Does (Opens name left) one two
-    → Does (λ events. IsCutShort key most label name taken taken' are f (events ++ closing name (Failed f))) one three
-cut_short are key header most label name left left' taken taken' f one two three good headed so begun again opens =
-    chain (λ events. IsCutShort key most label name taken taken' are f (events ++ closing name (Failed f))) (λ x y o a. (
+    → Does (Rewinds name left') two three → Does (Opens name left) one two
+    → Does (IsCutShort key most label name taken taken' are) one three
+cut_short are key header most label name left left' taken taken' one two three good headed so begun again opens =
+    chain (IsCutShort key most label name taken taken' are) (λ x y o a. (
       header,
       o.0,
       a.0,
-      Reading name o.0 ∷ Reading name a.0 ∷ [],
       so o.0 a.0 o.1 a.1,
       (
         known (HasHeader header) left o.0 o.1 headed,
         known (λ input. (plain : List ℕ) × IsGood key most label input plain) left o.0 o.1 good,
-        refl,
+        (λ i. o.2 i ++ a.2 i),
       ),
       begun a.0 a.1,
-      (λ i. (o.2 i ++ a.2 i) ++ closing name (Failed f)),
     )) one two three opens again
 
 broken_unpipes : (key : List ℕ) (most : ℕ) (label : Option (List ℕ)) (name : List ℕ) (taken taken' : Option (List ℕ))
     (failures failures' : Option ℕ) (one three : Option (List Event)) (f : OpenFault) → ¬ IsOfBytes f
-    → Does (λ events. IsCutShort key most label name taken taken' (λ _ _. ⊤) (fault.Unopened f)
-    (events ++ closing name (Failed (fault.Unopened f)))) one three
+    → Does (IsCutShort key most label name taken taken' (λ _ _. ⊤)) one three
     → failures' ≡ counted (broken_by_write (Err (stop.Broken f))) failures
     → HasUnpipedRead key most label name taken taken' failures failures' one three (Failed (fault.Unopened f))
 broken_unpipes key most label name taken taken' failures failures' one three bytes.TooLong other cut count = absurd (other tt)
@@ -199,14 +196,14 @@ pub stopped_unpipes : (key header : List ℕ) (most : ℕ) (label : Option (List
     → IfSome left (HasHeader header)
     → HasWrittenAgain key header most left' taken taken' reads reads' failures failures' result → result ≡ Err stopped
     → (stopped ≡ stop.Changed → f ≡ fault.Changed) × ((g : OpenFault) → stopped ≡ stop.Broken g → f ≡ fault.Unopened g)
-    → Does (Opens name left') two three → Does (Opens name left) one two
+    → Does (Rewinds name left') two three → Does (Opens name left) one two
     → HasUnpipedRead key most label name taken taken' failures failures' one three (Failed f)
 stopped_unpipes key header most label name left left' taken taken' reads reads' failures failures' result (stop.Refused g) f one two three
     good headed wrote is told again opens = absurd (wrote.checked_before g is)
 stopped_unpipes key header most label name left left' taken taken' reads reads' failures failures' result stop.Changed f one two three
     good headed wrote is told again opens =
     subst (λ x. HasUnpipedRead key most label name taken taken' failures failures' one three (Failed x)) (sym (told.0 refl)) (record {
-      works = cut_short (λ first last. first ≢ last) key header most label name left left' taken taken' fault.Changed one two three good headed
+      works = cut_short (λ first last. first ≢ last) key header most label name left left' taken taken' one two three good headed
           (differ key header most label left left' good headed (wrote.changed is))
           (begun_of key header most left' taken taken' reads reads' failures failures' result stop.Changed wrote is) again opens;
       kept = tt;
@@ -216,7 +213,7 @@ stopped_unpipes key header most label name left left' taken taken' reads reads' 
     good headed wrote is told again opens =
     subst (λ x. HasUnpipedRead key most label name taken taken' failures failures' one three (Failed x)) (sym (told.1 g refl))
     (broken_unpipes key most label name taken taken' failures failures' one three g (wrote.broken g is)
-    (cut_short (λ _ _. ⊤) key header most label name left left' taken taken' (fault.Unopened g) one two three good headed
+    (cut_short (λ _ _. ⊤) key header most label name left left' taken taken' one two three good headed
     (λ first last had has. tt)
     (begun_of key header most left' taken taken' reads reads' failures failures' result (stop.Broken g) wrote is) again opens)
     (wrote.write ∙ ap (λ r. counted (broken_by_write r) failures) is))
@@ -231,6 +228,12 @@ same_unpipes key most label name before taken taken' earlier failures failures' 
     (subst (λ n. HasUnpipedRead key most label name taken taken' n failures' one three outcome) count done)
 
 -- and the file is closed
+unpipes_of : (key : List ℕ) (most : ℕ) (label : Option (List ℕ)) (name : List ℕ) (taken taken' : Option (List ℕ)) (outcome : FileOutcome)
+    (events : List Event) → IsClosedBy (UnpipesRead key most label name taken taken') name outcome events
+    → Unpipes key most label name taken taken' outcome events
+unpipes_of key most label name taken taken' (Failed fault.CannotOpen) events (worked, (input, why, is), all) = absurd why
+unpipes_of key most label name taken taken' outcome events closed = closed
+
 pub closed_unpipes : (key : List ℕ) (most : ℕ) (label : Option (List ℕ)) (name : List ℕ) (left taken taken' : Option (List ℕ))
     (failures failures' first last : Option ℕ) (one read worked closed : Option (List Event)) (outcome : FileOutcome)
     → ((before : Option (List Event)) → Does (Opens name left) before read
@@ -240,8 +243,9 @@ pub closed_unpipes : (key : List ℕ) (most : ℕ) (label : Option (List ℕ)) (
     → HasUnpiped key most label name taken taken' failures failures' one closed outcome
 closed_unpipes key most label name left taken taken' failures failures' first last one read worked closed outcome run count none opens closes =
     record {
-      works = closed_file (Unpipes key most label name taken taken') name left outcome first last one read worked closed
-          (λ before opens. (run before opens).works) count none opens closes;
+      works = weaken (unpipes_of key most label name taken taken' outcome) one closed
+          (closed_file (UnpipesRead key most label name taken taken') name left outcome first last one read worked closed
+          (λ before opens. (run before opens).works) count none opens closes);
       kept = (run one opens).kept;
       write = (run one opens).write;
     }

@@ -1,21 +1,25 @@
 -- What a folder reports of a run: which files were read, and what became of its outputs.
-use Rattle.std.specs.Prelude.{⊤, ◌≡◌, ℕ, zero, suc, List, [], ◌∷◌, ◌++◌, length, Option, None, Some, IfSome, Ok}
+use Rattle.std.specs.Prelude.{⊤, ◌≡◌, ℕ, ◌==◌, Bool, false, true, not, List, [], ◌∷◌, ◌++◌, length, Option, None, Some, IfSome, Ok}
 use Rattle.container_core.specs.Opening.{opening}
 use Rattle.opening_core.specs.Engine.{HasHeader}
 use Rattle.command_core.specs.declared.folder.FolderFault.{FolderFault}
 
--- A file was opened for reading, and its reader has these bytes; or it could not be opened, or not read again; or it was
--- closed, after a call of its reader failed. An output was created; or it could not be created, with this fault. A write to an output failed, or its end
--- was refused. An output was finished, and these are all its bytes; or it was given up with these bytes, and its removal
--- was tried.
+-- A file was opened for reading, and its reader has these bytes; or it could not be opened. An open file was set back to
+-- its first byte, or `true`: that failed. It was closed; `true`: a call of its reader had failed.
+--
+-- An output was created; or it could not be, with this fault. It was finished, and these are all its bytes; or it was
+-- given up with these bytes, and its removal was tried. The writer of a plaintext is done; `true`: a write had failed, or
+-- the output's end had been refused.
 pub data Event : Type 0 where
   Reading : List ℕ → List ℕ → Event
   Unread : List ℕ → Event
+  Rewound : List ℕ → Bool → Event
+  Closed : List ℕ → Bool → Event
   Created : List ℕ → Event
   Refused : List ℕ → FolderFault → Event
-  Unwritten : List ℕ → Event
   Finished : List ℕ → List ℕ → Event
   Discarded : List ℕ → List ℕ → Event
+  Done : List ℕ → Bool → Event
 
 -- Events of this kind came after those so far, if it is still known what came. A folder may forget, and then it knows
 -- no more.
@@ -37,9 +41,18 @@ Nothing events = events ≡ []
 abbrev pub Opens : List ℕ → Option (List ℕ) → List Event → Type 0
 Opens name left events = (bytes : List ℕ) × (left ≡ Some bytes) × (events ≡ Reading name bytes ∷ [])
 
--- a file could not be opened, or not read again
+-- a file could not be opened
 abbrev pub FailsToOpen : List ℕ → List Event → Type 0
 FailsToOpen name events = events ≡ Unread name ∷ []
+
+-- an open file was set back, and its reader has these bytes to give
+abbrev pub Rewinds : List ℕ → Option (List ℕ) → List Event → Type 0
+Rewinds name left events =
+    (bytes : List ℕ) × (left ≡ Some bytes) × (events ≡ Rewound name false ∷ Reading name bytes ∷ [])
+
+-- an open file could not be set back
+abbrev pub FailsToRewind : List ℕ → List Event → Type 0
+FailsToRewind name events = events ≡ Rewound name true ∷ []
 
 -- an output was created, and its writer reports its name and no byte
 abbrev pub Creates : List ℕ → Option (List ℕ) → List Event → Type 0
@@ -59,19 +72,19 @@ abbrev pub Discards : Option (List ℕ) → List Event → Type 0
 Discards taken events =
     (name : List ℕ) × (bytes : List ℕ) × (taken ≡ Some (tape name bytes)) × (events ≡ Discarded name bytes ∷ [])
 
--- an event that is reported unless this count of failed calls is 0
-abbrev pub reported : Event → ℕ → List Event
-reported event zero = []
-reported event (suc n) = event ∷ []
+-- whether calls failed, by their number
+abbrev pub has_failed : ℕ → Bool
+has_failed n = not (n == 0)
 
--- The reader of a file was closed. That is reported where calls of it failed.
+-- The reader of a file was closed, after so many calls of it had failed.
 abbrev pub Closes : List ℕ → Option ℕ → List Event → Type 0
-Closes name failures events = (n : ℕ) × (failures ≡ Some n) × (events ≡ reported (Unread name) n)
+Closes name failures events = (n : ℕ) × (failures ≡ Some n) × (events ≡ Closed name (has_failed n) ∷ [])
 
--- An output of a plaintext was given up. It is reported before where writes of it failed, or its end.
-abbrev pub GivesUp : Option (List ℕ) → Option ℕ → List Event → Type 0
-GivesUp taken failures events = (name : List ℕ) × (bytes : List ℕ) × (n : ℕ) × (taken ≡ Some (tape name bytes))
-    × (failures ≡ Some n) × (events ≡ reported (Unwritten name) n ++ Discarded name bytes ∷ [])
+-- The output of a plaintext came to this end, `Finished` or `Discarded`, under the name and with the bytes that its writer
+-- reports, after so many writes to it had failed, or its end.
+abbrev pub Ends : (List ℕ → List ℕ → Event) → Option (List ℕ) → Option ℕ → List Event → Type 0
+Ends end taken failures events = (name : List ℕ) × (bytes : List ℕ) × (n : ℕ) × (taken ≡ Some (tape name bytes))
+    × (failures ≡ Some n) × (events ≡ end name bytes ∷ Done name (has_failed n) ∷ [])
 
 -- A folder that knows what happened knows how many calls of a reader or a writer failed.
 abbrev pub IsCounted : Option (List Event) → Option ℕ → Option ℕ → Type 0
@@ -85,5 +98,6 @@ IsOpenedBy key name plain events = (bytes : List ℕ) × (most : ℕ) × (before
 -- a file of this name was read, opens under the key, and has this header; then it was read again, and gave these bytes
 abbrev pub IsReadAgain : List ℕ → List ℕ → List ℕ → Option (List ℕ) → List Event → Type 0
 IsReadAgain key header name left events = (first : List ℕ) × (last : List ℕ) × (plain : List ℕ) × (most : ℕ)
-    × (before : List Event) × (after : List Event) × (events ≡ before ++ Reading name first ∷ Reading name last ∷ after)
+    × (before : List Event) × (after : List Event)
+    × (events ≡ before ++ Reading name first ∷ Rewound name false ∷ Reading name last ∷ after)
     × (left ≡ Some last) × (opening key most first ≡ Ok plain) × HasHeader header first

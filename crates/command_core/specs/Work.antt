@@ -1,12 +1,12 @@
 -- What `open_all` and `verify_all` do with a list of files.
-use Rattle.std.specs.Prelude.{◌≡◌, ◌≢◌, ◌⊎◌, ℕ, ◌-◌, ◌<◌, ◌≤◌, Bool, true, false, if◌then◌else◌, List, [], ◌∷◌, ◌++◌, length}
+use Rattle.std.specs.Prelude.{◌≡◌, ◌≢◌, ◌⊎◌, ℕ, ◌-◌, ◌<◌, ◌≤◌, Bool, true, false, List, [], ◌∷◌, ◌++◌, length}
 use Rattle.std.specs.Prelude.{take}
 use Rattle.std.specs.Prelude.{map, ⊤, All, Option, None, Some, option_map, flat_map, codes, Result, Ok, Err}
 use Rattle.container_core.specs.declared.fault.OpenFault.TheVariants.{Read, Write}
 use Rattle.container_core.specs.declared.fault.OpenFault.TheVariants as bytes
 use Rattle.container_core.specs.Container.{header_length}
 use Rattle.container_core.specs.Faults.{IsOfBytes}
-use Rattle.container_core.specs.Opening.{opening}
+use Rattle.container_core.specs.Opening.{header_fault, opening}
 use Rattle.opening_core.specs.Engine.{HasHeader, OpensTo, open_read_failed}
 use Rattle.io_core.specs.Streams.{Appends, AppendsFront, IsFront, counted, LacksSome}
 use Rattle.command_core.specs.declared.commands.OpenOptions.{OpenOptions}
@@ -80,9 +80,10 @@ IsOfVerifying show (Failed (Unopened fault)) = ⊤
 IsOfVerifying show _ = ⊥
 
 -- An input that was read has this fault: it is the first by the definition, or the input opens and has another label.
--- Nothing is said of a reader that failed, or of memory.
+-- Memory is refused only where the header is good. Nothing is said of a reader that failed.
 abbrev pub IsFaultOf : List ℕ → ℕ → Option (List ℕ) → List ℕ → FileFault → Type 0
 IsFaultOf key most label input (Unopened Write) = ⊥
+IsFaultOf key most label input (Unopened bytes.OutOfMemory) = header_fault key input ≡ None
 IsFaultOf key most label input (Unopened fault) = IsOfBytes fault → opening key most input ≡ Err fault
 IsFaultOf key most label input AnotherLabel =
     (plain : List ℕ) × (opening key most input ≡ Ok plain) × ¬ IsLabelled label input
@@ -99,26 +100,33 @@ reading_failed (Failed (Unopened Read)) = true
 reading_failed (Failed SpoolFailed) = true
 reading_failed _ = false
 
--- what is reported when the file is closed
-abbrev pub closing : List ℕ → FileOutcome → List Event
-closing name outcome = if reading_failed outcome then trace.Unread name ∷ [] else []
+-- whether the outcome is that a write failed
+abbrev pub write_failed : FileOutcome → Bool
+write_failed (Failed (Unopened Write)) = true
+write_failed _ = false
+
+-- This happened for a file, and at last it was closed: after a call of its reader had failed exactly where the outcome
+-- says that.
+abbrev pub IsClosedBy : (FileOutcome → List Event → Type 0) → List ℕ → FileOutcome → List Event → Type 0
+IsClosedBy does name outcome events = (worked : List Event) × does outcome worked
+    × (events ≡ worked ++ trace.Closed name (reading_failed outcome) ∷ [])
 
 -- What came before the last reading of a file, which has this label: nothing, or a first reading that is good and has
 -- the same header.
 abbrev pub AreBefore : List ℕ → ℕ → Option (List ℕ) → List ℕ → List ℕ → List Event → Type 0
 AreBefore key most label name last before = (before ≡ []) ⊎ ((header : List ℕ) × (first : List ℕ) × (plain : List ℕ)
     × IsGood key most label first plain × HasHeader header first × HasHeader header last
-    × (before ≡ trace.Reading name first ∷ []))
+    × (before ≡ trace.Reading name first ∷ trace.Rewound name false ∷ []))
 
--- The readings of a file of this name: one, or two.
+-- The readings of a file of this name: one, or two of the same open file.
 abbrev pub AreReadings : List ℕ → List ℕ → List Event → Type 0
 AreReadings name first readings = (readings ≡ trace.Reading name first ∷ [])
-    ⊎ ((last : List ℕ) × (readings ≡ trace.Reading name first ∷ trace.Reading name last ∷ []))
+    ⊎ ((last : List ℕ) × (readings ≡ trace.Reading name first ∷ trace.Rewound name false ∷ trace.Reading name last ∷ []))
 
--- The events for a file that is good, and could not be read again. The last is that of closing it.
+-- The events for a file that is good, and could not be set back to be read again.
 abbrev pub IsUnrepeated : List ℕ → ℕ → Option (List ℕ) → List ℕ → List Event → Type 0
 IsUnrepeated key most label name events = (first : List ℕ) × (plain : List ℕ) × IsGood key most label first plain
-    × (events ≡ trace.Reading name first ∷ trace.Unread name ∷ trace.Unread name ∷ [])
+    × (events ≡ trace.Reading name first ∷ trace.Rewound name true ∷ [])
 
 -- The events for a file that is good, whose output was refused for this cause.
 abbrev pub IsRefused : List ℕ → ℕ → Option (List ℕ) → List ℕ → List ℕ → FolderFault → List Event → Type 0
@@ -131,12 +139,7 @@ IsRefused key most label output name cause events = (first : List ℕ) × (plain
 abbrev pub IsGivenUp : List ℕ → ℕ → Option (List ℕ) → List ℕ → List ℕ → List Event → Type 0
 IsGivenUp key most label output name events = (input : List ℕ) × (plain : List ℕ) × (written : List ℕ)
     × IsGood key most label input plain × IsFront written plain × (events ≡ trace.Reading name input
-    ∷ trace.Created output ∷ trace.Unwritten output ∷ trace.Discarded output written ∷ [])
-
--- what is reported of an output that is given up for this fault
-abbrev pub lost : List ℕ → FileFault → List Event
-lost output (Unopened Write) = trace.Unwritten output ∷ []
-lost output _ = []
+    ∷ trace.Created output ∷ trace.Discarded output written ∷ trace.Done output true ∷ [])
 
 -- The events for a file that was read twice. Its output was given up, for this fault, with what was written of the
 -- second reading. The two readings are so.
@@ -145,54 +148,63 @@ abbrev pub IsBrokenOff : (List ℕ → List ℕ → Type 0) → List ℕ → ℕ
 IsBrokenOff are key most label output name fault events = (header : List ℕ) × (first : List ℕ) × (last : List ℕ)
     × (written : List ℕ) × (readings : List Event) × are first last
     × IsReadTwice key most label name header first last readings
-    × IsBegun key most header last (Some []) (Some written)
-    × (events ≡ readings ++ trace.Created output ∷ lost output fault ++ trace.Discarded output written
-    ∷ closing name (Failed fault))
+    × IsBegun key most header last (Some []) (Some written) × (events ≡ readings ++ trace.Created output
+    ∷ trace.Discarded output written ∷ trace.Done output (write_failed (Failed fault)) ∷ [])
 
--- The events for a file of this name that is to be opened to this output. An output is asked for only after an input
--- was read that opens and has the label. It is finished with the plaintext of the last reading, once, and then the line
--- says `opened`. Or it is refused, for the cause in the line. Or it is given up: after a write, a read or memory failed,
--- or because the second reading gave other bytes. The line says `write failed` only where a write to the output failed,
--- or its end. It says `read failed` only where a read failed, or the good file could not be read again.
-abbrev pub Opening : List ℕ → ℕ → Option (List ℕ) → List ℕ → List ℕ → FileOutcome → List Event → Type 0
-Opening key most label output name (Opened n) events = (last : List ℕ) × (plain : List ℕ) × (before : List Event)
+-- The events for a file of this name that is open, and to be opened to this output. An output is asked for only after
+-- an input was read that opens and has the label. It is finished with the plaintext of the last reading, once, where no
+-- write failed and its end wasn't refused, and then the line says `opened`. Or it is refused, for the cause in the line.
+-- Or it is given up: after a write, a read or memory failed, or because the second reading gave other bytes. The line
+-- says `write failed` exactly where a write to the output failed, or its end.
+abbrev pub OpeningRead : List ℕ → ℕ → Option (List ℕ) → List ℕ → List ℕ → FileOutcome → List Event → Type 0
+OpeningRead key most label output name (Opened n) events = (last : List ℕ) × (plain : List ℕ) × (before : List Event)
     × IsGood key most label last plain × (n ≡ length plain) × AreBefore key most label name last before
-    × (events ≡ before ++ trace.Reading name last ∷ trace.Created output ∷ trace.Finished output plain ∷ [])
-Opening key most label output name (Failed (Unopened Write)) events = IsGivenUp key most label output name events
+    × (events ≡ before ++ trace.Reading name last ∷ trace.Created output ∷ trace.Finished output plain
+    ∷ trace.Done output false ∷ [])
+OpeningRead key most label output name (Failed (Unopened Write)) events = IsGivenUp key most label output name events
     ⊎ IsBrokenOff (λ _ _. ⊤) key most label output name (Unopened Write) events
-Opening key most label output name (Failed (Unopened Read)) events =
-    ((input : List ℕ) × (events ≡ trace.Reading name input ∷ trace.Unread name ∷ []))
-    ⊎ (IsUnrepeated key most label name events
+OpeningRead key most label output name (Failed (Unopened Read)) events =
+    ((input : List ℕ) × (events ≡ trace.Reading name input ∷ [])) ⊎ (IsUnrepeated key most label name events
     ⊎ IsBrokenOff (λ _ _. ⊤) key most label output name (Unopened Read) events)
-Opening key most label output name (Failed (Unopened bytes.OutOfMemory)) events =
-    ((input : List ℕ) × (events ≡ trace.Reading name input ∷ []))
+OpeningRead key most label output name (Failed (Unopened bytes.OutOfMemory)) events =
+    ((input : List ℕ) × (header_fault key input ≡ None) × (events ≡ trace.Reading name input ∷ []))
     ⊎ IsBrokenOff (λ _ _. ⊤) key most label output name (Unopened bytes.OutOfMemory) events
-Opening key most label output name (Failed Changed) events =
+OpeningRead key most label output name (Failed Changed) events =
     IsBrokenOff (λ first last. first ≢ last) key most label output name Changed events
-Opening key most label output name (Failed OutputExists) events = IsRefused key most label output name refusal.Exists events
-Opening key most label output name (Failed CannotCreate) events = IsRefused key most label output name refusal.Failed events
+OpeningRead key most label output name (Failed OutputExists) events =
+    IsRefused key most label output name refusal.Exists events
+OpeningRead key most label output name (Failed CannotCreate) events =
+    IsRefused key most label output name refusal.Failed events
+OpeningRead key most label output name (Failed fault) events =
+    (input : List ℕ) × IsFaultOf key most label input fault × (events ≡ trace.Reading name input ∷ [])
+OpeningRead key most label output name _ events = ⊥
+
+-- The events for a file of this name that is to be opened to this output: none if no output has a name. Else the file
+-- can't be opened, or it is closed at last. The line says `read failed` exactly where a call of its reader had failed,
+-- or it could not be set back.
+abbrev pub Opening : List ℕ → ℕ → Option (List ℕ) → List ℕ → List ℕ → FileOutcome → List Event → Type 0
 Opening key most label output name (Failed NoSuffix) events = events ≡ []
 Opening key most label output name (Failed CannotOpen) events = events ≡ trace.Unread name ∷ []
-Opening key most label output name (Failed fault) events =
-    (input : List ℕ) × IsFaultOf key most label input fault × (events ≡ trace.Reading name input ∷ [])
-Opening key most label output name _ events = ⊥
+Opening key most label output name outcome events =
+    IsClosedBy (OpeningRead key most label output name) name outcome events
 
--- these events, where what is reported as the file is closed is still to come
-abbrev pub IsClosedBy : (FileOutcome → List Event → Type 0) → List ℕ → FileOutcome → List Event → Type 0
-IsClosedBy does name outcome events = does outcome (events ++ closing name outcome)
-
--- The events for a file of this name that is to be verified: its input was read, and is as the line says, or it could
--- not be opened. A failed read is reported. No output is asked for.
-abbrev pub Verifying : List ℕ → ℕ → Option (List ℕ) → List ℕ → FileOutcome → List Event → Type 0
-Verifying key most label name (Good n) events =
+-- The events for a file of this name that is open, and to be verified: its input was read, and is as the line says. No
+-- output is asked for.
+abbrev pub VerifyingRead : List ℕ → ℕ → Option (List ℕ) → List ℕ → FileOutcome → List Event → Type 0
+VerifyingRead key most label name (Good n) events =
     (input : List ℕ) × OpensTo key most input n × IsLabelled label input × (events ≡ trace.Reading name input ∷ [])
-Verifying key most label name (Shown n facts) events = (input : List ℕ) × OpensTo key most input n
+VerifyingRead key most label name (Shown n facts) events = (input : List ℕ) × OpensTo key most input n
     × IsLabelled label input × IsOfHeader facts (take (header_length input) input)
     × (events ≡ trace.Reading name input ∷ [])
+VerifyingRead key most label name (Failed fault) events =
+    (input : List ℕ) × IsFaultOf key most label input fault × (events ≡ trace.Reading name input ∷ [])
+VerifyingRead key most label name _ events = ⊥
+
+-- The events for a file of this name that is to be verified: it can't be opened, or it is closed at last. The line says
+-- `read failed` exactly where a call of its reader had failed.
+abbrev pub Verifying : List ℕ → ℕ → Option (List ℕ) → List ℕ → FileOutcome → List Event → Type 0
 Verifying key most label name (Failed CannotOpen) events = events ≡ trace.Unread name ∷ []
-Verifying key most label name (Failed fault) events = (input : List ℕ) × IsFaultOf key most label input fault
-    × (events ≡ trace.Reading name input ∷ closing name (Failed fault))
-Verifying key most label name _ events = ⊥
+Verifying key most label name outcome events = IsClosedBy (VerifyingRead key most label name) name outcome events
 
 -- a file's line, and what happened for it
 pub record Work : Type 0 where

@@ -2,13 +2,14 @@
 //!
 //! A file that fails doesn't stop the others. If a line can't be written, no further line is tried, the other files are
 //! still processed, and the exit status is 2.
-ghost use Rattle.std.specs.Prelude.{◌≡◌, ℕ, ◌<◌, ◌≤◌, List, [], ◌∷◌, ◌++◌, length, map, take, Option, Ok, Err, IfSome};
-ghost use Rattle.std.specs.Prelude.{Bool, if◌then◌else◌, option_map, IfOk, IfErr, MatchOption};
+ghost use Rattle.std.specs.Prelude.{◌≡◌, ℕ, ◌<◌, ◌≤◌, List, [], ◌∷◌, ◌++◌, length, map, Option, Ok, Err, IfSome};
+ghost use Rattle.std.specs.Prelude.{if◌then◌else◌, option_map, MatchOption};
 ghost use Rattle.command_core.specs.Lines.{FileLine, is_failed};
 ghost use Rattle.io_core.specs.Streams.{counted};
 ghost use Rattle.command_core.specs.Trace.{Does, Event, IsCounted, Opens};
-ghost use Rattle.command_core.specs.Work.{AreInRange, AreTold, AreWorked, IsClosedBy, IsOfOpening, IsOfVerifying, IsOpenable};
-ghost use Rattle.command_core.specs.Work.{Opening, Verifying, asked_label, asked_output, output_for, reading_failed};
+ghost use Rattle.command_core.specs.Work.{AreInRange, AreTold, AreWorked, IsOfOpening, IsOfVerifying, IsOpenable};
+ghost use Rattle.command_core.specs.Work.{Opening, OpeningRead, Verifying, asked_label, asked_output, output_for};
+ghost use Rattle.command_core.specs.Work.{reading_failed};
 
 use crate::facts::Facts;
 use crate::folder::{Folder, FolderFault, OpeningFolder, write_again_or_give_up, write_or_give_up};
@@ -125,8 +126,8 @@ fn open_again<T: Threads + Sync, F: OpeningFolder>(
     ensures outcome { IsOfOpening (asked_output options.now) name.now result }
     ensures events { (before : Option (List Event))
         → Does (Opens name.now (F.Reader.left reader.old)) before (F.told folder.old)
-        → Does (IsClosedBy (Opening key.now options.now.max_bytes (asked_label options.now) output.now name.now)
-        name.now result) before (F.told folder.new) }
+        → Does (OpeningRead key.now options.now.max_bytes (asked_label options.now) output.now name.now result) before
+        (F.told folder.new) }
     ensures count { IsCounted (F.told folder.new) (F.Reader.failures reader.new)
         (counted (reading_failed result) (F.Reader.failures reader.old)) }
 {
@@ -170,8 +171,8 @@ fn open_once<T: Threads + Sync, F: OpeningFolder>(
     ensures outcome { IsOfOpening (asked_output options.now) name.now result }
     ensures events { (before : Option (List Event))
         → Does (Opens name.now (F.Reader.left reader.old)) before (F.told folder.old)
-        → Does (IsClosedBy (Opening key.now options.now.max_bytes (asked_label options.now) output.now name.now)
-        name.now result) before (F.told folder.new) }
+        → Does (OpeningRead key.now options.now.max_bytes (asked_label options.now) output.now name.now result) before
+        (F.told folder.new) }
     ensures count { IsCounted (F.told folder.new) (F.Reader.failures reader.new)
         (counted (reading_failed result) (F.Reader.failures reader.old)) }
 {
@@ -209,8 +210,8 @@ fn open_read<T: Threads + Sync, F: OpeningFolder>(
     ensures outcome { IsOfOpening (asked_output options.now) name.now result }
     ensures events { (before : Option (List Event))
         → Does (Opens name.now (F.Reader.left reader.old)) before (F.told folder.old)
-        → Does (IsClosedBy (Opening key.now options.now.max_bytes (asked_label options.now) output.now name.now)
-        name.now result) before (F.told folder.new) }
+        → Does (OpeningRead key.now options.now.max_bytes (asked_label options.now) output.now name.now result) before
+        (F.told folder.new) }
     ensures count { IsCounted (F.told folder.new) (F.Reader.failures reader.new)
         (counted (reading_failed result) (F.Reader.failures reader.old)) }
 {

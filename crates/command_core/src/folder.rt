@@ -7,8 +7,9 @@ ghost use Rattle.opening_core.specs.Twice.{MayWrite, WritesAll, broken_by_read, 
 ghost use Rattle.output_core.specs.Bounds.{Admits, Exactly};
 ghost use Rattle.command_core.specs.Again.{IsAgainFault, IsBegun};
 ghost use Rattle.command_core.specs.Session.{IsBoundChecked, IsBoundTo, IsNew, IsSound, Session};
-ghost use Rattle.command_core.specs.Trace.{Event, Closes, Creates, Discards, Does, FailsToOpen, Finishes, GivesUp};
-ghost use Rattle.command_core.specs.Trace.{IsCounted, IsOpenedBy, IsReadAgain, Nothing, Opens, Refuses};
+ghost use Rattle.command_core.specs.Trace.{Event, Closes, Creates, Discarded, Discards, Does, Ends, FailsToOpen};
+ghost use Rattle.command_core.specs.Trace.{FailsToRewind, Finished, Finishes, IsCounted, IsOpenedBy, IsReadAgain, Nothing, Opens};
+ghost use Rattle.command_core.specs.Trace.{Refuses, Rewinds};
 
 use container_core::{Header, Key, MAX_OPENED, OpenFault};
 use gate_core::{Free, MAX_WORKERS};
@@ -60,14 +61,14 @@ pub trait Folder {
     /// by now. Fails if the file can't be read again. That is reported, and counts as a failed call of its reader.
     fn again(&mut self, name: &str, reader: &mut Self::Reader) -> Result<(), Failed>
         ensures again { OnOk result
-            (Does (Opens name.now (Self.Reader.left reader.new)) (told self.old) (told self.new)) }
-        ensures refused { OnErr result (Does (FailsToOpen name.now) (told self.old) (told self.new)) }
+            (Does (Rewinds name.now (Self.Reader.left reader.new)) (told self.old) (told self.new)) }
+        ensures refused { OnErr result (Does (FailsToRewind name.now) (told self.old) (told self.new)) }
         ensures count { IsCounted (told self.old) (Self.Reader.failures reader.new)
             (counted (is_err result) (Self.Reader.failures reader.old)) }
         ensures session { session self.new ≡ session self.old };
 
-    /// Closes a file that was opened by this name. It is reported if a call of its reader failed. A reader can also be
-    /// dropped; then nothing is reported.
+    /// Closes a file that was opened by this name. That is reported, and whether a call of its reader failed. A reader can
+    /// also be dropped; then nothing is reported.
     fn close(&mut self, name: &str, reader: Self::Reader)
         ensures closed { Does (Closes name.now (Self.Reader.failures reader)) (told self.old) (told self.new) }
         ensures session { session self.new ≡ session self.old };
@@ -139,22 +140,33 @@ pub trait OpeningFolder: Folder {
         ensures bound { IfSome (Self.Writer.bound output.new)
             (IsBoundChecked key.now header.now (Self.Reader.left reader.now) (Self.Writer.taken output.old)) };
 
-    /// Gives up the output of a plaintext, as `discard` does. Before that it is reported if a write to it failed, or its
-    /// end.
+    /// Ends the output of a plaintext, as `finish` does. It is reported too whether a write to it failed, or its end when
+    /// that was tried before.
+    fn complete(&mut self, output: Self::Writer) -> Result<(), Self::Writer>
+        ensures completed { OnOk result (Does (Ends Finished (Self.Writer.taken output) (Self.Writer.failures output))
+            (Self.told self.old) (Self.told self.new)) }
+        ensures back { IfErr result (λ back. Self.Writer.taken back ≡ Self.Writer.taken output) }
+        ensures uncompleted { OnErr result (Does Nothing (Self.told self.old) (Self.told self.new)) }
+        ensures count { IfErr result (λ back. IsCounted (Self.told self.old) (Self.Writer.failures back)
+            (counted true (Self.Writer.failures output))) }
+        ensures session { Self.session self.new ≡ Self.session self.old };
+
+    /// Gives up the output of a plaintext, as `discard` does. It is reported too whether a write to it failed, or its end.
     fn give_up(&mut self, output: Self::Writer)
-        ensures given_up { Does (GivesUp (Self.Writer.taken output) (Self.Writer.failures output))
+        ensures given_up { Does (Ends Discarded (Self.Writer.taken output) (Self.Writer.failures output))
             (Self.told self.old) (Self.told self.new) }
         ensures session { Self.session self.new ≡ Self.session self.old };
 }
 
-// Finishes an output, or gives it up.
+// Finishes the output of a plaintext, or gives it up.
 fn finish_or_give_up<F: OpeningFolder>(folder: &mut F, output: F::Writer) -> Result<(), Failed>
-    ensures ok { OnOk result (Does (Finishes (F.Writer.taken output)) (F.told folder.old) (F.told folder.new)) }
-    ensures err { OnErr result (Does (GivesUp (F.Writer.taken output) (counted true (F.Writer.failures output)))
+    ensures ok { OnOk result (Does (Ends Finished (F.Writer.taken output) (F.Writer.failures output))
+        (F.told folder.old) (F.told folder.new)) }
+    ensures err { OnErr result (Does (Ends Discarded (F.Writer.taken output) (counted true (F.Writer.failures output)))
         (F.told folder.old) (F.told folder.new)) }
     ensures session { F.session folder.new ≡ F.session folder.old }
 {
-    match folder.finish(output) {
+    match folder.complete(output) {
         Ok(()) => Ok(()),
         Err(output) => {
             folder.give_up(output);
@@ -172,9 +184,9 @@ pub(crate) fn write_or_give_up<F: OpeningFolder>(
 ) -> Result<(), Failed>
     requires may { Admits (F.Writer.bound output) (F.Writer.taken output) plain.now }
     ensures ok { OnOk result ((taken : Option (List ℕ)) × Appends (F.Writer.taken output) taken plain.now
-        × Does (Finishes taken) (F.told folder.old) (F.told folder.new)) }
+        × Does (Ends Finished taken (F.Writer.failures output)) (F.told folder.old) (F.told folder.new)) }
     ensures err { OnErr result ((taken : Option (List ℕ)) × AppendsFront (F.Writer.taken output) taken plain.now
-        × Does (GivesUp taken (counted true (F.Writer.failures output))) (F.told folder.old) (F.told folder.new)) }
+        × Does (Ends Discarded taken (counted true (F.Writer.failures output))) (F.told folder.old) (F.told folder.new)) }
     ensures session { F.session folder.new ≡ F.session folder.old }
 {
     let mut output = output;
@@ -207,10 +219,10 @@ pub(crate) fn write_again_or_give_up<T: Threads + Sync, F: OpeningFolder, R: Sou
     ensures ok { IfOk result (λ n. (taken : Option (List ℕ))
         × IfSome (R.left reader.old) (λ input. HasHeader header.now input
         × WritesAll key.now max_bytes (F.Writer.taken output) taken input n)
-        × Does (Finishes taken) (F.told folder.old) (F.told folder.new)) }
+        × Does (Ends Finished taken (F.Writer.failures output)) (F.told folder.old) (F.told folder.new)) }
     ensures err { OnErr result ((taken : Option (List ℕ))
         × IfSome (R.left reader.old) (λ input. IsBegun key.now max_bytes header.now input (F.Writer.taken output) taken)
-        × Does (GivesUp taken (counted (broken_by_write result) (F.Writer.failures output)))
+        × Does (Ends Discarded taken (counted (broken_by_write result) (F.Writer.failures output)))
         (F.told folder.old) (F.told folder.new)) }
     ensures fault { IfErr result (IsAgainFault key.now header.now max_bytes (R.left reader.old)) }
     ensures read { R.failures reader.new ≡ counted (broken_by_read result) (R.failures reader.old) }

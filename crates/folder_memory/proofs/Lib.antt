@@ -1,3 +1,4 @@
+mod Ends
 mod Files
 mod Positions
 mod SessionLemmas

@@ -12,7 +12,7 @@ use Rattle.folder_memory.specs.declared.session.SessionNote.{SessionNote}
 use Rattle.folder_memory.specs.declared.streams.Pace.{Pace}
 use Rattle.folder_memory.specs.Noted.{session_of}
 use Rattle.folder_memory.specs.declared.told.Told.{Told}
-use Rattle.folder_memory.specs.declared.told.Told.TheVariants.{Reading, Unread, Created, Refused, Unwritten, Finished, Discarded}
+use Rattle.folder_memory.specs.declared.told.Told.TheVariants.{Reading, Unread, Rewound, Closed, Created, Refused, Finished, Discarded, Done}
 
 -- a file's name, and its bytes once it is whole: put into the folder, or finished
 pub record FileView : Type 0 where
@@ -100,11 +100,13 @@ is_sound (Some note) = note.sound
 abbrev pub event_of : Told → Event
 event_of (Reading name bytes) = trace.Reading (string_bytes name) bytes.items
 event_of (Unread name) = trace.Unread (string_bytes name)
+event_of (Rewound name failed) = trace.Rewound (string_bytes name) failed
+event_of (Closed name failed) = trace.Closed (string_bytes name) failed
 event_of (Created name) = trace.Created (string_bytes name)
 event_of (Refused name fault) = trace.Refused (string_bytes name) fault
-event_of (Unwritten name) = trace.Unwritten (string_bytes name)
 event_of (Finished name bytes) = trace.Finished (string_bytes name) bytes.items
 event_of (Discarded name bytes) = trace.Discarded (string_bytes name) bytes.items
+event_of (Done name failed) = trace.Done (string_bytes name) failed
 
 -- this event is to be recorded, and there was memory for it
 abbrev pub IsEvent : Option Told → List Event → Type 0
@@ -119,11 +121,18 @@ KeepsOrForgets log log' = (log' ≡ log) ⊎ (log' ≡ None)
 abbrev pub left_by : List ℕ → Option (List ℕ) → Event → Option (List ℕ)
 left_by name left (trace.Reading other bytes) = left
 left_by name left (trace.Unread other) = left
+left_by name left (trace.Rewound other failed) = left
+left_by name left (trace.Closed other failed) = left
 left_by name left (trace.Created other) = left
 left_by name left (trace.Refused other fault) = left
-left_by name left (trace.Unwritten other) = left
 left_by name left (trace.Finished other bytes) = if bytes_eq other name then Some bytes else left
 left_by name left (trace.Discarded other bytes) = if bytes_eq other name then None else left
+left_by name left (trace.Done other failed) = left
+
+-- if this event is recorded, it leaves each output as it was
+abbrev pub LeavesOutputs : Option Told → Type 0
+LeavesOutputs event =
+    IfSome event (λ told. (name : List ℕ) (left : Option (List ℕ)) → left_by name left (event_of told) ≡ left)
 
 abbrev pub left_after : List ℕ → Option (List ℕ) → List Event → Option (List ℕ)
 left_after name left [] = left

@@ -2,13 +2,13 @@
 ghost use Rattle.std.specs.Prelude.{◌≡◌, ◌≢◌, ◌⊎◌, ◌↔◌, Err, ◌∷◌, ◌++◌, [], None, Some, true, false};
 ghost use Rattle.std.specs.Prelude.{ℕ, IfErr, IfOk, IfSome, OnErr, OnOk, is_err, option_map};
 ghost use Rattle.io_core.specs.Streams.{counted};
-ghost use Rattle.command_core.specs.Trace.{Closes, Creates, Discards, Does, FailsToOpen, Finishes, IsCounted, Nothing, Opens};
-ghost use Rattle.command_core.specs.Trace.{Refuses, Unwritten, reported};
+ghost use Rattle.command_core.specs.Trace.{Closes, Creates, Discards, Does, Done, FailsToOpen, FailsToRewind};
+ghost use Rattle.command_core.specs.Trace.{Finishes, IsCounted, Nothing, Opens, Refuses, Rewinds, has_failed};
 ghost use Rattle.command_core.specs.Session.{IsFree, Session, started, with_begun};
 ghost use Rattle.container_core.specs.Shape.{IsShape};
 ghost use Rattle.front_core.specs.Range.{IsHeld};
 ghost use Rattle.sha2.specs.Sha256.{sha256};
-ghost use Rattle.folder_memory.specs.Memory.{bytes_of, file_view, reader_view};
+ghost use Rattle.folder_memory.specs.Memory.{IsEvent, LeavesOutputs, bytes_of, event_of, file_view, reader_view};
 ghost use Rattle.folder_memory.specs.Memory.{is_sound, session_told};
 ghost use Rattle.folder_memory.specs.Memory.{after_call, fails_now, is_there, name_of, taken_by};
 ghost use Rattle.folder_memory.specs.Memory.{with_bytes, without};
@@ -16,12 +16,15 @@ ghost use Rattle.folder_memory.specs.Memory.{with_bytes, without};
 use crate::memory::{Content, MemoryFolder, place_of};
 use crate::session::{SessionNote, is_shape};
 use crate::streams::{MemoryReader, MemoryWriter};
-use crate::told::{created, discarded, finished, reading, refused, tell, unread, unwritten};
+use crate::told::{
+    Told, closed, created, discarded, done, finished, reading, refused, rewound, tell, unread,
+};
 use command_core::{Folder, FolderFault, OpeningFolder, Plaintext};
 use container_core::{Header, Key, Shape};
 use front_core::SealingFolder;
 use ledger_core::{Failed, Ledger, Seat};
 use reserve_core::{Fold, LedgerFile};
+use std::alloc::Global;
 
 impl Folder for MemoryFolder {
     type Reader = MemoryReader;
@@ -67,8 +70,8 @@ impl Folder for MemoryFolder {
     }
 
     fn again(&mut self, name: &str, reader: &mut MemoryReader) -> Result<(), Failed>
-        ensures again { OnOk result (Does (Opens name.now (Some reader.new.left)) self.old.log self.new.log) }
-        ensures refused { OnErr result (Does (FailsToOpen name.now) self.old.log self.new.log) }
+        ensures again { OnOk result (Does (Rewinds name.now (Some reader.new.left)) self.old.log self.new.log) }
+        ensures refused { OnErr result (Does (FailsToRewind name.now) self.old.log self.new.log) }
         ensures count { IsCounted self.old.log reader.new.failures (counted (is_err result) reader.old.failures) }
         // On success its reader gives all bytes that it had when it was opened, whatever the file has by now. On failure
         // it goes on where it was.
@@ -84,13 +87,15 @@ impl Folder for MemoryFolder {
     {
         if self.is_refused() {
             reader.fail();
-            let event = unread(self.alloc, name);
-            tell(&mut self.told, event);
+            let event = rewound(self.alloc, name, true);
+            self.record(event);
             return Err(Failed);
         }
         reader.rewind();
+        let event = rewound(self.alloc, name, false);
+        self.record(event);
         let event = reading(self.alloc, name, reader.whole());
-        tell(&mut self.told, event);
+        self.record(event);
         Ok(())
     }
 
@@ -101,9 +106,8 @@ impl Folder for MemoryFolder {
         ensures session { self.new.session ≡ self.old.session }
     {
         match reader.failures() {
-            Some(0) => {}
-            Some(_) => {
-                let event = unread(self.alloc, name);
+            Some(n) => {
+                let event = closed(self.alloc, name, n != 0);
                 tell(&mut self.told, event);
             }
             None => self.told = None,
@@ -230,28 +234,43 @@ impl OpeningFolder for MemoryFolder {
         ensures output { output.new ≡ output.old }
     {}
 
+    fn complete(&mut self, output: MemoryWriter) -> Result<(), MemoryWriter> {
+        let event = done_with(self.alloc, &output);
+        match self.finish(output) {
+            Ok(()) => {
+                self.record(event);
+                Ok(())
+            }
+            Err(output) => Err(output),
+        }
+    }
+
     fn give_up(&mut self, output: MemoryWriter) {
-        self.tell_failures(&output);
+        let event = done_with(self.alloc, &output);
         let _ = self.discard(output);
+        self.record(event);
     }
 }
 
 impl MemoryFolder {
-    // Records that a write to an output failed, if one did.
-    fn tell_failures(&mut self, output: &MemoryWriter)
-        ensures told { Does (λ events. (n : ℕ) × (output.now.failures ≡ Some n)
-            × (events ≡ reported (Unwritten (name_of output.now)) n)) self.old.log self.new.log }
-        ensures session { self.new.session ≡ self.old.session }
+    // Records an event that leaves each output as it was, or forgets what happened.
+    fn record(&mut self, event: Option<Told>)
+        requires { LeavesOutputs event }
+        ensures told { Does (IsEvent event) self.old.log self.new.log }
+        ensures others { self.new ≡ record self.old { log = self.new.log } }
     {
-        match output.failures {
-            Some(0) => {}
-            Some(_) => {
-                let event = unwritten(self.alloc, output.name.as_str());
-                tell(&mut self.told, event);
-            }
-            None => self.told = None,
-        }
+        tell(&mut self.told, event);
     }
+}
+
+// The event that the writer of a plaintext is done, unless it isn't known whether a write to it failed.
+fn done_with(alloc: Global, output: &MemoryWriter) -> Option<Told>
+    ensures leaves { LeavesOutputs result }
+    ensures event { IfSome result (λ told. (n : ℕ) × (output.now.failures ≡ Some n)
+        × (event_of told ≡ Done (name_of output.now) (has_failed n))) }
+{
+    let failures = output.failures?;
+    done(alloc, output.name.as_str(), failures != 0)
 }
 
 // It gives no bound for an output. Both calls leave the files, the record and the calls that are to fail as they are.

@@ -1,6 +1,7 @@
 //! What happened in a folder in memory, and how it is recorded.
 ghost use Rattle.std.specs.Prelude.{◌≡◌, IfSome, map, option_map};
-ghost use Rattle.command_core.specs.Trace.{Created, Discarded, Does, Finished, Reading, Refused, Unread, Unwritten};
+ghost use Rattle.command_core.specs.Trace.{Closed, Created, Discarded, Does, Done, Finished, Reading, Refused, Rewound};
+ghost use Rattle.command_core.specs.Trace.{Unread};
 ghost use Rattle.folder_memory.specs.Memory.{IsEvent, event_of};
 
 use command_core::FolderFault;
@@ -9,20 +10,24 @@ use std::alloc::Global;
 /// What happened in a folder.
 #[derive(Drop)]
 pub enum Told {
-    /// A file of this name was opened for reading, or read again, and these were its bytes.
+    /// A file of this name was opened for reading, or set back to its first byte, and these were its bytes.
     Reading(String, Vec<u8>),
-    /// A file could not be opened, or a call of its reader failed.
+    /// A file could not be opened.
     Unread(String),
+    /// An open file was set back to its first byte, or `true`: that failed.
+    Rewound(String, bool),
+    /// An open file was closed; `true`: a call of its reader had failed.
+    Closed(String, bool),
     /// An output was created.
     Created(String),
     /// An output could not be created, with this fault.
     Refused(String, FolderFault),
-    /// A write to an output failed, or its end was refused.
-    Unwritten(String),
     /// An output was finished, and these were all its bytes.
     Finished(String, Vec<u8>),
     /// An output was discarded with these bytes, and its removal was tried.
     Discarded(String, Vec<u8>),
+    /// The writer of a plaintext is done; `true`: a write to it had failed, or its end.
+    Done(String, bool),
 }
 
 /// Records what happened, or forgets the record if memory for it was refused.
@@ -43,7 +48,7 @@ pub(crate) fn tell(told: &mut Option<Vec<Told>>, event: Option<Told>)
     }
 }
 
-/// The event that a file was opened for reading, or read again.
+/// The event that a file was opened for reading, or set back.
 pub(crate) fn reading(alloc: Global, name: &str, bytes: &[u8]) -> Option<Told>
     ensures { IfSome result (λ told. event_of told ≡ Reading name.now bytes.now) }
 {
@@ -52,12 +57,28 @@ pub(crate) fn reading(alloc: Global, name: &str, bytes: &[u8]) -> Option<Told>
     Some(Told::Reading(name, bytes))
 }
 
-/// The event that a file could not be opened, or a call of its reader failed.
+/// The event that a file could not be opened.
 pub(crate) fn unread(alloc: Global, name: &str) -> Option<Told>
     ensures { IfSome result (λ told. event_of told ≡ Unread name.now) }
 {
     let name = String::from_str(alloc, name).ok()?;
     Some(Told::Unread(name))
+}
+
+/// The event that an open file was set back to its first byte, or that this failed.
+pub(crate) fn rewound(alloc: Global, name: &str, failed: bool) -> Option<Told>
+    ensures { IfSome result (λ told. event_of told ≡ Rewound name.now failed) }
+{
+    let name = String::from_str(alloc, name).ok()?;
+    Some(Told::Rewound(name, failed))
+}
+
+/// The event that an open file was closed, and whether a call of its reader had failed.
+pub(crate) fn closed(alloc: Global, name: &str, failed: bool) -> Option<Told>
+    ensures { IfSome result (λ told. event_of told ≡ Closed name.now failed) }
+{
+    let name = String::from_str(alloc, name).ok()?;
+    Some(Told::Closed(name, failed))
 }
 
 /// The event that an output was created.
@@ -76,14 +97,6 @@ pub(crate) fn refused(alloc: Global, name: &str, fault: FolderFault) -> Option<T
     Some(Told::Refused(name, fault))
 }
 
-/// The event that a write to an output failed, or its end.
-pub(crate) fn unwritten(alloc: Global, name: &str) -> Option<Told>
-    ensures { IfSome result (λ told. event_of told ≡ Unwritten name.now) }
-{
-    let name = String::from_str(alloc, name).ok()?;
-    Some(Told::Unwritten(name))
-}
-
 /// The event that an output was finished.
 pub(crate) fn finished(alloc: Global, name: &str, bytes: &[u8]) -> Option<Told>
     ensures { IfSome result (λ told. event_of told ≡ Finished name.now bytes.now) }
@@ -100,4 +113,12 @@ pub(crate) fn discarded(alloc: Global, name: &str, bytes: &[u8]) -> Option<Told>
     let name = String::from_str(alloc, name).ok()?;
     let bytes = Vec::from_slice(alloc, bytes).ok()?;
     Some(Told::Discarded(name, bytes))
+}
+
+/// The event that the writer of a plaintext is done, and whether a write to it had failed, or its end.
+pub(crate) fn done(alloc: Global, name: &str, failed: bool) -> Option<Told>
+    ensures { IfSome result (λ told. event_of told ≡ Done name.now failed) }
+{
+    let name = String::from_str(alloc, name).ok()?;
+    Some(Told::Done(name, failed))
 }

@@ -2,7 +2,7 @@
 -- input that was read of its file before. One that `open_all` finished was opened of the last reading of a file, right
 -- before. Both go file by file: what is among the events of all files is among those of one.
 use Rattle.std.proofs.Common.{◌≡◌, ◌≢◌, ◌⊎◌, inl, inr, ℕ, refl, sym, ap, ◌∙◌, subst, List, [], ◌∷◌, ◌++◌, All, Option, Ok, append_assoc}
-use Rattle.std.proofs.Common.{Bool, true, false, if◌then◌else◌}
+use Rattle.std.proofs.Common.{Bool, false, true}
 use Rattle.std.specs.Prelude.{⊤, flat_map}
 use Rattle.std.proofs.lemmas.List.Elements.{All-head, All-tail}
 use Rattle.container_core.specs.Container.{container}
@@ -16,8 +16,9 @@ use Rattle.command_core.specs.declared.line.FileFault.{FileFault}
 use Rattle.command_core.specs.declared.line.FileFault.TheVariants.{CannotOpen, NoSuffix, OutputExists, CannotCreate, OutOfMemory, Unopened, Changed}
 use Rattle.command_core.specs.declared.line.FileOutcome.{FileOutcome}
 use Rattle.command_core.specs.declared.line.FileOutcome.TheVariants.{Sealed, Opened, Failed}
-use Rattle.command_core.specs.Trace.{Event, Reading, Unread, Created, Refused, Unwritten, Finished, Discarded}
-use Rattle.command_core.specs.Work.{AreBefore, IsBrokenOff, IsGivenUp, IsRefused, Opening, Work, closing, lost, output_for, reading_failed}
+use Rattle.command_core.specs.Trace.{Event, Reading, Unread, Rewound, Closed, Created, Refused, Finished, Discarded, Done}
+use Rattle.command_core.specs.Work.{AreBefore, IsBrokenOff, IsGivenUp, IsRefused, Opening, OpeningRead, Work, output_for, reading_failed}
+use Rattle.command_core.specs.Work.{write_failed}
 use Rattle.sealer_core.specs.Sealing.{IsDiscarded, IsUncreated, Part, Sealing, group_events, sealed_name}
 use Rattle.sealer_core.specs.Theorem.{IsAmong, WasOpened, WasSealed}
 use Rattle.sealer_core.proofs.Happened.{IsPart}
@@ -224,48 +225,57 @@ module _ (to : Option (List ℕ)) (file plain : List ℕ) where
 abbrev pub work_events : List Work → List Event
 work_events works = flat_map (λ (w : Work). w.events) works
 
--- a file was read or couldn't be, or an output was refused
+-- a file was read or couldn't be, or was closed, or an output was refused
 abbrev IsQuiet : Event → Type 0
 IsQuiet (Reading name bytes) = ⊤
 IsQuiet (Unread name) = ⊤
+IsQuiet (Rewound name failed) = ⊤
+IsQuiet (Closed name failed) = ⊤
 IsQuiet (Refused name fault) = ⊤
-IsQuiet (Unwritten name) = ⊥
 IsQuiet (Created name) = ⊥
 IsQuiet (Finished name bytes) = ⊥
 IsQuiet (Discarded name bytes) = ⊥
+IsQuiet (Done name failed) = ⊥
 
 abbrev AreQuiet : List Event → Type 0
 AreQuiet [] = ⊤
 AreQuiet (event ∷ events) = IsQuiet event × AreQuiet events
 
--- an output was given up, or a call failed
-abbrev IsLoss : Event → Type 0
-IsLoss (Unread name) = ⊤
-IsLoss (Unwritten name) = ⊤
-IsLoss (Discarded name bytes) = ⊤
-IsLoss (Reading name bytes) = ⊥
-IsLoss (Created name) = ⊥
-IsLoss (Refused name fault) = ⊥
-IsLoss (Finished name bytes) = ⊥
+quiet-append : (one two : List Event) → AreQuiet one → AreQuiet two → AreQuiet (one ++ two)
+quiet-append [] two none others = others
+quiet-append (event ∷ one) two (first, rest) others = (first, quiet-append one two rest others)
 
-abbrev AreLosses : List Event → Type 0
-AreLosses [] = ⊤
-AreLosses (event ∷ events) = IsLoss event × AreLosses events
+-- what ends a file: its output was given up, its writer is done, or it was closed
+abbrev IsLast : Event → Type 0
+IsLast (Closed name failed) = ⊤
+IsLast (Discarded name bytes) = ⊤
+IsLast (Done name failed) = ⊤
+IsLast (Reading name bytes) = ⊥
+IsLast (Unread name) = ⊥
+IsLast (Rewound name failed) = ⊥
+IsLast (Created name) = ⊥
+IsLast (Refused name fault) = ⊥
+IsLast (Finished name bytes) = ⊥
 
-losses-append : (one two : List Event) → AreLosses one → AreLosses two → AreLosses (one ++ two)
-losses-append [] two none others = others
-losses-append (event ∷ one) two (first, rest) others = (first, losses-append one two rest others)
+abbrev AreLast : List Event → Type 0
+AreLast [] = ⊤
+AreLast (event ∷ events) = IsLast event × AreLast events
+
+last-append : (one two : List Event) → AreLast one → AreLast two → AreLast (one ++ two)
+last-append [] two none others = others
+last-append (event ∷ one) two (first, rest) others = (first, last-append one two rest others)
 
 module _ (key : List ℕ) (most : ℕ) where
   -- after such events a last reading, and an output that was given up
   abbrev IsLeft : List ℕ → List ℕ → List Event → Type 0
-  IsLeft output name events = (before : List Event) × (last : List ℕ) × (losses : List Event) × AreQuiet before × AreLosses losses
-      × (losses ≢ []) × (events ≡ before ++ Reading name last ∷ Created output ∷ losses)
+  IsLeft output name events = (before : List Event) × (last : List ℕ) × (ends : List Event) × AreQuiet before × AreLast ends
+      × (ends ≢ []) × (events ≡ before ++ Reading name last ∷ Created output ∷ ends)
 
   -- or one that was finished, with what that reading opens to
   abbrev IsWhole : List ℕ → List ℕ → List Event → Type 0
-  IsWhole output name events = (before : List Event) × (last : List ℕ) × (text : List ℕ) × AreQuiet before × (opening key most last ≡ Ok text)
-      × (events ≡ before ++ Reading name last ∷ Created output ∷ Finished output text ∷ [])
+  IsWhole output name events = (before : List Event) × (last : List ℕ) × (text : List ℕ) × (ends : List Event) × AreQuiet before
+      × (opening key most last ≡ Ok text) × AreLast ends
+      × (events ≡ before ++ Reading name last ∷ Created output ∷ Finished output text ∷ ends)
 
   -- the three ways in which a file can end
   abbrev IsEnded : List ℕ → List ℕ → List Event → Type 0
@@ -274,63 +284,87 @@ module _ (key : List ℕ) (most : ℕ) where
 module _ (key : List ℕ) (most : ℕ) (label : Option (List ℕ)) (output name : List ℕ) where
   before_quiet : (last : List ℕ) (before : List Event) → AreBefore key most label name last before → AreQuiet before
   before_quiet last before (inl none) = subst AreQuiet (sym none) tt
-  before_quiet last before (inr (header, first, plain, good, has, same, one)) = subst AreQuiet (sym one) (tt, tt)
+  before_quiet last before (inr (header, first, plain, good, has, same, one)) = subst AreQuiet (sym one) (tt, (tt, tt))
 
   refused_quiet : (cause : FolderFault) (events : List Event) → IsRefused key most label output name cause events → AreQuiet events
   refused_quiet cause events (first, plain, readings, good, inl one, did) =
       subst AreQuiet (sym (did ∙ ap (λ l. l ++ Refused output cause ∷ []) one)) (tt, (tt, tt))
   refused_quiet cause events (first, plain, readings, good, inr (last, two), did) =
-      subst AreQuiet (sym (did ∙ ap (λ l. l ++ Refused output cause ∷ []) two)) (tt, (tt, (tt, tt)))
+      subst AreQuiet (sym (did ∙ ap (λ l. l ++ Refused output cause ∷ []) two)) (tt, (tt, (tt, (tt, tt))))
 
   up_left : (events : List Event) → IsGivenUp key most label output name events → IsLeft key most output name events
   up_left events (input, plain, written, good, begun, did) =
-      ([], input, Unwritten output ∷ Discarded output written ∷ [], tt, (tt, (tt, tt)), (λ is. cc), did)
-
-  lost_losses : (fault : FileFault) → AreLosses (lost output fault)
-  lost_losses (Unopened open_fault.Write) = (tt, tt)
-  lost_losses _ = tt
-
-  some_lost : (losses : List Event) (event : Event) (rest : List Event) → losses ++ event ∷ rest ≢ []
-  some_lost [] event rest is = cc
-  some_lost (loss ∷ losses) event rest is = cc
-
-  closing_losses : (failed : Bool) → AreLosses (if failed then Unread name ∷ [] else [])
-  closing_losses true = (tt, tt)
-  closing_losses false = tt
+      ([], input, Discarded output written ∷ Done output true ∷ [], tt, (tt, (tt, tt)), (λ is. cc), did)
 
   broken_left : (are : List ℕ → List ℕ → Type 0) (fault : FileFault) (events : List Event)
       → IsBrokenOff are key most label output name fault events → IsLeft key most output name events
-  broken_left are fault events (header, first, last, written, readings, related, twice, begun, did) = (
-    Reading name first ∷ [],
-    last,
-    lost output fault ++ Discarded output written ∷ closing name (Failed fault),
-    (tt, tt),
-    losses-append (lost output fault) (Discarded output written ∷ closing name (Failed fault)) (lost_losses fault)
-        (tt, closing_losses (reading_failed (Failed fault))),
-    some_lost (lost output fault) (Discarded output written) (closing name (Failed fault)),
-    did ∙ ap (λ l. l ++ Created output ∷ lost output fault ++ Discarded output written ∷ closing name (Failed fault)) twice.2,
-  )
+  broken_left are fault events (header, first, last, written, readings, related, twice, begun, did) =
+      let ends : List Event = Discarded output written ∷ Done output (write_failed (Failed fault)) ∷ [] in (
+        Reading name first ∷ Rewound name false ∷ [],
+        last,
+        ends,
+        (tt, (tt, tt)),
+        (tt, (tt, tt)),
+        (λ is. cc),
+        did ∙ ap (λ l. l ++ Created output ∷ ends) twice.2,
+      )
 
   read_quiet : (read : List ℕ) (events : List Event) → events ≡ Reading name read ∷ [] → AreQuiet events
   read_quiet read events did = subst AreQuiet (sym did) (tt, tt)
 
-  ended : (outcome : FileOutcome) (events : List Event) → Opening key most label output name outcome events → IsEnded key most output name events
-  ended (Opened n) events (last, text, before, good, long, first, did) = inr (inr (before, last, text, before_quiet last before first, good.0, did))
-  ended (Failed (Unopened open_fault.Write)) events (inl up) = inr (inl (up_left events up))
-  ended (Failed (Unopened open_fault.Write)) events (inr broken) = inr (inl (broken_left (λ _ _. ⊤) (Unopened open_fault.Write) events broken))
-  ended (Failed (Unopened open_fault.Read)) events (inl (read, did)) = inl (subst AreQuiet (sym did) (tt, (tt, tt)))
-  ended (Failed (Unopened open_fault.Read)) events (inr (inl (first, plain, good, did))) = inl (subst AreQuiet (sym did) (tt, (tt, (tt, tt))))
-  ended (Failed (Unopened open_fault.Read)) events (inr (inr broken)) = inr (inl (broken_left (λ _ _. ⊤) (Unopened open_fault.Read) events broken))
-  ended (Failed (Unopened open_fault.OutOfMemory)) events (inl (read, did)) = inl (read_quiet read events did)
-  ended (Failed (Unopened open_fault.OutOfMemory)) events (inr broken) =
+  read_ended : (outcome : FileOutcome) (events : List Event) → OpeningRead key most label output name outcome events
+      → IsEnded key most output name events
+  read_ended (Opened n) events (last, text, before, good, long, first, did) =
+      inr (inr (before, last, text, Done output false ∷ [], before_quiet last before first, good.0, (tt, tt), did))
+  read_ended (Failed (Unopened open_fault.Write)) events (inl up) = inr (inl (up_left events up))
+  read_ended (Failed (Unopened open_fault.Write)) events (inr broken) = inr (inl (broken_left (λ _ _. ⊤) (Unopened open_fault.Write) events broken))
+  read_ended (Failed (Unopened open_fault.Read)) events (inl (read, did)) = inl (read_quiet read events did)
+  read_ended (Failed (Unopened open_fault.Read)) events (inr (inl (first, plain, good, did))) = inl (subst AreQuiet (sym did) (tt, (tt, tt)))
+  read_ended (Failed (Unopened open_fault.Read)) events (inr (inr broken)) =
+      inr (inl (broken_left (λ _ _. ⊤) (Unopened open_fault.Read) events broken))
+  read_ended (Failed (Unopened open_fault.OutOfMemory)) events (inl (read, good, did)) = inl (read_quiet read events did)
+  read_ended (Failed (Unopened open_fault.OutOfMemory)) events (inr broken) =
       inr (inl (broken_left (λ _ _. ⊤) (Unopened open_fault.OutOfMemory) events broken))
-  ended (Failed Changed) events broken = inr (inl (broken_left (λ first last. first ≢ last) Changed events broken))
-  ended (Failed OutputExists) events refused = inl (refused_quiet refusal.Exists events refused)
-  ended (Failed CannotCreate) events refused = inl (refused_quiet refusal.Failed events refused)
+  read_ended (Failed Changed) events broken = inr (inl (broken_left (λ first last. first ≢ last) Changed events broken))
+  read_ended (Failed OutputExists) events refused = inl (refused_quiet refusal.Exists events refused)
+  read_ended (Failed CannotCreate) events refused = inl (refused_quiet refusal.Failed events refused)
+  read_ended (Failed fault) events is = inl (read_quiet is.0 events is.2)
+  read_ended outcome events is = absurd is
+
+  -- and then the file was closed
+  closed_ended : (failed : Bool) (events : List Event) → IsEnded key most output name events
+      → IsEnded key most output name (events ++ Closed name failed ∷ [])
+  closed_ended failed events (inl quiet) = inl (quiet-append events (Closed name failed ∷ []) quiet (tt, tt))
+  closed_ended failed events (inr (inl (before, last, ends, quiet, are, some, did))) = inr (inl (
+    before,
+    last,
+    ends ++ Closed name failed ∷ [],
+    quiet,
+    last-append ends (Closed name failed ∷ []) are (tt, tt),
+    more ends,
+    ap (λ l. l ++ Closed name failed ∷ []) did ∙ append_assoc before (Reading name last ∷ Created output ∷ ends) (Closed name failed ∷ []),
+  ))
+    where
+      more : (ends : List Event) → ends ++ Closed name failed ∷ [] ≢ []
+      more [] is = cc
+      more (event ∷ ends) is = cc
+  closed_ended failed events (inr (inr (before, last, text, ends, quiet, good, are, did))) = inr (inr (
+    before,
+    last,
+    text,
+    ends ++ Closed name failed ∷ [],
+    quiet,
+    good,
+    last-append ends (Closed name failed ∷ []) are (tt, tt),
+    ap (λ l. l ++ Closed name failed ∷ []) did
+        ∙ append_assoc before (Reading name last ∷ Created output ∷ Finished output text ∷ ends) (Closed name failed ∷ []),
+  ))
+
+  ended : (outcome : FileOutcome) (events : List Event) → Opening key most label output name outcome events → IsEnded key most output name events
   ended (Failed NoSuffix) events did = inl (subst AreQuiet (sym did) tt)
   ended (Failed CannotOpen) events did = inl (subst AreQuiet (sym did) (tt, tt))
-  ended (Failed fault) events is = inl (read_quiet is.0 events is.2)
-  ended outcome events is = absurd is
+  ended outcome events closed = subst (IsEnded key most output name) (sym closed.2)
+      (closed_ended (reading_failed outcome) closed.0 (read_ended outcome closed.0 closed.1))
 
 module _ (key : List ℕ) (most : ℕ) (label to : Option (List ℕ)) where
   abbrev pub IsWork : Work → Type 0
@@ -367,29 +401,29 @@ module _ (key : List ℕ) (most : ℕ) (label to : Option (List ℕ)) where
     clear_quiet [] rest quiet clear = clear
     clear_quiet (event ∷ events) rest (first, others) clear = clear_first event (events ++ rest) first (clear_quiet events rest others clear)
 
-    fine_losses : (losses rest : List Event) → AreLosses losses → IsFine rest → IsFine (losses ++ rest)
-    fine_losses [] rest none fine = fine
-    fine_losses (event ∷ losses) rest (first, others) fine =
-        fine_first event (losses ++ rest) (λ after is ends. absurd (subst IsLoss is first)) (fine_losses losses rest others fine)
+    fine_last : (ends rest : List Event) → AreLast ends → IsFine rest → IsFine (ends ++ rest)
+    fine_last [] rest none fine = fine
+    fine_last (event ∷ ends) rest (first, others) fine =
+        fine_first event (ends ++ rest) (λ after is more. absurd (subst IsLast is first)) (fine_last ends rest others fine)
 
-    clear_left : (output name last : List ℕ) (losses rest : List Event) → AreLosses losses → losses ≢ [] → IsClear rest
-        → IsClear (Reading name last ∷ Created output ∷ losses ++ rest)
-    clear_left output name last losses rest lost some (fine, none) = (
-      fine_first (Reading name last) (Created output ∷ losses ++ rest) (λ after is ends. unfinished losses lost some after ends)
-          (fine_first (Created output) (losses ++ rest) (λ after is ends. absurd (cc)) (fine_losses losses rest lost fine)),
+    clear_left : (output name last : List ℕ) (ends rest : List Event) → AreLast ends → ends ≢ [] → IsClear rest
+        → IsClear (Reading name last ∷ Created output ∷ ends ++ rest)
+    clear_left output name last ends rest are some (fine, none) = (
+      fine_first (Reading name last) (Created output ∷ ends ++ rest) (λ after is given. unfinished ends are some after given)
+          (fine_first (Created output) (ends ++ rest) (λ after is given. absurd (cc)) (fine_last ends rest are fine)),
       λ other more same. cc,
     )
       where
-        -- no loss is the end of an output
-        unfinished : (losses : List Event) → AreLosses losses → losses ≢ [] → (after : List Event)
-            → Created output ∷ losses ++ rest ≡ gives to file plain after → opening key most bytes ≡ Ok plain
-        unfinished [] lost some after ends = absurd (some refl)
-        unfinished (event ∷ losses) lost some after ends =
-            let is : event ≡ Finished (output_for to file) plain = cc in absurd (subst IsLoss is lost.0)
+        -- none of these is a finished output
+        unfinished : (ends : List Event) → AreLast ends → ends ≢ [] → (after : List Event)
+            → Created output ∷ ends ++ rest ≡ gives to file plain after → opening key most bytes ≡ Ok plain
+        unfinished [] are some after given = absurd (some refl)
+        unfinished (event ∷ ends) are some after given =
+            let is : event ≡ Finished (output_for to file) plain = cc in absurd (subst IsLast is are.0)
 
-    clear_whole : (output name last text : List ℕ) (rest : List Event) → opening key most last ≡ Ok text → IsClear rest
+    clear_whole : (output name last text : List ℕ) (rest : List Event) → opening key most last ≡ Ok text → IsFine rest
         → IsClear (Reading name last ∷ Created output ∷ Finished output text ∷ rest)
-    clear_whole output name last text rest good (fine, none) = (
+    clear_whole output name last text rest good fine = (
       fine_first (Reading name last) (Created output ∷ Finished output text ∷ rest)
           (λ after is ends.
           let last_is : last ≡ bytes = cc in
@@ -402,12 +436,13 @@ module _ (key : List ℕ) (most : ℕ) (label to : Option (List ℕ)) where
 
     clear_ended : (output name : List ℕ) (events rest : List Event) → IsEnded key most output name events → IsClear rest → IsClear (events ++ rest)
     clear_ended output name events rest (inl quiet) clear = clear_quiet events rest quiet clear
-    clear_ended output name events rest (inr (inl (before, last, losses, quiet, lost, some, did))) clear =
-        subst IsClear (sym (ap (λ l. l ++ rest) did ∙ append_assoc before (Reading name last ∷ Created output ∷ losses) rest))
-        (clear_quiet before (Reading name last ∷ Created output ∷ losses ++ rest) quiet (clear_left output name last losses rest lost some clear))
-    clear_ended output name events rest (inr (inr (before, last, text, quiet, good, did))) clear =
-        subst IsClear (sym (ap (λ l. l ++ rest) did ∙ append_assoc before (Reading name last ∷ Created output ∷ Finished output text ∷ []) rest))
-        (clear_quiet before (Reading name last ∷ Created output ∷ Finished output text ∷ rest) quiet (clear_whole output name last text rest good clear))
+    clear_ended output name events rest (inr (inl (before, last, ends, quiet, are, some, did))) clear =
+        subst IsClear (sym (ap (λ l. l ++ rest) did ∙ append_assoc before (Reading name last ∷ Created output ∷ ends) rest))
+        (clear_quiet before (Reading name last ∷ Created output ∷ ends ++ rest) quiet (clear_left output name last ends rest are some clear))
+    clear_ended output name events rest (inr (inr (before, last, text, ends, quiet, good, are, did))) clear =
+        subst IsClear (sym (ap (λ l. l ++ rest) did ∙ append_assoc before (Reading name last ∷ Created output ∷ Finished output text ∷ ends) rest))
+        (clear_quiet before (Reading name last ∷ Created output ∷ Finished output text ∷ ends ++ rest) quiet
+        (clear_whole output name last text (ends ++ rest) good (fine_last ends rest are clear.0)))
 
     clear_works : (works : List Work) → All IsWork works → IsClear (work_events works)
     clear_works [] all = (fine_none, λ name more same. cc)
@@ -434,45 +469,49 @@ module _ (key : List ℕ) (most : ℕ) (label to : Option (List ℕ)) where
       | inr more ↦ quiet_unfinished events others more
     ]
 
-    -- what is finished right after these events is this last one
-    ends_with : (before : List Event) (name last target : List ℕ) (final : Event) → AreQuiet before
-        → Ended (before ++ Reading name last ∷ Created target ∷ final ∷ []) → final ≡ Finished output plain
-    ends_with before name last target final quiet at = elim (among_append (Finished output plain) before (Reading name last ∷ Created target ∷ final ∷ []) at) [
-      | inl early ↦ absurd (quiet_unfinished before quiet early)
-      | inr late ↦ elim (among_cons (Finished output plain) (Reading name last) (Created target ∷ final ∷ []) late) [
-        | inl is ↦ absurd (cc)
-        | inr more ↦ elim (among_cons (Finished output plain) (Created target) (final ∷ []) more) [
-          | inl is ↦ absurd (cc)
-          | inr one ↦ among_one (Finished output plain) final one
-        ]
-      ]
+    last_unfinished : (ends : List Event) → AreLast ends → Ended ends → ⊥
+    last_unfinished [] are at = among_none (Finished output plain) at
+    last_unfinished (event ∷ ends) (first, others) at = elim (among_cons (Finished output plain) event ends at) [
+      | inl is ↦ subst IsLast is first
+      | inr more ↦ last_unfinished ends others more
     ]
 
-    losses_unfinished : (losses : List Event) → AreLosses losses → Ended losses → ⊥
-    losses_unfinished [] lost at = among_none (Finished output plain) at
-    losses_unfinished (event ∷ losses) (first, others) at = elim (among_cons (Finished output plain) event losses at) [
-      | inl is ↦ subst IsLoss is first
-      | inr more ↦ losses_unfinished losses others more
-    ]
-
-    finished_of : (name : List ℕ) (events : List Event) → IsEnded key most (output_for to name) name events → Ended events → IsOpened events
-    finished_of name events (inl quiet) at = absurd (quiet_unfinished events quiet at)
-    finished_of name events (inr (inl (before, last, losses, quiet, lost, some, did))) at =
-        elim (among_append (Finished output plain) before (Reading name last ∷ Created (output_for to name) ∷ losses) (subst Ended did at)) [
+    -- what is finished of these events is this one
+    ends_with : (before : List Event) (name last target : List ℕ) (final : Event) (ends : List Event) → AreQuiet before → AreLast ends
+        → Ended (before ++ Reading name last ∷ Created target ∷ final ∷ ends) → final ≡ Finished output plain
+    ends_with before name last target final ends quiet are at =
+        elim (among_append (Finished output plain) before (Reading name last ∷ Created target ∷ final ∷ ends) at) [
           | inl early ↦ absurd (quiet_unfinished before quiet early)
-          | inr late ↦ elim (among_cons (Finished output plain) (Reading name last) (Created (output_for to name) ∷ losses) late) [
+          | inr late ↦ elim (among_cons (Finished output plain) (Reading name last) (Created target ∷ final ∷ ends) late) [
             | inl is ↦ absurd (cc)
-            | inr more ↦ elim (among_cons (Finished output plain) (Created (output_for to name)) losses more) [
+            | inr more ↦ elim (among_cons (Finished output plain) (Created target) (final ∷ ends) more) [
               | inl is ↦ absurd (cc)
-              | inr one ↦ absurd (losses_unfinished losses lost one)
+              | inr one ↦ elim (among_cons (Finished output plain) final ends one) [
+                | inl is ↦ is
+                | inr none ↦ absurd (last_unfinished ends are none)
+              ]
             ]
           ]
         ]
-    finished_of name events (inr (inr (before, last, text, quiet, good, did))) at =
-        let is = ends_with before name last (output_for to name) (Finished (output_for to name) text) quiet (subst Ended did at) in
+
+    finished_of : (name : List ℕ) (events : List Event) → IsEnded key most (output_for to name) name events → Ended events → IsOpened events
+    finished_of name events (inl quiet) at = absurd (quiet_unfinished events quiet at)
+    finished_of name events (inr (inl (before, last, ends, quiet, are, some, did))) at =
+        elim (among_append (Finished output plain) before (Reading name last ∷ Created (output_for to name) ∷ ends) (subst Ended did at)) [
+          | inl early ↦ absurd (quiet_unfinished before quiet early)
+          | inr late ↦ elim (among_cons (Finished output plain) (Reading name last) (Created (output_for to name) ∷ ends) late) [
+            | inl is ↦ absurd (cc)
+            | inr more ↦ elim (among_cons (Finished output plain) (Created (output_for to name)) ends more) [
+              | inl is ↦ absurd (cc)
+              | inr one ↦ absurd (last_unfinished ends are one)
+            ]
+          ]
+        ]
+    finished_of name events (inr (inr (before, last, text, ends, quiet, good, are, did))) at =
+        let is = ends_with before name last (output_for to name) (Finished (output_for to name) text) ends quiet are (subst Ended did at) in
         let named : output ≡ output_for to name = cc in
         let same : text ≡ plain = cc in
-        (name, last, named, (before, [], did ∙ ap (λ p. before ++ Reading name last ∷ gives to name p []) same))
+        (name, last, named, (before, ends, did ∙ ap (λ p. before ++ Reading name last ∷ gives to name p ends) same))
 
     pub some_opened : (works : List Work) → All IsWork works → Ended (work_events works) → IsOpened (work_events works)
     some_opened [] all at = absurd (among_none (Finished output plain) at)

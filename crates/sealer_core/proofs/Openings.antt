@@ -1,5 +1,5 @@
 -- A container opens to the plaintext that was sealed: for two lines, and for two runs.
-use Rattle.std.proofs.Common.{◌≡◌, ◌⊎◌, inl, inr, ℕ, ◌≤◌, ◌++◌, List, [], ◌∷◌, length, Option, Some, Ok, refl, sym, ap, ◌∙◌, subst, arith, length-append}
+use Rattle.std.proofs.Common.{◌≡◌, ◌⊎◌, inl, inr, ℕ, ◌≤◌, ◌++◌, List, [], ◌∷◌, length, Option, Some, Ok, refl, sym, ap, ◌∙◌, subst, arith, false, length-append}
 use Rattle.std.proofs.lemmas.List.{append_cancel_left}
 use Rattle.std.specs.Prelude.{flat_map}
 use Rattle.container_core.specs.Chunks.{chunks}
@@ -10,7 +10,7 @@ use Rattle.container_core.specs.Stream.{prefix_in, stream}
 use Rattle.container_core.proofs.HeaderLemmas.{length-header_of, length-prefix_in}
 use Rattle.command_core.specs.declared.line.FileOutcome.{FileOutcome}
 use Rattle.command_core.specs.declared.line.FileOutcome.TheVariants.{Opened, Sealed}
-use Rattle.command_core.specs.Trace.{Created, Event, Finished, Reading}
+use Rattle.command_core.specs.Trace.{Event, Closed, Created, Done, Finished, Reading}
 use Rattle.command_core.specs.Unpiping.{Unpipes}
 use Rattle.command_core.specs.Work.{AreBefore, Opening, output_for}
 use Rattle.journal_core.specs.declared.entry.Entry.{Entry}
@@ -40,13 +40,14 @@ last_of x y z (e ∷ f ∷ g ∷ earlier) (inr same) = absurd (cc)
 -- the last of one or two readings, and what was finished after them
 last_read : (key : List ℕ) (most : ℕ) (label : Option (List ℕ)) (target other last plain written : List ℕ) (before events : List Event) (earlier : List (List ℕ))
     → AreBefore key most label other last before
-    → events ≡ before ++ Reading other last ∷ Created target ∷ Finished target plain ∷ [] → read_in events ≡ earlier ++ written ∷ []
+    → events ≡ (before ++ Reading other last ∷ Created target ∷ Finished target plain ∷ Done target false ∷ []) ++ Closed other false ∷ []
+    → read_in events ≡ earlier ++ written ∷ []
     → (last ≡ written) × (finished_in events ≡ plain ∷ [])
 last_read key most label target other last plain written before events earlier (inl none) did same =
-    let all = did ∙ ap (λ l. l ++ Reading other last ∷ Created target ∷ Finished target plain ∷ []) none in
+    let all = did ∙ ap (λ l. (l ++ Reading other last ∷ Created target ∷ Finished target plain ∷ Done target false ∷ []) ++ Closed other false ∷ []) none in
     (last_of last last written earlier (inl (sym (ap read_in all) ∙ same)), ap finished_in all)
 last_read key most label target other last plain written before events earlier (inr (header, first, text, good, has, too, one)) did same =
-    let all = did ∙ ap (λ l. l ++ Reading other last ∷ Created target ∷ Finished target plain ∷ []) one in
+    let all = did ∙ ap (λ l. (l ++ Reading other last ∷ Created target ∷ Finished target plain ∷ Done target false ∷ []) ++ Closed other false ∷ []) one in
     (last_of last first written earlier (inr (sym (ap read_in all) ∙ same)), ap finished_in all)
 
 -- what the two laws of containers say of a key
@@ -70,8 +71,9 @@ module _ (key : List ℕ) (opens : Opens key) (differ : Differ key) (shape : Sha
   opened_of : (prefix input : List ℕ) (most n : ℕ) (label : Option (List ℕ)) (target other : List ℕ) (events : List Event) (earlier : List (List ℕ)) → length prefix ≡ 7
       → Opening key most label target other (Opened n) events → read_in events ≡ earlier ++ container key shape prefix input ∷ []
       → (finished_in events ≡ input ∷ []) × (n ≡ length input)
-  opened_of prefix input most n label target other events earlier seven (last, plain, before, good, long, first, did) same =
-      let (last_is, finished) = last_read key most label target other last plain (container key shape prefix input) before events earlier first did same in
+  opened_of prefix input most n label target other events earlier seven (worked, (last, plain, before, good, long, first, did), closed) same =
+      let (last_is, finished) = last_read key most label target other last plain (container key shape prefix input) before events earlier first
+      (closed ∙ ap (λ l. l ++ Closed other false ∷ []) did) same in
       let plain_is = opened_is prefix input plain most seven (subst (λ (b : List ℕ). opening key most b ≡ Ok plain) last_is good.0) in
       (finished ∙ ap (λ (b : List ℕ). b ∷ []) plain_is, long ∙ ap length plain_is)
 
@@ -149,36 +151,36 @@ module _ (key : List ℕ) (opens : Opens key) (differ : Differ key) (terms : Ter
 -- ---- what `unpipe_all` opened
 
 -- the last reading opens to what was written
-unpiped_of : (key : List ℕ) (most n : ℕ) (label : Option (List ℕ)) (name first bytes before plain : List ℕ) (events : List Event)
-    → Unpipes key most label name (Some before) (Some (before ++ plain)) (Opened n) events → events ≡ Reading name first ∷ Reading name bytes ∷ []
+unpiped_of : (key : List ℕ) (most n : ℕ) (label : Option (List ℕ)) (name bytes before plain : List ℕ) (events : List Event) (earlier : List (List ℕ))
+    → Unpipes key most label name (Some before) (Some (before ++ plain)) (Opened n) events → read_in events ≡ earlier ++ bytes ∷ []
     → (whole : List ℕ) × (opening key most bytes ≡ Ok whole) × (plain ≡ whole)
-unpiped_of key most n label name first bytes before plain events (header, one, last, whole, (has, good, did), too, opened, count, grew) same =
-    let all : _ ≡ _ = sym did ∙ same in
-    let last_is : last ≡ bytes = cc in
+unpiped_of key most n label name bytes before plain events earlier (worked, (header, one, last, whole, (has, good, did), too, opened, count, grew), closed) same =
+    let all = closed ∙ ap (λ l. l ++ Closed name false ∷ []) did in
+    let last_is = last_of last one bytes earlier (inr (sym (ap read_in all) ∙ same)) in
     (whole, subst (λ (b : List ℕ). opening key most b ≡ Ok whole) last_is opened.0, append_cancel_left before plain whole grew)
 
 module _ (key : List ℕ) (opens : Opens key) (differ : Differ key) (terms : Terms) (history : List Entry) (outputs : List (List ℕ)) where
   -- of an output that a run of `seal_all` finished
-  pub unpiped_run : (run : WroteFiles key terms history outputs) (output bytes name first before plain : List ℕ) (most n : ℕ) (label : Option (List ℕ))
-      (events : List Event) → IsAmong (Finished output bytes) run.events
-      → Unpipes key most label name (Some before) (Some (before ++ plain)) (Opened n) events → events ≡ Reading name first ∷ Reading name bytes ∷ []
+  pub unpiped_run : (run : WroteFiles key terms history outputs) (output bytes name before plain : List ℕ) (most n : ℕ) (label : Option (List ℕ))
+      (events : List Event) (earlier : List (List ℕ)) → IsAmong (Finished output bytes) run.events
+      → Unpipes key most label name (Some before) (Some (before ++ plain)) (Opened n) events → read_in events ≡ earlier ++ bytes ∷ []
       → (source : List ℕ) × (output ≡ sealed_name source) × WasSealed run.events source plain bytes
-  unpiped_run run output bytes name first before plain most n label events at unpiped same =
+  unpiped_run run output bytes name before plain most n label events earlier at unpiped same =
       let (source, input, number, named, held, sealed) = held_of_run key terms history outputs run output bytes at in
-      let (whole, opened, grew) = unpiped_of key most n label name first bytes before plain events unpiped same in
+      let (whole, opened, grew) = unpiped_of key most n label name bytes before plain events earlier unpiped same in
       let whole_is = opened_is key opens differ run.shape run.is_shape (prefix_of terms.range.device number) input whole most refl
       (subst (λ (b : List ℕ). opening key most b ≡ Ok whole) held opened) in
       (source, named, subst (λ (p : List ℕ). WasSealed run.events source p bytes) (sym (grew ∙ whole_is)) sealed)
 
   -- and of a stream that a run of `pipe_all` sealed
-  pub unpiped_stream_run : (run : WroteStream key terms history outputs) (number count most n : ℕ) (label : Option (List ℕ)) (name first before plain : List ℕ)
-      (events : List Event) → run.outcome ≡ Sealed number count → Unpipes key most label name (Some before) (Some (before ++ plain)) (Opened n) events
-      → events ≡ Reading name first ∷ Reading name run.bytes ∷ [] → plain ≡ run.input
-  unpiped_stream_run run number count most n label name first before plain events is unpiped same =
+  pub unpiped_stream_run : (run : WroteStream key terms history outputs) (number count most n : ℕ) (label : Option (List ℕ)) (name before plain : List ℕ)
+      (events : List Event) (earlier : List (List ℕ)) → run.outcome ≡ Sealed number count → Unpipes key most label name (Some before) (Some (before ++ plain)) (Opened n) events
+      → read_in events ≡ earlier ++ run.bytes ∷ [] → plain ≡ run.input
+  unpiped_stream_run run number count most n label name before plain events earlier is unpiped same =
       let (chunks, left, failures, failures', refusals, refusals', status, old, new, faults, faults', stream, says) = run.sealed in
       let works = subst (λ (o : FileOutcome). WorksStream key run.shape chunks (Some run.input) left failures failures' (Some run.taken) (Some (run.taken ++ run.bytes)) refusals refusals'
       terms.range.device o stream.piped.voids) (says ∙ is) stream.piped.works in
       let held = append_cancel_left run.taken run.bytes (container key run.shape (prefix_of terms.range.device number) run.input) works.1.written in
-      let (whole, opened, grew) = unpiped_of key most n label name first run.bytes before plain events unpiped same in
+      let (whole, opened, grew) = unpiped_of key most n label name run.bytes before plain events earlier unpiped same in
       grew ∙ opened_is key opens differ run.shape run.is_shape (prefix_of terms.range.device number) run.input whole most refl
       (subst (λ (b : List ℕ). opening key most b ≡ Ok whole) held opened)

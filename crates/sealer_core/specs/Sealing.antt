@@ -285,11 +285,13 @@ abbrev pub written_in : List Event → List (List ℕ)
 written_in [] = []
 written_in (trace.Reading name bytes ∷ events) = written_in events
 written_in (trace.Unread name ∷ events) = written_in events
+written_in (trace.Rewound name failed ∷ events) = written_in events
+written_in (trace.Closed name failed ∷ events) = written_in events
 written_in (trace.Created name ∷ events) = written_in events
 written_in (trace.Refused name fault ∷ events) = written_in events
-written_in (trace.Unwritten name ∷ events) = written_in events
 written_in (trace.Finished name bytes ∷ events) = held_in bytes ++ written_in events
 written_in (trace.Discarded name bytes ∷ events) = held_in bytes ++ written_in events
+written_in (trace.Done name failed ∷ events) = written_in events
 
 -- Every file was processed, in order and in groups of `lanes`, the last of at most `lanes`. Their lines were printed,
 -- and what happened agrees with the groups and with the void numbers.

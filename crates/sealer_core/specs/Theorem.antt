@@ -35,7 +35,7 @@ use Rattle.ranges_core.specs.Reservations.{Lists, next_of}
 use Rattle.reserve_core.specs.NextRun.{AreIn, PassInTurn}
 use Rattle.command_core.specs.declared.line.FileOutcome.{FileOutcome}
 use Rattle.command_core.specs.Session.{Begun, IsSound, Session}
-use Rattle.command_core.specs.Trace.{Event, Reading, Unread, Created, Refused, Unwritten, Finished, Discarded}
+use Rattle.command_core.specs.Trace.{Event, Reading, Unread, Rewound, Closed, Created, Refused, Finished, Discarded, Done}
 use Rattle.command_core.specs.Work.{AreWorked, IsOfOpening, Opening, output_for}
 use Rattle.sealer_core.specs.Piping.{HasSealedStream}
 use Rattle.sealer_core.specs.Sealing.{Happened, HasSealed, held_in, sealed_name, written_in}
@@ -195,22 +195,26 @@ abbrev pub read_in : List Event → List (List ℕ)
 read_in [] = []
 read_in (Reading name bytes ∷ events) = bytes ∷ read_in events
 read_in (Unread name ∷ events) = read_in events
+read_in (Rewound name failed ∷ events) = read_in events
+read_in (Closed name failed ∷ events) = read_in events
 read_in (Created name ∷ events) = read_in events
 read_in (Refused name fault ∷ events) = read_in events
-read_in (Unwritten name ∷ events) = read_in events
 read_in (Finished name bytes ∷ events) = read_in events
 read_in (Discarded name bytes ∷ events) = read_in events
+read_in (Done name failed ∷ events) = read_in events
 
 -- those of the outputs that were finished
 abbrev pub finished_in : List Event → List (List ℕ)
 finished_in [] = []
 finished_in (Reading name bytes ∷ events) = finished_in events
 finished_in (Unread name ∷ events) = finished_in events
+finished_in (Rewound name failed ∷ events) = finished_in events
+finished_in (Closed name failed ∷ events) = finished_in events
 finished_in (Created name ∷ events) = finished_in events
 finished_in (Refused name fault ∷ events) = finished_in events
-finished_in (Unwritten name ∷ events) = finished_in events
 finished_in (Finished name bytes ∷ events) = bytes ∷ finished_in events
 finished_in (Discarded name bytes ∷ events) = finished_in events
+finished_in (Done name failed ∷ events) = finished_in events
 
 -- ---- and by a call
 

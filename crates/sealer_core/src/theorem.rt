@@ -9,7 +9,7 @@ ghost use Rattle.container_core.specs.Opening.{opening};
 ghost use Rattle.container_core.specs.Shape.{IsShape, ShapeView, size_of};
 ghost use Rattle.command_core.specs.declared.line.FileOutcome.TheVariants.{Opened, Sealed};
 ghost use Rattle.command_core.specs.Session.{IsSound, Session, begun_as};
-ghost use Rattle.command_core.specs.Trace.{Event, Finished, Reading};
+ghost use Rattle.command_core.specs.Trace.{Event, Finished};
 ghost use Rattle.command_core.specs.Unpiping.{Unpipes};
 ghost use Rattle.command_core.specs.Work.{Opening, output_for};
 ghost use Rattle.front_core.specs.Range.{IsHeld};
@@ -186,16 +186,17 @@ pub fn what_was_opened_was_sealed()
         → run.outcome ≡ Sealed number count → WasOpened call.to call.events file run.bytes plain
         → plain ≡ run.input }
     ensures unpiped { (key : List ℕ) (terms : Terms) (history : List Entry) (outputs : List (List ℕ))
-        (run : WroteFiles key terms history outputs) (output bytes name first before plain : List ℕ) (most n : ℕ)
-        (label : Option (List ℕ)) (events : List Event) → IsAmong (Finished output bytes) run.events
+        (run : WroteFiles key terms history outputs) (output bytes name before plain : List ℕ) (most n : ℕ)
+        (label : Option (List ℕ)) (events : List Event) (earlier : List (List ℕ))
+        → IsAmong (Finished output bytes) run.events
         → Unpipes key most label name (Some before) (Some (before ++ plain)) (Opened n) events
-        → events ≡ Reading name first ∷ Reading name bytes ∷ []
+        → read_in events ≡ earlier ++ bytes ∷ []
         → (source : List ℕ) × (output ≡ sealed_name source) × WasSealed run.events source plain bytes }
     ensures back { (key : List ℕ) (terms : Terms) (history : List Entry) (outputs : List (List ℕ))
         (run : WroteStream key terms history outputs) (number count most n : ℕ) (label : Option (List ℕ))
-        (name first before plain : List ℕ) (events : List Event) → run.outcome ≡ Sealed number count
+        (name before plain : List ℕ) (events : List Event) (earlier : List (List ℕ)) → run.outcome ≡ Sealed number count
         → Unpipes key most label name (Some before) (Some (before ++ plain)) (Opened n) events
-        → events ≡ Reading name first ∷ Reading name run.bytes ∷ [] → plain ≡ run.input }
+        → read_in events ≡ earlier ++ run.bytes ∷ [] → plain ≡ run.input }
     ensures opened { (key : List ℕ) (call : OpenedFiles key) (output plain : List ℕ)
         → IsAmong (Finished output plain) call.events
         → (file : List ℕ) × (bytes : List ℕ) × (output ≡ output_for call.to file)

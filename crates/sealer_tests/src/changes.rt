@@ -84,6 +84,10 @@ impl<'a> OpeningFolder for Changing<'a> {
         _reader: &Input<'a>,
     ) {}
 
+    fn complete(&mut self, output: MemoryWriter) -> Result<(), MemoryWriter> {
+        self.folder.complete(output)
+    }
+
     fn give_up(&mut self, output: MemoryWriter) {
         self.folder.give_up(output);
     }
@@ -92,7 +96,13 @@ impl<'a> OpeningFolder for Changing<'a> {
 // Whether an output was created, and discarded with the first bytes of the plaintext.
 fn is_discarded(folder: &MemoryFolder, plain: &[u8], end: &End) -> bool {
     match folder.told() {
-        Some([Told::Created(_), Told::Discarded(_, bytes)]) => begins(bytes.as_slice(), plain, end),
+        Some(
+            [
+                Told::Created(_),
+                Told::Discarded(_, bytes),
+                Told::Done(_, false),
+            ],
+        ) => { begins(bytes.as_slice(), plain, end) }
         _ => false,
     }
 }

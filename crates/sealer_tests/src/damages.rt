@@ -8,7 +8,7 @@ use container_core::{HEADER, OpenFault, SEALED, Shape};
 use container_tests::{
     CHUNK_COUNT, Case, MOVES, SHAPES, chunk_cases, header_cases, header_count, moved, zeros_sealed,
 };
-use folder_memory::MemoryFolder;
+use folder_memory::{MemoryFolder, Told};
 use sealer_core::OpenOptions;
 use sha2::{Digest, Sha256};
 use std::alloc::Global;
@@ -43,11 +43,11 @@ static LINES: [(OpenFault, &[u8]); 9] = [
     ),
 ];
 
-// Whether nothing happened in the folder but that a file was opened for reading.
+// Whether nothing happened in the folder but that a file was read once, and closed.
 fn is_untouched(folder: &MemoryFolder) -> bool {
     match folder.told() {
-        Some(told) => told.len() == 1 && !folder.has("a"),
-        None => false,
+        Some([Told::Reading(_, _), Told::Closed(_, false)]) => !folder.has("a"),
+        _ => false,
     }
 }
 

@@ -217,8 +217,23 @@ impl<'a> OpeningFolder for Failing<'a> {
         _reader: &FailingReader<'a>,
     ) {}
 
+    fn complete(&mut self, output: FailingWriter<'a>) -> Result<(), FailingWriter<'a>> {
+        let calls = self.calls;
+        if calls.fails(Act::Write) {
+            return Err(output);
+        }
+        let FailingWriter { writer, calls: _ } = output;
+        match self.folder.complete(writer) {
+            Ok(()) => Ok(()),
+            Err(writer) => Err(FailingWriter { writer, calls }),
+        }
+    }
+
     fn give_up(&mut self, output: FailingWriter<'a>) {
-        let _ = self.discard(output);
+        if !self.calls.fails(Act::Remove) {
+            let FailingWriter { writer, calls: _ } = output;
+            self.folder.give_up(writer);
+        }
     }
 }
 

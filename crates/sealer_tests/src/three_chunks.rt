@@ -56,10 +56,14 @@ fn is_opened<'a, R: AllocGlobal + Threads + Wait + Sync>(
             &folder,
             &[
                 Seen::Reading("a.stm", sealed),
+                Seen::Rewound("a.stm", false),
                 Seen::Reading("a.stm", sealed),
                 Seen::Created("a"),
                 Seen::Finished("a", plain),
+                Seen::Done("a", false),
+                Seen::Closed("a.stm", false),
                 Seen::Reading("a.stm", sealed),
+                Seen::Closed("a.stm", false),
             ],
         )
 }
@@ -91,6 +95,8 @@ fn is_opened_once<'a, R: AllocGlobal + Threads + Sync>(
         Seen::Reading("a.stm", sealed),
         Seen::Created("a"),
         Seen::Finished("a", plain),
+        Seen::Done("a", false),
+        Seen::Closed("a.stm", false),
     ];
     Some(status == Some(0) && out.lines.bytes() == line && tells(&folder.folder, &seen))
 }

@@ -14,11 +14,13 @@ use std::thread::Threads;
 pub(crate) enum Seen<'a> {
     Reading(&'a str, &'a [u8]),
     Unread(&'a str),
+    Rewound(&'a str, bool),
+    Closed(&'a str, bool),
     Created(&'a str),
     Refused(&'a str, FolderFault),
-    Unwritten(&'a str),
     Finished(&'a str, &'a [u8]),
     Discarded(&'a str, &'a [u8]),
+    Done(&'a str, bool),
 }
 
 fn is_seen(told: &Told, seen: Seen) -> bool {
@@ -31,6 +33,14 @@ fn is_seen(told: &Told, seen: Seen) -> bool {
             Told::Unread(own) => own.as_str() == name,
             _ => false,
         },
+        Seen::Rewound(name, failed) => match told {
+            Told::Rewound(own, is) => own.as_str() == name && *is == failed,
+            _ => false,
+        },
+        Seen::Closed(name, failed) => match told {
+            Told::Closed(own, is) => own.as_str() == name && *is == failed,
+            _ => false,
+        },
         Seen::Created(name) => match told {
             Told::Created(own) => own.as_str() == name,
             _ => false,
@@ -39,16 +49,16 @@ fn is_seen(told: &Told, seen: Seen) -> bool {
             Told::Refused(own, cause) => own.as_str() == name && *cause == fault,
             _ => false,
         },
-        Seen::Unwritten(name) => match told {
-            Told::Unwritten(own) => own.as_str() == name,
-            _ => false,
-        },
         Seen::Finished(name, bytes) => match told {
             Told::Finished(own, all) => own.as_str() == name && all.as_slice() == bytes,
             _ => false,
         },
         Seen::Discarded(name, bytes) => match told {
             Told::Discarded(own, all) => own.as_str() == name && all.as_slice() == bytes,
+            _ => false,
+        },
+        Seen::Done(name, failed) => match told {
+            Told::Done(own, is) => own.as_str() == name && *is == failed,
             _ => false,
         },
     }
@@ -79,7 +89,7 @@ fn goes<R: AllocGlobal + Threads + Wait + Sync>(rt: &R, case: &Case, seen: &[See
 }
 
 // What a row shows, its case, and what happens.
-static OPENED: [(&str, Case, &[Seen]); 8] = [
+static OPENED: [(&str, Case, &[Seen]); 9] = [
     (
         "what is opened is read twice, then its output is created, and finished once",
         Case {
@@ -108,18 +118,27 @@ static OPENED: [(&str, Case, &[Seen]); 8] = [
         },
         &[
             Seen::Reading("a.stm", &SECRET),
+            Seen::Rewound("a.stm", false),
             Seen::Reading("a.stm", &SECRET),
             Seen::Created("a"),
             Seen::Finished("a", b"a secret"),
+            Seen::Done("a", false),
+            Seen::Closed("a.stm", false),
             Seen::Unread("m.stm"),
             Seen::Reading("c.stm", &EMPTY),
+            Seen::Rewound("c.stm", false),
             Seen::Reading("c.stm", &EMPTY),
             Seen::Refused("c", FolderFault::Exists),
+            Seen::Closed("c.stm", false),
             Seen::Reading("d.stm", &CUT),
+            Seen::Closed("d.stm", false),
             Seen::Reading("e.stm", &EMPTY),
+            Seen::Rewound("e.stm", false),
             Seen::Reading("e.stm", &EMPTY),
             Seen::Created("e"),
             Seen::Finished("e", b""),
+            Seen::Done("e", false),
+            Seen::Closed("e.stm", false),
         ],
     ),
     (
@@ -145,14 +164,19 @@ static OPENED: [(&str, Case, &[Seen]); 8] = [
         },
         &[
             Seen::Reading("a.stm", &SECRET),
+            Seen::Rewound("a.stm", false),
             Seen::Reading("a.stm", &SECRET),
             Seen::Created("a"),
-            Seen::Unwritten("a"),
             Seen::Discarded("a", b"a sec"),
+            Seen::Done("a", true),
+            Seen::Closed("a.stm", false),
             Seen::Reading("b.stm", &EMPTY),
+            Seen::Rewound("b.stm", false),
             Seen::Reading("b.stm", &EMPTY),
             Seen::Created("b"),
             Seen::Finished("b", b""),
+            Seen::Done("b", false),
+            Seen::Closed("b.stm", false),
         ],
     ),
     (
@@ -172,10 +196,12 @@ static OPENED: [(&str, Case, &[Seen]); 8] = [
         },
         &[
             Seen::Reading("a.stm", &SECRET),
+            Seen::Rewound("a.stm", false),
             Seen::Reading("a.stm", &SECRET),
             Seen::Created("a"),
-            Seen::Unwritten("a"),
             Seen::Discarded("a", b"a secret"),
+            Seen::Done("a", true),
+            Seen::Closed("a.stm", false),
         ],
     ),
     (
@@ -195,8 +221,10 @@ static OPENED: [(&str, Case, &[Seen]); 8] = [
         },
         &[
             Seen::Reading("a.stm", &SECRET),
+            Seen::Rewound("a.stm", false),
             Seen::Reading("a.stm", &SECRET),
             Seen::Refused("a", FolderFault::Failed),
+            Seen::Closed("a.stm", false),
         ],
     ),
     (
@@ -216,7 +244,7 @@ static OPENED: [(&str, Case, &[Seen]); 8] = [
             journal: b"",
             left: &[("a", Left::Absent)],
         },
-        &[Seen::Reading("a.stm", &SECRET), Seen::Unread("a.stm")],
+        &[Seen::Reading("a.stm", &SECRET), Seen::Closed("a.stm", true)],
     ),
     (
         // The calls are to open the input and read it again.
@@ -235,8 +263,36 @@ static OPENED: [(&str, Case, &[Seen]); 8] = [
         },
         &[
             Seen::Reading("a.stm", &SECRET),
-            Seen::Unread("a.stm"),
-            Seen::Unread("a.stm"),
+            Seen::Rewound("a.stm", true),
+            Seen::Closed("a.stm", true),
+        ],
+    ),
+    (
+        // The second reading fails in the header.
+        "an output whose second reading fails is given up, and no write failed",
+        Case {
+            folder: &[("a.stm", &SECRET)],
+            trouble: Trouble::Readers(Pace {
+                most: 3,
+                schedule: Schedule::Bytes(60),
+            }),
+            work: Work::Open,
+            files: &["a.stm"],
+            max_bytes: 8,
+            status: 1,
+            lines: b"failed a.stm: read failed\n",
+            faults: b"",
+            journal: b"",
+            left: &[("a", Left::Absent)],
+        },
+        &[
+            Seen::Reading("a.stm", &SECRET),
+            Seen::Rewound("a.stm", false),
+            Seen::Reading("a.stm", &SECRET),
+            Seen::Created("a"),
+            Seen::Discarded("a", b""),
+            Seen::Done("a", false),
+            Seen::Closed("a.stm", true),
         ],
     ),
     (
@@ -255,12 +311,17 @@ static OPENED: [(&str, Case, &[Seen]); 8] = [
         },
         &[
             Seen::Reading("a.stm", &SECRET),
+            Seen::Rewound("a.stm", false),
             Seen::Reading("a.stm", &SECRET),
             Seen::Created("other"),
             Seen::Finished("other", b"a secret"),
+            Seen::Done("other", false),
+            Seen::Closed("a.stm", false),
             Seen::Reading("b.txt", &SECRET),
+            Seen::Rewound("b.txt", false),
             Seen::Reading("b.txt", &SECRET),
             Seen::Refused("other", FolderFault::Exists),
+            Seen::Closed("b.txt", false),
         ],
     ),
     (
@@ -290,11 +351,16 @@ static OPENED: [(&str, Case, &[Seen]); 8] = [
         },
         &[
             Seen::Reading("a.stm", &LABELLED),
+            Seen::Closed("a.stm", false),
             Seen::Reading("b.stm", &SECRET),
+            Seen::Closed("b.stm", false),
             Seen::Unread("m.stm"),
             Seen::Reading("c.stm", &CUT),
+            Seen::Closed("c.stm", false),
             Seen::Reading("d", &LABELLED),
+            Seen::Closed("d", false),
             Seen::Reading("e.stm", &BARE),
+            Seen::Closed("e.stm", false),
         ],
     ),
 ];

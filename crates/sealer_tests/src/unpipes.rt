@@ -295,7 +295,9 @@ static IN_FOLDER: [InFolder; 6] = [
         written: b"a secret",
         seen: &[
             Seen::Reading("a.stm", &SECRET),
+            Seen::Rewound("a.stm", false),
             Seen::Reading("a.stm", &SECRET),
+            Seen::Closed("a.stm", false),
         ],
     },
     InFolder {
@@ -308,8 +310,8 @@ static IN_FOLDER: [InFolder; 6] = [
         written: b"",
         seen: &[
             Seen::Reading("a.stm", &SECRET),
-            Seen::Unread("a.stm"),
-            Seen::Unread("a.stm"),
+            Seen::Rewound("a.stm", true),
+            Seen::Closed("a.stm", true),
         ],
     },
     InFolder {
@@ -320,7 +322,7 @@ static IN_FOLDER: [InFolder; 6] = [
         status: 1,
         line: b"failed a.stm: chunk 0 does not check\n",
         written: b"",
-        seen: &[Seen::Reading("a.stm", &CUT)],
+        seen: &[Seen::Reading("a.stm", &CUT), Seen::Closed("a.stm", false)],
     },
     InFolder {
         what: "a file that could not be opened",
@@ -352,7 +354,9 @@ static IN_FOLDER: [InFolder; 6] = [
         written: b"",
         seen: &[
             Seen::Reading("a.stm", &EMPTY),
+            Seen::Rewound("a.stm", false),
             Seen::Reading("a.stm", &EMPTY),
+            Seen::Closed("a.stm", false),
         ],
     },
 ];

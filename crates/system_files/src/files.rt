@@ -349,6 +349,10 @@ impl<'p, 'r, R: Files + AllocGlobal + Clock + Eprint, I: Read + Drop> OpeningFol
         _reader: &Self::Reader,
     ) {}
 
+    fn complete(&mut self, output: Self::Writer) -> Result<(), Self::Writer> {
+        self.finish(output)
+    }
+
     fn give_up(&mut self, output: Self::Writer) {
         let _ = outputs::discard(self.rt, output.0);
     }

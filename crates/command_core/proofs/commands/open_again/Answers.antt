@@ -1,10 +1,11 @@
 use Rattle.std.proofs.Common.{rules, refl, ap, sym, ◌∙◌, false, true, Err}
 use Rattle.io_core.specs.Streams.{counted}
 use Rattle.opening_core.specs.Twice.{broken_by_write}
+use Rattle.command_core.specs.Trace.{Discarded, Ends, Finished}
 use Rattle.command_core.proofs.Openings.{good_of, may_again, not_repeated, opened_twice, read_again, read_again_failed, read_by_verifying}
 use Rattle.command_core.proofs.Openings.{refusal_quiet, refused, refused_twice, stopped_twice}
 use Rattle.command_core.proofs.Traces.{counted_as, counted_if, counted_more, counted_new, counted_on, counted_through}
-use Rattle.command_core.proofs.Traces.{gives_up_as}
+use Rattle.command_core.proofs.Traces.{ends_as}
 use Rattle.command_core.proofs.commands.open_again.Goals as goal
 
 pub returns-in-Err-clause-events : goal.returns-in-Err-clause-events
@@ -44,8 +45,14 @@ write_again_or_give_up-requires-clause-may g c κs within =
 pub returns-in-Ok-write_again_or_give_up-clause-events :
     goal.returns-in-Ok-write_again_or_give_up-clause-events
 returns-in-Ok-write_again_or_give_up-clause-events g c = λ before opens.
-    opened_twice _ _ _ _ _ _ _ _ _ _ _ _ _ _ _ (good_of _ _ _ _ _ c.in-Ok.ensures.good) c.in-Ok.ensures.header c.in-Ok.ensures.label
-    c.in-Ok-write_again_or_give_up.ensures.ok (search rules) c.in-Ok-again.ensures.again opens
+    let (taken, wrote, ends) = c.in-Ok-write_again_or_give_up.ensures.ok in
+    opened_twice _ _ _ _ _ _ _ _ _ _ _ _ _ _ _ (good_of _ _ _ _ _ c.in-Ok.ensures.good) c.in-Ok.ensures.header c.in-Ok.ensures.label (
+      taken,
+      wrote,
+      ends_as (Ends Finished taken) _ _ _ _ (counted_new false _ _ _ _ c.allow_checked.ensures.told c.in-Ok-create.ensures.count
+          c.allow_checked.ensures.count) ends,
+    )
+    (search rules) c.in-Ok-again.ensures.again opens
 
 pub returns-in-Ok-write_again_or_give_up-clause-count :
     goal.returns-in-Ok-write_again_or_give_up-clause-count
@@ -61,7 +68,7 @@ returns-in-Err-write_again_or_give_up-clause-events g c = λ before opens.
     c.in-Err-write_again_or_give_up.ensures.fault (c.fault_again.ensures.changed, c.fault_again.ensures.broken) (
       taken,
       begun,
-      gives_up_as taken _ _ _ _
+      ends_as (Ends Discarded taken) _ _ _ _
           (counted_new (broken_by_write (Err c.in-Err-write_again_or_give_up.stopped)) _ _ _ _ c.allow_checked.ensures.told
           c.in-Ok-create.ensures.count c.allow_checked.ensures.count) gives,
     )

@@ -1,8 +1,9 @@
-use Rattle.std.proofs.Common.{rules, ap, sym, ◌∙◌, true}
+use Rattle.std.proofs.Common.{rules, ap, sym, ◌∙◌, false, true}
 use Rattle.io_core.specs.Streams.{counted}
+use Rattle.command_core.specs.Trace.{Discarded, Ends, Finished}
 use Rattle.command_core.proofs.Openings.{good_by, may_once, not_written, opened_once, read_by_opening, read_once, refusal_quiet, refused}
 use Rattle.command_core.proofs.Openings.{refused_once}
-use Rattle.command_core.proofs.Traces.{counted_if, counted_new, gives_up_as}
+use Rattle.command_core.proofs.Traces.{counted_if, counted_new, ends_as}
 use Rattle.command_core.proofs.commands.open_once.Goals as goal
 
 pub returns-in-Err-clause-events : goal.returns-in-Err-clause-events
@@ -30,7 +31,13 @@ write_or_give_up-requires g c = record { may = may_once _ _ _ _ c.allow_plain.en
 
 pub returns-in-Ok-write_or_give_up-clause-events : goal.returns-in-Ok-write_or_give_up-clause-events
 returns-in-Ok-write_or_give_up-clause-events g c = λ before opens.
-    opened_once _ _ _ _ _ _ _ _ _ _ _ _ _ c.in-Ok.ensures.plaintext (search rules) c.in-Ok-write_or_give_up.ensures.ok
+    let (taken, grew, ends) = c.in-Ok-write_or_give_up.ensures.ok in
+    opened_once _ _ _ _ _ _ _ _ _ _ _ _ _ c.in-Ok.ensures.plaintext (search rules) (
+      taken,
+      grew,
+      ends_as (Ends Finished taken) _ _ _ _
+          (counted_new false _ _ _ _ c.allow_plain.ensures.told c.in-Ok-create.ensures.count c.allow_plain.ensures.count) ends,
+    )
     (search rules) opens
 
 pub returns-in-Ok-write_or_give_up-clause-count : goal.returns-in-Ok-write_or_give_up-clause-count
@@ -42,7 +49,7 @@ returns-clause-events g c = λ before opens.
     not_written _ _ _ _ _ _ _ _ _ _ _ _ c.in-Ok.ensures.plaintext (
       taken,
       front,
-      gives_up_as taken _ _ _ _
+      ends_as (Ends Discarded taken) _ _ _ _
           (counted_new true _ _ _ _ c.allow_plain.ensures.told c.in-Ok-create.ensures.count c.allow_plain.ensures.count) gives,
     )
     (search rules) opens

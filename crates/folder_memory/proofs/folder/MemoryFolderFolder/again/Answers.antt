@@ -1,9 +1,17 @@
-use Rattle.std.proofs.Common.{refl}
-use Rattle.folder_memory.proofs.Truth.{true_kept}
+use Rattle.std.proofs.Common.{refl, rules}
+use Rattle.folder_memory.proofs.Ends.{leaves, rewinds}
 use Rattle.folder_memory.proofs.folder.MemoryFolderFolder.again.Goals as goal
 
-pub invariant_of-self : goal.invariant_of-self
-invariant_of-self c = true_kept _ _ _ _ _ c.unread-event.ensures c.tell.ensures (λ name left. refl) c.self.invariant
+pub record-requires : goal.record-requires
+record-requires c = leaves _ _ c.rewound-event.ensures (λ name left. refl)
 
-pub invariant_of-self-2 : goal.invariant_of-self-2
-invariant_of-self-2 c = true_kept _ _ _ _ _ c.reading-event.ensures c.tell-2.ensures (λ name left. refl) c.self.invariant
+pub record-requires-2 : goal.record-requires-2
+record-requires-2 c = leaves _ _ c.rewound-event-2.ensures (λ name left. refl)
+
+pub record-requires-3 : goal.record-requires-3
+record-requires-3 c = leaves _ _ c.reading-event.ensures (λ name left. refl)
+
+pub returns-clause-again : goal.returns-clause-again
+returns-clause-again c = rewinds _ _ _ _ _ _ _ _ _ c.rewound-event-2.ensures c.reading-event.ensures (search rules) (search rules)
+    c.record-2.ensures.told
+    c.record-3.ensures.told
