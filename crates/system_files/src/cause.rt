@@ -203,7 +203,7 @@ fn not_opened<R: Files + AllocGlobal>(rt: &R, path: &str, step: Step) -> Cause {
         Some(Cause::NoFile) => return Cause::CannotMake,
         Some(cause) => return cause,
     }
-    if step == Step::Open && is_closed(rt, folder_and_name(log).0) {
+    if step == Step::Open && is_barred(rt, folder_and_name(log).0) {
         return Cause::NoPermission;
     }
     if has_more_names(rt, path) {
@@ -297,7 +297,7 @@ fn missing<R: Files>(rt: &R, path: &str, error: &io::Error) -> Cause {
 }
 
 // Whether this user may not read a folder. A run that seals opens that of the log, to sync it.
-fn is_closed<R: Files>(rt: &R, folder: &str) -> bool {
+fn is_barred<R: Files>(rt: &R, folder: &str) -> bool {
     match File::open(rt, folder) {
         Ok(_) => false,
         Err(error) => error.kind() == ErrorKind::PermissionDenied,
