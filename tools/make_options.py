@@ -205,7 +205,8 @@ def zsh_row(row, letters):
     if row.words:
         return quoted(f"--{row.name}=-[{about}]::{row.value.lower()}:{action}")
     message = f"{row.numbers[0]} to {row.numbers[1]}"
-    message += f", perhaps with {', '.join(letters[:-1])} or {letters[-1]}" if row.word == "max" else ""
+    sizes = letters if row.numbers[1] >= 1 << 40 else letters[:-1]
+    message += f", perhaps with {', '.join(sizes[:-1])} or {sizes[-1]}" if row.word == "max" else ""
     return quoted(f"--{row.name}=[{about}]:{message}:{action}")
 
 
