@@ -20,3 +20,14 @@ IsListOf separator text names = All (IsName separator) names
 abbrev pub IsListed : ℕ → Option (List ℕ) → List (List ℕ) → Type 0
 IsListed separator None names = names ≡ []
 IsListed separator (Some text) names = IsListOf separator text names
+
+-- What a list has between its separators, names or not: pieces, each followed by a separator, which the last one may
+-- lack if it isn't empty.
+abbrev pub ArePiecesOf : ℕ → List ℕ → List (List ℕ) → Type 0
+ArePiecesOf separator list pieces = All (λ piece. All (λ byte. byte ≢ separator) piece) pieces × ((list ≡ ended separator pieces)
+    ⊎ ((front : List (List ℕ)) × (last : List ℕ) × (last ≢ []) × (pieces ≡ front ++ last ∷ []) × (list ≡ ended separator front ++ last)))
+
+-- the pieces of a list, if there is one
+abbrev pub ArePieces : ℕ → Option (List ℕ) → List (List ℕ) → Type 0
+ArePieces separator None pieces = pieces ≡ []
+ArePieces separator (Some list) pieces = ArePiecesOf separator list pieces

@@ -19,7 +19,10 @@ pub use crate::fault::UsageFault;
 pub use crate::given::{
     DEFAULT_DEPTH, DEFAULT_LANES, DEFAULT_MAX_BYTES, DEFAULT_MAX_CHUNKS, DEFAULT_WORKERS,
 };
-pub use crate::names::{ListRequest, files_of, list_request, names_in};
+pub use crate::names::{
+    ListRequest, Naming, borrowed, files_of, list_request, names_in, naming_asked, quoted_files_of,
+    quoted_names,
+};
 pub use crate::requests::{
     DEFAULT_EXPONENT, OpenRequest, PipeRequest, Reading, SealRequest, Showing, UnpipeRequest,
     open_request, pipe_request, seal_request, showing_asked, unpipe_request, verbose_asked,

@@ -1,15 +1,17 @@
 //! The names of the files of a command: those of the command line, and those of a list. A list is a text with a name on
-//! each line, or with a byte 0 after each name.
+//! each line, or with a byte 0 after each name. With `--quote` names are as lines show them.
 ghost use Rattle.std.specs.Prelude.{◌≡◌, ◌≢◌, ◌<◌, ◌++◌, ◌∷◌, ℕ, List, [], IfOk};
 ghost use Rattle.std.specs.Prelude.{IfSome, None, Some, codes, length, map};
-ghost use Rattle.std.specs.Prelude.{option_map, true, false};
+ghost use Rattle.std.specs.Prelude.{IfErr, OnOk, option_map, string_bytes, true, false};
 ghost use Rattle.clap.specs.Matches.{first_value, found_of, one_text};
 ghost use Rattle.std.specs.List.{All};
-ghost use Rattle.command_line.specs.Asked.{dashes};
-ghost use Rattle.command_line.specs.Names.{IsListOf, IsListed};
+ghost use Rattle.command_line.specs.Asked.{IsNaming, dashes};
+ghost use Rattle.command_line.specs.Names.{ArePieces, ArePiecesOf, IsListOf, IsListed};
+ghost use Rattle.path_core.specs.Quotes.{quoted};
 
 use crate::fault::UsageFault;
 use clap::ArgMatches;
+use path_core::quote;
 use std::alloc::Global;
 
 /// The list of names that is asked for.
@@ -102,6 +104,131 @@ pub fn names_in(alloc: Global, text: &str, separator: char) -> Result<Vec<&str>,
         Ok(()) => Ok(names),
         Err(_) => Err(UsageFault::OutOfMemory),
     }
+}
+
+/// How a run takes its names.
+#[derive(Clone, Copy, PartialEq, Eq, Debug)]
+pub enum Naming {
+    /// As they are given.
+    Plain,
+    /// As lines show them.
+    Quoted,
+    /// As lines show them. What can't be used fails alone.
+    KeepGoing,
+}
+
+/// Returns how a run takes its names. `--keep-going` implies `--quote`.
+pub fn naming_asked(matches: &ArgMatches<'_>) -> Naming
+    ensures { IsNaming matches.now result }
+{
+    if matches.get_flag("keep-going") {
+        Naming::KeepGoing
+    } else if matches.get_flag("quote") {
+        Naming::Quoted
+    } else {
+        Naming::Plain
+    }
+}
+
+/// Returns these names as lines show them.
+pub fn quoted_names(alloc: Global, names: &[&str]) -> Result<Vec<String>, UsageFault>
+    ensures names { IfOk result (λ shown. map string_bytes shown.items ≡ map quoted (map (λ name. name.now) names.now)) }
+    ensures fault { IfErr result (λ fault. fault ≡ UsageFault.OutOfMemory) }
+{
+    let mut shown = Vec::new(alloc);
+    for name in names {
+        push_quoted(alloc, &mut shown, name.as_bytes())?;
+    }
+    Ok(shown)
+}
+
+/// Returns the names of the command line, then all that the list has between its separators, if there is one, as lines
+/// show them. What is empty or isn't UTF-8 is no name, and no fault either.
+pub fn quoted_files_of(
+    alloc: Global,
+    given: &[&str],
+    list: Option<&[u8]>,
+    separator: char,
+) -> Result<Vec<String>, UsageFault>
+    requires ascii { separator < 128 }
+    ensures files { IfOk result (λ files. (pieces : List (List ℕ))
+        × ArePieces separator (option_map (λ list. list.now) list.entry) pieces
+        × (map string_bytes files.items ≡ map quoted (map (λ name. name.now) given.now ++ pieces))) }
+    ensures fault { IfErr result (λ fault. fault ≡ UsageFault.OutOfMemory) }
+{
+    let shown = quoted_names(alloc, given)?;
+    match list {
+        Some(list) => with_pieces(alloc, shown, list, separator as u32 as u8),
+        None => Ok(shown),
+    }
+}
+
+// Adds what a list has between its separators.
+fn with_pieces(
+    alloc: Global,
+    shown: Vec<String>,
+    list: &[u8],
+    separator: u8,
+) -> Result<Vec<String>, UsageFault>
+    ensures files { IfOk result (λ files. (pieces : List (List ℕ)) × ArePiecesOf separator list.now pieces
+        × (map string_bytes files.items ≡ map string_bytes shown.items ++ map quoted pieces)) }
+    ensures fault { IfErr result (λ fault. fault ≡ UsageFault.OutOfMemory) }
+{
+    let mut shown = shown;
+    let mut rest = list;
+    'pieces: while let Some((piece, more)) = cut_bytes(rest, separator) {
+        push_quoted(alloc, &mut shown, piece)?;
+        rest = more;
+    }
+    if rest.is_empty() {
+        return Ok(shown);
+    }
+    push_quoted(alloc, &mut shown, rest)?;
+    Ok(shown)
+}
+
+/// Returns these texts, borrowed.
+pub fn borrowed(alloc: Global, texts: &[String]) -> Result<Vec<&str>, UsageFault>
+    ensures names { IfOk result (λ names. map (λ name. name.now) names.items ≡ map string_bytes texts.now) }
+    ensures fault { IfErr result (λ fault. fault ≡ UsageFault.OutOfMemory) }
+{
+    let mut names = Vec::new(alloc);
+    for text in texts {
+        match names.push(text.as_str()) {
+            Ok(()) => {}
+            Err(_) => return Err(UsageFault::OutOfMemory),
+        }
+    }
+    Ok(names)
+}
+
+// Adds a name as a line shows it.
+fn push_quoted(alloc: Global, shown: &mut Vec<String>, name: &[u8]) -> Result<(), UsageFault>
+    ensures name { OnOk result (map string_bytes shown.new.items
+        ≡ map string_bytes shown.old.items ++ quoted name.now ∷ []) }
+    ensures fault { IfErr result (λ fault. fault ≡ UsageFault.OutOfMemory) }
+{
+    let Ok(text) = quote(alloc, name) else {
+        return Err(UsageFault::OutOfMemory);
+    };
+    match shown.push(text) {
+        Ok(()) => Ok(()),
+        Err(_) => Err(UsageFault::OutOfMemory),
+    }
+}
+
+// The bytes before the first separator, and those after it.
+fn cut_bytes(bytes: &[u8], separator: u8) -> Option<(&[u8], &[u8])>
+    ensures whole { IfSome result (λ parts. bytes.now ≡ parts.0.now ++ separator ∷ parts.1.now) }
+    ensures apart { IfSome result (λ parts. All (λ byte. byte ≢ separator) parts.0.now) }
+    ensures shorter { IfSome result (λ parts. length parts.1.now < length bytes.now) }
+    ensures none { result ≡ None → All (λ byte. byte ≢ separator) bytes.now }
+{
+    let Some(at) = bytes.iter().position(|byte| *byte == separator) else {
+        return None;
+    };
+    let (piece, rest) = bytes.split_at(at);
+    Some((piece, &rest[1..]))
 }
 
 /// Returns how many of these names are `-`: standard input.
