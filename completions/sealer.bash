@@ -37,14 +37,16 @@ _sealer() {
     case $command in
         # make_options.py writes from here: words
         '') words='seal pipe unpipe open verify audit ledger help --help -h --version -V' ;;
-        seal) words='--key --workers --verbose --files-from --null --progress --ledger --no-new-ledger --device --max-bytes --lanes
-                    --window --into --skip-existing --sync --private --exponent --label --journal --help -h' ;;
+        seal) words='--key --workers --verbose --files-from --null --quote --keep-going --progress --ledger --no-new-ledger
+                    --device --max-bytes --lanes --window --into --skip-existing --sync --private --exponent --label --journal
+                    --help -h' ;;
         pipe) words='--key --workers --verbose --ledger --no-new-ledger --device --depth --max-chunks --force-terminal --exponent
                     --label --journal --help -h' ;;
         unpipe) words='--key --workers --verbose --progress --max-bytes --spool --label --force-terminal --help -h' ;;
-        open) words='--key --workers --verbose --files-from --null --progress --max-bytes --label --to --into --skip-existing
-                    --sync --private --help -h' ;;
-        verify) words='--key --workers --verbose --files-from --null --progress --max-bytes --label --show --help -h' ;;
+        open) words='--key --workers --verbose --files-from --null --quote --keep-going --progress --max-bytes --label --to --into
+                    --skip-existing --sync --private --help -h' ;;
+        verify) words='--key --workers --verbose --files-from --null --quote --keep-going --progress --max-bytes --label --show
+                    --help -h' ;;
         audit) words='--help -h' ;;
         ledger) words='--ledger --verbose --help -h' ;;
         help) words='seal pipe unpipe open verify audit ledger help' ;;

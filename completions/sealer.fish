@@ -33,6 +33,8 @@ complete -c sealer -n '__sealer_command seal pipe unpipe open verify' -l verbose
 
 complete -c sealer -n '__sealer_command seal open verify' -l files-from -rF -d 'Read further FILEs from a list, one a line, after those of the command line'
 complete -c sealer -n '__sealer_command seal open verify' -l null -d 'FILEs in the list of --files-from end with a NUL byte, not a line feed'
+complete -c sealer -n '__sealer_command seal open verify' -l quote -d 'Print names with escapes for line feeds, backslashes, and whatever else a line does not show'
+complete -c sealer -n '__sealer_command seal open verify' -l keep-going -d 'A name that cannot be used is a FILE that failed, not a fault of usage'
 
 complete -c sealer -n '__sealer_command seal unpipe open verify' -l progress -a 'terminal always' -d 'Show progress on standard error if that is a terminal, or always'
 

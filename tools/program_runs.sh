@@ -305,6 +305,106 @@ wants verify-keeps-nothing 2 '' "begins error: unexpected argument '--skip-exist
 run pipe --key "$key" --ledger files/ledger --device 1 --skip-existing < files/a
 wants pipe-keeps-nothing 2 '' "begins error: unexpected argument '--skip-existing' found"
 
+# With --quote each line is of one FILE, whatever its name: it has escapes for what a line doesn't show.
+fresh
+mkdir files/into
+cp files/numbers.stm 'files/c
+d.stm'
+odd=$(printf 'files/\t\r\033\177\302\205\342\200\216\342\200\250\342\200\256\342\201\251\303\251.stm')
+cp files/numbers.stm "$odd"
+printf 'files/c\nd.stm\0files/numbers.stm\0' > list
+run verify --key "$key" --quote --null --files-from list "$odd" 'files/\x.stm'
+wants quoted 1 'good files/\t\r\u{1b}\u{7f}\u{85}\u{200e}\u{2028}\u{202e}\u{2069}é.stm bytes 1492
+failed files/\\x.stm: cannot open
+good files/c\nd.stm bytes 1492
+good files/numbers.stm bytes 1492' ''
+run open --key "$key" --quote --null --files-from list "$odd"
+wants quoted-and-opened 0 'opened files/\t\r\u{1b}\u{7f}\u{85}\u{200e}\u{2028}\u{202e}\u{2069}é.stm bytes 1492
+opened files/c\nd.stm bytes 1492
+opened files/numbers.stm bytes 1492' ''
+is opened-under-its-own-name cmp -s 'files/c
+d' numbers.plain
+is opened-under-the-odd-name cmp -s "${odd%.stm}" numbers.plain
+run open --key "$key" --quote --skip-existing --null --files-from list
+wants quoted-and-kept 0 'kept files/c\nd.stm
+kept files/numbers.stm' ''
+run open --key "$key" --quote --into files/into --null --files-from list
+wants quoted-into-a-folder 0 'opened files/c\nd.stm bytes 1492
+opened files/numbers.stm bytes 1492' ''
+is opened-in-that-folder cmp -s 'files/into/c
+d' numbers.plain
+cp files/numbers.stm 'files/a\n.stm'
+run open --key "$key" --quote --to 'files/to\n' 'files/a\n.stm'
+wants quoted-with-to 0 'opened files/a\\n.stm bytes 1492' ''
+is to-is-as-it-was-given cmp -s 'files/to\n' numbers.plain
+run seal --key "$key" --ledger files/ledger --device 1 --quote 'files/c
+d' 'files/to\n'
+wants quoted-and-sealed 1 'failed files/c\nd: output exists
+sealed files/to\\n file 0 bytes 1492' ''
+is sealed-beside-it test -e 'files/to\n.stm'
+printf 'a\0\0' > bad-list
+run verify --key none --quote --null --files-from bad-list
+wants quoted-names-are-not-empty 2 '' 'usage: a name in the list is empty'
+printf 'a\377\n' > bad-list
+run verify --key none --quote --files-from bad-list
+wants quoted-names-are-text 2 '' 'usage: the list is no text'
+
+# With --keep-going a name that can't be used fails alone.
+fresh
+mkdir files/into files/d
+printf 1 > files/a
+printf 22 > files/d/a
+printf 333 > 'files/b
+c'
+printf 4444 > "$(printf 'files/e\377')"
+keeps() { seals --null --into files/into --files-from list "$@"; }
+printf 'files/a\0\0files/d/a\0files/e\377\0files/b\nc\0' > list
+keeps
+wants ended-by-bytes 2 '' 'usage: the list is no text'
+printf 'files/a\0\0files/d/a\0files/b\nc\0' > list
+keeps
+wants ended-by-an-empty-name 2 '' 'usage: a name in the list is empty'
+printf 'files/a\0files/d/a\0files/b\nc\0' > list
+keeps
+wants ended-by-one-last-name 2 '' 'usage: two FILEs have one last name'
+is nothing-was-made test -z "$(ls -A files/into)"
+is no-ledger-either no test -e files/ledger
+printf 'files/a\0\0files/d/a\0files/e\377\0files/b\nc\0' > list
+keeps --keep-going
+wants keeps-going 1 'sealed files/a file 0 bytes 1
+failed : cannot open
+failed files/d/a: output exists
+failed files/e\xff: cannot open
+sealed files/b\nc file 1 bytes 3' ''
+is only-the-others-were-made test "$(find files/into -type f -printf x)" = xx
+run ledger --ledger files/ledger
+is numbers-for-all-of-them grep -q ' ranges 1 given 5 left ' out
+# From which of two FILEs an output was made isn't known, so neither is kept.
+keeps --keep-going --skip-existing
+wants keeps-going-and-keeps 1 'kept files/b\nc
+failed files/a: output exists
+failed : cannot open
+failed files/d/a: output exists
+failed files/e\xff: cannot open' ''
+rm -r files/into
+mkdir files/into
+keeps --keep-going --lanes 5
+unnumbered
+wants keeps-going-by-lanes 1 'sealed files/a bytes 1
+failed : cannot open
+failed files/d/a: output exists
+failed files/e\xff: cannot open
+sealed files/b\nc bytes 3' ''
+printf 'files/into/a.stm\n\nfiles/\377.stm' > list
+run verify --key "$key" --keep-going --files-from list
+wants verify-keeps-going 1 'good files/into/a.stm bytes 1
+failed : cannot open
+failed files/\xff.stm: cannot open' ''
+run open --key "$key" --keep-going --files-from list
+wants open-keeps-going 1 'opened files/into/a.stm bytes 1
+failed : name does not end in .stm
+failed files/\xff.stm: cannot open' ''
+
 # Outputs on the disk: the calls, in their order, and what a failing one leaves.
 fresh
 if command -v strace >/dev/null; then

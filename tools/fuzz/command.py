@@ -11,7 +11,7 @@ SECOND_BOUNDS = {"--exponent": (12, 20)}
 LABELS = ("", "a", "two words", "\u00e4" * 127 + "b", "x" * 255, "\n")
 NO_NUMBERS = ("", " ", "x", "1x", "1.0", "0x1", "1e1", "1,0", "--", "99999999999999999999", "\uff11", "one", "1 1")
 # Options of other commands.
-NOT_OF_PIPE = ("--lanes=2", "--window=2", "--max-bytes=1", "--show", "--max-chunk=1", "--private")
+NOT_OF_PIPE = ("--lanes=2", "--window=2", "--max-bytes=1", "--show", "--max-chunk=1", "--private", "--quote")
 NOT_OF_UNPIPE = ("--lanes=2", "--window=2", "--depth=2", "--max-chunks=1", "--show", "--private", "--into=.", "--skip-existing", "--files-from=key")
 UNKNOWN = ("--worker", "--Workers", "--keys", "--key-file=key", "-k", "-w1", "--dry-run", "--max_bytes=1", "-1")
 # The commands that seal; `pipe` takes no file, and `unpipe` at most one.
@@ -54,6 +54,9 @@ def lawful_options(rng, command, first_only):
         given["--show"] = None
     if command in ("seal", "open") and rng.random() < 0.1:
         given["--private"] = None
+    if command in ("seal", "open", "verify") and rng.random() < 0.1:
+        # Its names have nothing to escape.
+        given[rng.choice(("--quote", "--keep-going"))] = None
     return given
 
 

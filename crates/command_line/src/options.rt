@@ -87,7 +87,7 @@ pub(crate) static KEY_ROWS: [Row; 3] = [
 ];
 
 /// What every command over files takes in addition, besides the FILEs.
-pub(crate) static FILE_ROWS: [Row; 2] = [
+pub(crate) static FILE_ROWS: [Row; 4] = [
     Row {
         name: "files-from",
         takes: Takes::Path { is_required: false },
@@ -98,6 +98,18 @@ pub(crate) static FILE_ROWS: [Row; 2] = [
         name: "null",
         takes: Takes::NothingWithout("files-from"),
         help: "FILEs in the list of --files-from end with a NUL byte, not a line feed",
+    },
+    Row {
+        name: "quote",
+        takes: Takes::Nothing,
+        help: "Print names with escapes for line feeds, backslashes, and whatever else\n\
+            a line does not show",
+    },
+    Row {
+        name: "keep-going",
+        takes: Takes::Nothing,
+        help: "A name that cannot be used is a FILE that failed, not a fault of usage;\n\
+            implies --quote",
     },
 ];
 

@@ -6,10 +6,12 @@ use io_core::{Failed, Source, fill};
 use std::io::{ErrorKind, Read};
 use std::rt::{Clock, Files};
 use std::{fs, io};
-use system_files::{FileOptions, STREAM, SystemFiles, can_reopen_input};
+use system_files::{FileOptions, Names, STREAM, SystemFiles, can_reopen_input};
 
 // Files that are to be read again.
 const AGAIN: FileOptions<'static> = FileOptions {
+    names: Names::Plain,
+    outputs: Names::Plain,
     into: None,
     sync: false,
     private: false,

@@ -1,9 +1,12 @@
-//! Tests of `system_files` over real files: of the spool, and of files that are read again.
+//! Tests of `system_files` over real files: of the spool, and of files that are read again. And of names as lines show
+//! them.
 #![tactic(auto)]
 
 #[cfg(test)]
 mod disk;
 #[cfg(test)]
 mod inputs;
+#[cfg(test)]
+mod names;
 #[cfg(test)]
 mod spools;

@@ -1,19 +1,24 @@
 //! What a run needs before its files: the key, the list of their names, where its lines go, and its progress.
-ghost use Rattle.std.specs.Prelude.{◌<◌, ◌≡◌, ◌++◌, ℕ, IfErr, IfOk, IfSome, List, map, option_map, unwrap_or};
+ghost use Rattle.std.specs.Prelude.{◌<◌, ◌≡◌, ◌++◌, ℕ, IfErr, IfOk, IfSome, List, map, option_map, string_bytes};
+ghost use Rattle.std.specs.Prelude.{unwrap_or};
 ghost use Rattle.command_line.specs.Given.{files_given};
-ghost use Rattle.command_line.specs.Names.{IsListed};
+ghost use Rattle.command_line.specs.Names.{ArePieces, IsListed};
+ghost use Rattle.path_core.specs.Quotes.{quoted};
 ghost use Rattle.sealer.specs.Names.{IsListText};
 
 use crate::{FAULT, Streams, Terminals, explain};
 use clap::ArgMatches;
-use command_line::{ListRequest, Showing, UsageFault, files_of, list_request, showing_asked};
+use command_line::{
+    ListRequest, Naming, Showing, UsageFault, files_of, list_request, quoted_files_of,
+    quoted_names, showing_asked,
+};
 use container_core::Key;
 use ledger_core::{FromRead, ToWrite};
 use sealer_core::{KeyFault, Outs, read_key};
 use std::alloc::Global;
 use std::io::{ErrorKind, Read, Write};
 use std::rt::{Clock, Files};
-use system_files::{About, Cause, Progress, Told, is_for_others, open_unbuffered};
+use system_files::{About, Cause, Names, Progress, Told, is_for_others, open_unbuffered};
 
 /// Reads the key from the file at this path. A fault is printed, and the error is its status. With `causes` its cause is
 /// printed too, and a warning if others can read or write the file.
@@ -118,6 +123,55 @@ pub(crate) fn names_of<'n>(
     }
 }
 
+/// Returns the same names as lines show them.
+pub(crate) fn quotes_of(
+    alloc: Global,
+    matches: &ArgMatches<'_>,
+    list: &Option<NameList>,
+) -> Result<Vec<String>, UsageFault>
+    requires ascii { IfSome list.now (λ one. one.separator < 128) }
+    ensures names { IfOk result (λ shown. (listed : List (List ℕ))
+        × IsListed (unwrap_or (option_map (λ one. one.separator) list.now) 10)
+        (option_map (λ one. one.text.items) list.now) listed
+        × (map string_bytes shown.items ≡ map quoted (files_given matches.now ++ listed))) }
+{
+    match names_of(alloc, matches, list) {
+        Ok(names) => quoted_names(alloc, names.as_slice()),
+        Err(fault) => Err(fault),
+    }
+}
+
+/// Returns the names of the command line, then all that the list has between its separators, as lines show them.
+pub(crate) fn pieces_of(
+    alloc: Global,
+    matches: &ArgMatches<'_>,
+    list: &Option<NameList>,
+) -> Result<Vec<String>, UsageFault>
+    requires ascii { IfSome list.now (λ one. one.separator < 128) }
+    ensures names { IfOk result (λ shown. (listed : List (List ℕ))
+        × ArePieces (unwrap_or (option_map (λ one. one.separator) list.now) 10)
+        (option_map (λ one. one.text.items) list.now) listed
+        × (map string_bytes shown.items ≡ map quoted (files_given matches.now ++ listed))) }
+{
+    let given = matches.get_strs("FILE").unwrap_or(&[]);
+    match list {
+        Some(list) => quoted_files_of(alloc, given, Some(list.text.as_slice()), list.separator),
+        None => quoted_files_of(alloc, given, None, '\n'),
+    }
+}
+
+/// Returns how a run's folder finds the paths of its names.
+pub(crate) fn names_for(naming: Naming) -> Names
+    ensures plain { naming ≡ Naming.Plain → result ≡ Names.Plain }
+    ensures quoted { naming ≡ Naming.Quoted → result ≡ Names.Quoted }
+    ensures keep_going { naming ≡ Naming.KeepGoing → result ≡ Names.Quoted }
+{
+    match naming {
+        Naming::Plain => Names::Plain,
+        Naming::Quoted | Naming::KeepGoing => Names::Quoted,
+    }
+}
+
 /// Where a run over files prints. The progress line is cleared before each other line.
 pub(crate) fn outs_of<'p, 'r, R: Files + Clock + Eprint, O: Write + Drop, E: Write + Drop>(
     streams: Streams<O, E>,
@@ -163,18 +217,19 @@ pub(crate) fn clear<R: Clock + Eprint>(progress: Option<&Progress<'_, R>>) {
     }
 }
 
-/// Returns the progress line of a run over these files, if one is asked for. `readings` says how often each is read.
+/// Returns the progress line of a run over the files of these names, if one is asked for. `readings` says how often each is read.
 /// `terminal` says whether standard error is one.
-pub(crate) fn progress_of<'r, R: Files + Clock + Eprint>(
+pub(crate) fn progress_of<'r, R: Files + AllocGlobal + Clock + Eprint>(
     rt: &'r R,
     matches: &ArgMatches<'_>,
+    how: Names,
     files: &[&str],
     readings: u64,
     terminal: bool,
 ) -> Option<Progress<'r, R>> {
     match showing_asked(matches) {
-        Showing::Always => Progress::of(rt, files, readings),
-        Showing::OnTerminal if terminal => Progress::of(rt, files, readings),
+        Showing::Always => Progress::of(rt, how, files, readings),
+        Showing::OnTerminal if terminal => Progress::of(rt, how, files, readings),
         Showing::OnTerminal | Showing::Never => None,
     }
 }

@@ -7,16 +7,15 @@ use crate::{FAULT, complain};
 use command_line::UsageFault;
 use ledger_core::Sink;
 use std::rt::Files;
-use system_files::{Makes, are_apart, print_kept, split_names};
+use system_files::{Destination, are_apart, print_kept, split_names};
 
 /// Returns the FILEs that a run processes: all of these names, or with `skip` those whose output doesn't exist yet. It
-/// prints a line for each of the others. If outputs go into one folder, no two of the FILEs may have the same base
-/// name. A fault is printed, and the error is its status.
+/// prints a line for each of the others. If outputs go into one folder, and may not share a name, no two of the FILEs
+/// may have the same base name. A fault is printed, and the error is its status.
 pub(crate) fn worked_of<'n, R: Files + AllocGlobal + Eprint, W: Sink>(
     rt: &R,
-    makes: Makes,
+    to: Destination<'_>,
     skip: bool,
-    into: Option<&str>,
     names: &[&'n str],
     lines: &mut W,
 ) -> Result<Vec<&'n str>, u8>
@@ -26,13 +25,13 @@ pub(crate) fn worked_of<'n, R: Files + AllocGlobal + Eprint, W: Sink>(
         × Appends (W.taken lines.old) (W.taken lines.new) (kept_text kept)) }
     ensures status { IfErr result (λ status. status ≡ FAULT) }
 {
-    if into.is_some() {
+    if to.into.is_some() && !to.may_share {
         match are_apart(rt.alloc(), names) {
             Ok(()) => {}
             Err(fault) => return Err(complain(rt, "usage", fault)),
         }
     }
-    let split = match split_names(rt, makes, skip, into, names) {
+    let split = match split_names(rt, to, skip, names) {
         Ok(split) => split,
         Err(_) => return Err(complain(rt, "usage", UsageFault::OutOfMemory)),
     };

@@ -5,7 +5,7 @@
 //! ledger or the journal file, or of the program's own reading and writing.
 #![tactic(auto)]
 
-ghost use Rattle.std.specs.Prelude.{◌≡◌, ◌⊎◌, ◌∷◌, ◌++◌, IfSome, Some, [], codes, unwrap_or};
+ghost use Rattle.std.specs.Prelude.{◌≡◌, ◌⊎◌, ◌∷◌, ◌++◌, IfSome, Some, [], codes, map, string_bytes, unwrap_or};
 ghost use Rattle.clap.specs.Matches.{first_value, found_of, subcommand_name_of};
 ghost use Rattle.io_core.specs.Streams.{Appends};
 ghost use Rattle.journal_core.specs.declared.verdict.Verdict.{Verdict};
@@ -13,7 +13,7 @@ ghost use Rattle.ledger_core.specs.Verdict.{IsVerdict, verdict_text};
 ghost use Rattle.engine_core.specs.Status.{status_of};
 ghost use Rattle.clap.specs.declared.parser.matches.ArgMatches.{ArgMatches};
 ghost use Rattle.command_core.specs.Unpiping.{IsOfUnpiping};
-ghost use Rattle.sealer.specs.Status.{AreAsked, IsOfCommand, IsOfPiping, IsStatusOf, IsStatusOfRun};
+ghost use Rattle.sealer.specs.Status.{AreAsked, IsOfCommand, IsOfPiping, IsStatusOf, IsStatusOfRun, IsStatusOver};
 
 mod files;
 mod kept;
@@ -22,13 +22,15 @@ mod opening;
 mod sealing;
 mod unpiping;
 
-use crate::files::{about_list, names_of, read_list};
+use crate::files::{about_list, names_of, pieces_of, quotes_of, read_list};
 use crate::ledger::tell_ledger;
 use crate::opening::open;
 use crate::sealing::{pipe, seal};
 use crate::unpiping::unpipe;
 use clap::{ArgMatches, Error};
-use command_line::{Reading, asks_for_processors, command, verbose_asked, write_out};
+use command_line::{
+    Naming, Reading, asks_for_processors, borrowed, command, naming_asked, verbose_asked, write_out,
+};
 use ledger_core::{FromRead, ToWrite};
 use sealer_core::run_audit;
 use std::alloc::Global;
@@ -257,14 +259,67 @@ fn over_files<
             return (status, streams);
         }
     };
-    match names_of(rt.alloc(), matches, &list) {
-        Ok(names) => match command {
-            OverFiles::Seal => seal(rt, host, matches, names.as_slice(), streams),
-            OverFiles::Read(reading) => {
-                open(rt, reading, matches, names.as_slice(), input, streams)
-            }
+    match naming_asked(matches) {
+        Naming::Plain => match names_of(rt.alloc(), matches, &list) {
+            Ok(names) => over_names(rt, host, command, matches, names.as_slice(), input, streams),
+            Err(fault) => (complain(rt, "usage", fault), streams),
         },
+        Naming::Quoted => match quotes_of(rt.alloc(), matches, &list) {
+            Ok(shown) => over_shown(rt, host, command, matches, shown.as_slice(), input, streams),
+            Err(fault) => (complain(rt, "usage", fault), streams),
+        },
+        Naming::KeepGoing => match pieces_of(rt.alloc(), matches, &list) {
+            Ok(shown) => over_shown(rt, host, command, matches, shown.as_slice(), input, streams),
+            Err(fault) => (complain(rt, "usage", fault), streams),
+        },
+    }
+}
+
+/// The same for the files that lines show by these names.
+fn over_shown<
+    R: Files + AllocGlobal + Clock + Eprint + Threads + Wait + Sync,
+    I: Read + Drop,
+    O: Write + Drop,
+    E: Write + Drop,
+>(
+    rt: &R,
+    host: &HostRuntime,
+    command: OverFiles,
+    matches: &ArgMatches<'_>,
+    shown: &[String],
+    input: I,
+    streams: Streams<O, E>,
+) -> (u8, Streams<O, E>)
+    ensures status { IsStatusOver (IsOfCommand command matches.now) matches.now result.0 (map string_bytes shown.now)
+        (O.contents streams.output.0) (O.contents result.1.output.0) }
+{
+    match borrowed(rt.alloc(), shown) {
+        Ok(names) => over_names(rt, host, command, matches, names.as_slice(), input, streams),
         Err(fault) => (complain(rt, "usage", fault), streams),
+    }
+}
+
+/// The same for the files of these names.
+fn over_names<
+    R: Files + AllocGlobal + Clock + Eprint + Threads + Wait + Sync,
+    I: Read + Drop,
+    O: Write + Drop,
+    E: Write + Drop,
+>(
+    rt: &R,
+    host: &HostRuntime,
+    command: OverFiles,
+    matches: &ArgMatches<'_>,
+    names: &[&str],
+    input: I,
+    streams: Streams<O, E>,
+) -> (u8, Streams<O, E>)
+    ensures status { IsStatusOver (IsOfCommand command matches.now) matches.now result.0
+        (map (λ name. name.now) names.now) (O.contents streams.output.0) (O.contents result.1.output.0) }
+{
+    match command {
+        OverFiles::Seal => seal(rt, host, matches, names, streams),
+        OverFiles::Read(reading) => open(rt, reading, matches, names, input, streams),
     }
 }
 

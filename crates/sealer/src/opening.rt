@@ -3,11 +3,11 @@ ghost use Rattle.std.specs.Prelude.{◌<◌, ◌≤◌, ◌≡◌, length, map, 
 ghost use Rattle.command_core.specs.Work.{AreWorked, IsOfOpening, IsOfVerifying, Opening, Verifying, output_for};
 ghost use Rattle.sealer.specs.Status.{IsOfCommand, IsOfReading, IsStatusOf, IsStatusOver};
 
-use crate::files::{clear, key_at, outs_of, progress_of, streams_of};
+use crate::files::{clear, key_at, names_for, outs_of, progress_of, streams_of};
 use crate::kept::worked_of;
 use crate::{OverFiles, Streams, complain};
 use clap::ArgMatches;
-use command_line::{OpenRequest, Reading, open_request};
+use command_line::{Naming, OpenRequest, Reading, naming_asked, open_request};
 use container_core::{Key, MAX_OPENED};
 use sealer_core::{
     Folder, MAX_WORKERS, OpenOptions, OpeningFolder, Outs, Report, open_all, verify_all,
@@ -15,7 +15,7 @@ use sealer_core::{
 use std::io::{Read, Write};
 use std::rt::{Clock, Files};
 use std::thread::Threads;
-use system_files::{FileOptions, Makes, SystemFiles, can_reopen_input};
+use system_files::{Destination, FileOptions, Makes, Names, SystemFiles, can_reopen_input};
 
 /// Opens or verifies the files of these names, of which `-` is the input. Returns the status, with the streams.
 pub(crate) fn open<
@@ -39,8 +39,14 @@ pub(crate) fn open<
         Err(fault) => return (complain(rt, "usage", fault), streams),
     };
     let mut streams = streams;
-    let (skip, into) = (request.skip, request.into);
-    let files = match worked_of(rt, Makes::Plaintext, skip, into, names, &mut streams.output) {
+    let naming = naming_asked(matches);
+    let to = Destination {
+        makes: Makes::Plaintext,
+        into: request.into,
+        names: names_for(naming),
+        may_share: naming == Naming::KeepGoing,
+    };
+    let files = match worked_of(rt, to, request.skip, names, &mut streams.output) {
         Ok(files) => files,
         Err(status) => return (status, streams),
     };
@@ -54,8 +60,10 @@ pub(crate) fn open<
     let reads_again = reading == Reading::Open;
     let readings = if reads_again { 2 } else { 1 };
     let (files, terminal) = (request.files, streams.terminals.errors);
-    let progress = progress_of(rt, matches, files, readings, terminal);
+    let progress = progress_of(rt, matches, to.names, files, readings, terminal);
     let options = FileOptions {
+        names: to.names,
+        outputs: names_of_outputs(to.names, request.to),
         into: request.into,
         sync: request.sync,
         private: request.private,
@@ -68,6 +76,14 @@ pub(crate) fn open<
     };
     let folder = SystemFiles::new(rt, Some(input), progress.as_ref(), options);
     open_to(rt, reading, &request, folder, streams)
+}
+
+// How the names of outputs denote paths. The name of --to is its path.
+fn names_of_outputs(names: Names, to: Option<&str>) -> Names {
+    match to {
+        Some(_) => Names::Plain,
+        None => names,
+    }
 }
 
 // Opens or verifies what is asked for, with the outputs in this folder.

@@ -15,11 +15,13 @@ ghost use Rattle.sealer_core.specs.Piping.{HasSealedStream};
 ghost use Rattle.sealer_core.specs.Sealing.{FoldsFiles, Happened, HasSealed, IsOfSealing, IsWritten, ReservesFilesOnce};
 ghost use Rattle.sealer.specs.Status.{IsOfCommand, IsOfPiping, IsStatusOf, IsStatusOver};
 
-use crate::files::{clear, key_at, outs_of, progress_of, streams_of};
+use crate::files::{clear, key_at, names_for, outs_of, progress_of, streams_of};
 use crate::kept::worked_of;
 use crate::{FAULT, OverFiles, Streams, complain, explain};
 use clap::ArgMatches;
-use command_line::{PipeRequest, SealRequest, UsageFault, pipe_request, seal_request};
+use command_line::{
+    Naming, PipeRequest, SealRequest, UsageFault, naming_asked, pipe_request, seal_request,
+};
 use container_core::Key;
 use ledger_core::{FromRead, Sink, Source, ToWrite};
 use sealer_core::{
@@ -32,7 +34,7 @@ use std::rt::{Clock, Files};
 use std::sync::Wait;
 use std::thread::Threads;
 use system_files::{
-    About, FileOptions, Makes, OwnPaths, StandardInput, Step, SystemFiles, new_journal,
+    About, Destination, FileOptions, Makes, OwnPaths, StandardInput, Step, SystemFiles, new_journal,
 };
 use system_ledger::{LedgerFault, LedgerPath, close_ledger, may_open, open_ledger};
 
@@ -92,8 +94,14 @@ pub(crate) fn seal<
         Err(fault) => return (complain(rt, "usage", fault), streams),
     };
     let mut streams = streams;
-    let (skip, into) = (request.skip, request.into);
-    let files = match worked_of(rt, Makes::Container, skip, into, names, &mut streams.output) {
+    let naming = naming_asked(matches);
+    let to = Destination {
+        makes: Makes::Container,
+        into: request.into,
+        names: names_for(naming),
+        may_share: naming == Naming::KeepGoing,
+    };
+    let files = match worked_of(rt, to, request.skip, names, &mut streams.output) {
         Ok(files) => files,
         Err(status) => return (status, streams),
     };
@@ -104,8 +112,11 @@ pub(crate) fn seal<
         files: files.as_slice(),
         ..request
     };
-    let progress = progress_of(rt, matches, request.files, 1, streams.terminals.errors);
+    let (files, terminal) = (request.files, streams.terminals.errors);
+    let progress = progress_of(rt, matches, to.names, files, 1, terminal);
     let options = FileOptions {
+        names: to.names,
+        outputs: to.names,
         into: request.into,
         sync: request.sync,
         private: request.private,

@@ -17,7 +17,7 @@ use std::io::{Read, Write};
 use std::rt::{Clock, Env, Files};
 use std::thread::Threads;
 use system_files::{
-    FileOptions, STREAM, SystemFiles, Told, can_reopen_input, is_folder, spool_folder,
+    FileOptions, Names, STREAM, SystemFiles, Told, can_reopen_input, is_folder, spool_folder,
 };
 
 /// Opens one container and writes its plaintext to the output. A terminal is refused as output, unless it was asked
@@ -49,6 +49,8 @@ pub(crate) fn unpipe<
         return (complain(rt, "usage", UsageFault::NoSpoolFolder), streams);
     }
     let options = FileOptions {
+        names: Names::Plain,
+        outputs: Names::Plain,
         into: None,
         sync: false,
         private: false,
@@ -59,7 +61,7 @@ pub(crate) fn unpipe<
         spool: Some(spool.as_str()),
     };
     let (files, terminal) = ([request.file], streams.terminals.errors);
-    let progress = progress_of(rt, matches, &files, 2, terminal);
+    let progress = progress_of(rt, matches, Names::Plain, &files, 2, terminal);
     let folder = SystemFiles::new(rt, Some(input), progress.as_ref(), options);
     unpipe_to(rt, &request, folder, streams)
 }

@@ -2,7 +2,8 @@
 ghost use Rattle.std.specs.Prelude.{◌≡◌, ◌≢◌, Err, true, false};
 
 use crate::cause::Cause;
-use crate::input::{FileInput, OneOf, open_known};
+use crate::input::{FileInput, OneOf, Opened, open_known};
+use crate::names::{Names, path_of, path_shown};
 use crate::outputs::{self, Output, Outputs, PRIVATE, SHARED, make_new};
 use crate::own::{
     FileId, OwnFiles, OwnPaths, STANDARD_INPUT, STANDARD_OUTPUT, is_of_ledger, regular_at,
@@ -16,7 +17,6 @@ use folder_core::{FileReader, Spooled};
 use front_core::SealingFolder;
 use io_core::Failed;
 use ledger_core::{Ledger, Seat, ToWrite};
-use path_core::put_below;
 use reserve_core::{Fold, LedgerFile};
 use std::alloc::Global;
 use std::fs;
@@ -33,6 +33,10 @@ pub const STREAM: &str = "-";
 /// What a run asks of the files of the system.
 #[derive(Clone, Copy)]
 pub struct FileOptions<'a> {
+    /// How the names of files that are opened denote their paths.
+    pub names: Names,
+    /// How the names of outputs do.
+    pub outputs: Names,
     /// The folder into which outputs go, each under the base name of its path. With `None` they go where their path
     /// says.
     pub into: Option<&'a str>,
@@ -69,6 +73,9 @@ pub struct SystemFiles<'p, 'r, R: Files + AllocGlobal + Clock + Eprint, I: Read 
     /// Counts the bytes read of files. `None` if no progress line was asked for.
     pub progress: Option<&'p Progress<'r, R>>,
     outputs: Outputs,
+    // How names of files, and of outputs, denote paths.
+    names: Names,
+    output_names: Names,
     // Whether `-` is standard input, which is taken when it is opened as a stream.
     has_input: bool,
     input: Option<I>,
@@ -101,6 +108,8 @@ impl<'p, 'r, R: Files + AllocGlobal + Clock + Eprint, I: Read + Drop> SystemFile
             mode: if options.private { PRIVATE } else { SHARED },
             progress,
             outputs: Outputs::new(rt),
+            names: options.names,
+            output_names: options.outputs,
             has_input: input.is_some(),
             input,
             reopens_input: options.reopens_input,
@@ -125,6 +134,22 @@ impl<'p, 'r, R: Files + AllocGlobal + Clock + Eprint, I: Read + Drop> SystemFile
         }
         match self.input.take() {
             Some(input) => Ok(self.reader_of(FileInput::of_input(input))),
+            None => Err(FolderFault::Failed),
+        }
+    }
+
+    // Opens the file of this name, or standard input by its path.
+    fn open_file(&self, is_input: bool, name: &str) -> Result<Opened<R::File>, FolderFault>
+        ensures fault { result ≢ Err FolderFault.Exists }
+    {
+        if is_input {
+            return open_known(self.rt, STANDARD_INPUT);
+        }
+        if self.names == Names::Plain {
+            return open_known(self.rt, name);
+        }
+        match path_shown(self.rt.alloc(), name) {
+            Some(path) => open_known(self.rt, path.as_str()),
             None => Err(FolderFault::Failed),
         }
     }
@@ -162,17 +187,6 @@ impl<'p, 'r, R: Files + AllocGlobal + Clock + Eprint, I: Read + Drop> SystemFile
         self.own = Some(own);
         own.has(file)
     }
-}
-
-/// Returns the path of the output of this name: below `into`, under its base name, if a folder is given. Returns `None`
-/// if the name then has no base name, or memory is refused.
-pub(crate) fn path_of(alloc: Global, into: Option<&str>, name: &str) -> Option<String> {
-    let mut path = String::new(alloc);
-    let is_placed = match into {
-        Some(folder) => put_below(&mut path, folder, name),
-        None => path.push_str(name).is_ok(),
-    };
-    if is_placed { Some(path) } else { None }
 }
 
 /// Why the journal file couldn't be made. The texts are those that the program prints.
@@ -273,8 +287,7 @@ impl<'p, 'r, R: Files + AllocGlobal + Clock + Eprint, I: Read + Drop> Folder
         if is_input && !self.reopens_input {
             return self.open_stream();
         }
-        let path = if is_input { STANDARD_INPUT } else { name };
-        let opened = match open_known(self.rt, path) {
+        let opened = match self.open_file(is_input, name) {
             Ok(opened) => opened,
             Err(fault) => return Err(fault),
         };
@@ -304,7 +317,7 @@ impl<'p, 'r, R: Files + AllocGlobal + Clock + Eprint, I: Read + Drop> Folder
     fn close(&mut self, _name: &str, _reader: Self::Reader) {}
 
     fn create(&mut self, name: &str) -> Result<Self::Writer, FolderFault> {
-        let Some(path) = path_of(self.rt.alloc(), self.into, name) else {
+        let Some(path) = path_of(self.rt.alloc(), self.output_names, self.into, name) else {
             return Err(FolderFault::Failed);
         };
         match self.outputs.create(self.rt, path, self.sync, self.mode) {

@@ -3,9 +3,11 @@ ghost use Rattle.std.specs.Prelude.{◌≡◌, IfOk, OnOk, OnErr, [], false, map
 ghost use Rattle.io_core.specs.Streams.{Appends, AppendsFront, LacksSome, counted};
 ghost use Rattle.system_files.specs.Kept.{IsSplit, kept_line, kept_text};
 
-use crate::files::path_of;
+use crate::names::{Names, path_of};
 use ledger_core::{Failed, Sink, write_all};
+use path_core::last_name;
 use std::alloc::{AllocError, Global};
+use std::collections::BTreeSet;
 use std::fs;
 use std::rt::Files;
 
@@ -18,6 +20,18 @@ pub enum Makes {
     Plaintext,
 }
 
+/// Where the outputs of a run's FILEs are.
+#[derive(Clone, Copy)]
+pub struct Destination<'a> {
+    pub makes: Makes,
+    /// The folder into which they go, if one is given.
+    pub into: Option<&'a str>,
+    /// How the names of FILEs and outputs denote paths.
+    pub names: Names,
+    /// Whether FILEs with one base name may go into that folder.
+    pub may_share: bool,
+}
+
 /// The names of a run's FILEs: of those that are kept, and of the others, each in order.
 #[derive(Drop)]
 pub struct Split<'n> {
@@ -25,23 +39,23 @@ pub struct Split<'n> {
     pub others: Vec<&'n str>,
 }
 
-/// Splits the names of FILEs. With `skip`, a FILE is kept if its output exists already, in the folder `into` if one is
-/// given. If that can't be found out, the FILE isn't kept.
+/// Splits the names of FILEs. With `skip`, a FILE is kept if its output exists already. If that can't be found out, the
+/// FILE isn't kept. Nor is one that shares its output with another: from which of them that was made isn't known.
 pub fn split_names<'n, R: Files + AllocGlobal>(
     rt: &R,
-    makes: Makes,
+    to: Destination<'_>,
     skip: bool,
-    into: Option<&str>,
     names: &[&'n str],
 ) -> Result<Split<'n>, AllocError>
     ensures split { IfOk result (λ split. IsSplit (map (λ name. name.now) names.now)
         (map (λ name. name.now) split.kept.items) (map (λ name. name.now) split.others.items)) }
     ensures none { skip ≡ false → IfOk result (λ split. split.kept.items ≡ []) }
 {
+    let shared = shared_names(rt.alloc(), to, skip, names)?;
     let mut kept = Vec::new(rt.alloc());
     let mut others = Vec::new(rt.alloc());
     for name in names {
-        if is_kept(rt, makes, skip, into, name) {
+        if is_kept(rt, to, skip, &shared, name) {
             kept.push(*name)?;
         } else {
             others.push(*name)?;
@@ -50,36 +64,67 @@ pub fn split_names<'n, R: Files + AllocGlobal>(
     Ok(Split { kept, others })
 }
 
+// The base names that several of these FILEs have, if their outputs go into one folder.
+fn shared_names<'n>(
+    alloc: Global,
+    to: Destination<'_>,
+    skip: bool,
+    names: &[&'n str],
+) -> Result<BTreeSet<&'n str>, AllocError> {
+    let mut shared = BTreeSet::new(alloc);
+    if !skip || !to.may_share || to.into.is_none() {
+        return Ok(shared);
+    }
+    let mut seen = BTreeSet::new(alloc);
+    for name in names {
+        if let Some(last) = last_name(name) {
+            let is_first = seen.insert(last)?;
+            if !is_first {
+                shared.insert(last)?;
+            }
+        }
+    }
+    Ok(shared)
+}
+
 // Whether the FILE of this name is kept.
 fn is_kept<R: Files + AllocGlobal>(
     rt: &R,
-    makes: Makes,
+    to: Destination<'_>,
     skip: bool,
-    into: Option<&str>,
+    shared: &BTreeSet<&str>,
     name: &str,
 ) -> bool
     ensures none { skip ≡ false → result ≡ false }
 {
-    skip && is_made(rt, makes, into, name)
+    skip && !is_shared(shared, name) && is_made(rt, to, name)
+}
+
+// Whether this FILE's base name is one of these.
+fn is_shared(shared: &BTreeSet<&str>, name: &str) -> bool {
+    match last_name(name) {
+        Some(last) => shared.contains(last),
+        None => false,
+    }
 }
 
 // Whether this FILE's output exists.
-fn is_made<R: Files + AllocGlobal>(rt: &R, makes: Makes, into: Option<&str>, name: &str) -> bool {
-    match makes {
+fn is_made<R: Files + AllocGlobal>(rt: &R, to: Destination<'_>, name: &str) -> bool {
+    match to.makes {
         Makes::Container => match format!(in rt.alloc(); "{name}.stm") {
-            Ok(output) => is_there(rt, into, output.as_str()),
+            Ok(output) => is_there(rt, to, output.as_str()),
             Err(_) => false,
         },
         Makes::Plaintext => match name.strip_suffix(".stm") {
-            Some(output) => is_there(rt, into, output),
+            Some(output) => is_there(rt, to, output),
             None => false,
         },
     }
 }
 
 // Whether there is a regular file at the path of the output of this name.
-fn is_there<R: Files + AllocGlobal>(rt: &R, into: Option<&str>, output: &str) -> bool {
-    match path_of(rt.alloc(), into, output) {
+fn is_there<R: Files + AllocGlobal>(rt: &R, to: Destination<'_>, output: &str) -> bool {
+    match path_of(rt.alloc(), to.names, to.into, output) {
         Some(path) => matches!(fs::metadata(rt, path.as_str()), Ok(found) if found.is_file()),
         None => false,
     }

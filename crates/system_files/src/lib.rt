@@ -7,6 +7,7 @@ pub mod cause;
 pub mod files;
 pub mod input;
 pub mod kept;
+pub mod names;
 pub mod outputs;
 pub mod own;
 pub mod progress;
@@ -18,7 +19,8 @@ pub use crate::files::{
     stand_ins,
 };
 pub use crate::input::{FileInput, OneOf, can_reopen_input};
-pub use crate::kept::{Makes, Split, print_kept, split_names};
+pub use crate::kept::{Destination, Makes, Split, print_kept, split_names};
+pub use crate::names::Names;
 pub use crate::own::{OwnPaths, StandardInput};
 pub use crate::progress::{Progress, Told};
 pub use crate::spool::{FileSpool, is_folder, spool_folder};

@@ -7,11 +7,12 @@
 ghost use Rattle.std.specs.Prelude.{◌≡◌};
 
 use crate::files::STREAM;
+use crate::names::{Names, found_at};
 use std::cell::Cell;
+use std::io;
 use std::io::Write;
 use std::rt::{Clock, Files};
 use std::time::{Duration, Instant};
-use std::{fs, io};
 
 /// The least time between two drawings, in milliseconds.
 const BETWEEN: u128 = 200;
@@ -44,15 +45,15 @@ pub struct Progress<'r, R: Clock + Eprint> {
 impl<'r, R: Clock + Eprint> Progress<'r, R> {
     /// Starts the progress of a run over these files, each of which is read `readings` times: twice by `open`, else
     /// once. It looks up their sizes. Returns `None` if the clock fails.
-    pub fn of(rt: &'r R, names: &[&str], readings: u64) -> Option<Progress<'r, R>>
+    pub fn of(rt: &'r R, how: Names, names: &[&str], readings: u64) -> Option<Progress<'r, R>>
     where
-        R: Files,
+        R: Files + AllocGlobal,
     {
         let last = Instant::now(rt).ok()?;
         Some(Progress {
             rt,
             files: names.len(),
-            bytes: bytes_of(rt, names, readings),
+            bytes: bytes_of(rt, how, names, readings),
             done: Cell::new(Done {
                 files: 0,
                 bytes: 0,
@@ -155,13 +156,18 @@ fn seconds_left(all: u64, done: u64, each: u64) -> u64 {
 }
 
 // The bytes that this many readings of each of these files give, if the size of each existing one is known.
-fn bytes_of<R: Files>(rt: &R, names: &[&str], readings: u64) -> Option<u64> {
+fn bytes_of<R: Files + AllocGlobal>(
+    rt: &R,
+    how: Names,
+    names: &[&str],
+    readings: u64,
+) -> Option<u64> {
     let mut bytes = 0u64;
     for name in names {
         if *name == STREAM {
             return None;
         }
-        if let Ok(found) = fs::metadata(rt, *name) {
+        if let Some(found) = found_at(rt, how, name) {
             if !found.is_file() {
                 return None;
             }
