@@ -23,7 +23,7 @@ and holds the plaintext of any other in memory. To standard output: sealer unpip
 const SEAL_HELP: &str =
     "Prints a line for each FILE. Exit status: 0 if none failed, 1 if some did, 2 if standard error
 says why, or a line could not be written. With several lanes whole FILEs are held in memory. A run
-takes at most 65535.
+seals at most 65535.
 
 Make a key by `openssl rand -hex 32`. Back up the key and the sealed files. Keep one ledger file for
 each key and device number, and never use a copy or a restored one. If it was lost or rolled back,
