@@ -6,9 +6,9 @@ ENOSPC and EINTR, those on memory with ENOMEM, and the program is killed at each
 the file is limited to some length; its removal then fails, or doesn't. Under `--progress` each read of a FILE by `seal`, `open` and `verify`
 fails, and so does standard output.
 
-`unpipe` opens a stream, a FILE, a stream whose last chunk is changed, and one of 17 MiB that needs a spool: of that one's many calls each
-sixth is taken. What it wrote begins the plaintext, is all of it if its line says so, and is nothing if something doesn't check. No file is
-left in the spool's folder, but an empty one by a kill before it was unlinked, or where that failed.
+`unpipe` opens a stream, a FILE, a stream whose last chunk is changed, and one of 17 MiB that needs a spool. What it wrote begins the
+plaintext, is all of it if its line says so, and is nothing if something doesn't check. No file is left in the spool's folder, but an empty one
+by a kill before it was unlinked, or where that failed.
 
 A FILE is exchanged in place between the two readings of `open` and `unpipe`, which a SIGSTOP holds at their second lseek: by another
 container, by a shorter and a longer one, and with a byte changed. Then the line is `changed while it was opened`, `open` leaves no output,
@@ -246,8 +246,7 @@ def worked(asked):
         turn = 0
         for call, begin, end in way.calls():
             for how in ("signal=KILL", *FAULTS.get(call, ())):
-                few = 6 if name == SPOOLING and end - begin > 24 else 1
-                for n in sorted({*range(begin, end + 1, few), end}):
+                for n in range(begin, end + 1):
                     turn += 1
                     if turn % step == first and len(way.bad) < ENOUGH:
                         way.failing(call, n, how)
