@@ -3,7 +3,7 @@ use Rattle.std.specs.Prelude.{◌≡◌, ◌≢◌, ◌⊎◌, false, ℕ, List,
 use Rattle.std.specs.Fmt.{decimal}
 use Rattle.sqlite.specs.Effect.{Database}
 use Rattle.ranges_core.specs.declared.fault.ReserveFault.{ReserveFault}
-use Rattle.ranges_core.specs.declared.fault.ReserveFault.TheVariants.{ZeroCount, TooMany, FieldSpent, Store, BadStore}
+use Rattle.ranges_core.specs.declared.fault.ReserveFault.TheVariants.{ZeroCount, TooMany, FieldSpent, Store, BadStore, BelowFloor}
 use Rattle.ranges_core.specs.Tables.{are_readable, no_schema, IsLedger}
 use Rattle.ranges_core.specs.Reservations.{Lists, HoldLists}
 
@@ -20,6 +20,7 @@ fault_number TooMany = 31
 fault_number (FieldSpent left) = 32
 fault_number Store = 33
 fault_number BadStore = 34
+fault_number BelowFloor = 35
 
 abbrev pub reserve_text : ReserveFault → List ℕ
 reserve_text ZeroCount = codes "no files"
@@ -27,3 +28,4 @@ reserve_text TooMany = codes "too many files"
 reserve_text (FieldSpent left) = decimal left ++ codes " numbers left"
 reserve_text Store = codes "store failed"
 reserve_text BadStore = codes "not a ledger"
+reserve_text BelowFloor = codes "older than its witness"

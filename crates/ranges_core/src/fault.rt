@@ -20,6 +20,8 @@ pub enum ReserveFault {
     /// The database is not a ledger file: one of the two tables cannot be read, or the rows do not form lists of
     /// adjacent ranges.
     BadStore,
+    /// The next range would begin below the number that the caller gave: the ledger file is an older one.
+    BelowFloor,
 }
 
 impl ReserveFault {
@@ -33,6 +35,7 @@ impl ReserveFault {
             ReserveFault::FieldSpent { left: _ } => 32,
             ReserveFault::Store => 33,
             ReserveFault::BadStore => 34,
+            ReserveFault::BelowFloor => 35,
         }
     }
 }
@@ -47,6 +50,7 @@ impl fmt::Display for ReserveFault {
             ReserveFault::FieldSpent { left } => write!(f, "{left} numbers left"),
             ReserveFault::Store => write!(f, "store failed"),
             ReserveFault::BadStore => write!(f, "not a ledger"),
+            ReserveFault::BelowFloor => write!(f, "older than its witness"),
         }
     }
 }
