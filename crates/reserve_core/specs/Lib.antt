@@ -1,5 +1,6 @@
 pub mod Folded
 pub mod NextRun
+pub mod Witness
 pub use Rattle.ranges_core.specs.Calls
 pub use Rattle.ranges_core.specs.Faults
 pub use Rattle.ranges_core.specs.Lasting

@@ -128,6 +128,48 @@ impl<S: Alter> Keeper<S> {
         ensures kept { StillLast S.Store self.old self.new }
         ensures shut { (state S.Store self.old).is_open ≡ false → CommitsNothing S.Store self.old self.new }
         ensures settled { self.old.in_transaction ≡ false → self.new.in_transaction ≡ false }
+        ensures floor { result ≢ Err ReserveFault.BelowFloor }
+    {
+        self.reserve_from(key_id, device, count, 0)
+    }
+
+    /// Does the same, if the range begins at `floor` or above it. Else it is `BelowFloor`, tested before `FieldSpent`.
+    pub fn reserve_from(
+        &mut self,
+        key_id: &[u8; 32],
+        device: Device,
+        count: u32,
+        floor: u64,
+    ) -> Result<Range, ReserveFault>
+        ensures zero { (result ≡ Err ReserveFault.ZeroCount) ↔ (count ≡ 0) }
+        ensures many { (result ≡ Err ReserveFault.TooMany) ↔ (Range.MAX_SIZE < count) }
+        ensures asked { IfOk result (λ r. (r.device ≡ device) × (r.size ≡ count)) }
+        ensures spent { HasCleanDisk (state S.Store self.new) → (lists : Lists)
+            → Holds (state S.Store self.old).now lists
+            → let next = next_of (lists key_id.now device) in IfErr result (λ e. (left : _)
+            → e ≡ ReserveFault.FieldSpent left
+            → (NUMBERS < next + count) × (left ≡ NUMBERS - next)) }
+        ensures sound { HasCleanDisk (state S.Store self.new) → result ≢ Err ReserveFault.BadStore }
+        ensures appends { HasCleanDisk (state S.Store self.new) → (lists : Lists)
+            → Holds (state S.Store self.old).now lists
+            → IfOk result (λ r. (r.lo ≡ next_of (lists key_id.now device)) × (r.lo + count ≤ NUMBERS)
+            × Holds (state S.Store self.new).now (with_range lists key_id.now device count)) }
+        ensures live { HasCleanDisk (state S.Store self.new)
+            → OnOk result (IsTrue (state S.Store self.old).is_open × IsTrue (state S.Store self.new).is_open) }
+        ensures was_open { WasOpen S.Store self.old self.new }
+        ensures same { WhileOpen S.Store self.new (OnErr result (Unchanged S.Store self.old self.new)) }
+        ensures crash { Survives (state S.Store self.old) (state S.Store self.new) (λ trees. (lists : Lists)
+            → Holds (state S.Store self.old).now lists
+            → (db : _) × Holds db (with_range lists key_id.now device count) × (trees ≡ db.trees)) }
+        ensures lasts { HasCleanDisk (state S.Store self.new) → OnOk result (LeavesOnlyThis S.Store self.new) }
+        ensures kept { StillLast S.Store self.old self.new }
+        ensures shut { (state S.Store self.old).is_open ≡ false → CommitsNothing S.Store self.old self.new }
+        ensures settled { self.old.in_transaction ≡ false → self.new.in_transaction ≡ false }
+        ensures floor { IfOk result (λ r. floor ≤ r.lo) }
+        ensures below { result ≡ Err ReserveFault.BelowFloor → 0 < floor }
+        ensures older { HasCleanDisk (state S.Store self.new) → (lists : Lists)
+            → Holds (state S.Store self.old).now lists
+            → result ≡ Err ReserveFault.BelowFloor → next_of (lists key_id.now device) < floor }
     {
         if count == 0 {
             return Err(ReserveFault::ZeroCount);
@@ -138,6 +180,9 @@ impl<S: Alter> Keeper<S> {
         let number = device.number();
         let mark = mark_of(&mut self.conn, key_id.as_slice(), number)?;
         let next = mark.unwrap_or(0);
+        if next < floor {
+            return Err(ReserveFault::BelowFloor);
+        }
         if next + u64::from(count) > NUMBERS {
             let left = NUMBERS - next;
             return Err(ReserveFault::FieldSpent { left });

@@ -69,8 +69,7 @@ pub fn the_next_keeper_has_the_ranges<T: Alter>()
 {}
 
 /// A run passes on what the files hold, from when its connection is made and for as long as there is one. This holds if
-/// it is killed before its keeper is made or at any call of the keeper, or if the keeper is refused and the connection
-/// dropped.
+/// it is killed before its keeper is made or at any call of the keeper.
 pub fn a_connection_passes_on_what_it_found<D: Disk + Drop>()
     ensures { (files later : Image) (found last : _) → FindsIn files (file_state {g = D.Disk} found)
         → Opens (file_state found) → StillLast over_files found last → HasCleanDisk (file_state last)

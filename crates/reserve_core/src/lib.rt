@@ -10,7 +10,9 @@
 pub mod file;
 pub mod keeper;
 pub mod laws;
+pub mod witness;
 
 pub use crate::file::{Fold, LedgerFile};
 pub use crate::keeper::Keeper;
+pub use crate::witness::{Unrecorded, Unwitnessed, Witness};
 pub use ranges_core::{NUMBERS, ReserveFault};

@@ -5,7 +5,7 @@ use Rattle.sqlite.specs.Effect.{Database}
 use Rattle.sqlite.proofs.StateLemmas.{survives_then}
 use Rattle.ranges_core.specs.Reservations.{Holds}
 use Rattle.ranges_core.proofs.Lasting.{last_still}
-use Rattle.reserve_core.proofs.keeper.Keeper.reserve.Goals as goal
+use Rattle.reserve_core.proofs.keeper.Keeper.reserve_from.Goals as goal
 
 pub returns-clause-crash : goal.returns-clause-crash
 returns-clause-crash g c =
