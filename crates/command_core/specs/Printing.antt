@@ -14,7 +14,8 @@ IsComplaint text = (text ≡ codes "ledger: no files") ⊎ (text ≡ codes "ledg
     ⊎ ((left : ℕ) × (text ≡ codes "ledger: " ++ decimal left ++ codes " numbers left"))
     ⊎ (text ≡ codes "ledger: store failed") ⊎ (text ≡ codes "ledger: not a ledger")
     ⊎ (text ≡ codes "ledger: out of memory") ⊎ (text ≡ codes "journal: out of memory")
-    ⊎ (text ≡ codes "journal: write failed")
+    ⊎ (text ≡ codes "journal: write failed") ⊎ (text ≡ codes "ledger: older than its witness")
+    ⊎ (text ≡ codes "witness: write failed")
 
 -- a text that a command prints: the line of a file, or a complaint, with a line feed; or a journal
 abbrev pub IsPrinted : List ℕ → Type 0

@@ -1,7 +1,7 @@
 //! What the commands share, and those that open and verify.
 //!
-//! A command works over a `Folder`, prints one line for each file, and ends with an exit status. `open_all` and
-//! `verify_all` are here; the command that seals uses this crate. Key files are read here too.
+//! A command works over a `Folder`, prints one line for each file, and ends with an exit status. `open_all`,
+//! `verify_all` and `unpipe_all` are here; the commands that seal use this crate. Key files are read here too.
 #![tactic(auto)]
 
 pub mod commands;
