@@ -3,10 +3,10 @@ use Rattle.std.proofs.Common.{List, [], Option, ℕ, refl, sym, inl, inr, append
 use Rattle.std.proofs.KnownBytes.{Appends-nil}
 use Rattle.io_core.specs.Streams.{Appends, AppendsFront}
 use Rattle.command_core.specs.Printing.{IsComplaint}
-use Rattle.ranges_core.specs.declared.fault.ReserveFault.TheVariants.{ZeroCount, TooMany, FieldSpent, Store, BadStore}
+use Rattle.ranges_core.specs.declared.fault.ReserveFault.TheVariants.{ZeroCount, TooMany, FieldSpent, Store, BadStore, BelowFloor}
 use Rattle.sealer_core.specs.Complaints.{complaint}
 use Rattle.sealer_core.specs.declared.trouble.RunFault.{RunFault}
-use Rattle.sealer_core.specs.declared.trouble.RunFault.TheVariants.{Unreserved, NoLedger, NoJournal, JournalCut}
+use Rattle.sealer_core.specs.declared.trouble.RunFault.TheVariants.{Unreserved, NoLedger, NoJournal, JournalCut, Unrecorded}
 
 pub is_complaint : (fault : RunFault) → IsComplaint (complaint fault)
 is_complaint (Unreserved ZeroCount) = inl refl
@@ -14,9 +14,11 @@ is_complaint (Unreserved TooMany) = inr (inl refl)
 is_complaint (Unreserved (FieldSpent left)) = inr (inr (inl (left, refl)))
 is_complaint (Unreserved Store) = inr (inr (inr (inl refl)))
 is_complaint (Unreserved BadStore) = inr (inr (inr (inr (inl refl))))
+is_complaint (Unreserved BelowFloor) = inr (inr (inr (inr (inr (inr (inr (inr (inl refl))))))))
 is_complaint NoLedger = inr (inr (inr (inr (inr (inl refl)))))
 is_complaint NoJournal = inr (inr (inr (inr (inr (inr (inl refl))))))
-is_complaint JournalCut = inr (inr (inr (inr (inr (inr (inr refl))))))
+is_complaint JournalCut = inr (inr (inr (inr (inr (inr (inr (inl refl)))))))
+is_complaint Unrecorded = inr (inr (inr (inr (inr (inr (inr (inr (inr refl))))))))
 
 pub nothing_of : (old : Option (List ℕ)) (text : List ℕ) → AppendsFront old old text
 nothing_of old text = ([], (text, refl), Appends-nil old)

@@ -8,7 +8,7 @@
 -- device: it is one of those between two runs.
 --
 -- A run names no disk: its conditions are on the bytes of two files. So each may be over a disk of its own type, as the
--- runs of the program are. A call ensures all of them over its own disk, except four premises.
+-- runs of the program are. A call ensures all of them over its own disk, except these premises.
 -- (`theorem::a_call_is_a_run` shows this from the clauses, `a_killed_call_is_a_run` from what holds at every moment.)
 -- - Folder, reader and writer report what they did. (A folder's `told` and session, and what the two had, are `Some`.)
 -- - Nobody else writes a ledger file. (`Follows`: a run finds what those before it left.)

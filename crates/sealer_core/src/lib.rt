@@ -1,8 +1,9 @@
-//! The sealer as a library: what each command does, over any reader and any writer.
+//! The sealer as a library: what each command but `ledger` does, over any reader and any writer.
 //!
 //! `seal_all` and `pipe_all` are here, with the theorems over their runs (`theorem`). `engine_core` has the engines.
-//! `command_core` has `open_all`, `verify_all`, `unpipe_all`, and the folders and lines of all commands. `life_core` has the laws on
-//! the life of a ledger file. `front_core` says what must hold before a container begins.
+//! `command_core` has `open_all`, `verify_all`, `unpipe_all`, and the folders and lines of all commands. `life_core`
+//! has the laws on the life of a ledger file. `front_core` says what must hold before a container begins.
+//! `reserve_core` has the keeper of the ledger file, and its witness.
 #![tactic(auto)]
 
 mod ending;
@@ -31,4 +32,4 @@ pub use engine_core::{
 pub use front_core::{SealingFolder, SealingStream};
 pub use life_core as laws;
 pub use output_core::Output;
-pub use reserve_core::LedgerFile;
+pub use reserve_core::{LedgerFile, Unrecorded, Unwitnessed, Witness};

@@ -12,6 +12,7 @@ ghost use Rattle.ledger_core.specs.Shared.{fresh_seats, IsSameSeat};
 ghost use Rattle.command_core.specs.Printing.{Complains};
 ghost use Rattle.command_core.specs.Session.{IsShut};
 ghost use Rattle.front_core.specs.Range.{StandsIn};
+ghost use Rattle.reserve_core.specs.Witness.{IsWitnessed};
 ghost use Rattle.sealer_core.specs.Piping.{HasSealedStream, IsPiped};
 ghost use Rattle.sealer_core.specs.Sealing.{FoldsARange, IsWritten, ReservesOnce, operations_of};
 
@@ -25,7 +26,7 @@ use crew_core::{Free, MAX_DEPTH, MAX_WORKERS};
 use engine_core::run_pipe;
 use front_core::SealingStream;
 use ledger_core::{Device, Ledger, Seat, Source};
-use reserve_core::{Fold, LedgerFile};
+use reserve_core::{Fold, LedgerFile, Witness};
 use std::alloc::Global;
 use std::sync::Wait;
 use std::thread::Threads;
@@ -185,16 +186,18 @@ fn pipe_over<T: Threads + Wait + Sync, S: Fold, R: Source, W: SealingStream, E: 
 /// Seals what a reader gives, to its end and as it comes, and writes its container, in the options' shape and under its
 /// own number. Its line, `sealed - file NUMBER bytes N` or `failed -: FAULT`, goes to `out.faults`, since standard
 /// output is for the container. Returns the exit status: 0 if the stream was sealed, 1 if that failed, 2 if no range
-/// was reserved, the ledger file wasn't folded or no ledger opened (then nothing was read or written), if the line
-/// couldn't be written, or if the journal couldn't be written whole. Each of these but the line has a text on standard
-/// error. A stream that knows what it may hold must be allowed no more yet than it took.
+/// was reserved, the ledger file wasn't folded, the witness didn't record the range or no ledger opened (then nothing
+/// was read or written), if the line couldn't be written, or if the journal couldn't be written whole. Each of these
+/// but the line has a text on standard error. A stream that knows what it may hold must be allowed no more yet than it
+/// took.
 ///
 /// After a fault, what was written is a prefix of the stream's container: check the status, or open it. One range of
 /// one number is reserved, for good, and is in the ledger file itself before the stream is read. Nobody else may write
-/// the ledger file. No copied or restored ledger file may be used again with the same key and device.
+/// the ledger file. No copied or restored ledger file may be used again with the same key and device: see `seal_all`.
 pub fn pipe_all<
     T: Threads + Wait + Sync,
     S: Fold,
+    N: Witness,
     R: Source,
     W: SealingStream,
     L: Report + Drop,
@@ -205,6 +208,7 @@ pub fn pipe_all<
     alloc: Global,
     key: &Key,
     file: &mut LedgerFile<S>,
+    witness: &mut N,
     reader: &mut R,
     writer: &mut W,
     options: &PipeOptions,
@@ -225,6 +229,7 @@ pub fn pipe_all<
         × FoldsARange S.Store LedgerFile.Kept LedgerFile.Folded S.is_folded (sha256 key.now) options.now.device 1
         file.old file.new range
         × IsLawfulRange range
+        × IsWitnessed (N.floor witness.old) (N.recorded witness.old) (N.recorded witness.new) range
         × HasSealedStream key.now options.now.shape.now options.now.max_chunks
         (R.left reader.old) (R.left reader.new) (R.failures reader.old) (R.failures reader.new)
         (W.taken writer.old) (W.taken writer.new) (W.failures writer.old) (W.failures writer.new)
@@ -240,7 +245,7 @@ pub fn pipe_all<
     // A ledger file that has no keeper stays as it is.
     ensures other { ((k : Held S) → file.old ≢ LedgerFile.Kept k) → file.new ≡ file.old }
 {
-    let opened = open_ledger(alloc, key, file, options.device, 1, 1);
+    let opened = open_ledger(alloc, key, file, options.device, 1, 1, witness);
     let (ledger, seats) = match opened {
         Ok(opened) => opened,
         Err(fault) => {

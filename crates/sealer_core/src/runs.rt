@@ -1,4 +1,4 @@
-//! How the runs of one ledger file relate.
+//! How two runs of one ledger file relate, and what the outputs of one run hold.
 ghost use Rattle.std.specs.Prelude.{◌≡◌, ◌⊎◌, ◌+◌, ◌++◌, ◌≤◌, ℕ, List, [], Option, Some, map};
 ghost use Rattle.command_core.specs.Trace.{Event};
 ghost use Rattle.container_core.specs.Shape.{IsShape, ShapeView};

@@ -15,6 +15,7 @@ ghost use Rattle.ledger_core.specs.Shared.{fresh_seats};
 ghost use Rattle.command_core.specs.Printing.{Complains};
 ghost use Rattle.front_core.specs.Range.{StandsIn};
 ghost use Rattle.reserve_core.specs.Lasting.{StillLast};
+ghost use Rattle.reserve_core.specs.Witness.{IsWitnessed};
 ghost use Rattle.sealer_core.specs.Sealing.{AppendsOnce, AreLawful, CrashesAround, FoldsARange, Happened, HasSealed};
 ghost use Rattle.sealer_core.specs.Sealing.{IsReserved, IsWritten, ReservesOnce};
 
@@ -26,7 +27,7 @@ use container_core::{Key, Shape};
 use crew_core::{MAX_LANES, MAX_WINDOW, MAX_WORKERS};
 use front_core::SealingFolder;
 use ledger_core::{Device, Ledger, Range, Seat};
-use reserve_core::{Fold, Keeper, LedgerFile, ReserveFault};
+use reserve_core::{Fold, Keeper, LedgerFile, ReserveFault, Unrecorded, Witness};
 use sqlite::Alter;
 use std::alloc::Global;
 use std::sync::Wait;
@@ -55,23 +56,25 @@ pub struct SealOptions<'a> {
     pub shape: &'a Shape,
 }
 
-// Reserves as many numbers as there are files.
+// Reserves as many numbers as there are files, from `floor` on.
 fn reserve_by<S: Alter>(
     keeper: &mut Keeper<S>,
     key: &Key,
     device: Device,
     files: usize,
+    floor: u64,
 ) -> Result<Range, RunFault>
     ensures reserved { IfOk result (IsReserved (sha256 key.now) device files (state S.Store keeper.old)
         (state S.Store keeper.new)) }
     ensures once { AppendsOnce (sha256 key.now) device files (state S.Store keeper.old) (state S.Store keeper.new) }
     ensures crash { CrashesAround (sha256 key.now) device files (state S.Store keeper.old) (state S.Store keeper.new) }
     ensures kept { StillLast S.Store keeper.old keeper.new }
+    ensures floor { IfOk result (λ range. floor ≤ range.lo) }
 {
     if files > u32::MAX as usize {
         return Err(RunFault::Unreserved(ReserveFault::TooMany));
     }
-    match keeper.reserve(&key.id(), device, files as u32) {
+    match keeper.reserve_from(&key.id(), device, files as u32, floor) {
         Ok(range) => Ok(range),
         Err(fault) => Err(RunFault::Unreserved(fault)),
     }
@@ -83,15 +86,17 @@ fn reserve_for<S: Fold>(
     key: &Key,
     device: Device,
     files: usize,
+    floor: u64,
 ) -> Result<Range, RunFault>
     ensures reserved { IfOk result (FoldsARange S.Store LedgerFile.Kept LedgerFile.Folded S.is_folded (sha256 key.now)
         device files file.old file.new) }
     ensures once { ReservesOnce S.Store LedgerFile.Kept LedgerFile.Folded S.is_left (sha256 key.now) device files
         file.old file.new }
     ensures other { ((k : Held S) → file.old ≢ LedgerFile.Kept k) → file.new ≡ file.old }
+    ensures floor { IfOk result (λ range. floor ≤ range.lo) }
 {
     let range = match file {
-        LedgerFile::Kept(keeper) => reserve_by(keeper, key, device, files)?,
+        LedgerFile::Kept(keeper) => reserve_by(keeper, key, device, files, floor)?,
         _ => return Err(RunFault::Unreserved(ReserveFault::Store)),
     };
     match file.fold() {
@@ -100,14 +105,15 @@ fn reserve_for<S: Fold>(
     }
 }
 
-/// Opens a ledger over a new range, with a seat for each lane.
-pub(crate) fn open_ledger<S: Fold>(
+/// Opens a ledger over a new range, with a seat for each lane. The witness has recorded the range.
+pub(crate) fn open_ledger<S: Fold, N: Witness>(
     alloc: Global,
     key: &Key,
     file: &mut LedgerFile<S>,
     device: Device,
     files: usize,
     lanes: u32,
+    witness: &mut N,
 ) -> Result<(Ledger, Vec<Seat>), RunFault>
     ensures reserved { IfOk result (λ r. FoldsARange S.Store LedgerFile.Kept LedgerFile.Folded S.is_folded
         (sha256 key.now) device files file.old file.new r.0.terms.range) }
@@ -117,13 +123,19 @@ pub(crate) fn open_ledger<S: Fold>(
     ensures once { ReservesOnce S.Store LedgerFile.Kept LedgerFile.Folded S.is_left (sha256 key.now) device files
         file.old file.new }
     ensures other { ((k : Held S) → file.old ≢ LedgerFile.Kept k) → file.new ≡ file.old }
+    ensures witnessed { IfOk result (λ r. IsWitnessed (N.floor witness.old) (N.recorded witness.old)
+        (N.recorded witness.new) r.0.terms.range) }
 {
-    let range = match reserve_for(file, key, device, files) {
+    let range = match reserve_for(file, key, device, files, witness.floor()) {
         Ok(range) => range,
         Err(fault) => return Err(fault),
     };
     // It shows that the range is a lawful one.
     let _lawful = range.size();
+    match witness.record(&key.id(), &range) {
+        Ok(()) => {}
+        Err(Unrecorded) => return Err(RunFault::Unrecorded),
+    }
     match Ledger::open(alloc, range, lanes) {
         Ok(opened) => Ok(opened),
         Err(_) => Err(RunFault::NoLedger),
@@ -167,19 +179,22 @@ fn work_ledger<T: Threads + Wait + Sync, S: Fold, F: SealingFolder, W: Report, J
 
 /// Seals each file to its name and `.stm`, which must not exist yet, in the options' shape and under its own number. A
 /// file of more than `max_bytes` bytes is too long. Returns the exit status: 0 if every file was sealed, 1 if one
-/// failed, 2 if no range was reserved, the ledger file wasn't folded or no ledger opened (then no file was touched), if
-/// a line couldn't be written (no further line is tried; files and journal are still processed), or if the journal
-/// couldn't be written whole. Each of these but a line has a text on standard error. The output of a file that failed
-/// is given up: it is removed. What it held is nothing, or a prefix of its input's container under a void number.
+/// failed, 2 if no range was reserved, the ledger file wasn't folded, the witness didn't record the range or no ledger
+/// opened (then no file was touched), if a line couldn't be written (no further line is tried; files and journal are
+/// still processed), or if the journal couldn't be written whole. Each of these but a line has a text on standard
+/// error. The output of a file that failed is given up: it is removed. What it held is nothing, or a prefix of its
+/// input's container under a void number.
 ///
 /// At most one range is reserved, with as many numbers as there are files, and for good: what it leaves unused is given
 /// up. Before the first file is opened the ledger file is folded, so it has the range without its log. After that it
 /// has no keeper, and a further run opens it anew. Nobody else may write the ledger file. No copied or restored ledger
-/// file may be used again with the same key and device. A folder that knows which containers began in it serves one
-/// run.
+/// file may be used again with the same key and device: a witness, if there is one (else `Unwitnessed`), allows no
+/// range below the numbers that it saw, and has recorded this one before a file is touched. A folder that knows which
+/// containers began in it serves one run.
 pub fn seal_all<
     T: Threads + Wait + Sync,
     S: Fold,
+    N: Witness,
     F: SealingFolder,
     L: Report + Drop,
     E: Report + Drop,
@@ -189,6 +204,7 @@ pub fn seal_all<
     alloc: Global,
     key: &Key,
     file: &mut LedgerFile<S>,
+    witness: &mut N,
     folder: &mut F,
     options: &SealOptions,
     out: &mut Outs<L, E, J>,
@@ -208,6 +224,7 @@ pub fn seal_all<
         × FoldsARange S.Store LedgerFile.Kept LedgerFile.Folded S.is_folded (sha256 key.now) options.now.device
         (length options.now.files.now) file.old file.new range
         × IsLawfulRange range
+        × IsWitnessed (N.floor witness.old) (N.recorded witness.old) (N.recorded witness.new) range
         × HasSealed (Happened key.now options.now.shape.now options.now.max_bytes range.device
         (F.told folder.old) (F.told folder.new))
         (map (λ name. name.now) options.now.files.now) (terms_of range options.now.lanes) history told
@@ -227,7 +244,7 @@ pub fn seal_all<
     ensures other { ((k : Held S) → file.old ≢ LedgerFile.Kept k) → file.new ≡ file.old }
 {
     let (device, files, lanes) = (options.device, options.files.len(), options.lanes);
-    let (ledger, seats) = match open_ledger(alloc, key, file, device, files, lanes) {
+    let (ledger, seats) = match open_ledger(alloc, key, file, device, files, lanes, witness) {
         Ok(opened) => opened,
         Err(fault) => {
             complain(alloc, &mut out.faults, fault);

@@ -21,6 +21,8 @@ pub(crate) enum RunFault {
     NoJournal,
     /// The journal could not be written whole. The files were processed.
     JournalCut,
+    /// The witness couldn't record the range, which is given up. No file was touched.
+    Unrecorded,
 }
 
 impl fmt::Display for RunFault {
@@ -32,6 +34,7 @@ impl fmt::Display for RunFault {
             RunFault::NoLedger => write!(f, "ledger: out of memory"),
             RunFault::NoJournal => write!(f, "journal: out of memory"),
             RunFault::JournalCut => write!(f, "journal: write failed"),
+            RunFault::Unrecorded => write!(f, "witness: write failed"),
         }
     }
 }

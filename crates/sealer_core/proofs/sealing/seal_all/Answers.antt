@@ -18,7 +18,7 @@ returns-in-Ok-ended-clause-run g c =
     (g.L.Report.taken c.args.out.now.lines) (g.L.Report.taken c.work_ledger-told.new.lines)
     (g.L.Report.failures c.args.out.now.lines) (g.L.Report.failures c.work_ledger-told.new.lines) in
     let ok : is_ok c.work_ledger-told.result.1 ≡ true = ap is_ok c.in-Ok-ended.is in
-    inr (range, history, told, true, c.in-Ok.ensures.reserved, c.in-Ok.ensures.lawful, subst Sealed terms sealed, subst (λ t. Written t true) terms (subst (Written ledger.terms) ok written), refl)
+    inr (range, history, told, true, c.in-Ok.ensures.reserved, c.in-Ok.ensures.lawful, c.in-Ok.ensures.witnessed, subst Sealed terms sealed, subst (λ t. Written t true) terms (subst (Written ledger.terms) ok written), refl)
 
 pub returns-in-Err-ended-clause-run : goal.returns-in-Err-ended-clause-run
 returns-in-Err-ended-clause-run g c =
@@ -32,7 +32,7 @@ returns-in-Err-ended-clause-run g c =
     (g.L.Report.taken c.args.out.now.lines) (g.L.Report.taken c.work_ledger-told.new.lines)
     (g.L.Report.failures c.args.out.now.lines) (g.L.Report.failures c.work_ledger-told.new.lines) in
     let ok : is_ok c.work_ledger-told.result.1 ≡ false = ap is_ok c.in-Err-ended.is in
-    inr (range, history, told, false, c.in-Ok.ensures.reserved, c.in-Ok.ensures.lawful, subst Sealed terms sealed, subst (λ t. Written t false) terms (subst (Written ledger.terms) ok written), refl)
+    inr (range, history, told, false, c.in-Ok.ensures.reserved, c.in-Ok.ensures.lawful, c.in-Ok.ensures.witnessed, subst Sealed terms sealed, subst (λ t. Written t false) terms (subst (Written ledger.terms) ok written), refl)
 
 pub returns-in-Ok-ended-clause-complains : goal.returns-in-Ok-ended-clause-complains
 returns-in-Ok-ended-clause-complains g c = inl refl
