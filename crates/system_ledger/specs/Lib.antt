@@ -1,2 +1,3 @@
 pub mod Begun
 pub mod Marks
+pub mod Witness

@@ -1,4 +1,4 @@
-//! Refuses a database that is no ledger, before anything is made beside it and before it is opened for writing.
+//! Refuses a database that is no ledger, before anything is made beside it and before anything is written to it.
 
 use crate::begun::WITHOUT_PAGE;
 use crate::holdings::{is_alone, read_both};

@@ -39,6 +39,9 @@ pub enum LedgerFault {
     /// There is no ledger file, or one without tables, and none may be made.
     #[error("not there")]
     NotThere,
+    /// The run has a witness, which saw another file as its ledger file, or there is no file any more.
+    #[error("not the file its witness saw")]
+    NotSeen,
 }
 
 /// Which ledger file a run asks for.
@@ -50,7 +53,7 @@ pub struct LedgerPath<'a> {
     pub may_make: bool,
 }
 
-/// Checks whether a run may open this ledger file, before any file is made or opened for writing.
+/// Checks whether a run may open this ledger file, before any file is made or written.
 ///
 /// It returns `CannotOpen` if the log (PATH-wal) doesn't go with the file:
 /// - There is no file, and the log isn't empty. The file was lost or moved, and the database would begin again from

@@ -7,6 +7,10 @@ pub mod holdings;
 pub mod ledger;
 mod log;
 mod marks;
+pub mod witness;
 
 pub use crate::holdings::{Holding, read_holdings};
 pub use crate::ledger::{LedgerFault, LedgerPath, close_ledger, is_beside, may_open, open_ledger};
+pub use crate::witness::{
+    FileMark, FileWitness, Seen, WitnessFault, WitnessPath, WitnessRefusal, floor_by,
+};
