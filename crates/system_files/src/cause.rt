@@ -83,6 +83,14 @@ pub enum Cause {
     Damaged,
     #[error("another run holds it, or this one may not open as many files")]
     Held,
+    #[error("it is gone or empty, or was copied, restored, moved or made anew")]
+    AnotherFile,
+    #[error("the witness saw no run of this key and device")]
+    NoLine,
+    #[error("it has no line, or one that no witness has")]
+    NoWitness,
+    #[error("no file can be made in its folder")]
+    NoPlace,
 }
 
 impl Cause {
@@ -124,7 +132,7 @@ impl Cause {
 /// What refused a ledger file.
 #[derive(Clone, Copy, PartialEq, Eq, Debug)]
 pub enum Step {
-    /// The checks of a run that seals, before it is opened for writing.
+    /// The checks of a run that seals, before anything is written to it.
     Check,
     /// The database, after these.
     Open,
@@ -169,10 +177,12 @@ pub fn is_for_others<R: Files>(rt: &R, path: &str) -> bool {
 // Why the ledger file at this path can't be used.
 fn ledger_cause<R: Files + AllocGlobal>(rt: &R, path: &str, fault: LedgerFault, step: Step) -> Cause
     ensures other { fault ≡ LedgerFault.NotLedger → result ≡ Cause.SomethingElse }
+    ensures another { fault ≡ LedgerFault.NotSeen → result ≡ Cause.AnotherFile }
 {
     match fault {
         LedgerFault::NotLedger => Cause::SomethingElse,
         LedgerFault::NotThere => not_there(rt, path),
+        LedgerFault::NotSeen => Cause::AnotherFile,
         LedgerFault::CannotOpen => not_opened(rt, path, step),
     }
 }

@@ -1,4 +1,4 @@
-//! The files that a run has of its own: its ledger with what the database keeps beside it, its key file, its journal.
+//! The files that a run has of its own: its ledger with what the database keeps beside it, its key file, its journal, its witness.
 //!
 //! None of them may be an input. Sealing a ledger makes a copy of it, and opening that copy gives its numbers again.
 ghost use Rattle.std.specs.Prelude.{◌≡◌, ◌⊎◌, Some, true};
@@ -90,6 +90,8 @@ pub struct OwnPaths<'a> {
     pub key: &'a str,
     /// That of the journal, if there is one.
     pub journal: Option<&'a str>,
+    /// That of the ledger's witness, if there is one.
+    pub witness: Option<&'a str>,
 }
 
 /// A run's own files. A file that isn't there is `None`.
@@ -101,19 +103,18 @@ pub struct OwnFiles {
     pub key: Option<FileId>,
     /// The journal.
     pub journal: Option<FileId>,
+    /// The ledger's witness.
+    pub witness: Option<FileId>,
 }
 
 impl OwnFiles {
     /// Looks the files up.
     pub(crate) fn at<R: Files + AllocGlobal>(rt: &R, paths: &OwnPaths<'_>) -> io::Result<OwnFiles> {
-        let journal = match paths.journal {
-            Some(path) => file_at(rt, path)?,
-            None => None,
-        };
         Ok(OwnFiles {
             ledger: LedgerFiles::at(rt, paths.ledger)?,
             key: file_at(rt, paths.key)?,
-            journal,
+            journal: file_if(rt, paths.journal)?,
+            witness: file_if(rt, paths.witness)?,
         })
     }
 
@@ -125,11 +126,13 @@ impl OwnFiles {
         ensures shm { self.now.ledger.shm ≡ Some file → result ≡ true }
         ensures key { self.now.key ≡ Some file → result ≡ true }
         ensures journal { self.now.journal ≡ Some file → result ≡ true }
+        ensures witness { self.now.witness ≡ Some file → result ≡ true }
         ensures no_other { result ≡ true → (self.now.ledger.ledger ≡ Some file) ⊎ (self.now.ledger.wal ≡ Some file)
             ⊎ (self.now.ledger.rollback ≡ Some file) ⊎ (self.now.ledger.shm ≡ Some file)
-            ⊎ (self.now.key ≡ Some file) ⊎ (self.now.journal ≡ Some file) }
+            ⊎ (self.now.key ≡ Some file) ⊎ (self.now.journal ≡ Some file) ⊎ (self.now.witness ≡ Some file) }
     {
-        self.ledger.has(file) || self.key == Some(file) || self.journal == Some(file)
+        let own = Some(file);
+        self.ledger.has(file) || self.key == own || self.journal == own || self.witness == own
     }
 }
 
@@ -147,6 +150,14 @@ fn file_at<R: Files>(rt: &R, path: &str) -> io::Result<Option<FileId>> {
         Ok(found) => Ok(Some(FileId::of(&found))),
         Err(error) if is_missing(&error) => Ok(None),
         Err(error) => Err(error),
+    }
+}
+
+// The same, if a path is given.
+fn file_if<R: Files>(rt: &R, path: Option<&str>) -> io::Result<Option<FileId>> {
+    match path {
+        Some(path) => file_at(rt, path),
+        None => Ok(None),
     }
 }
 
