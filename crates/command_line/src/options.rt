@@ -240,7 +240,7 @@ pub(crate) static HOLDINGS_ROWS: [Row; 2] = [
 ];
 
 /// What a command that seals takes in addition: its numbers.
-pub(crate) static LEDGER_ROWS: [Row; 3] = [
+pub(crate) static LEDGER_ROWS: [Row; 5] = [
     Row {
         name: "ledger",
         takes: Takes::Path { is_required: true },
@@ -260,6 +260,18 @@ pub(crate) static LEDGER_ROWS: [Row; 3] = [
         },
         help: "The number of this ledger under this key, 0 to 16777215:\n\
             no two ledgers share one",
+    },
+    Row {
+        name: "witness",
+        takes: Takes::Path { is_required: false },
+        help: "A small file, best on another volume, that sees each run: a ledger older\n\
+            than it saw, or another file, is refused",
+    },
+    Row {
+        name: "new-witness",
+        takes: Takes::NothingWithout("witness"),
+        help: "Make the witness, add this key and device, or let it take a ledger that\n\
+            was moved for its own",
     },
 ];
 

@@ -62,6 +62,10 @@ pub struct SealRequest<'m, 'a> {
     /// Whether a ledger file is made if there is none.
     pub may_make: bool,
     pub device: Device,
+    /// The path of the ledger's witness, if there is to be one.
+    pub witness: Option<&'a str>,
+    /// Whether the witness is made, or takes another ledger file for its own.
+    pub new_witness: bool,
     pub files: &'m [&'m str],
     pub workers: u32,
     pub lanes: u32,
@@ -93,6 +97,9 @@ pub fn seal_request<'m, 'a>(
         ≡ first_value (found_of matches.now) (codes "ledger")) }
     ensures may_make { IfOk result (λ request. IsFlag matches.now (codes "no-new-ledger") (not request.may_make)) }
     ensures device { IfOk result (λ request. number_given matches.now (codes "device") ≡ Some request.device) }
+    ensures witness { IfOk result (λ request. option_map (λ witness. witness.now) request.witness
+        ≡ first_value (found_of matches.now) (codes "witness")) }
+    ensures new_witness { IfOk result (λ request. IsFlag matches.now (codes "new-witness") request.new_witness) }
     ensures journal { IfOk result (λ request. option_map (λ journal. journal.now) request.journal
         ≡ first_value (found_of matches.now) (codes "journal")) }
     ensures files { IfOk result (λ request. (request.files.now ≡ files.now) × (0 < length request.files.now)) }
@@ -145,6 +152,8 @@ pub fn seal_request<'m, 'a>(
         ledger,
         may_make: !matches.get_flag("no-new-ledger"),
         device: numbers.device,
+        witness: matches.get_str("witness"),
+        new_witness: matches.get_flag("new-witness"),
         files,
         workers,
         lanes,
@@ -169,6 +178,10 @@ pub struct PipeRequest<'a> {
     /// Whether a ledger file is made if there is none.
     pub may_make: bool,
     pub device: Device,
+    /// The path of the ledger's witness, if there is to be one.
+    pub witness: Option<&'a str>,
+    /// Whether the witness is made, or takes another ledger file for its own.
+    pub new_witness: bool,
     pub workers: u32,
     /// The most chunks that are read and not yet written.
     pub depth: u32,
@@ -188,6 +201,9 @@ pub fn pipe_request<'a>(matches: &ArgMatches<'a>) -> Result<PipeRequest<'a>, Usa
         ≡ first_value (found_of matches.now) (codes "ledger")) }
     ensures may_make { IfOk result (λ request. IsFlag matches.now (codes "no-new-ledger") (not request.may_make)) }
     ensures device { IfOk result (λ request. number_given matches.now (codes "device") ≡ Some request.device) }
+    ensures witness { IfOk result (λ request. option_map (λ witness. witness.now) request.witness
+        ≡ first_value (found_of matches.now) (codes "witness")) }
+    ensures new_witness { IfOk result (λ request. IsFlag matches.now (codes "new-witness") request.new_witness) }
     ensures journal { IfOk result (λ request. option_map (λ journal. journal.now) request.journal
         ≡ first_value (found_of matches.now) (codes "journal")) }
     ensures workers { IfOk result (λ request. (0 < request.workers) × (request.workers ≤ MAX_WORKERS)) }
@@ -224,6 +240,8 @@ pub fn pipe_request<'a>(matches: &ArgMatches<'a>) -> Result<PipeRequest<'a>, Usa
         ledger,
         may_make: !matches.get_flag("no-new-ledger"),
         device: numbers.device,
+        witness: matches.get_str("witness"),
+        new_witness: matches.get_flag("new-witness"),
         workers: numbers.workers,
         depth: numbers.depth,
         max_chunks: numbers.max_chunks,
