@@ -76,13 +76,14 @@ pub(crate) static KEY_ROWS: [Row; 3] = [
             absent: Absent::Default("1"),
         },
         help: "Workers on one file or stream, side by side, 1 to 16, or auto:\n\
-            as many as there are processors",
+            as many as there are processors for the run",
     },
     Row {
         name: "verbose",
         takes: Takes::Nothing,
-        help: "Print the cause of a fault before any input, and warn of a key file\n\
-            that is open to others; done anyway if standard error is a terminal",
+        help: "Print the cause of a fault of key, list, journal, ledger or witness, and\n\
+            warn of a key file that is open to others; done anyway if standard error\n\
+            is a terminal",
     },
 ];
 
@@ -102,14 +103,14 @@ pub(crate) static FILE_ROWS: [Row; 4] = [
     Row {
         name: "quote",
         takes: Takes::Nothing,
-        help: "Print names with escapes for line feeds, backslashes, and whatever else\n\
-            a line does not show",
+        help: "Print names with escapes for backslashes, control characters and marks of\n\
+            direction, so that no name adds a line",
     },
     Row {
         name: "keep-going",
         takes: Takes::Nothing,
-        help: "A name that cannot be used is a FILE that failed, not a fault of usage;\n\
-            implies --quote",
+        help: "A name of the list that is empty or not UTF-8, or that --into refuses,\n\
+            is a FILE that failed, not a fault of usage; implies --quote",
     },
 ];
 
@@ -309,8 +310,8 @@ pub(crate) static SEAL_ROWS: [Row; 4] = [
             most: MAX_WINDOW,
             absent: Absent::Nothing,
         },
-        help: "Chunks sealed at a time, 1 to 256; if not given 1 MiB, with one worker\n\
-            at most 16; no effect with several lanes",
+        help: "Chunks sealed at a time, 1 to 256; if not given, those of 1 MiB, with one\n\
+            worker 16 at most; no effect with several lanes",
     },
 ];
 
