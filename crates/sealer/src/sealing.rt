@@ -1,6 +1,6 @@
 //! The commands that seal: what a run begins with, and the ledger file over which it seals.
 ghost use Rattle.std.specs.Prelude.{◌≡◌, ◌⊎◌, ◌<◌, ◌≤◌, ℕ, Bool, List, Option, length, map, true, ◌≢◌, IfOk, IfSome};
-ghost use Rattle.std.specs.Prelude.{[], ◌∷◌, codes, false, IfErr, OnErr, if◌then◌else◌};
+ghost use Rattle.std.specs.Prelude.{[], ◌∷◌, codes, false, IfErr, OnErr, if◌then◌else◌, option_map};
 ghost use Rattle.sha2.specs.Sha256.{sha256};
 ghost use Rattle.journal_core.specs.declared.entry.Entry.{Entry};
 ghost use Rattle.journal_core.specs.Journal.{terms_of};
@@ -10,6 +10,7 @@ ghost use Rattle.sqlite_wal.specs.Files.{image_at};
 ghost use Rattle.sqlite.specs.Files.{file_state, over_files};
 ghost use Rattle.sqlite.specs.State.{HasCleanDisk};
 ghost use Rattle.reserve_core.specs.NextRun.{IsFound};
+ghost use Rattle.reserve_core.specs.Witness.{IsWitnessed};
 ghost use Rattle.sealer_core.specs.Complaints.{Complains};
 ghost use Rattle.sealer_core.specs.Piping.{HasSealedStream};
 ghost use Rattle.sealer_core.specs.Sealing.{FoldsFiles, Happened, HasSealed, IsOfSealing, IsWritten, ReservesFilesOnce};
@@ -23,10 +24,10 @@ use command_line::{
     Naming, PipeRequest, SealRequest, UsageFault, naming_asked, pipe_request, seal_request,
 };
 use container_core::Key;
-use ledger_core::{FromRead, Sink, Source, ToWrite};
+use ledger_core::{Device, FromRead, Sink, Source, ToWrite};
 use sealer_core::{
     LedgerFile, MAX_BYTES, MAX_DEPTH, MAX_LANES, MAX_WINDOW, MAX_WORKERS, Outs, PipeOptions,
-    Report, SealOptions, SealingFolder, pipe_all, seal_all,
+    Report, SealOptions, SealingFolder, Witness, pipe_all, seal_all,
 };
 use sqlite::{FileFrom, FileStore, Start, Wary};
 use std::io::{Read, Write, sink};
@@ -34,9 +35,13 @@ use std::rt::{Clock, Files};
 use std::sync::Wait;
 use std::thread::Threads;
 use system_files::{
-    About, Destination, FileOptions, Makes, OwnPaths, StandardInput, Step, SystemFiles, new_journal,
+    About, Cause, Destination, FileOptions, Makes, OwnPaths, StandardInput, Step, SystemFiles,
+    new_journal,
 };
-use system_ledger::{LedgerFault, LedgerPath, close_ledger, may_open, open_ledger};
+use system_ledger::{
+    FileWitness, LedgerFault, LedgerPath, WitnessFault, WitnessPath, WitnessRefusal, close_ledger,
+    may_open, open_ledger,
+};
 
 /// Begins a run that seals: reads the key file, creates the journal, then checks whether the ledger file may be opened.
 /// A fault is printed, with `causes` its cause too, and the error is its status.
@@ -65,6 +70,36 @@ fn begin<R: Files + AllocGlobal + Eprint>(
         Err(fault) => {
             let about = about_ledger(ledger.path, fault, Step::Check);
             Err(explain(rt, "ledger", fault, causes, about))
+        }
+    }
+}
+
+// Reads the witness that is asked for. A fault is printed, with `causes` its cause too, and the error is its status.
+fn witness_at<'r, R: Files + AllocGlobal + Eprint>(
+    rt: &'r R,
+    asked: WitnessPath<'_>,
+    ledger: &'r str,
+    key: &Key,
+    device: Device,
+    causes: bool,
+) -> Result<FileWitness<'r, R>, u8>
+    ensures status { IfErr result (λ status. status ≡ FAULT) }
+{
+    match FileWitness::open(rt, asked, ledger, &key.id(), device) {
+        Ok(witness) => Ok(witness),
+        Err(WitnessRefusal::Ledger(fault)) => {
+            let about = about_ledger(ledger, fault, Step::Check);
+            Err(explain(rt, "ledger", fault, causes, about))
+        }
+        Err(WitnessRefusal::Witness(fault)) => {
+            let about = match fault {
+                WitnessFault::NotWitness => About::Known(Cause::NoWitness),
+                WitnessFault::NoLine => About::Known(Cause::NoLine),
+                WitnessFault::OutOfMemory => About::Known(Cause::OutOfMemory),
+                WitnessFault::CannotCreate => About::Known(Cause::NoPlace),
+                _ => About::Input(asked.path.unwrap_or("")),
+            };
+            Err(explain(rt, "witness", fault, causes, about))
         }
     }
 }
@@ -125,6 +160,7 @@ pub(crate) fn seal<
             ledger: request.ledger,
             key: request.key,
             journal: request.journal,
+            witness: request.witness,
         }),
         refuses_output: false,
         reads_again: false,
@@ -169,8 +205,24 @@ fn seal_to<
         Ok(begun) => begun,
         Err(status) => return (status, streams),
     };
+    let asked = witness_asked(request.witness, request.new_witness);
+    let (ledger, device, causes) = (request.ledger, request.device, terminals.causes);
+    let mut witness = match witness_at(rt, asked, ledger, &key, device, causes) {
+        Ok(witness) => witness,
+        Err(status) => return (status, streams),
+    };
+    let witness = &mut witness;
     let mut out = outs_of(streams, progress, journal);
-    let status = match seal_from(rt, host, &key, request, Wary, &mut folder, &mut out) {
+    let status = match seal_from(
+        rt,
+        host,
+        &key,
+        request,
+        Wary,
+        witness,
+        &mut folder,
+        &mut out,
+    ) {
         Ok((status, file)) => {
             close_ledger(file);
             clear(progress);
@@ -236,10 +288,16 @@ fn pipe_to<
         Ok(begun) => begun,
         Err(status) => return (status, streams),
     };
+    let asked = witness_asked(request.witness, request.new_witness);
+    let mut witness = match witness_at(rt, asked, request.ledger, &key, request.device, causes) {
+        Ok(witness) => witness,
+        Err(status) => return (status, streams),
+    };
     let own = OwnPaths {
         ledger: request.ledger,
         key: request.key,
         journal: request.journal,
+        witness: request.witness,
     };
     let Streams {
         output,
@@ -259,6 +317,7 @@ fn pipe_to<
         &key,
         request,
         Wary,
+        &mut witness,
         &mut input,
         &mut output,
         &mut out,
@@ -278,6 +337,14 @@ fn pipe_to<
         terminals,
     };
     (status, streams)
+}
+
+// The witness at this path, if one is given.
+fn witness_asked(path: Option<&str>, is_new: bool) -> WitnessPath<'_>
+    ensures path { option_map (λ path. path.now) result.path ≡ option_map (λ path. path.now) path.entry }
+    ensures is_new { result.is_new ≡ is_new }
+{
+    WitnessPath { path, is_new }
 }
 
 // The ledger file at this path, to be made if there is none and `may_make` is true.
@@ -314,6 +381,7 @@ fn seal_options<'q>(request: &'q SealRequest<'q, '_>) -> SealOptions<'q>
 fn seal_from<
     R: AllocGlobal + Threads + Wait + Sync,
     S: Start,
+    N: Witness,
     F: SealingFolder,
     L: Report + Drop,
     E: Report + Drop,
@@ -324,6 +392,7 @@ fn seal_from<
     key: &Key,
     request: &SealRequest<'_, '_>,
     start: S,
+    witness: &mut N,
     folder: &mut F,
     out: &mut Outs<L, E, J>,
 ) -> Result<(u8, LedgerFile<FileStore<FileFrom<S>>>), LedgerFault>
@@ -348,6 +417,7 @@ fn seal_from<
         × FoldsFiles LedgerFile.Kept LedgerFile.Folded (sha256 key.now) request.now.device
         (length request.now.files.now) (LedgerFile.Kept keeper) r.1 range
         × IsLawfulRange range
+        × IsWitnessed (N.floor witness.old) (N.recorded witness.old) (N.recorded witness.new) range
         × HasSealed (Happened key.now request.now.shape request.now.max_bytes range.device
         (F.told folder.old) (F.told folder.new))
         (map (λ name. name.now) request.now.files.now) (terms_of range request.now.lanes) history told
@@ -364,7 +434,16 @@ fn seal_from<
 {
     let options = seal_options(request);
     let mut file = open_ledger(host, &ledger_of(request.ledger, request.may_make), start)?;
-    let status = seal_all(rt, rt.alloc(), key, &mut file, folder, &options, out);
+    let status = seal_all(
+        rt,
+        rt.alloc(),
+        key,
+        &mut file,
+        witness,
+        folder,
+        &options,
+        out,
+    );
     Ok((status, file))
 }
 
@@ -390,6 +469,7 @@ fn pipe_options<'q>(request: &'q PipeRequest<'_>) -> PipeOptions<'q>
 fn pipe_from<
     T: AllocGlobal + Threads + Wait + Sync,
     S: Start,
+    N: Witness,
     R: Source,
     W: Sink,
     L: Report + Drop,
@@ -401,6 +481,7 @@ fn pipe_from<
     key: &Key,
     request: &PipeRequest<'_>,
     start: S,
+    witness: &mut N,
     reader: &mut R,
     writer: &mut W,
     out: &mut Outs<L, E, J>,
@@ -425,6 +506,7 @@ fn pipe_from<
         × FoldsFiles LedgerFile.Kept LedgerFile.Folded (sha256 key.now) request.now.device 1 (LedgerFile.Kept keeper)
         r.1 range
         × IsLawfulRange range
+        × IsWitnessed (N.floor witness.old) (N.recorded witness.old) (N.recorded witness.new) range
         × HasSealedStream key.now request.now.shape request.now.max_chunks
         (R.left reader.old) (R.left reader.new) (R.failures reader.old) (R.failures reader.new)
         (W.taken writer.old) (W.taken writer.new) (W.failures writer.old) (W.failures writer.new)
@@ -439,6 +521,8 @@ fn pipe_from<
     let options = pipe_options(request);
     let mut file = open_ledger(host, &ledger_of(request.ledger, request.may_make), start)?;
     let alloc = rt.alloc();
-    let status = pipe_all(rt, alloc, key, &mut file, reader, writer, &options, out);
+    let status = pipe_all(
+        rt, alloc, key, &mut file, witness, reader, writer, &options, out,
+    );
     Ok((status, file))
 }

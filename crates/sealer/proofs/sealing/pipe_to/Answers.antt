@@ -14,7 +14,7 @@ returns g c = record {
         let (keeper, found, once, ended) = w.in-Ok-pipe_from.ensures.run in
         ⊎_elim (λ none. inl (w.status-is ∙ none.0))
         (λ all.
-        let (range, history, told, written, lines, failures, folds, lawful, sealed, journal, is, same, cut) = all in
+        let (range, history, told, written, lines, failures, folds, lawful, witnessed, sealed, journal, is, same, cut) = all in
         of_written (λ name. IsOfPiping) c.match-pipe_from.status told written (line_of stream_name sealed.outcome ∷ []) _ lines _ _ _ (All-cons (λ line. IsOfPiping line.outcome) (line_of stream_name sealed.outcome) [] (fits_stream _ _ _ _ _ _ _ _ _ _ _ _ sealed.outcome sealed.piped.voids sealed.piped.works) (All-nil (λ line. IsOfPiping line.outcome))) sealed.told (λ yes. (same yes).0)
         (w.status-is ∙ is))
         ended

@@ -11,7 +11,7 @@ returns g c = record {
         let (keeper, found, once, ended) = w.in-Ok-seal_from.ensures.run in
         ⊎_elim (λ none. inl (w.status-is ∙ none.0))
         (λ all.
-        let (range, history, told, written, folds, lawful, sealed, journal, is) = all in
+        let (range, history, told, written, folds, lawful, witnessed, sealed, journal, is) = all in
         moved (λ name. IsOfSealing) _ _ _ _ _ _ _ sealed.worked.named (ap g.O.Write.contents c.outs_of-out.ensures.lines) (ap g.O.Write.contents (sym c.streams_of.ensures.output))
         (of_written (λ name. IsOfSealing) c.match-seal_from.status told written sealed.worked.lines _ _ _ _ _ sealed.worked.fitting sealed.worked.told (λ yes. refl) (w.status-is ∙ is)))
         ended
