@@ -3,7 +3,7 @@ use crate::store::{
     ID, Mark, PLAIN_MARK, TABLES, Taken, database, database_of, has_taken, keeper, ledger,
     ledger_of_devices, ledger_of_many, reserve,
 };
-use crate::tests::Step::{Gives, Has, Refuses};
+use crate::tests::Step::{Gives, GivesFrom, Has, Refuses};
 use crate::tests::Whose::{Other, Own};
 use journal_core::Device;
 use reserve_core::{Keeper, ReserveFault};
@@ -24,6 +24,8 @@ enum Whose {
 enum Step {
     /// Reserving as many numbers as this range has returns this range.
     Gives(Whose, (u32, u32)),
+    /// Reserving a number for device 1 of `ID`, from this one on, returns it, or is `BelowFloor`.
+    GivesFrom(u64, Option<u32>),
     /// Reserving this many numbers for device 1 of `ID` fails.
     Refuses(u32, ReserveFault),
     /// These are the ranges.
@@ -35,6 +37,7 @@ fn takes_step<S: Alter>(keeper: &mut Keeper<S>, step: &Step) -> bool {
     match step {
         Gives(Own(device), range) => reserve(keeper, &ID, *device, range.1) == Ok(*range),
         Gives(Other(device), range) => reserve(keeper, &OTHER_ID, *device, range.1) == Ok(*range),
+        GivesFrom(floor, number) => gives_from(keeper, *floor) == *number,
         Refuses(count, fault) => reserve(keeper, &ID, 1, *count) == Err(*fault),
         Has(Own(device), ranges) => has_taken(keeper, &ID, *device, ranges),
         Has(Other(device), ranges) => has_taken(keeper, &OTHER_ID, *device, ranges),
@@ -49,6 +52,15 @@ fn taken_by<S: Alter>(keeper: &mut Keeper<S>, steps: &[Step]) -> usize {
         }
     }
     steps.len()
+}
+
+/// The number that is reserved for device 1 of `ID`, if it is this one or above it; `None` if that is `BelowFloor`.
+fn gives_from<S: Alter>(keeper: &mut Keeper<S>, floor: u64) -> Option<u32> {
+    match keeper.reserve_from(&ID, Device::new(1)?, 1, floor) {
+        Ok(range) => Some(range.lo()),
+        Err(ReserveFault::BelowFloor) => None,
+        Err(_) => Some(u32::MAX),
+    }
 }
 
 /// How many of them a database's keeper passes; 0 if it has no keeper.
@@ -89,7 +101,9 @@ static KEPT: [(&str, &[&str], &[Mark], &[Taken], &[Step]); 4] = [
             Refuses(0, ReserveFault::ZeroCount),
             Refuses(65_536, ReserveFault::TooMany),
             Has(Own(1), &[(0, 3)]),
-            Gives(Own(1), (3, 1)),
+            GivesFrom(4, None),
+            Has(Own(1), &[(0, 3)]),
+            GivesFrom(3, Some(3)),
             Gives(Own(1), (4, 65_535)),
             Has(Own(1), &[(0, 3), (3, 1), (4, 65_535)]),
             Has(Own(2), &[(0, 4)]),
@@ -220,12 +234,13 @@ fn a_refused_database_is_handed_back(rt: HostRuntime) {
     assert!(rt; found == Some((ReserveFault::BadStore, 1)));
 }
 
-static FAULTS: [(ReserveFault, u32, &str); 5] = [
+static FAULTS: [(ReserveFault, u32, &str); 6] = [
     (ReserveFault::ZeroCount, 30, "no files"),
     (ReserveFault::TooMany, 31, "too many files"),
     (ReserveFault::FieldSpent { left: 7 }, 32, "7 numbers left"),
     (ReserveFault::Store, 33, "store failed"),
     (ReserveFault::BadStore, 34, "not a ledger"),
+    (ReserveFault::BelowFloor, 35, "older than its witness"),
 ];
 
 fn has_text(alloc: Global, fault: ReserveFault, text: &str) -> Result<bool, AllocError> {

@@ -43,3 +43,5 @@ mod three_chunks;
 mod traces;
 #[cfg(test)]
 mod unpipes;
+#[cfg(test)]
+mod witnesses;

@@ -5,7 +5,7 @@ use crate::runs::{MemoryOuts, counting_key, journal_of, ledger_after, outs};
 use container_core::{Shape, seal};
 use io_memory::{FromMemory, Schedule, ToMemory};
 use ledger_core::{Device, Failed, fill};
-use reserve_core::{Fold, LedgerFile};
+use reserve_core::{Fold, LedgerFile, Unwitnessed};
 use sealer_core::{PipeOptions, pipe_all};
 use sha2::{Digest, Sha256};
 use std::alloc::Global;
@@ -91,7 +91,17 @@ fn status_over<R: AllocGlobal + Threads + Wait + Sync, S: Fold>(
         shape: &shape,
     };
     let key = counting_key();
-    Some(pipe_all(rt, rt.alloc(), &key, file, reader, writer, &options, out))
+    Some(pipe_all(
+        rt,
+        rt.alloc(),
+        &key,
+        file,
+        &mut Unwitnessed,
+        reader,
+        writer,
+        &options,
+        out,
+    ))
 }
 
 fn end_over<R: AllocGlobal + Threads + Wait + Sync, S: Fold>(

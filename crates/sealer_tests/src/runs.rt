@@ -6,7 +6,7 @@ use container_core::{Key, Shape, open};
 use folder_memory::MemoryFolder;
 use io_memory::{FromMemory, Schedule, ToMemory};
 use ledger_core::Device;
-use reserve_core::{Fold, Keeper, LedgerFile};
+use reserve_core::{Fold, Keeper, LedgerFile, Unwitnessed};
 use sealer_core::{
     OpenOptions, OpeningFolder, Outs, SealOptions, SealingFolder, open_all, run_audit, seal_all,
     verify_all,
@@ -255,7 +255,16 @@ pub(crate) fn seal_shaped<R: AllocGlobal + Threads + Wait + Sync, S: Fold, F: Se
         shape,
     };
     let key = counting_key();
-    Some(seal_all(rt, rt.alloc(), &key, file, folder, &options, out))
+    Some(seal_all(
+        rt,
+        rt.alloc(),
+        &key,
+        file,
+        &mut Unwitnessed,
+        folder,
+        &options,
+        out,
+    ))
 }
 
 // The status of `open_all` or `verify_all` with that key; `None` if the options are invalid.
