@@ -102,8 +102,8 @@ class Edits:
 
     def __init__(self):
         self.rows, self.below = crates_below()
-        # the kit's name, which `rt version` prints
-        kit = subprocess.run(["rt", "version"], capture_output=True, text=True, check=True).stdout.strip()
+        # the sum of the kit's logic, which `rt version` prints last: kits of one logic differ in letters
+        kit = subprocess.run(["rt", "version"], capture_output=True, text=True, check=True).stdout.split()[-1]
         seen = {it: sum_of(files_of(it, "specs"), [(name, heads(text)) for name, text in files_of(it, "src")]) for it in self.below}
         self.sums, self.files = {}, {}
         for crate in sorted(self.below):
