@@ -23,7 +23,7 @@ _sealer() {
             --progress1) _sealer_words 'terminal always' "$current"; return ;;
         esac
         case $before in
-            --key | --files-from | --to | --ledger | --journal) _sealer_files "$current"; return ;;
+            --key | --files-from | --to | --ledger | --witness | --journal) _sealer_files "$current"; return ;;
             --workers | --lanes) _sealer_words 'auto 1 2 4 8 16' "$current"; return ;;
             --into | --spool) _sealer_folders "$current"; return ;;
             --max-bytes | --max-chunks) _sealer_words 'max' "$current"; return ;;
@@ -38,10 +38,10 @@ _sealer() {
         # make_options.py writes from here: words
         '') words='seal pipe unpipe open verify audit ledger help --help -h --version -V' ;;
         seal) words='--key --workers --verbose --files-from --null --quote --keep-going --progress --ledger --no-new-ledger
-                    --device --max-bytes --lanes --window --into --skip-existing --sync --private --exponent --label --journal
-                    --help -h' ;;
-        pipe) words='--key --workers --verbose --ledger --no-new-ledger --device --depth --max-chunks --force-terminal --exponent
-                    --label --journal --help -h' ;;
+                    --device --witness --new-witness --max-bytes --lanes --window --into --skip-existing --sync --private
+                    --exponent --label --journal --help -h' ;;
+        pipe) words='--key --workers --verbose --ledger --no-new-ledger --device --witness --new-witness --depth --max-chunks
+                    --force-terminal --exponent --label --journal --help -h' ;;
         unpipe) words='--key --workers --verbose --progress --max-bytes --spool --label --force-terminal --help -h' ;;
         open) words='--key --workers --verbose --files-from --null --quote --keep-going --progress --max-bytes --label --to --into
                     --skip-existing --sync --private --help -h' ;;

@@ -28,13 +28,13 @@ complete -c sealer -s h -l help -d 'Print help'
 complete -c sealer -n 'not __sealer_command seal pipe unpipe open verify audit ledger help' -s V -l version -d 'Print version'
 
 complete -c sealer -n '__sealer_command seal pipe unpipe open verify' -l key -rF -d 'The key file: 64 hex digits, then nothing or one end of line'
-complete -c sealer -n '__sealer_command seal pipe unpipe open verify' -l workers -x -a 'auto 1 2 4 8 16' -d 'Workers on one file or stream, side by side, 1 to 16, or auto: as many as there are processors'
-complete -c sealer -n '__sealer_command seal pipe unpipe open verify' -l verbose -d 'Print the cause of a fault before any input, and warn of a key file that is open to others'
+complete -c sealer -n '__sealer_command seal pipe unpipe open verify' -l workers -x -a 'auto 1 2 4 8 16' -d 'Workers on one file or stream, side by side, 1 to 16, or auto: as many as there are processors for the run'
+complete -c sealer -n '__sealer_command seal pipe unpipe open verify' -l verbose -d 'Print the cause of a fault of key, list, journal, ledger or witness, and warn of a key file that is open to others'
 
 complete -c sealer -n '__sealer_command seal open verify' -l files-from -rF -d 'Read further FILEs from a list, one a line, after those of the command line'
 complete -c sealer -n '__sealer_command seal open verify' -l null -d 'FILEs in the list of --files-from end with a NUL byte, not a line feed'
-complete -c sealer -n '__sealer_command seal open verify' -l quote -d 'Print names with escapes for line feeds, backslashes, and whatever else a line does not show'
-complete -c sealer -n '__sealer_command seal open verify' -l keep-going -d 'A name that cannot be used is a FILE that failed, not a fault of usage'
+complete -c sealer -n '__sealer_command seal open verify' -l quote -d 'Print names with escapes for backslashes, control characters and marks of direction, so that no name adds a line'
+complete -c sealer -n '__sealer_command seal open verify' -l keep-going -d 'A name of the list that is empty or not UTF-8, or that --into refuses, is a FILE that failed, not a fault of usage'
 
 complete -c sealer -n '__sealer_command seal unpipe open verify' -l progress -a 'terminal always' -d 'Show progress on standard error if that is a terminal, or always'
 
@@ -60,6 +60,8 @@ complete -c sealer -n '__sealer_command ledger' -l verbose -d 'Print why it cann
 complete -c sealer -n '__sealer_command seal pipe' -l ledger -rF -d 'The ledger file, created if there is none'
 complete -c sealer -n '__sealer_command seal pipe' -l no-new-ledger -d 'Create no ledger file: for every run but the first'
 complete -c sealer -n '__sealer_command seal pipe' -l device -x -d 'The number of this ledger under this key, 0 to 16777215: no two ledgers share one'
+complete -c sealer -n '__sealer_command seal pipe' -l witness -rF -d 'A small file, best on another volume, that sees each run: a ledger older than it saw, or another file, is refused'
+complete -c sealer -n '__sealer_command seal pipe' -l new-witness -d 'Make the witness, add this key and device, or let it take a ledger that was moved for its own'
 
 complete -c sealer -n '__sealer_command seal' -l max-bytes -x -a 'max' -d 'Refuse a FILE of more plaintext bytes, 0 to 1099511627776, or max'
 complete -c sealer -n '__sealer_command seal' -l lanes -x -a 'auto 1 2 4 8 16' -d 'Files sealed side by side at most, 1 to 16, or auto'

@@ -10,7 +10,7 @@ from pathlib import Path
 TOP = Path(__file__).resolve().parent.parent
 # For each command the types of the faults after each subject. Those of RunFault begin with their subject. A cause is a second line.
 CAUSE = {"cause": ["Cause"]}
-RUN = {"key": ["KeyFault"], "ledger": ["LedgerFault"], "journal": ["JournalFault"], "": ["RunFault"], **CAUSE}
+RUN = {"key": ["KeyFault"], "ledger": ["LedgerFault"], "journal": ["JournalFault"], "witness": ["WitnessFault"], "": ["RunFault"], **CAUSE}
 FAULTS = {
     "seal": {**RUN, "failed": ["FileFault"], "usage": ["UsageFault", "PlaceFault"]},
     "pipe": {**RUN, "failed": ["FileFault"], "usage": ["UsageFault"]},
@@ -23,6 +23,7 @@ FAULTS = {
 # The causes that only a ledger file has, and those that only a journal has.
 OF_LEDGER = "NoPath LostLedger EmptyLedger AnotherLog UnusableLog HardLink LeftJournal CannotMake Empty NoDatabase NoTables SomethingElse Damaged Held"
 OF_JOURNAL = "Exists OfLedger"
+OF_WITNESS = "AnotherFile NoLine NoWitness NoPlace"
 # The faults that can't come at these commands, and why.
 NEVER = (
     ("seal", "FileFault", "NoSuffix AnotherLabel Changed SpoolFailed Unopened", "IsOfSealing leaves them out"),
@@ -43,8 +44,9 @@ NEVER = (
     ("pipe unpipe", "UsageFault", "NoFiles EmptyName ListNoText CannotReadList", "there is no list of FILEs"),
     ("seal pipe", "ReserveFault", "ZeroCount", "a run without FILEs ended before"),
     ("pipe", "ReserveFault", "TooMany", "it reserves one number"),
-    ("unpipe open verify", "Cause", f"{OF_LEDGER} {OF_JOURNAL}", "there is no ledger, and no journal"),
-    ("ledger", "Cause", f"NoDigits Passed Input CannotMake {OF_JOURNAL}", "there is no key, no list and no journal, and nothing is made"),
+    ("ledger", "LedgerFault", "NotSeen", "there is no witness"),
+    ("unpipe open verify", "Cause", f"{OF_LEDGER} {OF_JOURNAL} {OF_WITNESS}", "there is no ledger, and no journal"),
+    ("ledger", "Cause", f"NoDigits Passed Input CannotMake {OF_JOURNAL} {OF_WITNESS}", "there is no key, no list, no journal and no witness"),
     ("pipe unpipe", "Cause", "Input", "there is no list"),
 )
 # The line about a key file that others can read, and its commands.

@@ -86,7 +86,7 @@ for command in $kept; do
     for words in "$command --help" "$command -h" "help $command"; do helps "$command" $words; done
 done
 grep -nE '^.{101}' tools/help/*.txt && { bad=1; echo 'these lines have over 100 columns'; }
-# The version names the toolchain that is here, and no commit, which tools/link_static.py puts in.
+# The version names the logic of the toolchain that is here, and no commit, which tools/link_static.py puts in.
 version=$(sed -n 's/^pub const VERSION: &str = "\(.*\)";$/\1/p' crates/command_line/src/version.rt)
 for option in --version -V; do
     run $option < /dev/null
@@ -94,7 +94,7 @@ for option in --version -V; do
 done
 toolchain=$(rt version 2>/dev/null) || missing="$missing rt"
 case $version in
-    [0-9]*.[0-9]*.[0-9]*" ($toolchain) commit not-recorded") ;;
+    [0-9]*.[0-9]*.[0-9]*" (Rattle logic ${toolchain##*logic }) commit not-recorded") ;;
     *) has rt && { bad=1; echo "version: '$version' isn't that of '$toolchain'"; } ;;
 esac
 run seal --version < /dev/null
@@ -2283,6 +2283,192 @@ failed files/home/ledger-wal: cannot open' ''
     is "tree-without-its-ledger $device" test "$status $(ls -A files/home)" = '0 a'
     rm files/vault/*
 done
+
+# A witness: a ledger that was put back, copied or made anew is refused, and nothing is reserved or made.
+fresh
+mkdir files/on files/old
+for n in 1 2 3 4 5 6 7 8 9; do echo "$n" > "files/f$n"; done
+seen() { run seal --key "$key" --ledger files/on/ledger --device 1 --witness files/w "$@"; }
+# kept NAME ERR: the last run was refused with this text. The ledger and the witness are as they were, and there is no output.
+kept() {
+    wants "witness-$1" 2 '' "$2"
+    is "witness-$1: nothing is reserved" cmp -s files/on/ledger files/old/at-last
+    is "witness-$1: the witness stays" cmp -s files/w files/old/w
+    is "witness-$1: nothing is made" test "$(ls files/*.stm files/w.* 2> /dev/null)" = "$outputs"
+}
+seen files/f1
+wants witness-not-there 2 '' 'witness: not there'
+is witness-without-one-no-ledger test -z "$(ls -A files/on)"
+seen --new-witness files/f1
+wants witness-made 0 'sealed files/f1 file 0 bytes 2' ''
+cp files/on/ledger* files/old
+seen files/f2
+wants witness-next 0 'sealed files/f2 file 1 bytes 2' ''
+is witness-line grep -qE '^key [0-9a-f]{64} device 1 next 2 file [0-9]+ [0-9]+ ([0-9]+|-)$' files/w
+cp files/w files/old/w
+outputs=$(ls files/*.stm)
+mkdir files/true
+mv files/on/ledger* files/true
+# LEDGER alone put back into its file, then with its log
+cp -p files/true/* files/on
+cp files/on/ledger files/old/at-last
+seen files/f3
+kept copied 'ledger: not the file its witness saw'
+rm files/on/*
+mv files/true/* files/on
+cat files/on/ledger > files/true/ledger
+cat files/on/ledger-wal > files/true/ledger-wal
+cat files/old/ledger > files/on/ledger
+cp files/on/ledger files/old/at-last
+seen files/f3
+kept put-back 'ledger: older than its witness'
+run pipe --key "$key" --ledger files/on/ledger --device 1 --witness files/w < files/f3
+kept put-back-pipe 'ledger: older than its witness'
+cat files/old/ledger-wal > files/on/ledger-wal
+seen --no-new-ledger files/f3
+kept put-back-with-its-log 'ledger: older than its witness'
+seen --new-witness files/f3
+kept put-back-stays-refused 'ledger: older than its witness'
+# the whole folder restored: other files, with the older count
+mv files/on files/gone
+mkdir files/on
+cp files/old/ledger files/old/ledger-wal files/on
+seen files/f3
+kept restored 'ledger: not the file its witness saw'
+rm files/on/*
+cp /dev/null files/old/at-last
+seen files/f3
+wants witness-ledger-lost 2 '' 'ledger: not the file its witness saw'
+is witness-ledger-lost-nothing-made test -z "$(ls -A files/on)"
+# the ledger as it was goes on; one that was moved has to be shown once
+rmdir files/on
+mv files/gone files/on
+cat files/true/ledger > files/on/ledger
+cat files/true/ledger-wal > files/on/ledger-wal
+seen files/f3
+wants witness-goes-on 0 'sealed files/f3 file 2 bytes 2' ''
+mkdir files/moved
+cp files/on/ledger* files/moved
+moved() { run seal --key "$key" --ledger files/moved/ledger --device 1 --witness files/w --no-new-ledger "$@"; }
+moved files/f4
+wants witness-moved 2 '' 'ledger: not the file its witness saw'
+moved --new-witness files/f4
+wants witness-of-the-moved 0 'sealed files/f4 file 3 bytes 2' ''
+moved files/f5
+wants witness-of-the-moved-goes-on 0 'sealed files/f5 file 4 bytes 2' ''
+seen files/f6
+wants witness-left-behind 2 '' 'ledger: not the file its witness saw'
+# another device has a line of its own, which has to be asked for; a line of device 12 is none of device 1
+goes() { is "$1" test "$status" = 0; }
+cp files/w files/of-one
+run seal --key "$key" --ledger files/moved/ledger --device 12 --witness files/w files/f6
+wants witness-another-device 2 '' 'witness: no line of this key and device'
+run seal --key "$key" --ledger files/moved/ledger --device 12 --witness files/w --new-witness files/f6
+wants witness-of-another-device 0 'sealed files/f6 file 0 bytes 2' ''
+is witness-two-lines test "$(sed 's/^key [0-9a-f]* \(.*\) file .*/\1/' files/w | tr '\n' ,)" = 'device 1 next 5,device 12 next 1,'
+grep ' device 12 ' files/w > files/w12
+run seal --key "$key" --ledger files/moved/ledger --device 1 --witness files/w12 files/f7
+wants witness-of-device-12-alone 2 '' 'witness: no line of this key and device'
+# a time of creation is there where the system tells it
+[ "$(stat -c %W files/moved/ledger)" = 0 ] || is witness-time grep -qvE -e '-$' files/w
+# a link to the witness stays a link, and its mode too; the ledger may be given by a link
+mv files/w files/real
+chmod 600 files/real
+ln -s real files/w
+ln -s moved/ledger files/by-link
+run seal --key "$key" --ledger files/by-link --device 1 --witness files/w --no-new-ledger files/f7
+goes witness-by-a-link
+is witness-link test "$(readlink files/w) $(stat -c %a files/real)" = 'real 600'
+is witness-of-the-link grep -q 'device 1 next 6 ' files/real
+# many lines of the same ledger
+sed -n 's/ device 1 / device 20000 /p' files/real > files/line
+for n in $(seq 100); do sed "s/ device 20000 / device $((20000 + n)) /" files/line; done >> files/real
+moved files/f8
+goes witness-of-many
+rm files/f8.stm
+# no witness: empty, another text, a line too many, two lines of one device, lines of two files, no line feed at the end, a folder, a long file.
+# A new one is not made of it either.
+cp files/real files/good
+first=$(head -n 1 files/good)
+for text in '' hello 'key 00 device 1 next 1 file 1 1' "$(cat files/good)
+x" "$first
+$first" "$first
+key $(printf 'a%.0s' $(seq 64)) device 1 next 1 file 1 1 -" "${first/key ?/key G}" "$(printf '%s' "$first" | tr a-f A-F | sed 's/^KEY/key/; s/ DEViCE / device /')x" \
+    "${first/next /next +}" "${first/device/devicf}" "${first/next 7/next 4294967297}"; do
+    printf '%s\n' "$text" > files/real
+    for more in '' --new-witness; do
+        moved $more files/f8
+        wants "no-witness $more '$text'" 2 '' 'witness: not a witness'
+    done
+done
+: > files/real
+moved files/f8
+wants no-witness-empty 2 '' 'witness: not a witness'
+head -c -1 files/good > files/real
+moved files/f8
+wants no-witness-cut 2 '' 'witness: not a witness'
+for n in $(seq 10000); do sed "s/ device 20000 / device $((30000 + n)) /" files/line; done > files/real
+is no-witness-long-is-long test "$(stat -c %s files/real)" -gt 1048576
+moved --new-witness files/f8
+wants no-witness-long 2 '' 'witness: not a witness'
+run seal --key "$key" --ledger files/moved/ledger --device 1 --witness files files/f8
+wants no-witness-folder 2 '' 'witness: not a witness'
+run seal --key "$key" --ledger files/moved/ledger --device 1 --witness "$key" files/f8
+wants no-witness-key 2 '' 'witness: not a witness'
+cp files/good files/real
+# a witness can't be the ledger's
+for name in ledger-journal ledger-shm; do
+    run seal --key "$key" --ledger files/moved/ledger --device 1 --witness "$PWD/files/moved/$name" --new-witness files/f8
+    wants "witness-in-place-of $name" 2 '' 'witness: cannot create'
+done
+run seal --key "$key" --ledger files/moved/ledger --device 1 --witness none/w --new-witness files/f8
+wants witness-no-folder 2 '' 'witness: cannot create'
+run pipe --key "$key" --ledger files/moved/ledger --device 1 --witness files/none < files/f8
+wants witness-not-there-pipe 2 '' 'witness: not there'
+because() { # NAME CAUSE ARGS..
+    run seal --key "$key" --verbose --ledger "${@:3}" files/f8
+    is "witness-cause-$1" test "$status $(tail -n 1 err)" = "2 cause: $2"
+}
+because folder 'no file can be made in its folder' files/moved/ledger --device 1 --witness none/w --new-witness
+because none 'there is no such file' files/moved/ledger --device 1 --witness files/none
+because another 'it is gone or empty, or was copied, restored, moved or made anew' files/on/ledger --device 1 --witness files/w
+because line 'the witness saw no run of this key and device' files/moved/ledger --device 3 --witness files/w
+because text 'it has no line, or one that no witness has' files/moved/ledger --device 1 --witness files/f1
+run seal --key "$key" --ledger files/moved/ledger --device 1 --new-witness files/f8
+is witness-needs-its-path test "$status" = 2
+# a ledger that was emptied is left so
+cp files/moved/ledger files/true/whole
+cp files/moved/ledger-wal files/true/log
+: > files/moved/ledger
+rm files/moved/ledger-wal
+run seal --key "$key" --ledger files/moved/ledger --device 1 --witness files/w files/f8
+wants witness-ledger-emptied 2 '' 'ledger: not the file its witness saw'
+is witness-ledger-emptied-stays test "$(ls files/moved) $(stat -c %s files/moved/ledger)" = 'ledger 0'
+cat files/true/whole > files/moved/ledger
+cat files/true/log > files/moved/ledger-wal
+# nothing is sealed that the witness didn't record, its numbers are given up, and nothing of that name is replaced
+echo mine > files/real.8.new
+moved files/f8
+wants witness-name-taken 2 '' 'witness: write failed'
+is witness-name-taken-as-it-was test "$(cat files/real.8.new) $(cmp files/real files/good && echo same)" = 'mine same'
+rm files/real.8.new
+if command -v strace > /dev/null; then
+    strace -f -qq -o /dev/null -e trace=rename -e inject=rename:error=EIO "$sealer" seal --key "$key" --ledger files/moved/ledger --device 1 \
+        --witness files/w files/f8 > out 2> err
+    status=$?
+    wants witness-not-renewed 2 '' 'witness: write failed'
+    is witness-not-renewed-as-it-was cmp -s files/real files/good
+fi
+is witness-not-renewed-no-file test "$(ls files/f8.stm files/real.* 2> /dev/null)" = ''
+moved files/f8
+goes witness-after-that
+# it is no FILE
+moved files/real
+wants witness-is-no-file 1 'failed files/real: cannot open' ''
+# a stream
+run pipe --key "$key" --ledger files/moved/ledger --device 1 --witness files/w < files/f9
+goes witness-stream
+is witness-of-the-stream test "$(sed -n 's/.* device 1 next \([0-9]*\) .*/\1/p' files/real)" -gt 9
 
 # Two runs at once on one missing ledger: no number is issued twice, and one that is refused says so.
 for i in 1 2 3 4 5 6 7 8 9 10; do

@@ -1,8 +1,8 @@
 #!/usr/bin/env python3
 """stop_runs.py [NIGHTS [NIGHT]]: stops the built program at its system calls, by strace, and checks what the next run does.
 
-Over one ledger file that lives on, with one lane, two lanes and two workers, and for a stream with one worker and two, the program is killed at
-each of its system calls. Each of its calls on files and memory also fails (EIO, ENOSPC, EINTR, ENOMEM). After a kill no number may be issued
+Over one ledger file that lives on, with one lane, two lanes and two workers, and for a stream with one worker and two, also with a witness, the
+program is killed at each of its system calls. Each of its calls on files and memory also fails (EIO, ENOSPC, EINTR, ENOMEM). After a kill no number may be issued
 that a container already has, and the next run must succeed. After an error the run must end by itself, with a status and a text of
 docs/MANUAL.md. An output that is there is whole, and its line doesn't say that it failed. A journal without a fault is legal and has nothing
 open. What was written of a stream begins its container, and is all of it if its line says so. All stops are tried, side by side over the
@@ -50,11 +50,12 @@ night = int(sys.argv[2]) if len(sys.argv) > 2 else 0
 # What a run may print on standard error, and the lines that it may print.
 TEXTS = re.compile(
     r"(usage: (an argument is no text|out of memory)|error: out of memory|key: (cannot open|read failed)|journal: (cannot create|out of memory|write failed)"
-    r"|ledger: (cannot open|store failed|out of memory|not a ledger|not there))"
+    r"|ledger: (cannot open|store failed|out of memory|not a ledger|not there)"
+    r"|witness: (cannot open|cannot create|no line of this key and device|not a witness|out of memory|write failed))"
 )
 LINES = re.compile(r"sealed \S+ file [0-9]+ bytes [0-9]+|failed \S+: (cannot open|cannot create|read failed|write failed|out of memory)")
 # The calls that are made to fail, and how.
-ON_FILES = "openat read pread64 write pwrite64 fsync fdatasync ftruncate lseek statx newfstatat close fadvise64 readlink getcwd fchmod fchown fcntl ioctl link unlink".split()
+ON_FILES = "openat read pread64 write pwrite64 fsync fdatasync ftruncate lseek statx newfstatat close fadvise64 readlink getcwd fchmod fchown fcntl ioctl link unlink rename".split()
 ON_MEMORY = ["mmap", "mremap", "munmap", "mprotect", "madvise", "clone3"]
 # At these the program is only killed: they are the loader's and the threads', neither on files nor on memory.
 OTHERS = "execve access arch_prctl set_tid_address set_robust_list rseq prlimit64 getrandom futex rt_sigaction rt_sigprocmask exit exit_group".split()
@@ -65,8 +66,9 @@ FAULTS["brk"] = ("retval=0",)
 MUST_SHOW = ["fsync", "fdatasync", "pwrite64", "ftruncate"]
 # These are called any number of times, and do nothing.
 PASSED_OVER = ["sched_yield"]
-WAYS = {"one lane": [], "two lanes": ["--lanes", "2"], "two workers": ["--workers", "2"]}
-STREAMS = {"a stream": ["--depth", "2"], "a stream by two workers": ["--workers", "2", "--depth", "2"]}
+WITNESS = ["--witness", "witness"]
+WAYS = {"one lane": [], "two lanes": ["--lanes", "2"], "two workers": ["--workers", "2"], "one lane, a witness": WITNESS}
+STREAMS = {"a stream": ["--depth", "2"], "a stream by two workers": ["--workers", "2", "--depth", "2"], "a stream, a witness": ["--depth", "2", *WITNESS]}
 
 if not shutil.which("strace"):
     print("stop_runs: skipped, strace is not there")
@@ -143,6 +145,10 @@ def calls(way):
     return most, late
 
 
+def witness_of(way):
+    return WITNESS if "witness" in way else []
+
+
 def stopped(way, call, n, how):
     """One run that is stopped, and then one that isn't. Returns whether the first was killed."""
     global stops
@@ -192,13 +198,14 @@ def stopped(way, call, n, how):
                 check = subprocess.run([sealer, "verify", "--key", key, name], capture_output=True, text=True, timeout=60)
                 if check.returncode != 0:
                     differs(f"{what}: {name} is there: {check.stdout.strip()}")
-        again = [sealer, "seal", "--key", key, "--ledger", "ledger", "--device", "1", "--skip-existing", "a", "b"]
+        again = [sealer, "seal", "--key", key, "--ledger", "ledger", "--device", "1", "--skip-existing", "a", "b", *witness_of(way)]
         repaired = subprocess.run(again, capture_output=True, text=True, timeout=60)
         check = subprocess.run([sealer, "verify", "--key", key, "a.stm", "b.stm"], capture_output=True, text=True, timeout=60)
         if repaired.returncode != 0 or check.returncode != 0:
             differs(f"{what}: --skip-existing has status {repaired.returncode}, prints {repaired.stdout}{repaired.stderr}, and then {check.stdout}")
     take(what)
-    after = subprocess.run(command("one lane", ["c"]), capture_output=True, text=True, timeout=60)
+    # a witness that was left at any moment refuses no ledger that goes with it
+    after = subprocess.run([*command("one lane", ["c"]), *witness_of(way)], capture_output=True, text=True, timeout=60)
     if after.returncode != 0 or not after.stdout.startswith("sealed c file "):
         differs(f"{what}: the run after has status {after.returncode}, prints {after.stdout}{after.stderr}")
     take(f"the run after {what}")
@@ -537,6 +544,8 @@ def in_a_folder(work):
             file.write(name)
     subprocess.run(command("one lane", ["a"]), stdout=subprocess.DEVNULL, check=True)
     take("the first run")
+    subprocess.run([*command("one lane, a witness", ["c"]), "--new-witness"], stdout=subprocess.DEVNULL, check=True)
+    take("the run that makes the witness")
     answer = work()
     os.chdir("/")
     shutil.rmtree(folder)

@@ -129,7 +129,7 @@ def another_command(rng, command, given, names, _):
 
 
 def value_of_a_flag(rng, command, given, names, _):
-    flags = ("--no-new-ledger", "--force-terminal")[: 1 + (command == "pipe")] if command in SEALS else ("--show",)
+    flags = ("--no-new-ledger", "--new-witness", "--force-terminal")[: 2 + (command == "pipe")] if command in SEALS else ("--show",)
     if command == "unpipe":
         flags = ("--force-terminal",)
     flag = rng.choice(("--verbose", *flags))
