@@ -1,7 +1,9 @@
 pub mod Back
+pub mod Distinct
 pub mod Ending
 pub mod Line
 pub mod Names
 pub mod Other
+pub mod Parts
 pub mod Read
 pub mod Shown

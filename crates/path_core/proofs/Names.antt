@@ -64,7 +64,7 @@ pub none_found : (paths : List (List ℕ)) (found : BTreeSet (Bor (List ℕ))) �
 unfolding IsDistinct
 none_found paths found empty = ([], tt, tt, λ bytes. ap (list_any (λ name. is_eq (slice_cmp nat_cmp bytes name.now))) empty)
 
-either : (a b : Bool) → cond a true b ≡ (b || (a || false))
+pub either : (a b : Bool) → cond a true b ≡ (b || (a || false))
 either true true = refl
 either true false = refl
 either false true = refl

@@ -1,2 +1,4 @@
+pub mod Journals
 pub mod Places
 pub mod Quotes
+pub mod Trees

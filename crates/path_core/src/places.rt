@@ -8,7 +8,7 @@ use std::alloc::Global;
 use std::collections::BTreeSet;
 use thiserror::Error;
 
-/// Why the outputs of some files can't go into one folder. The texts are those that the program prints.
+/// Why the outputs of some files can't go into, or below, one folder. The texts are those that the program prints.
 #[derive(Clone, Copy, PartialEq, Eq, Debug, Error)]
 pub enum PlaceFault {
     /// A file's base name would be empty, `.` or `..`.
@@ -17,6 +17,9 @@ pub enum PlaceFault {
     /// Two files have the same base name.
     #[error("two FILEs have one last name")]
     SameName,
+    /// Two files have one place below the folder.
+    #[error("two FILEs have one output")]
+    SamePlace,
     /// Memory was refused.
     #[error("out of memory")]
     OutOfMemory,
