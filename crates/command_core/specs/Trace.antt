@@ -90,6 +90,10 @@ Ends end taken failures events = (name : List ℕ) × (bytes : List ℕ) × (n :
 abbrev pub IsCounted : Option (List Event) → Option ℕ → Option ℕ → Type 0
 IsCounted told failures count = IfSome told (λ _. failures ≡ count)
 
+-- A folder that knows what happened, and bytes that a reader has to give: where it tells their number, that is it.
+abbrev pub IsLength : Option (List Event) → Option (List ℕ) → Option ℕ → Type 0
+IsLength told left bytes = IfSome told (λ _. IfSome left (λ input. IfSome bytes (λ n. n ≡ length input)))
+
 -- a file of this name was read, and its bytes open to this plaintext
 abbrev pub IsOpenedBy : List ℕ → List ℕ → List ℕ → List Event → Type 0
 IsOpenedBy key name plain events = (bytes : List ℕ) × (most : ℕ) × (before : List Event) × (after : List Event)

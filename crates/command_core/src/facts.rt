@@ -63,16 +63,16 @@ impl fmt::Display for Facts {
         if version == 1 {
             return Ok(());
         }
-        let label = Quoted(&self.label[..self.length as usize]);
+        let label = ShownLabel(&self.label[..self.length as usize]);
         write!(f, " label {label}")
     }
 }
 
-// A label between quotes. No byte of it can end the quotes or the line.
-#[derive(Clone, Copy)]
-struct Quoted<'a>(&'a [u8]);
+/// A label as lines show it: between quotes. No byte of it can end the quotes or the line.
+#[derive(Clone, Copy, Debug)]
+pub struct ShownLabel<'a>(pub &'a [u8]);
 
-impl fmt::Display for Quoted<'_> {
+impl fmt::Display for ShownLabel<'_> {
     ghost output = { λ label. Some (quoted label.0.now) };
 
     fn fmt<W: fmt::Write>(&self, f: &mut fmt::Formatter<W>) -> fmt::Result {

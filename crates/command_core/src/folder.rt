@@ -8,8 +8,8 @@ ghost use Rattle.output_core.specs.Bounds.{Admits, Exactly};
 ghost use Rattle.command_core.specs.Again.{IsAgainFault, IsBegun};
 ghost use Rattle.command_core.specs.Session.{IsBoundChecked, IsBoundTo, IsNew, IsSound, Session};
 ghost use Rattle.command_core.specs.Trace.{Event, Closes, Creates, Discarded, Discards, Does, Ends, FailsToOpen};
-ghost use Rattle.command_core.specs.Trace.{FailsToRewind, Finished, Finishes, IsCounted, IsOpenedBy, IsReadAgain, Nothing, Opens};
-ghost use Rattle.command_core.specs.Trace.{Refuses, Rewinds};
+ghost use Rattle.command_core.specs.Trace.{FailsToRewind, Finished, Finishes, IsCounted, IsLength, IsOpenedBy, IsReadAgain};
+ghost use Rattle.command_core.specs.Trace.{Nothing, Opens, Refuses, Rewinds};
 
 use container_core::{Header, Key, MAX_OPENED, OpenFault};
 use gate_core::{Free, MAX_WORKERS};
@@ -53,6 +53,11 @@ pub trait Folder {
         ensures unopened { OnErr result (Does (FailsToOpen name.now) (told self.old) (told self.new)) }
         ensures count { IfOk result (λ reader. IsCounted (told self.new) (Self.Reader.failures reader) (Some 0)) }
         ensures session { session self.new ≡ session self.old };
+
+    /// How many bytes the file of a reader had when it was opened, of which nothing was read yet. `None` if the folder
+    /// can't tell: a pipe has no length. The file can grow or shrink since.
+    fn length(&self, reader: &Self::Reader) -> Option<u64>
+        ensures length { IsLength (told self.now) (Self.Reader.left reader.now) result };
 
     /// Whether the file of a reader can be read again. A pipe can't.
     fn can_repeat(&self, reader: &Self::Reader) -> bool;

@@ -17,7 +17,7 @@ pub mod unpiping;
 pub use crate::commands::{
     MAX_BYTES, MAX_OPENED_BYTES, OpenOptions, Outs, open_all, tell, verify_all,
 };
-pub use crate::facts::Facts;
+pub use crate::facts::{Facts, ShownLabel};
 pub use crate::folder::{Folder, FolderFault, OpeningFolder};
 pub use crate::key_file::{KeyFault, read_key};
 pub use crate::line::{FileFault, FileOutcome, Line};

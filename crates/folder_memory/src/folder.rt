@@ -1,6 +1,6 @@
 //! The folder in memory as the commands see it: its calls, and what each records.
 ghost use Rattle.std.specs.Prelude.{◌≡◌, ◌≢◌, ◌⊎◌, ◌↔◌, Err, ◌∷◌, ◌++◌, [], None, Some, true, false};
-ghost use Rattle.std.specs.Prelude.{ℕ, IfErr, IfOk, IfSome, OnErr, OnOk, is_err, option_map};
+ghost use Rattle.std.specs.Prelude.{ℕ, IfErr, IfOk, IfSome, OnErr, OnOk, is_err, length, option_map};
 ghost use Rattle.io_core.specs.Streams.{counted};
 ghost use Rattle.command_core.specs.Trace.{Closes, Creates, Discards, Does, Done, FailsToOpen, FailsToRewind};
 ghost use Rattle.command_core.specs.Trace.{Finishes, IsCounted, Nothing, Opens, Refuses, Rewinds, has_failed};
@@ -61,6 +61,15 @@ impl Folder for MemoryFolder {
         let event = reading(self.alloc, name, bytes.as_slice());
         tell(&mut self.told, event);
         Ok(MemoryReader::new(bytes, self.readers))
+    }
+
+    fn length(&self, reader: &MemoryReader) -> Option<u64>
+        ensures length { IfSome result (λ n. n ≡ length reader.now.left) }
+    {
+        if self.hides_lengths {
+            return None;
+        }
+        Some(reader.length())
     }
 
     fn can_repeat(&self, _reader: &MemoryReader) -> bool

@@ -38,6 +38,8 @@ pub struct MemoryFolder {
     refused: Option<u64>,
     pub(crate) readers: Pace,
     writers: Pace,
+    // Whether it can't tell the lengths of its files.
+    pub(crate) hides_lengths: bool,
     // What happened, unless something was forgotten.
     pub(crate) told: Option<Vec<Told>>,
     // The session that it was given, unless that was forgotten.
@@ -69,6 +71,7 @@ impl MemoryFolder {
             refused: None,
             readers: STEADY,
             writers: STEADY,
+            hides_lengths: false,
             told: Some(Vec::new(alloc)),
             session: None,
         }
@@ -107,6 +110,13 @@ impl MemoryFolder {
         ensures { self.new ≡ record self.old { writers = pace } }
     {
         self.writers = pace;
+    }
+
+    /// Makes the folder tell no length of a file from now on, as of pipes.
+    pub fn hide_lengths(&mut self)
+        ensures { self.new ≡ self.old }
+    {
+        self.hides_lengths = true;
     }
 
     /// Returns whether there is a file of this name.

@@ -1,6 +1,6 @@
 //! Readers and writers of the files of a folder in memory. They move their bytes at a pace, and contracts see the
 //! bytes.
-ghost use Rattle.std.specs.Prelude.{◌≡◌, [], IfOk, Some, string_bytes, true};
+ghost use Rattle.std.specs.Prelude.{◌≡◌, [], IfOk, Some, length, string_bytes, true};
 ghost use Rattle.io_core.specs.Streams.{counted};
 ghost use Rattle.folder_memory.specs.Memory.{reader_view, taken_by};
 
@@ -80,6 +80,13 @@ impl MemoryReader {
         ensures { result.now ≡ self.now.whole }
     {
         self.bytes.as_slice()
+    }
+
+    // How many bytes are left.
+    pub(crate) fn length(&self) -> u64
+        ensures { result ≡ length self.now.left }
+    {
+        (self.bytes.len() - self.at) as u64
     }
 
     // Goes back to the first byte.

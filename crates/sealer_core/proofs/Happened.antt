@@ -21,7 +21,7 @@ use Rattle.command_core.specs.declared.line.FileOutcome.TheVariants.{Sealed, Ope
 use Rattle.command_core.specs.Lines.{FileLine}
 use Rattle.command_core.specs.Trace.{Event, Reading, Created, Refused, Finished, Does, Opens, Creates, Refuses, Discards, tape}
 use Rattle.command_core.proofs.Traces.{nothing, weaken, chain, known, finished_as, discarded_as}
-use Rattle.sealer_core.specs.Group.{EndsBy, IsMade, IsPut, IsRefusal, IsRefused}
+use Rattle.sealer_core.specs.Group.{EndsBy, IsLonger, IsMade, IsPut, IsRefusal, IsRefused}
 use Rattle.sealer_core.specs.Sealing.{AreOfGroups, FitsFault, IsClosed, Happened, IsDiscarded, Part, Sealing, group_events, group_voids, line_of, prepared, sealed_name, unissued_as, void_at}
 
 -- ---- what a writer took
@@ -230,6 +230,15 @@ module _ (key : List ℕ) (shape : ShapeView) (most device : ℕ) (name : List �
   was_unissued why fault left taken one two three is = was_closed (Failed fault) [] left taken taken one two three (λ input before after known empty begun closed.
       failed_as key shape most device name input taken taken before after empty begun fault [] (Failed fault) refl (Keeps-refl taken)
       (cause_kept most fault [] input taken taken (subst (λ f. FitsFault most f [] input []) (sym is) (cause_unissued most input why)) (Keeps-refl taken)) closed)
+
+  -- its input was too long when it was opened
+  pub was_too_long : (left taken : Option (List ℕ)) (one two three : Option (List Event)) → IsLonger most two left
+      → Does (IsMade name left taken) one two → Does (Discards taken) two three → Happened key shape most device one three ((line_of name (Failed (Unsealed sealing_fault.TooLong)) ∷ []) ∷ []) []
+  was_too_long left taken one two None long made discards = tt
+  was_too_long left taken one None (Some end) long made discards = absurd discards
+  was_too_long left taken one (Some mid) (Some end) long made discards = was_closed (Failed (Unsealed sealing_fault.TooLong)) [] left taken taken one (Some mid) (Some end) (λ input before after known_as empty begun closed.
+      failed_as key shape most device name input taken taken before after empty begun (Unsealed sealing_fault.TooLong) [] (Failed (Unsealed sealing_fault.TooLong)) refl (Keeps-refl taken)
+      (cause_kept most (Unsealed sealing_fault.TooLong) [] input taken taken (known (λ i. most < length i) left input known_as long) (Keeps-refl taken)) closed) made discards
 
   -- the engine ended so under a number
   pub was_ended : (device' number : ℕ) (result : Result ℕ SealFault) (outcome : FileOutcome) (left taken taken' : Option (List ℕ)) (one two three : Option (List Event)) → device' ≡ device

@@ -1,6 +1,6 @@
 -- What happened for a group: for each file before and after the sealing. A file that was read takes the first of the
 -- inputs and the first of the outcomes, and leaves the others to the files after it.
-use Rattle.std.proofs.Common.{◌≡◌, ◌≤◌, ◌⊎◌, ◌∙◌, ℕ, suc, refl, sym, ap, subst, arith, List, [], ◌∷◌, ◌++◌, length, map, append-nil, append_assoc, All, Bor, Vec, Global, Option, Some, None, ⊎_elim}
+use Rattle.std.proofs.Common.{◌≡◌, ◌<◌, ◌≤◌, ◌⊎◌, ◌∙◌, ℕ, suc, refl, sym, ap, subst, arith, List, [], ◌∷◌, ◌++◌, length, map, append-nil, append_assoc, All, Bor, Vec, Global, Option, Some, None, ⊎_elim}
 use Rattle.std.specs.Prelude.{⊤, drop, flat_map}
 use Rattle.std.proofs.lemmas.List.{map-append}
 use Rattle.std.proofs.lemmas.List.Elements.{All-nil, All-cons, All-head, All-tail}
@@ -22,10 +22,10 @@ use Rattle.command_core.specs.declared.line.FileOutcome.{FileOutcome}
 use Rattle.command_core.specs.declared.line.FileOutcome.TheVariants.{Failed}
 use Rattle.command_core.specs.Lines.{FileLine}
 use Rattle.command_core.specs.Trace.{Event, Does, Discards, tape}
-use Rattle.command_core.proofs.Traces.{nothing, weaken, chain}
+use Rattle.command_core.proofs.Traces.{nothing, weaken, chain, known}
 use Rattle.sealer_core.specs.declared.prepare.Prepared.{Prepared}
 use Rattle.sealer_core.specs.declared.prepare.Prepared.TheVariants.{Refused, Unread, Read}
-use Rattle.sealer_core.specs.Group.{AreBegun, HasEnded, IsBegun, IsBegunWith, IsEndBy, IsEndIn, IsEndOfAll, IsOfSeats, IsMade, IsPut, IsRefusal, left_by, name_of, refused_lines, void_by, void_in}
+use Rattle.sealer_core.specs.Group.{AreBegun, HasEnded, IsBegun, IsBegunWith, IsEndBy, IsEndIn, IsEndOfAll, IsLonger, IsOfSeats, IsMade, IsPut, IsRefusal, left_by, name_of, refused_lines, void_by, void_in}
 use Rattle.sealer_core.specs.Sealing.{AreOfGroups, Happened, FitsFault, IsClosed, Part, Sealing, group_voids, line_of, prepared, sealed_name, unissued_as}
 use Rattle.sealer_core.proofs.Happened.{IsPart, PutsUnder, cause_kept, cause_unissued, failed_as, group_done, kept_appends, put_as, refused_as}
 
@@ -73,6 +73,13 @@ module _ {W : Type 0} (taken : W → Option (List ℕ)) (most : ℕ) where
       → Does (IsBegunWith taken most (items_of jobs) (items_of jobs') (Unread name writer fault)) one two
   was_unread name writer fault jobs jobs' left one two same made cause =
       weaken (λ events m. ([], ap items_of same ∙ sym (append-nil (items_of jobs)), (refl, m.2, (m.0, cause m.0 m.1, m.3)))) one two made
+
+  -- its input was too long when it was opened
+  pub was_long : (name : Bor (List ℕ)) (writer : W) (jobs : List (Vec ℕ Global)) (left : Option (List ℕ)) (one two : Option (List Event)) → IsLonger most two left
+      → Does (IsMade name.now left (taken writer)) one two → Does (IsBegunWith taken most (items_of jobs) (items_of jobs) (Unread name writer sealing_fault.TooLong)) one two
+  was_long name writer jobs left one None long made = tt
+  was_long name writer jobs left one (Some events) long made =
+      was_unread name writer sealing_fault.TooLong jobs jobs left one (Some events) refl made (λ input is. known (λ i. most < length i) left input is long)
 
   -- a file was read, as the last of the jobs
   pub was_read : (name : Bor (List ℕ)) (writer : W) (bytes : ℕ) (left left' : Option (List ℕ)) (jobs jobs' : List (Vec ℕ Global)) (job : Vec ℕ Global) (one two : Option (List Event))

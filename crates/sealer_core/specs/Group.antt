@@ -77,6 +77,10 @@ abbrev pub IsMade : List ℕ → Option (List ℕ) → Option (List ℕ) → Lis
 IsMade name left taken events = (input : List ℕ) × (left ≡ Some input)
     × (taken ≡ Some (tape (sealed_name name) [])) × (events ≡ prepared name input)
 
+-- A folder that knows what happened, and bytes that a reader has to give: they are more than `most`.
+abbrev pub IsLonger : ℕ → Option (List trace.Event) → Option (List ℕ) → Type 0
+IsLonger most told left = IfSome told (λ _. IfSome left (λ input. most < length input))
+
 -- what happens for a file whose output isn't created
 abbrev pub IsRefusal : List ℕ → FileFault → List trace.Event → Type 0
 IsRefusal name OutOfMemory events = events ≡ []

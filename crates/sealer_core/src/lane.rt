@@ -1,6 +1,6 @@
 //! One file: how it begins and ends, whichever lane seals it, and how one lane seals it with several workers. An output
 //! is finished before its number is settled, so the number of one that can't be finished is void.
-ghost use Rattle.std.specs.Prelude.{◌≡◌, ◌<◌, ℕ, Option, List, [], ◌∷◌, ◌++◌, length, IfOk, IfErr, OnOk, Err, Ok};
+ghost use Rattle.std.specs.Prelude.{◌≡◌, ◌<◌, ℕ, Option, List, [], ◌∷◌, ◌++◌, length, IfOk, IfErr, OnOk, Err, Ok, true};
 ghost use Rattle.journal_core.specs.declared.entry.Event.TheVariants.{Granted, Settled};
 ghost use Rattle.journal_core.specs.declared.entry.Way.{Way};
 ghost use Rattle.journal_core.specs.declared.entry.Way.TheVariants.{Sealed};
@@ -11,8 +11,8 @@ ghost use Rattle.command_core.specs.Lines.{FileLine};
 ghost use Rattle.command_core.specs.Session.{IsNew};
 ghost use Rattle.command_core.specs.declared.line.FileOutcome.TheVariants.{Failed};
 ghost use Rattle.command_core.specs.Trace.{Discards, Does};
-ghost use Rattle.sealer_core.specs.Group.{AreOwing, EndsBy, IsCounted, IsEnding, IsMade, IsRefusal, IsUnmade, OwesAt};
-ghost use Rattle.sealer_core.specs.Group.{HaveSettled, SettledAt};
+ghost use Rattle.sealer_core.specs.Group.{AreOwing, EndsBy, IsCounted, IsEnding, IsLonger, IsMade, IsRefusal, IsUnmade};
+ghost use Rattle.sealer_core.specs.Group.{HaveSettled, OwesAt, SettledAt};
 ghost use Rattle.sealer_core.specs.Sealing.{Accounts, Happened, IsClosed, IsOfSealing, line_of};
 ghost use Rattle.sealer_core.specs.Sealing.{AreLawful, operations_of, unissued_as};
 
@@ -105,6 +105,16 @@ pub(crate) fn begin_file<F: Folder>(
     }
 }
 
+/// Whether an opened file is known to have more bytes than a run takes.
+pub(crate) fn is_too_long<F: Folder>(folder: &F, reader: &F::Reader, max_bytes: u64) -> bool
+    ensures long { result ≡ true → IsLonger max_bytes (F.told folder.now) (F.Reader.left reader.now) }
+{
+    match folder.length(reader) {
+        Some(bytes) => bytes > max_bytes,
+        None => false,
+    }
+}
+
 /// Gives up the output of a file that failed.
 pub(crate) fn give_up<F: Folder>(folder: &mut F, writer: F::Writer, fault: FileFault) -> FileOutcome
     ensures outcome { result ≡ Failed fault }
@@ -151,8 +161,9 @@ pub(crate) fn end_output<F: Folder>(
     give_up(folder, writer, FileFault::Unsealed(fault))
 }
 
-/// Seals one file with the one seat. Opens its input, creates its output and issues its number, in this order; then its
-/// container may begin.
+/// Seals one file with the one seat. Opens its input, creates its output, asks the length of the input, and issues the
+/// file's number, in this order; then its container may begin. Of an input that was too long when it was opened nothing
+/// is read, and no number is issued. Of any other what is read decides.
 pub(crate) fn seal_file<T: Threads + Wait + Sync, F: SealingFolder>(
     rt: &T,
     alloc: Global,
@@ -179,6 +190,9 @@ pub(crate) fn seal_file<T: Threads + Wait + Sync, F: SealingFolder>(
         Ok(begun) => begun,
         Err(fault) => return FileOutcome::Failed(fault),
     };
+    if is_too_long(folder, &reader, options.max_bytes) {
+        return give_up(folder, writer, FileFault::Unsealed(SealFault::TooLong));
+    }
     let seat = &mut seats[0];
     let grant = match issue_to_file(ledger, seat) {
         Ok(grant) => grant,

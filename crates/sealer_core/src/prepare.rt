@@ -3,7 +3,7 @@ ghost use Rattle.std.specs.Prelude.{◌≡◌, ◌≤◌, ◌++◌, length, map,
 ghost use Rattle.command_core.specs.Trace.{Does};
 ghost use Rattle.sealer_core.specs.Group.{AreBegun, IsBegunWith, name_of, IsPrepared, read_of};
 
-use crate::lane::begin_file;
+use crate::lane::{begin_file, is_too_long};
 use command_core::{FileFault, Folder, MAX_BYTES};
 use container_core::SealFault;
 use engine_core::read_plain;
@@ -34,7 +34,8 @@ impl<'a, W: Drop> Prepared<'a, W> {
     }
 }
 
-// Opens a file's input, creates its output, and reads the input: its plaintext becomes the last of the jobs.
+// Opens a file's input, creates its output, and reads the input: its plaintext becomes the last of the jobs. Of an input
+// that was too long when it was opened nothing is read.
 fn prepare_file<'a, F: Folder>(
     alloc: Global,
     folder: &mut F,
@@ -57,6 +58,9 @@ fn prepare_file<'a, F: Folder>(
         Ok(begun) => begun,
         Err(fault) => return Prepared::Refused(name, fault),
     };
+    if is_too_long(folder, &reader, max_bytes) {
+        return Prepared::Unread(name, writer, SealFault::TooLong);
+    }
     let plain = match read_plain(alloc, &mut reader, max_bytes) {
         Ok(plain) => plain,
         Err(fault) => return Prepared::Unread(name, writer, fault),

@@ -27,6 +27,8 @@ pub(crate) enum Trouble {
     Journal(Schedule),
     // Nothing fails, and there is no journal.
     NoJournal,
+    // Nothing fails, and the folder can't tell how long a file is.
+    NoLengths,
 }
 
 #[derive(Clone, Copy)]
@@ -104,6 +106,7 @@ fn make_trouble(folder: &mut MemoryFolder, trouble: Trouble) {
             folder.pace_writers(pace);
             folder.refuse_call(number);
         }
+        Trouble::NoLengths => folder.hide_lengths(),
         _ => {}
     }
 }

@@ -41,6 +41,10 @@ impl<'a> Folder for Changing<'a> {
         Ok(input_of(self.first, self.later, MOST, self.calls))
     }
 
+    fn length(&self, _reader: &Input<'a>) -> Option<u64> {
+        None
+    }
+
     fn can_repeat(&self, _reader: &Input<'a>) -> bool {
         true
     }

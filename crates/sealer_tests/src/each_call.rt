@@ -204,12 +204,11 @@ struct Failures {
 }
 
 // Whether the file with this line received a number before it failed. With one lane that happens before the file is
-// read, with several after it.
+// read, with several after it. A file that is too long is not read.
 fn has_void_number(work: Work, line: &str) -> bool {
     match work {
         Work::Seal { lanes } => {
-            line.ends_with(": write failed")
-                || (lanes == 1 && (line.ends_with(": too long") || line.ends_with(": read failed")))
+            line.ends_with(": write failed") || (lanes == 1 && line.ends_with(": read failed"))
         }
         _ => false,
     }

@@ -147,6 +147,10 @@ impl<'a> Folder for Failing<'a> {
         }
     }
 
+    fn length(&self, reader: &FailingReader<'a>) -> Option<u64> {
+        self.folder.length(&reader.reader)
+    }
+
     fn can_repeat(&self, _reader: &FailingReader<'a>) -> bool {
         !self.once
     }

@@ -154,6 +154,10 @@ impl<I: FileReader + Drop> Folder for OneFile<I> {
         }
     }
 
+    fn length(&self, _reader: &I) -> Option<u64> {
+        None
+    }
+
     fn can_repeat(&self, _reader: &I) -> bool {
         true
     }

@@ -12,7 +12,7 @@ use std::sync::Wait;
 use std::thread::Threads;
 
 // Groups of files so short that one lane seals all of them, under numbers in order. What a row shows, and its case.
-static CASES: [(&str, Case); 8] = [
+static CASES: [(&str, Case); 10] = [
     (
         "files that fail in a group spend no number",
         Case {
@@ -35,6 +35,46 @@ static CASES: [(&str, Case); 8] = [
                 ("long.stm", Left::Absent),
                 ("m.stm", Left::Absent),
             ],
+        },
+    ),
+    (
+        "a file whose length isn't known is too long once it is read",
+        Case {
+            folder: &[("long", b"333"), ("c", b"22")],
+            trouble: Trouble::NoLengths,
+            work: Work::Seal {
+                workers: 1,
+                lanes: 3,
+            },
+            files: &["long", "c"],
+            max_bytes: 2,
+            status: 1,
+            lines: b"failed long: too long\nsealed c file 0 bytes 2\n",
+            faults: b"",
+            journal: b"range 1 0 2 3\n0 issue 0\n0 sealed 0\n",
+            left: &[("long.stm", Left::Absent), ("c.stm", Left::Holds(0, b"22"))],
+        },
+    ),
+    (
+        // Each reader's first call fails.
+        "of a file in a group that is too long nothing is read",
+        Case {
+            folder: &[("long", b"333"), ("c", b"22")],
+            trouble: Trouble::Readers(Pace {
+                most: 3,
+                schedule: Schedule::Call(0),
+            }),
+            work: Work::Seal {
+                workers: 1,
+                lanes: 3,
+            },
+            files: &["long", "c"],
+            max_bytes: 2,
+            status: 1,
+            lines: b"failed long: too long\nfailed c: read failed\n",
+            faults: b"",
+            journal: b"range 1 0 2 3\n",
+            left: &[("long.stm", Left::Absent), ("c.stm", Left::Absent)],
         },
     ),
     (

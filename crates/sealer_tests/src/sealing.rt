@@ -8,7 +8,7 @@ use std::sync::Wait;
 use std::thread::Threads;
 
 // What a row shows, and its case.
-static CASES: [(&str, Case); 8] = [
+static CASES: [(&str, Case); 11] = [
     (
         "files are sealed under numbers in their order",
         Case {
@@ -109,6 +109,27 @@ static CASES: [(&str, Case); 8] = [
             files: &["long", "fits"],
             max_bytes: 8,
             status: 1,
+            lines: b"failed long: too long\nsealed fits file 0 bytes 8\n",
+            faults: b"",
+            journal: b"range 1 0 2 1\n0 issue 0\n0 sealed 0\n",
+            left: &[
+                ("long.stm", Left::Absent),
+                ("fits.stm", Left::Holds(0, b"a secret")),
+            ],
+        },
+    ),
+    (
+        "a file whose length isn't known is too long only once it is read, and its number is void",
+        Case {
+            folder: &[("long", b"123456789"), ("fits", b"a secret")],
+            trouble: Trouble::NoLengths,
+            work: Work::Seal {
+                workers: 2,
+                lanes: 1,
+            },
+            files: &["long", "fits"],
+            max_bytes: 8,
+            status: 1,
             lines: b"failed long: too long\nsealed fits file 1 bytes 8\n",
             faults: b"",
             journal: b"range 1 0 2 1\n0 issue 0\n0 void 0\n0 issue 1\n0 sealed 1\n",
@@ -116,6 +137,46 @@ static CASES: [(&str, Case); 8] = [
                 ("long.stm", Left::Absent),
                 ("fits.stm", Left::Holds(1, b"a secret")),
             ],
+        },
+    ),
+    (
+        // Each reader's first call fails.
+        "of a file that is too long nothing is read",
+        Case {
+            folder: &[("long", b"123456789"), ("fits", b"a secret")],
+            trouble: Trouble::Readers(Pace {
+                most: 3,
+                schedule: Schedule::Call(0),
+            }),
+            work: Work::Seal {
+                workers: 1,
+                lanes: 1,
+            },
+            files: &["long", "fits"],
+            max_bytes: 8,
+            status: 1,
+            lines: b"failed long: too long\nfailed fits: read failed\n",
+            faults: b"",
+            journal: b"range 1 0 2 1\n0 issue 0\n0 void 0\n",
+            left: &[("long.stm", Left::Absent), ("fits.stm", Left::Absent)],
+        },
+    ),
+    (
+        "that an output exists comes before that its file is too long",
+        Case {
+            folder: &[("long", b"123456789"), ("long.stm", b"kept")],
+            trouble: Trouble::Nothing,
+            work: Work::Seal {
+                workers: 1,
+                lanes: 1,
+            },
+            files: &["long"],
+            max_bytes: 8,
+            status: 1,
+            lines: b"failed long: output exists\n",
+            faults: b"",
+            journal: b"range 1 0 1 1\n",
+            left: &[("long.stm", Left::Is(b"kept"))],
         },
     ),
     (

@@ -10,7 +10,7 @@ use Rattle.crew_core.specs.declared.outcome.Outcome.TheVariants as job
 use Rattle.sealer_core.specs.Group.{EndsBy, IsEnding}
 use Rattle.sealer_core.specs.Sealing.{operations_of, void_at}
 use Rattle.sealer_core.proofs.Groups.{ended_first, granted_held, granted_owing, let_go, owes_first, owing_rest, refused_accounts_at, refused_owing}
-use Rattle.sealer_core.proofs.Happened.{was_ended, was_refused, was_unissued}
+use Rattle.sealer_core.proofs.Happened.{was_ended, was_refused, was_too_long, was_unissued}
 use Rattle.sealer_core.proofs.Numbering.{adds_failure, not_granted, spent_number}
 use Rattle.sha2.specs.Sha256.{sha256}
 use Rattle.sealer_core.proofs.Sessions.{admits, held_now, is_free, issue_settles, made_as, one_unsettled, refusal_settles, settled_begun, settled_more, some_one}
@@ -26,6 +26,20 @@ returns-in-Err-clause-done g c = (
 pub returns-in-Err-clause-session : goal.returns-in-Err-clause-session
 returns-in-Err-clause-session g c = settled_more _ _ _ _ _ _ c.in-Err.ensures.session (λ n. omega arith) c.requires.session
 
+-- its input was too long when it was opened
+
+pub returns-then-is_too_long-clause-done : goal.returns-then-is_too_long-clause-done
+returns-then-is_too_long-clause-done g c = rw c.give_up.ensures.outcome (
+  [],
+  was_too_long c.args.key.now c.args.options.now.shape.now c.args.options.now.max_bytes c.args.ledger.now.terms.range.device c.args.name.now _ _ _ _ _
+      (c.is_too_long.ensures.long c.if-is_too_long.true) c.in-Ok.ensures.made c.give_up.ensures.discarded,
+  λ lines voids a. adds_failure lines voids _ 0 _ a _,
+)
+
+pub returns-then-is_too_long-clause-session : goal.returns-then-is_too_long-clause-session
+returns-then-is_too_long-clause-session g c =
+    settled_more _ _ _ _ _ _ (c.give_up.ensures.session ∙ c.in-Ok.ensures.session) (λ n. omega arith) c.requires.session
+
 pub issue_to_file-requires : goal.issue_to_file-requires
 issue_to_file-requires g c = record {
   ours = (c.requires.owing.all.each 0 _ (slice_get-get_or c.args.seats.now 0 c.index-seats-0.result (some_one _ c.requires.one))).0;
@@ -36,15 +50,15 @@ returns-in-Err-issue_to_file-clause-owing g c =
     refused_owing _ _ c.index-seats-0.result _ (some_one _ c.requires.one) (not_granted _ _ _ c.in-Err-issue_to_file.ensures.refused.2) c.in-Err-issue_to_file.ensures.same c.requires.owing
 
 pub returns-in-Err-issue_to_file-clause-done : goal.returns-in-Err-issue_to_file-clause-done
-returns-in-Err-issue_to_file-clause-done g c = rw c.give_up.ensures.outcome (
+returns-in-Err-issue_to_file-clause-done g c = rw c.give_up-in-Err-issue_to_file.ensures.outcome (
   [],
   was_unissued c.args.key.now c.args.options.now.shape.now c.args.options.now.max_bytes c.args.ledger.now.terms.range.device c.args.name.now c.in-Err-issue_to_file.ensures.refused.0 c.in-Err-issue_to_file.fault _ _ _ _ _
-      c.in-Err-issue_to_file.ensures.refused.1 c.in-Ok.ensures.made c.give_up.ensures.discarded,
+      c.in-Err-issue_to_file.ensures.refused.1 c.in-Ok.ensures.made c.give_up-in-Err-issue_to_file.ensures.discarded,
   λ lines voids a. refused_accounts_at c.args.ledger.now c.args.seats.now c.index-seats-0.result _ (some_one _ c.requires.one) (not_granted _ _ _ c.in-Err-issue_to_file.ensures.refused.2) lines voids _ _ a,
 )
 
 pub returns-in-Err-issue_to_file-clause-session : goal.returns-in-Err-issue_to_file-clause-session
-returns-in-Err-issue_to_file-clause-session g c = settled_more _ _ _ _ _ _ (c.give_up.ensures.session ∙ c.in-Ok.ensures.session)
+returns-in-Err-issue_to_file-clause-session g c = settled_more _ _ _ _ _ _ (c.give_up-in-Err-issue_to_file.ensures.session ∙ c.in-Ok.ensures.session)
     (λ n.
     let same = refusal_settles _ c.index-seats-0.result _ n (some_one _ c.requires.one) (not_granted _ _ _ c.in-Err-issue_to_file.ensures.refused.2) in omega arith)
     c.requires.session
