@@ -144,7 +144,7 @@ module _ (old new : State) (sql : List ℕ) (params : Row) where
   fails_to_show_untouched c full e (Some what) (inl h) = unchanged_untouched h.1
   fails_to_show_untouched c full e (Some what) (inr f) = fails_untouched _ e f
 
-  query_fails_untouched : (e : Error) → FailsToQuery sql params old new e → Untouched old new
+  pub query_fails_untouched : (e : Error) → FailsToQuery sql params old new e → Untouched old new
   unfolding FailsToQuery
   query_fails_untouched e (inl h) = not_run_untouched e h
   query_fails_untouched e (inr h) = fails_to_show_untouched h.0 _ e h.0.returning h.2

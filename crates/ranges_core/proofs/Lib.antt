@@ -6,6 +6,7 @@ mod Makes
 mod Moves
 mod Opens
 mod Owners
+mod Passes
 mod Picks
 mod Ready
 mod Reserve

@@ -7,7 +7,8 @@ use Rattle.sqlite.specs.Order.{Row}
 use Rattle.sqlite.specs.Program.{overlay}
 use Rattle.sqlite.specs.Listing.{understood}
 use Rattle.sqlite.specs.Schema.{Schema}
-use Rattle.sqlite.specs.State.{State, Shown, Shows}
+use Rattle.sqlite.specs.Effect.{Database}
+use Rattle.sqlite.specs.State.{State, IsUnchanged, Shown, Shows}
 use Rattle.sqlite.specs.Term.{col}
 use Rattle.sqlite.proofs.Callers.{IsPlain, reads_as, one_permutation}
 use Rattle.sqlite_rules.specs.Lists.{Has}
@@ -85,8 +86,21 @@ module _ (old new : State) (rows : List Row) (has : IsLedger old.now.schema) whe
   pub takings_in : IsTrue old.in_transaction → Shown takings_text [] old new rows → Shows old new old.now old.committed true
   takings_in = in_this takings_text (subst (λ s. IsPlain (understood s takings_text)) (sym has.2) (takings_plain has.0 has.1))
 
+pub plain_marks : (s : Schema) → IsLedger s → IsPlain (understood s marks_text)
+plain_marks s has = subst (λ x. IsPlain (understood x marks_text)) (sym has.2) (marks_plain has.0 has.1)
+
+pub plain_takings : (s : Schema) → IsLedger s → IsPlain (understood s takings_text)
+plain_takings s has = subst (λ x. IsPlain (understood x takings_text)) (sym has.2) (takings_plain has.0 has.1)
+
 pub plain_ids : (s : Schema) → IsLedger s → IsPlain (understood s ids_text)
 plain_ids s has = subst (λ x. IsPlain (understood x ids_text)) (sym has.2) (ids_plain has.0 has.1)
+
+-- rows that were read since nothing changed
+pub takings_since : (first old new : State) (rows : List Row) → IsLedger first.now.schema → IsUnchanged first old → Shown takings_text [] old new rows
+    → IsPermutation (map shown_taken (first.now.trees 2)) rows
+takings_since first old new rows has same h =
+    let has_still = subst (λ (d : Database). IsLedger d.schema) (sym same.0.now_is) has in
+    subst (λ (d : Database). IsPermutation (map shown_taken (d.trees 2)) rows) same.0.now_is (reads_takings old new rows has_still h)
 
 -- ---- the mark of a key ID and device
 

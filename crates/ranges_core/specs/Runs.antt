@@ -8,7 +8,7 @@ use Rattle.sqlite.specs.declared.types.Value.TheVariants.{Int, Blob}
 use Rattle.sqlite.specs.Order.{Row, column}
 use Rattle.sqlite_value.specs.Order.{value_cmp}
 use Rattle.ranges_core.specs.Reads.{is_for}
-use Rattle.ranges_core.specs.Reservations.{TakenRange, Adjacent, next_of, range_in, next_in}
+use Rattle.ranges_core.specs.Reservations.{TakenRange, Adjacent, end_from, next_of, range_in, next_in}
 
 -- each element has this relation to the next
 abbrev pub Chain : (Row → Row → Type 0) → List Row → Type 0
@@ -40,6 +40,26 @@ pub record OwnRun (mark : Row) (run : List Row) : Type 0 where
 abbrev pub Runs : List Row → List Row → Type 0
 Runs [] taken = taken ≡ []
 Runs (m ∷ marks) taken = (run : List Row) × (rest : List Row) × (taken ≡ run ++ rest) × OwnRun m run × Runs marks rest
+
+-- the rows of `taken` that belong to a row of `mark` and are still to come: adjacent from `end` up to its `next`
+pub record OwnRunFrom (end : ℕ) (mark : Row) (run : List Row) : Type 0 where
+  pub key : List ℕ
+  pub device : ℕ
+  pub is_key : column mark 1 ≡ Blob key
+  pub is_device : column mark 2 ≡ Int (pos device)
+  pub own : AllByRecursion (λ t. is_for key device t ≡ true) run
+  pub adjacent : Adjacent end (map range_in run)
+  pub next : next_in mark ≡ end_from end (map range_in run)
+
+-- the rest of the first row's run, then the runs of the other rows of `mark`
+abbrev pub RunsFrom : ℕ → List Row → List Row → Type 0
+RunsFrom end [] taken = taken ≡ []
+RunsFrom end (m ∷ marks) taken =
+    (run : List Row) × (rest : List Row) × (taken ≡ run ++ rest) × OwnRunFrom end m run × Runs marks rest
+
+-- after these rows of `taken`, what is still to come makes the runs of all rows of `mark`
+unfoldable pub LeavesRuns : List Row → List Row → ℕ → List Row → Type 0
+LeavesRuns all given end marks = (more : List Row) → RunsFrom end marks more → Runs all (given ++ more)
 
 -- each range begins above the previous one
 abbrev pub RisesFrom : Option ℕ → List TakenRange → Type 0

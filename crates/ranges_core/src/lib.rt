@@ -8,6 +8,7 @@
 
 mod fault;
 mod opening;
+mod pass;
 mod reads;
 mod rows;
 mod schema;

@@ -16,6 +16,7 @@ ghost use Rattle.ranges_core.specs.Writes.{HaveRowids, IsMarkOf, IsReady};
 
 use crate::NUMBERS;
 use crate::fault::ReserveFault;
+use crate::pass::hold_in_one_pass;
 use crate::rows::{do_ids_rise, hold_lists, number_at};
 use crate::schema::is_ledger;
 use sqlite::{Alter, Connection, Error, Row, Transaction, params};
@@ -212,6 +213,35 @@ fn check_rowids<S: Alter>(conn: &mut Connection<S>) -> Result<(), ReserveFault>
     Ok(())
 }
 
+// Checks the rows of both tables, which it holds in memory, and decides whether they are a ledger's.
+fn check_held_rows<S: Alter>(conn: &mut Connection<S>) -> Result<(), ReserveFault>
+    requires settled { conn.old.in_transaction ≡ false }
+    requires live { IsLive (state S.Store conn.old) }
+    requires still { WhileOpen S.Store conn.old
+        ((state S.Store conn.old).now ≡ (state S.Store conn.old).committed) }
+    ensures settled { conn.new.in_transaction ≡ false }
+    ensures was_open { WasOpen S.Store conn.old conn.new }
+    ensures open { HasCleanDisk (state S.Store conn.new)
+        → OnOk result (IsTrue (state S.Store conn.old).is_open × IsTrue (state S.Store conn.new).is_open) }
+    ensures was_bad { HasCleanDisk (state S.Store conn.new) → result ≡ Err ReserveFault.BadStore
+        → IsTrue (state S.Store conn.old).is_open }
+    ensures ok { HasCleanDisk (state S.Store conn.new) → IsLedger (state S.Store conn.old).now.schema
+        → OnOk result ((lists : Lists) × Holds (state S.Store conn.old).now lists
+        × HaveRowids (marks_in S.Store conn.old)) }
+    ensures bad { HasCleanDisk (state S.Store conn.new) → IsLedger (state S.Store conn.old).now.schema
+        → result ≡ Err ReserveFault.BadStore
+        → (lists : Lists) → HoldLists (marks_in S.Store conn.old) (taken_in S.Store conn.old) lists → ⊥ }
+    ensures named { IfErr result (λ e. (e ≡ ReserveFault.Store) ⊎ (e ≡ ReserveFault.BadStore)) }
+    ensures same { WhileOpen S.Store conn.new (Unchanged S.Store conn.old conn.new) }
+    ensures crash { CommitsNothing S.Store conn.old conn.new }
+{
+    let Ok(all) = read_all(conn) else {
+        return Err(ReserveFault::Store);
+    };
+    hold_lists(all.marks.as_slice(), all.taken.as_slice())?;
+    check_rowids(conn)
+}
+
 /// Checks that the rows of the tables hold lists. Returns `BadStore` if they do not.
 pub(crate) fn check_rows<S: Alter>(conn: &mut Connection<S>) -> Result<(), ReserveFault>
     requires settled { conn.old.in_transaction ≡ false }
@@ -232,11 +262,15 @@ pub(crate) fn check_rows<S: Alter>(conn: &mut Connection<S>) -> Result<(), Reser
     ensures same { WhileOpen S.Store conn.new (Unchanged S.Store conn.old conn.new) }
     ensures crash { CommitsNothing S.Store conn.old conn.new }
 {
-    let Ok(all) = read_all(conn) else {
+    // The pass holds few rows. Where it finds no lists, all rows are held to tell why.
+    if hold_in_one_pass(conn) {
+        return check_rowids(conn);
+    }
+    // If a read closed the database, nothing is known of its tables.
+    if !is_ledger(conn.schema()) {
         return Err(ReserveFault::Store);
-    };
-    hold_lists(all.marks.as_slice(), all.taken.as_slice())?;
-    check_rowids(conn)
+    }
+    check_held_rows(conn)
 }
 
 // Selects the rows that have the ranges of a key ID and device.

@@ -66,7 +66,7 @@ fn is_mark_row(row: &Row) -> bool
 }
 
 // Whether the row has the form of a row of `taken`: rowid, key ID, device, lo, size.
-fn is_taken_row(row: &Row) -> bool
+pub(crate) fn is_taken_row(row: &Row) -> bool
     ensures { result ≡ is_taken_row row.now }
 {
     (is_key(row, 1) && is_within(row, 2, u64::from(Device::MAX)))
@@ -75,7 +75,7 @@ fn is_taken_row(row: &Row) -> bool
 }
 
 // Whether each row has the form of a row of `mark`.
-fn are_mark_rows(rows: &[Row]) -> bool
+pub(crate) fn are_mark_rows(rows: &[Row]) -> bool
     ensures { result ≡ list_all is_mark_row rows.now }
 {
     let mut rest = rows;
@@ -120,7 +120,7 @@ fn compare_owners(a: &Row, b: &Row) -> Ordering
 }
 
 // Whether the rows ascend by key ID and device, so that no two have the same.
-fn are_ordered(rows: &[Row]) -> bool
+pub(crate) fn are_ordered(rows: &[Row]) -> bool
     ensures { IsTrue result → Chain IsBefore rows.now }
 {
     let mut rest = rows;
@@ -152,7 +152,7 @@ pub(crate) fn do_ids_rise(rows: &[Row]) -> bool
 }
 
 // The key ID, if its column has a blob.
-fn key_of(row: &Row) -> Option<&[u8]>
+pub(crate) fn key_of(row: &Row) -> Option<&[u8]>
     ensures { IfSome result (λ key. column row.now 1 ≡ Blob key.now) }
 {
     match row.get_ref(1) {
@@ -182,14 +182,14 @@ fn has_device(row: &Row, device: u64) -> bool
 }
 
 // Whether the row is of this key ID and device.
-fn is_for(row: &Row, key: &[u8], device: u64) -> bool
+pub(crate) fn is_for(row: &Row, key: &[u8], device: u64) -> bool
     ensures { result ≡ is_for key.now device row.now }
 {
     has_key(row, key) && has_device(row, device)
 }
 
 // The end of the row's range, if the range begins at `end`, is not empty, and has no number over 2^32 - 1.
-fn end_after(row: &Row, end: u64) -> Option<u64>
+pub(crate) fn end_after(row: &Row, end: u64) -> Option<u64>
     requires { end ≤ NUMBERS }
     ensures some { IfSome result (λ n. ((range_in row.now).lo ≡ end) × (1 ≤ (range_in row.now).size)
         × (n ≡ end + (range_in row.now).size) × (n ≤ NUMBERS)) }

@@ -42,8 +42,8 @@ impl<S: Alter> Model for Keeper<S> {
 
 impl<S: Alter> Keeper<S> {
     /// Makes both tables in an empty database. Otherwise checks their schema, and that their rows are lists of adjacent
-    /// ranges. The check is one pass over all rows of both tables, which it holds in memory meanwhile. Nobody else may
-    /// write the database from now on.
+    /// ranges. The check is one pass over the rows of `taken`, one at a time. It holds the rows of `mark`, and all rows
+    /// only if that pass finds no lists. Nobody else may write the database from now on.
     ///
     /// Returns `BadStore` if the schema is not empty and one of the two tables cannot be read by its column names, or
     /// if the rows hold no lists. Returns `Store` in these cases:
