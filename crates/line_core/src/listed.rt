@@ -1,0 +1,257 @@
+//! The outputs that the lines of `seal` name, and how verified containers differ from them. A name is the same only if its
+//! text is. Lines of other kinds, and bytes that are no line, are passed over. Of two lines of one output the last counts.
+ghost use Rattle.std.specs.Prelude.{◌<◌, ◌≡◌, ◌∷◌, ℕ, IfOk, IfSome, List, length, string_bytes};
+ghost use Rattle.path_core.specs.Places.{IsLastName};
+
+use crate::json::{push_number, push_text};
+use crate::message::{Message, message_of};
+use crate::objects::push_head;
+use path_core::{last_name, place_of};
+use std::alloc::{AllocError, Global};
+use std::collections::BTreeMap;
+use std::str::from_utf8;
+
+/// What a comparison found.
+#[derive(Clone, Copy, PartialEq, Eq, Debug)]
+pub enum What {
+    /// A listed output is not among the containers.
+    Missing,
+    /// A good container has another number, or another length, than its line.
+    OtherNumber,
+    /// No line is of this good container.
+    NotListed,
+}
+
+/// What a comparison found of one name. Numbers are those that are known.
+#[derive(Drop)]
+pub struct Finding {
+    pub what: What,
+    pub name: String,
+    /// The container's number.
+    pub number: Option<u32>,
+    /// The number in the lines.
+    pub listed: Option<u32>,
+}
+
+// A listed output.
+#[derive(Drop)]
+struct Output {
+    number: u32,
+    bytes: u64,
+    is_met: bool,
+}
+
+/// The outputs of lines, by their names, and what was found so far.
+#[derive(Drop)]
+pub struct Listed {
+    alloc: Global,
+    outputs: BTreeMap<String, Output>,
+    found: Vec<Finding>,
+}
+
+impl Listed {
+    /// Returns the outputs of these lines. `into` is the folder into which the run put them, as a line shows it: each
+    /// under its base name, or with `parents` with the folders of its path. What has no place there is passed over.
+    pub fn of(
+        alloc: Global,
+        text: &[u8],
+        into: Option<&str>,
+        parents: bool,
+    ) -> Result<Listed, AllocError> {
+        let mut outputs = BTreeMap::new(alloc);
+        let mut rest = text;
+        'lines: while !rest.is_empty() {
+            let (line, more) = cut_line(rest);
+            if let Some((name, number, bytes)) = sealed_in(line) {
+                if let Some(output) = output_of(alloc, into, parents, name)? {
+                    let entry = Output {
+                        number,
+                        bytes,
+                        is_met: false,
+                    };
+                    match outputs.insert(output, entry) {
+                        Ok(_) => {}
+                        Err(_) => return Err(AllocError),
+                    }
+                }
+            }
+            rest = more;
+        }
+        Ok(Listed {
+            alloc,
+            outputs,
+            found: Vec::new(alloc),
+        })
+    }
+
+    /// Takes a container of this name as met. `good` is the number of a good one, and how many bytes it has.
+    pub fn meet(&mut self, name: &str, good: Option<(u32, u64)>) -> Result<(), AllocError> {
+        let listed = match self.outputs.get_mut(name) {
+            Some(output) => {
+                output.is_met = true;
+                Some((output.number, output.bytes))
+            }
+            None => None,
+        };
+        let (what, number, listed) = match (good, listed) {
+            (None, _) => return Ok(()),
+            (Some(good), Some(listed)) if good == listed => return Ok(()),
+            (Some(good), Some(listed)) => (What::OtherNumber, good.0, Some(listed.0)),
+            (Some(good), None) => (What::NotListed, good.0, None),
+        };
+        let finding = Finding {
+            what,
+            name: text_of(self.alloc, name)?,
+            number: Some(number),
+            listed,
+        };
+        self.found.push(finding)?;
+        Ok(())
+    }
+
+    /// Returns all that was found: first of the containers, in their order, then the outputs that weren't met, in the
+    /// order of their names.
+    pub fn end(self) -> Result<Vec<Finding>, AllocError> {
+        let Listed {
+            alloc: _,
+            outputs,
+            found,
+        } = self;
+        let mut found = found;
+        for (name, output) in outputs {
+            if !output.is_met {
+                found.push(Finding {
+                    what: What::Missing,
+                    name,
+                    number: None,
+                    listed: Some(output.number),
+                })?;
+            }
+        }
+        Ok(found)
+    }
+}
+
+// The first line of a text, and what follows it.
+fn cut_line(text: &[u8]) -> (&[u8], &[u8])
+    ensures shorter { 0 < length text.now → length result.1.now < length text.now }
+{
+    for at in 0..text.len() {
+        if text[at] == b'\n' {
+            return (&text[..at], &text[at + 1..]);
+        }
+    }
+    (text, &[])
+}
+
+// The name, the number and the bytes of a line of `seal` that names an output.
+fn sealed_in(line: &[u8]) -> Option<(&str, u32, u64)> {
+    let Ok(text) = from_utf8(line) else {
+        return None;
+    };
+    match message_of(text) {
+        Some(
+            Message::Sealed {
+                name,
+                number,
+                bytes,
+            },
+        ) => match (number.parse::<u32>(), bytes.parse::<u64>()) {
+            (Ok(number), Ok(bytes)) => Some((name, number, bytes)),
+            _ => None,
+        },
+        _ => None,
+    }
+}
+
+// The name of the output for this one. `None` if it has no place in the folder.
+fn output_of(
+    alloc: Global,
+    into: Option<&str>,
+    parents: bool,
+    name: &str,
+) -> Result<Option<String>, AllocError> {
+    let mut output = text_of(alloc, name)?;
+    output.push_str(".stm")?;
+    let Some(folder) = into else {
+        return Ok(Some(output));
+    };
+    let end = if parents {
+        place_of(alloc, output.as_str())?
+    } else {
+        base_of(alloc, output.as_str())?
+    };
+    let Some(end) = end else {
+        return Ok(None);
+    };
+    let mut path = text_of(alloc, folder.trim_end_matches('/'))?;
+    path.push_str(end.as_str())?;
+    Ok(Some(path))
+}
+
+// The base name of a path, after a slash. `None` if it has none.
+fn base_of(alloc: Global, path: &str) -> Result<Option<String>, AllocError>
+    ensures { IfOk result (λ found. IfSome found (λ end. (name : List ℕ) × IsLastName path.now name
+        × (string_bytes end ≡ 47 ∷ name))) }
+{
+    let Some(last) = last_name(path) else {
+        return Ok(None);
+    };
+    let mut end = String::new(alloc);
+    end.push('/')?;
+    end.push_str(last)?;
+    Ok(Some(end))
+}
+
+// A copy of a text.
+fn text_of(alloc: Global, text: &str) -> Result<String, AllocError> {
+    let mut copy = String::new(alloc);
+    copy.push_str(text)?;
+    Ok(copy)
+}
+
+/// Appends what was found, as a line or as an object.
+pub fn push_finding(
+    alloc: Global,
+    to: &mut Vec<u8>,
+    finding: &Finding,
+    is_json: bool,
+) -> Result<(), AllocError> {
+    let name = finding.name.as_str();
+    if !is_json {
+        let words: &[u8] = match finding.what {
+            What::Missing => b"missing ",
+            What::OtherNumber => b"other number ",
+            What::NotListed => b"not listed ",
+        };
+        to.extend_from_slice(words)?;
+        to.extend_from_slice(name.as_bytes())?;
+        to.push(b'\n')?;
+        return Ok(());
+    }
+    let status = match finding.what {
+        What::Missing => "missing",
+        What::OtherNumber => "other_number",
+        What::NotListed => "not_listed",
+    };
+    push_head(to, status)?;
+    push_text(to, "file", name)?;
+    push_value(alloc, to, "number", finding.number)?;
+    push_value(alloc, to, "listed", finding.listed)?;
+    to.extend_from_slice(b"}\n")?;
+    Ok(())
+}
+
+// Appends a member with a number, if there is one.
+fn push_value(
+    alloc: Global,
+    to: &mut Vec<u8>,
+    name: &str,
+    value: Option<u32>,
+) -> Result<(), AllocError> {
+    let Some(value) = value else {
+        return Ok(());
+    };
+    let digits = format!(in alloc; "{value}")?;
+    push_number(to, name, digits.as_str())
+}
