@@ -1,3 +1,4 @@
 pub mod Begun
 pub mod Marks
+pub mod Older
 pub mod Witness

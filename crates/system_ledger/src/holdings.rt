@@ -12,17 +12,16 @@ use std::os::unix::fs::MetadataExt;
 use std::rt::Files;
 use std::{fmt, fs, io};
 
-/// Bytes of the key ID that are printed.
-const TOLD: usize = 7;
-
 /// What a ledger file holds of one key and device.
 #[derive(Clone, Copy)]
 pub struct Holding {
-    // The first bytes of the key ID.
-    key: [u8; TOLD],
-    device: u32,
-    ranges: u64,
-    given: u64,
+    /// The key's hint: the first bytes of its ID.
+    pub key: [u8; 7],
+    pub device: u32,
+    /// How many ranges were reserved.
+    pub ranges: u64,
+    /// How many numbers these have: 0 to `given` - 1.
+    pub given: u64,
 }
 
 /// Its line, without a newline.
@@ -202,8 +201,8 @@ fn holdings_of<S: Alter + Drop>(
 // The holding in a row. The keeper has checked that each row is of a key, a device and numbers.
 fn holding_of(row: &Row) -> Option<Holding> {
     let id = row.get::<Vec<u8>>(0).ok()?;
-    let mut key = [0; TOLD];
-    key.copy_from_slice(id.get(..TOLD)?);
+    let mut key = [0; 7];
+    key.copy_from_slice(id.get(..7)?);
     Some(Holding {
         key,
         device: u32::try_from(row.get::<i64>(1).ok()?).ok()?,

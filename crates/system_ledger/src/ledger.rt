@@ -19,6 +19,7 @@ use crate::log::{log_adds, log_beside, log_is_begun};
 use reserve_core::{Keeper, LedgerFile, ReserveFault};
 use sqlite::{Alter, Connection, FileFrom, FileStore, Options, Start};
 use sqlite_disk::{Disk, Files as DiskFiles};
+use sqlite_std_file::OpenError;
 use std::fs;
 use std::hash::{BuildHasher, RandomState};
 use std::io::{self, ErrorKind};
@@ -29,10 +30,13 @@ use thiserror::Error;
 #[derive(Clone, Copy, PartialEq, Eq, Debug, Error)]
 pub enum LedgerFault {
     /// The folder is missing, the file is no database or can't be read, its log doesn't go with it, its tables are
-    /// other than a ledger's or not alone, a file has more than one name, another database left a journal beside it,
-    /// memory was refused, or another process holds it.
+    /// other than a ledger's or not alone, a file has more than one name, another database left a journal beside it, or
+    /// memory was refused.
     #[error("cannot open")]
     CannotOpen,
+    /// Another process holds it. The text doesn't tell this from the others.
+    #[error("cannot open")]
+    Held,
     /// The database holds something else.
     #[error("not a ledger")]
     NotLedger,
@@ -137,7 +141,8 @@ fn length_of<R: Files + AllocGlobal>(rt: &R, path: &str) -> io::Result<Option<u6
 }
 
 /// Opens this ledger file, with its keeper. The file is made if there is none. A path that names no file (an empty one,
-/// `:memory:` or a URI) is refused, since two runs must always share a file. A refusal keeps the pages of the log.
+/// `:memory:` or a URI) is refused, since two runs must always share a file. A refusal keeps the pages of the log. It is
+/// `Held` if another process has the database open.
 ///
 /// If none may be made, a database without tables is `NotThere`, even one that this call began because the file was
 /// gone. `S` denotes what the files hold, as in the database's own way to open a path.
@@ -159,7 +164,8 @@ pub fn open_ledger<S: Start>(
     }
 }
 
-// Opens the database at a path like `Connection::open_from`, but keeps few pages in memory.
+// Opens the database at a path like `Connection::open_from`, but keeps few pages in memory. `Held` means that another
+// process has locked it.
 fn connect<S: Start>(
     rt: &HostRuntime,
     path: &str,
@@ -176,6 +182,7 @@ fn connect<S: Start>(
     };
     let mut files = match sqlite_std_file::open(rt, path, start) {
         Ok(files) => files,
+        Err(OpenError::Busy) => return Err(LedgerFault::Held),
         Err(_error) => return Err(LedgerFault::CannotOpen),
     };
     if !is_still_begun(&mut files) {

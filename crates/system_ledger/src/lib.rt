@@ -7,10 +7,14 @@ pub mod holdings;
 pub mod ledger;
 mod log;
 mod marks;
+pub mod older;
+pub mod turn;
 pub mod witness;
 
 pub use crate::holdings::{Holding, read_holdings};
 pub use crate::ledger::{LedgerFault, LedgerPath, close_ledger, is_beside, may_open, open_ledger};
+pub use crate::older::is_older;
+pub use crate::turn::{MAX_TRIES, Turn};
 pub use crate::witness::{
     FileMark, FileWitness, Seen, WitnessFault, WitnessPath, WitnessRefusal, floor_by,
 };
