@@ -1,11 +1,13 @@
-//! Why a run could not use a file, as far as the file system shows it after the fault.
+//! Why a run could not use a file: by the system's error, or as far as the file system shows it after the fault.
 //!
-//! It looks again at what the run looked at, and creates, changes and removes nothing. So it can miss a cause that is
-//! gone by then. If nothing else is found after a ledger file passed its checks, another run holds it.
-ghost use Rattle.std.specs.Prelude.{◌≡◌};
+//! Of keys, lists and ledgers it looks again at what the run looked at, and creates, changes and removes nothing. So it
+//! can miss a cause that is gone by then. If nothing else is found after a ledger file passed its checks, the system
+//! reported an error.
+ghost use Rattle.std.specs.Prelude.{◌≡◌, ◌⊎◌};
 ghost use Rattle.std.specs.IoError.{error_kind};
 
 use crate::outputs::folder_and_name;
+use command_core::FolderFault;
 use std::alloc::Global;
 use std::fs;
 use std::fs::{File, OpenOptions};
@@ -38,6 +40,8 @@ pub enum Cause {
     NameTooLong,
     #[error("the disk is full, or a quota is reached")]
     DiskFull,
+    #[error("no larger file is allowed, by its file system or a limit")]
+    TooLarge,
     /// An error of the system that has no cause of its own here.
     #[error("the system reports an error")]
     SystemError,
@@ -81,7 +85,7 @@ pub enum Cause {
     SomethingElse,
     #[error("the database is damaged or was altered, or memory was refused")]
     Damaged,
-    #[error("another run holds it, or this one may not open as many files")]
+    #[error("another run holds it")]
     Held,
     #[error("it is gone or empty, or was copied, restored, moved or made anew")]
     AnotherFile,
@@ -91,6 +95,22 @@ pub enum Cause {
     NoWitness,
     #[error("no file can be made in its folder")]
     NoPlace,
+    #[error("it is one of the run's own files")]
+    OwnFile,
+    #[error("its name is not UTF-8, or memory was refused")]
+    NoText,
+    #[error("the output's name has no last part, or a part .., is not UTF-8, or memory was refused")]
+    NoOutputName,
+    #[error("a symbolic link is on the way, below the folder of --into")]
+    LinkOnWay,
+    #[error("there is a file of the output's name")]
+    OutputThere,
+    #[error("another FILE of the run has this output")]
+    OutputShared,
+    #[error("another file got the output's name meanwhile")]
+    OutputTaken,
+    #[error("the output's part is gone: another program removed or moved it")]
+    PartGone,
 }
 
 impl Cause {
@@ -111,6 +131,7 @@ impl Cause {
             ErrorKind::FilesystemLoop => Cause::Circle,
             ErrorKind::InvalidFilename => Cause::NameTooLong,
             ErrorKind::StorageFull | ErrorKind::QuotaExceeded => Cause::DiskFull,
+            ErrorKind::FileTooLarge => Cause::TooLarge,
             ErrorKind::OutOfMemory => Cause::OutOfMemory,
             _ => Cause::SystemError,
         }
@@ -125,6 +146,33 @@ impl Cause {
         match Cause::of(error) {
             Cause::NoFile => Cause::NoFolder,
             cause => cause,
+        }
+    }
+
+    /// The cause of an error of giving an output its name: another file has it by now, or the part has none any more.
+    pub(crate) fn of_naming(error: &io::Error) -> Cause
+        ensures taken { error_kind error.now ≡ ErrorKind.AlreadyExists → result ≡ Cause.OutputTaken }
+        ensures gone { error_kind error.now ≡ ErrorKind.NotFound → result ≡ Cause.PartGone }
+        ensures full { error_kind error.now ≡ ErrorKind.StorageFull → result ≡ Cause.DiskFull }
+    {
+        match error.kind() {
+            ErrorKind::AlreadyExists => Cause::OutputTaken,
+            ErrorKind::NotFound => Cause::PartGone,
+            _ => Cause::of(error),
+        }
+    }
+
+    /// The fault of an output that can't be created, by its cause: there is a file of its name, or of its part's.
+    pub(crate) fn fault(self) -> FolderFault
+        ensures there { self ≡ Cause.OutputThere → result ≡ FolderFault.Exists }
+        ensures shared { self ≡ Cause.OutputShared → result ≡ FolderFault.Exists }
+        ensures taken { self ≡ Cause.OutputTaken → result ≡ FolderFault.Exists }
+        ensures other { result ≡ FolderFault.Exists
+            → (self ≡ Cause.OutputThere) ⊎ (self ≡ Cause.OutputShared) ⊎ (self ≡ Cause.OutputTaken) }
+    {
+        match self {
+            Cause::OutputThere | Cause::OutputShared | Cause::OutputTaken => FolderFault::Exists,
+            _ => FolderFault::Failed,
         }
     }
 }
@@ -178,11 +226,13 @@ pub fn is_for_others<R: Files>(rt: &R, path: &str) -> bool {
 fn ledger_cause<R: Files + AllocGlobal>(rt: &R, path: &str, fault: LedgerFault, step: Step) -> Cause
     ensures other { fault ≡ LedgerFault.NotLedger → result ≡ Cause.SomethingElse }
     ensures another { fault ≡ LedgerFault.NotSeen → result ≡ Cause.AnotherFile }
+    ensures held { fault ≡ LedgerFault.Held → result ≡ Cause.Held }
 {
     match fault {
         LedgerFault::NotLedger => Cause::SomethingElse,
         LedgerFault::NotThere => not_there(rt, path),
         LedgerFault::NotSeen => Cause::AnotherFile,
+        LedgerFault::Held => Cause::Held,
         LedgerFault::CannotOpen => not_opened(rt, path, step),
     }
 }
@@ -246,7 +296,7 @@ fn by_content<R: Files + AllocGlobal>(
     if !has_pages && !begins_with(rt, path, b"SQLite format 3\0") {
         return Cause::NoDatabase;
     }
-    // If it can be opened by now, the other run has ended or is between two writes.
+    // If it passes by now, another run wrote it meanwhile. The database itself says whether another run holds it.
     let opens = match step {
         Step::Check => may_open(
             rt,
@@ -260,6 +310,8 @@ fn by_content<R: Files + AllocGlobal>(
     };
     if opens && step == Step::Open && log_bytes.is_none() {
         Cause::CannotMake
+    } else if opens && step == Step::Open {
+        Cause::SystemError
     } else if opens {
         Cause::Held
     } else if has_pages {
@@ -295,8 +347,8 @@ fn unusable<R: Files>(rt: &R, path: &str, writes: bool) -> Option<Cause> {
     }
 }
 
-// Why there is nothing at a path, by the error of looking there.
-fn missing<R: Files>(rt: &R, path: &str, error: &io::Error) -> Cause {
+/// Why there is nothing at a path, by the error of looking there.
+pub(crate) fn missing<R: Files>(rt: &R, path: &str, error: &io::Error) -> Cause {
     match Cause::of(error) {
         Cause::NoFile => match fs::metadata(rt, folder_and_name(path).0) {
             Err(error) if error.kind() == ErrorKind::NotFound => Cause::NoFolder,

@@ -2,13 +2,12 @@
 ghost use Rattle.std.specs.Prelude.{◌≡◌, ◌≢◌, Err, true, false};
 
 use crate::cause::Cause;
+use crate::folders::{NewFolders, PRIVATE_FOLDER, SHARED_FOLDER, take_way};
 use crate::input::{FileInput, OneOf, Opened, open_known};
-use crate::names::{Names, path_of, path_shown};
-use crate::outputs::{self, Output, Outputs, PRIVATE, SHARED, make_new};
-use crate::own::{
-    FileId, OwnFiles, OwnPaths, STANDARD_INPUT, STANDARD_OUTPUT, is_of_ledger, regular_at,
-};
-use crate::progress::Progress;
+use crate::names::{Names, Target, path_of, path_shown};
+use crate::outputs::{self, Output, Outputs, PRIVATE, SHARED};
+use crate::own::{FileId, OwnFiles, OwnPaths, STANDARD_INPUT, STANDARD_OUTPUT, regular_at};
+use crate::progress::{Named, Progress, explain_file};
 use crate::spool::FileSpool;
 use command_core::{Folder, FolderFault, OpeningFolder, Plaintext};
 use container_core::{Header, Key, Shape};
@@ -19,13 +18,10 @@ use io_core::Failed;
 use ledger_core::{Ledger, Seat, ToWrite};
 use reserve_core::{Fold, LedgerFile};
 use std::alloc::Global;
-use std::fs;
 use std::fs::File;
-use std::io::{ErrorKind, Read};
+use std::io::Read;
 use std::marker::Brand;
 use std::rt::{Clock, Files};
-use system_ledger::is_beside;
-use thiserror::Error;
 
 /// The name of standard input.
 pub const STREAM: &str = "-";
@@ -37,9 +33,8 @@ pub struct FileOptions<'a> {
     pub names: Names,
     /// How the names of outputs do.
     pub outputs: Names,
-    /// The folder into which outputs go, each under the base name of its path. With `None` they go where their path
-    /// says.
-    pub into: Option<&'a str>,
+    /// Where outputs go.
+    pub target: Target<'a>,
     /// Whether `finish` syncs an output and its name to the disk.
     pub sync: bool,
     /// Whether outputs are created for their owner only.
@@ -57,6 +52,10 @@ pub struct FileOptions<'a> {
     /// The folder for the file of a spool. It keeps what can be read only once, while that is read, so that it can be
     /// read again.
     pub spool: Option<&'a str>,
+    /// Whether it is printed on standard error why a FILE can't be opened, read or kept, or its output not be made.
+    pub causes: bool,
+    /// Whether, with `causes`, a FILE that changes while it is read is warned of.
+    pub warns_of_changes: bool,
 }
 
 /// The files of the system, by their paths. A relative path begins at the current directory.
@@ -64,15 +63,22 @@ pub struct FileOptions<'a> {
 pub struct SystemFiles<'p, 'r, R: Files + AllocGlobal + Clock + Eprint, I: Read + Drop> {
     /// The runtime that opens them.
     pub rt: &'r R,
-    /// The folder into which outputs go, if they don't go where their path says.
-    pub into: Option<&'r str>,
+    /// Where outputs go.
+    pub target: Target<'r>,
     /// Whether `finish` syncs an output and its name to the disk.
     pub sync: bool,
     /// The mode with which outputs are created. The system takes away what the umask has.
     pub mode: u32,
     /// Counts the bytes read of files. `None` if no progress line was asked for.
     pub progress: Option<&'p Progress<'r, R>>,
+    /// Whether causes of faults of FILEs are printed.
+    pub causes: bool,
+    warns_of_changes: bool,
+    // The name of the FILE that was opened last, if causes are printed.
+    file: Option<String>,
     outputs: Outputs,
+    // How folders below the target's are made.
+    new_folders: NewFolders,
     // How names of files, and of outputs, denote paths.
     names: Names,
     output_names: Names,
@@ -84,6 +90,8 @@ pub struct SystemFiles<'p, 'r, R: Files + AllocGlobal + Clock + Eprint, I: Read 
     spool: Option<&'r str>,
     // The regular file that standard output is, if it can't be opened.
     output: Option<FileId>,
+    // A file that was kept out later.
+    kept_out: Option<FileId>,
     // The paths of the run's own files, and these files, once they were looked up.
     own_paths: Option<OwnPaths<'r>>,
     own: Option<OwnFiles>,
@@ -100,14 +108,26 @@ impl<'p, 'r, R: Files + AllocGlobal + Clock + Eprint, I: Read + Drop> SystemFile
         ensures sync { result.sync ≡ options.entry.sync }
         ensures private { options.entry.private ≡ true → result.mode ≡ PRIVATE }
         ensures shared { options.entry.private ≡ false → result.mode ≡ SHARED }
+        ensures causes { result.causes ≡ options.entry.causes }
     {
         SystemFiles {
             rt,
-            into: options.into,
+            target: options.target,
             sync: options.sync,
             mode: if options.private { PRIVATE } else { SHARED },
             progress,
+            causes: options.causes,
+            warns_of_changes: options.warns_of_changes,
+            file: None,
             outputs: Outputs::new(rt),
+            new_folders: NewFolders {
+                mode: if options.private {
+                    PRIVATE_FOLDER
+                } else {
+                    SHARED_FOLDER
+                },
+                sync: options.sync,
+            },
             names: options.names,
             output_names: options.outputs,
             has_input: input.is_some(),
@@ -120,28 +140,83 @@ impl<'p, 'r, R: Files + AllocGlobal + Clock + Eprint, I: Read + Drop> SystemFile
             } else {
                 None
             },
+            kept_out: None,
             own_paths: options.own,
             own: None,
         }
     }
 
+    /// Refuses the regular file at this path from now on, as one of the run's own.
+    pub fn keep_out(&mut self, path: &str) {
+        self.kept_out = regular_at(self.rt, path);
+    }
+
+    // What reads the file of this name, or standard input.
+    fn reader_at(&mut self, name: &str) -> Result<SystemReader<'p, 'r, R, I>, Cause> {
+        let is_input = self.has_input && name == STREAM;
+        if is_input && !self.reopens_input {
+            return self.open_stream(name);
+        }
+        let opened = match self.open_file(is_input, name) {
+            Ok(opened) => opened,
+            Err(cause) => return Err(cause),
+        };
+        if let Some(cause) = self.why_own(opened.id) {
+            return Err(cause);
+        }
+        let named = self.named(name);
+        match FileInput::of_file(
+            self.rt.alloc(),
+            opened,
+            self.reads_again,
+            self.warns_of_changes,
+            named,
+        ) {
+            Ok(input) => Ok(self.reader_of(input)),
+            Err(cause) => Err(cause),
+        }
+    }
+
     // What reads standard input as a stream. It is refused if it is the regular file that can't be opened.
-    fn open_stream(&mut self) -> Result<SystemReader<'p, 'r, R, I>, FolderFault>
-        ensures fault { result ≢ Err FolderFault.Exists }
-    {
+    fn open_stream(&mut self, name: &str) -> Result<SystemReader<'p, 'r, R, I>, Cause> {
         if self.output.is_some() && regular_at(self.rt, STANDARD_INPUT) == self.output {
-            return Err(FolderFault::Failed);
+            return Err(Cause::OwnFile);
         }
         match self.input.take() {
-            Some(input) => Ok(self.reader_of(FileInput::of_input(input))),
-            None => Err(FolderFault::Failed),
+            Some(input) => {
+                let named = self.named(name);
+                Ok(self.reader_of(FileInput::of_input(input, named)))
+            }
+            None => Err(Cause::Input),
+        }
+    }
+
+    // This name with where causes are printed, if they are. `None` also if memory is refused.
+    fn named(&self, name: &str) -> Option<Named<'p, 'r, R>> {
+        Some(Named {
+            rt: self.rt,
+            progress: self.progress,
+            name: self.copied(name)?,
+        })
+    }
+
+    // This name, if causes are printed. `None` also if memory is refused.
+    fn copied(&self, name: &str) -> Option<String> {
+        if !self.causes {
+            return None;
+        }
+        String::from_str(self.rt.alloc(), name).ok()
+    }
+
+    // Prints why the FILE of this name failed, if causes are printed.
+    fn explain(&self, name: &str, cause: Cause) {
+        if self.causes {
+            explain_file(self.rt, self.progress, name, cause);
         }
     }
 
     // Opens the file of this name, or standard input by its path.
-    fn open_file(&self, is_input: bool, name: &str) -> Result<Opened<R::File>, FolderFault>
-        ensures fault { result ≢ Err FolderFault.Exists }
-    {
+    fn open_file(&self, is_input: bool, name: &str) -> Result<Opened<R::File>, Cause> {
         if is_input {
             return open_known(self.rt, STANDARD_INPUT);
         }
@@ -150,12 +225,12 @@ impl<'p, 'r, R: Files + AllocGlobal + Clock + Eprint, I: Read + Drop> SystemFile
         }
         match path_shown(self.rt.alloc(), name) {
             Some(path) => open_known(self.rt, path.as_str()),
-            None => Err(FolderFault::Failed),
+            None => Err(Cause::NoText),
         }
     }
 
     // What reads this input.
-    fn reader_of(&self, input: FileInput<R, I>) -> SystemReader<'p, 'r, R, I> {
+    fn reader_of(&self, input: FileInput<'p, 'r, R, I>) -> SystemReader<'p, 'r, R, I> {
         let reader = match self.spool {
             Some(folder) if !input.can_repeat => {
                 let spool = FileSpool::new(self.rt, folder);
@@ -169,76 +244,43 @@ impl<'p, 'r, R: Files + AllocGlobal + Clock + Eprint, I: Read + Drop> SystemFile
         }
     }
 
-    // Whether a file is one of the run's own. If that can't be found out, it counts as one.
-    fn is_own(&mut self, file: FileId) -> bool {
-        if self.output == Some(file) {
-            return true;
+    // Why a file can't be opened, if it is one of the run's own. If that can't be found out, it counts as one.
+    fn why_own(&mut self, file: FileId) -> Option<Cause> {
+        if self.output == Some(file) || self.kept_out == Some(file) {
+            return Some(Cause::OwnFile);
         }
         let Some(paths) = self.own_paths else {
-            return false;
+            return None;
         };
         let own = match self.own {
             Some(own) => own,
             None => match OwnFiles::at(self.rt, &paths) {
                 Ok(own) => own,
-                Err(_) => return true,
+                Err(_) => return Some(Cause::OwnFile),
             },
         };
         self.own = Some(own);
-        own.has(file)
-    }
-}
-
-/// Why the journal file couldn't be made. The texts are those that the program prints.
-#[derive(Clone, Copy, PartialEq, Eq, Debug, Error)]
-pub enum JournalFault {
-    /// There is a file of its name already.
-    #[error("output exists")]
-    Exists,
-    /// Any other cause.
-    #[error("cannot create")]
-    CannotCreate(Cause),
-}
-
-impl JournalFault {
-    /// Returns the cause.
-    pub fn cause(self) -> Cause
-        ensures exists { self ≡ JournalFault.Exists → result ≡ Cause.Exists }
-        ensures other { (cause : Cause) → self ≡ JournalFault.CannotCreate cause → result ≡ cause }
-    {
-        match self {
-            JournalFault::Exists => Cause::Exists,
-            JournalFault::CannotCreate(cause) => cause,
+        if own.has(file) {
+            Some(Cause::OwnFile)
+        } else {
+            None
         }
     }
-}
 
-/// Creates a journal file, if `path` is given. It may not be the ledger file or a file beside it, by any path. The
-/// ledger would write there, or its next opening would take the journal for an unfinished write of a database.
-pub fn new_journal<R: Files + AllocGlobal>(
-    rt: &R,
-    path: Option<&str>,
-    ledger: &str,
-) -> Result<Option<ToWrite<R::File>>, JournalFault> {
-    let Some(path) = path else {
-        return Ok(None);
-    };
-    if is_beside(path, ledger) {
-        return match fs::metadata(rt, path) {
-            Ok(_) => Err(JournalFault::Exists),
-            Err(_) => Err(JournalFault::CannotCreate(Cause::OfLedger)),
-        };
+    // The fault of the output of this FILE, which can't be created. Why is printed, if causes are.
+    fn refused(&self, file: &Option<String>, cause: Cause) -> FolderFault {
+        if let Some(name) = file {
+            self.explain(name.as_str(), cause);
+        }
+        cause.fault()
     }
-    let journal = match make_new(rt, path, SHARED) {
-        Ok(journal) => journal,
-        Err(error) if error.kind() == ErrorKind::AlreadyExists => return Err(JournalFault::Exists),
-        Err(error) => return Err(JournalFault::CannotCreate(Cause::of_making(&error))),
-    };
-    // It stays, empty: another run may use it as its ledger by now.
-    if is_of_ledger(rt, &journal, ledger) {
-        return Err(JournalFault::CannotCreate(Cause::OfLedger));
+
+    // Prints why this output is given up, if it couldn't be written or finished and causes are printed.
+    fn explain_output(&self, output: &Output<R::File>) {
+        if let Some((name, cause)) = output.why() {
+            explain_file(self.rt, self.progress, name, cause);
+        }
     }
-    Ok(Some(ToWrite(journal)))
 }
 
 /// Opens files in place of closed standard streams. No file opened later then takes a stream's number and gets the
@@ -262,7 +304,7 @@ pub fn open_unbuffered<R: Files>(rt: &R, name: &str) -> Result<R::File, FolderFa
 {
     match open_known(rt, name) {
         Ok(opened) => Ok(opened.file),
-        Err(fault) => Err(fault),
+        Err(_) => Err(FolderFault::Failed),
     }
 }
 
@@ -271,8 +313,8 @@ pub type SystemReader<'p, 'r, R, I> = OneOf<
     'p,
     'r,
     R,
-    FileInput<R, I>,
-    Spooled<FileInput<R, I>, FileSpool<'r, R>, Brand>,
+    FileInput<'p, 'r, R, I>,
+    Spooled<FileInput<'p, 'r, R, I>, FileSpool<'r, R>, Brand>,
 >;
 
 impl<'p, 'r, R: Files + AllocGlobal + Clock + Eprint, I: Read + Drop> Folder
@@ -283,20 +325,23 @@ impl<'p, 'r, R: Files + AllocGlobal + Clock + Eprint, I: Read + Drop> Folder
     type Writer = ToWrite<Output<R::File>>;
 
     fn open(&mut self, name: &str) -> Result<Self::Reader, FolderFault> {
-        let is_input = self.has_input && name == STREAM;
-        if is_input && !self.reopens_input {
-            return self.open_stream();
+        match self.reader_at(name) {
+            Ok(reader) => {
+                self.file = self.copied(name);
+                Ok(reader)
+            }
+            Err(cause) => {
+                self.explain(name, cause);
+                Err(FolderFault::Failed)
+            }
         }
-        let opened = match self.open_file(is_input, name) {
-            Ok(opened) => opened,
-            Err(fault) => return Err(fault),
-        };
-        if self.is_own(opened.id) {
-            return Err(FolderFault::Failed);
-        }
-        match FileInput::of_file(self.rt.alloc(), opened, self.reads_again) {
-            Ok(input) => Ok(self.reader_of(input)),
-            Err(fault) => Err(fault),
+    }
+
+    // That of a regular file, when it was opened.
+    fn length(&self, reader: &Self::Reader) -> Option<u64> {
+        match &reader.reader {
+            Either::Left(input) => input.length,
+            Either::Right(_) => None,
         }
     }
 
@@ -307,22 +352,34 @@ impl<'p, 'r, R: Files + AllocGlobal + Clock + Eprint, I: Read + Drop> Folder
         }
     }
 
-    fn again(&mut self, _name: &str, reader: &mut Self::Reader) -> Result<(), Failed> {
+    fn again(&mut self, name: &str, reader: &mut Self::Reader) -> Result<(), Failed> {
         match &mut reader.reader {
             Either::Left(input) => input.again(),
-            Either::Right(spooled) => spooled.again(),
+            Either::Right(spooled) => {
+                let again = spooled.again();
+                if let Some(cause) = spooled.spool.cause {
+                    self.explain(name, cause);
+                }
+                again
+            }
         }
     }
 
     fn close(&mut self, _name: &str, _reader: Self::Reader) {}
 
     fn create(&mut self, name: &str) -> Result<Self::Writer, FolderFault> {
-        let Some(path) = path_of(self.rt.alloc(), self.output_names, self.into, name) else {
-            return Err(FolderFault::Failed);
+        let mut file = self.file.take();
+        let Some(path) = path_of(self.rt.alloc(), self.output_names, self.target, name) else {
+            return Err(self.refused(&file, Cause::NoOutputName));
         };
-        match self.outputs.create(self.rt, path, self.sync, self.mode) {
+        match take_way(self.rt, self.target, path.as_str(), Some(self.new_folders)) {
+            Ok(()) => {}
+            Err(cause) => return Err(self.refused(&file, cause)),
+        }
+        let (sync, mode) = (self.sync, self.mode);
+        match self.outputs.create(self.rt, path, sync, mode, &mut file) {
             Ok(output) => Ok(ToWrite(output)),
-            Err(fault) => Err(fault),
+            Err(cause) => Err(self.refused(&file, cause)),
         }
     }
 
@@ -336,6 +393,7 @@ impl<'p, 'r, R: Files + AllocGlobal + Clock + Eprint, I: Read + Drop> Folder
     }
 
     fn discard(&mut self, output: Self::Writer) -> Result<(), FolderFault> {
+        self.explain_output(&output.0);
         outputs::discard(self.rt, output.0)
     }
 
@@ -367,6 +425,7 @@ impl<'p, 'r, R: Files + AllocGlobal + Clock + Eprint, I: Read + Drop> OpeningFol
     }
 
     fn give_up(&mut self, output: Self::Writer) {
+        self.explain_output(&output.0);
         let _ = outputs::discard(self.rt, output.0);
     }
 }

@@ -1,17 +1,19 @@
 //! Opened files and standard input, as commands read them, a file with a buffer.
-ghost use Rattle.std.specs.Prelude.{◌≡◌, ◌≢◌, Err, IfOk, IsErr, false};
+ghost use Rattle.std.specs.Prelude.{◌≡◌, IfErr, IfOk, IsErr, None, false};
 ghost use Rattle.std.specs.Io.Buffered.{reader_remaining};
 ghost use Rattle.either.specs.Either.{either};
 
+use crate::cause::{Cause, missing};
 use crate::own::{FileId, STANDARD_INPUT, regular_at};
-use crate::progress::Progress;
-use command_core::FolderFault;
+use crate::progress::{Named, Progress};
 use either::Either;
 use folder_core::FileReader;
 use io_core::{Failed, FromRead, Source};
 use std::alloc::Global;
-use std::fs::{File, OpenFile};
-use std::io::{BufReader, Read, Seek, SeekFrom};
+use std::fs::{File, Metadata, OpenFile};
+use std::io;
+use std::io::{BufReader, ErrorKind, Read, Seek, SeekFrom};
+use std::os::unix::fs::MetadataExt;
 use std::rt::{Clock, Files};
 
 /// Bytes of the buffer through which a file is read.
@@ -23,31 +25,60 @@ const INPUT_STATE: &str = "/proc/self/fdinfo/0";
 /// How that begins if nothing was read yet.
 const AT_FIRST_BYTE: [u8; 7] = *b"pos:\t0\n";
 
+/// What changes when a file is written to: its length, and the time of its last change.
+#[derive(Clone, Copy, PartialEq, Eq)]
+pub(crate) struct Written {
+    bytes: u64,
+    seconds: i64,
+    nanoseconds: i64,
+}
+
+impl Written {
+    // That of the file with this metadata.
+    fn of(metadata: &Metadata) -> Written {
+        Written {
+            bytes: metadata.len(),
+            seconds: metadata.mtime(),
+            nanoseconds: metadata.mtime_nsec(),
+        }
+    }
+}
+
 /// A file that was opened for reading.
 #[derive(Drop)]
 pub(crate) struct Opened<F: Drop> {
     pub(crate) file: F,
     pub(crate) id: FileId,
     pub(crate) is_regular: bool,
+    // Its length, if it is a regular file.
+    pub(crate) length: Option<u64>,
+    pub(crate) written: Written,
 }
 
 /// Opens a file for reading. A directory is refused.
-pub(crate) fn open_known<R: Files>(rt: &R, name: &str) -> Result<Opened<R::File>, FolderFault>
-    ensures fault { result ≢ Err FolderFault.Exists }
-{
-    let Ok(file) = File::open(rt, name) else {
-        return Err(FolderFault::Failed);
+pub(crate) fn open_known<R: Files>(rt: &R, name: &str) -> Result<Opened<R::File>, Cause> {
+    let file = match File::open(rt, name) {
+        Ok(file) => file,
+        Err(error) => return Err(missing(rt, name, &error)),
     };
-    let Ok(metadata) = file.metadata() else {
-        return Err(FolderFault::Failed);
+    let metadata = match file.metadata() {
+        Ok(metadata) => metadata,
+        Err(error) => return Err(Cause::of(&error)),
     };
     if metadata.is_dir() {
-        return Err(FolderFault::Failed);
+        return Err(Cause::IsFolder);
     }
+    let is_regular = metadata.is_file();
     Ok(Opened {
         file,
         id: FileId::of(&metadata),
-        is_regular: metadata.is_file(),
+        is_regular,
+        length: if is_regular {
+            Some(metadata.len())
+        } else {
+            None
+        },
+        written: Written::of(&metadata),
     })
 }
 
@@ -69,29 +100,61 @@ fn is_input_unread<R: Files>(rt: &R) -> bool {
     matches!(state.read(&mut begun), Ok(n) if n == begun.len()) && begun == AT_FIRST_BYTE
 }
 
+// A reader. Why a read of it fails is printed, if it has the name of a FILE.
+#[derive(Drop)]
+struct Explained<'p, 'r, R: Clock + Eprint, I: Read + Drop> {
+    reader: I,
+    named: Option<Named<'p, 'r, R>>,
+}
+
+impl<R: Clock + Eprint, I: Read + Drop> Read for Explained<'_, '_, R, I> {
+    ghost remaining = { λ explained. I.remaining explained.reader };
+
+    fn read(&mut self, buf: &mut [u8]) -> io::Result<usize> {
+        let got = self.reader.read(buf);
+        if let (Some(named), Err(error)) = (&self.named, &got)
+            && error.kind() != ErrorKind::Interrupted
+        {
+            named.explain(Cause::of(error));
+        }
+        got
+    }
+}
+
 /// What reads an opened file, or standard input. Nothing is promised of a second reading: another program can change
 /// the file.
 #[derive(Drop)]
-pub struct FileInput<R: Files, I: Read + Drop> {
+pub struct FileInput<'p, 'r, R: Files + Clock + Eprint, I: Read + Drop> {
     /// Whether it can be read again: it is a regular file, and its first byte can be sought.
     pub can_repeat: bool,
-    reader: FromRead<Either<BufReader<R::File>, I>>,
+    /// How many bytes it had when it was opened, if it is a regular file.
+    pub length: Option<u64>,
+    // How it was when it was opened, if a change is to be warned of once all of it was read.
+    written: Option<Written>,
+    reader: FromRead<Explained<'p, 'r, R, Either<BufReader<R::File>, I>>>,
 }
 
-impl<R: Files, I: Read + Drop> FileInput<R, I> {
-    /// Reads this file. Only if `reads_again` it is looked up whether it can be read again. Fails if memory is refused.
+impl<'p, 'r, R: Files + Clock + Eprint, I: Read + Drop> FileInput<'p, 'r, R, I> {
+    /// Reads this file, whose FILE has a name if causes are printed. Only if `reads_again` it is looked up whether it can
+    /// be read again. With `warns` a change while it is read is warned of, if causes are printed. Fails if memory is
+    /// refused.
     pub(crate) fn of_file(
         alloc: Global,
         opened: Opened<R::File>,
         reads_again: bool,
-    ) -> Result<FileInput<R, I>, FolderFault>
+        warns: bool,
+        named: Option<Named<'p, 'r, R>>,
+    ) -> Result<FileInput<'p, 'r, R, I>, Cause>
         ensures other { opened.is_regular ≡ false → IfOk result (λ input. input.can_repeat ≡ false) }
         ensures unasked { reads_again ≡ false → IfOk result (λ input. input.can_repeat ≡ false) }
-        ensures fault { result ≢ Err FolderFault.Exists }
+        ensures length { IfOk result (λ input. input.length ≡ opened.length) }
+        ensures cause { IfErr result (λ cause. cause ≡ Cause.OutOfMemory) }
     {
         let Opened {
             file,
             is_regular,
+            length,
+            written,
             ..
         } = opened;
         let mut file = file;
@@ -99,33 +162,68 @@ impl<R: Files, I: Read + Drop> FileInput<R, I> {
         match BufReader::with_capacity(alloc, BUFFER, file) {
             Ok(reader) => Ok(FileInput {
                 can_repeat,
-                reader: FromRead(Either::Left(reader)),
+                length,
+                written: if warns && is_regular {
+                    Some(written)
+                } else {
+                    None
+                },
+                reader: FromRead(Explained {
+                    reader: Either::Left(reader),
+                    named,
+                }),
             }),
-            Err(_) => Err(FolderFault::Failed),
+            Err(_) => Err(Cause::OutOfMemory),
         }
     }
 
     /// Reads standard input as a stream.
-    pub(crate) fn of_input(input: I) -> FileInput<R, I>
+    pub(crate) fn of_input(input: I, named: Option<Named<'p, 'r, R>>) -> FileInput<'p, 'r, R, I>
         ensures once { result.can_repeat ≡ false }
+        ensures length { result.length ≡ None }
     {
         FileInput {
             can_repeat: false,
-            reader: FromRead(Either::Right(input)),
+            length: None,
+            written: None,
+            reader: FromRead(Explained {
+                reader: Either::Right(input),
+                named,
+            }),
         }
     }
 }
 
-impl<R: Files, I: Read + Drop> Source for FileInput<R, I> {
+impl<R: Files + Clock + Eprint, I: Read + Drop> Source for FileInput<'_, '_, R, I> {
     // A second reading has bytes of its own. No contract of std says that these are the first ones again.
-    ghost left = { λ f. either (reader_remaining R.File.remaining) I.remaining f.reader.0 };
+    ghost left = { λ f. either (reader_remaining R.File.remaining) I.remaining f.reader.0.reader };
 
     fn read(&mut self, buffer: &mut [u8]) -> Result<usize, Failed> {
-        self.reader.read(buffer)
+        let got = self.reader.read(buffer);
+        if matches!(got, Ok(0))
+            && !buffer.is_empty()
+            && let Some(written) = self.written.take()
+        {
+            warn_of_change(&self.reader.0, written);
+        }
+        got
     }
 }
 
-impl<R: Files, I: Read + Drop> FileReader for FileInput<R, I> {
+// Warns that a file was written to since it was so, if it has the name of a FILE.
+fn warn_of_change<R: Files + Clock + Eprint, I: Read + Drop>(
+    input: &Explained<'_, '_, R, Either<BufReader<R::File>, I>>,
+    written: Written,
+) {
+    if let (Some(named), Either::Left(file)) = (&input.named, &input.reader)
+        && let Ok(metadata) = file.get_ref().metadata()
+        && Written::of(&metadata) != written
+    {
+        named.warn_of_change();
+    }
+}
+
+impl<R: Files + Clock + Eprint, I: Read + Drop> FileReader for FileInput<'_, '_, R, I> {
     fn read_on(&mut self, buffer: &mut [u8]) -> Result<usize, Failed> {
         self.reader.read(buffer)
     }
@@ -137,7 +235,7 @@ impl<R: Files, I: Read + Drop> FileReader for FileInput<R, I> {
         if !self.can_repeat {
             return Err(Failed);
         }
-        match &mut self.reader.0 {
+        match &mut self.reader.0.reader {
             Either::Left(file) => match file.rewind() {
                 Ok(()) => Ok(()),
                 Err(_) => Err(Failed),

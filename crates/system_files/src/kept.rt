@@ -3,9 +3,10 @@ ghost use Rattle.std.specs.Prelude.{◌≡◌, IfOk, OnOk, OnErr, [], false, map
 ghost use Rattle.io_core.specs.Streams.{Appends, AppendsFront, LacksSome, counted};
 ghost use Rattle.system_files.specs.Kept.{IsSplit, kept_line, kept_text};
 
-use crate::names::{Names, path_of};
+use crate::folders::take_way;
+use crate::names::{Names, Target, path_of};
 use ledger_core::{Failed, Sink, write_all};
-use path_core::last_name;
+use path_core::{last_name, place_of};
 use std::alloc::{AllocError, Global};
 use std::collections::BTreeSet;
 use std::fs;
@@ -24,11 +25,11 @@ pub enum Makes {
 #[derive(Clone, Copy)]
 pub struct Destination<'a> {
     pub makes: Makes,
-    /// The folder into which they go, if one is given.
-    pub into: Option<&'a str>,
+    /// Where they go.
+    pub target: Target<'a>,
     /// How the names of FILEs and outputs denote paths.
     pub names: Names,
-    /// Whether FILEs with one base name may go into that folder.
+    /// Whether several FILEs may have one output in, or below, a folder.
     pub may_share: bool,
 }
 
@@ -51,7 +52,7 @@ pub fn split_names<'n, R: Files + AllocGlobal>(
         (map (λ name. name.now) split.kept.items) (map (λ name. name.now) split.others.items)) }
     ensures none { skip ≡ false → IfOk result (λ split. split.kept.items ≡ []) }
 {
-    let shared = shared_names(rt.alloc(), to, skip, names)?;
+    let shared = shared_keys(rt.alloc(), to, skip, names)?;
     let mut kept = Vec::new(rt.alloc());
     let mut others = Vec::new(rt.alloc());
     for name in names {
@@ -64,23 +65,40 @@ pub fn split_names<'n, R: Files + AllocGlobal>(
     Ok(Split { kept, others })
 }
 
-// The base names that several of these FILEs have, if their outputs go into one folder.
-fn shared_names<'n>(
+// What names the output of this FILE there: its base name, or its place. `None` if it has none, or needs none.
+fn key_of(alloc: Global, to: Target<'_>, name: &str) -> Result<Option<String>, AllocError> {
+    match to {
+        Target::AsNamed => Ok(None),
+        Target::Into(_) => match last_name(name) {
+            Some(last) => {
+                let mut key = String::new(alloc);
+                key.push_str(last)?;
+                Ok(Some(key))
+            }
+            None => Ok(None),
+        },
+        Target::Tree(_) => place_of(alloc, name),
+    }
+}
+
+// What names the outputs that several of these FILEs have.
+fn shared_keys(
     alloc: Global,
     to: Destination<'_>,
     skip: bool,
-    names: &[&'n str],
-) -> Result<BTreeSet<&'n str>, AllocError> {
+    names: &[&str],
+) -> Result<BTreeSet<String>, AllocError> {
     let mut shared = BTreeSet::new(alloc);
-    if !skip || !to.may_share || to.into.is_none() {
+    if !skip || !to.may_share {
         return Ok(shared);
     }
     let mut seen = BTreeSet::new(alloc);
     for name in names {
-        if let Some(last) = last_name(name) {
-            let is_first = seen.insert(last)?;
-            if !is_first {
-                shared.insert(last)?;
+        if let Some(key) = key_of(alloc, to.target, name)? {
+            if seen.contains(&key) {
+                shared.insert(key)?;
+            } else {
+                seen.insert(key)?;
             }
         }
     }
@@ -92,19 +110,23 @@ fn is_kept<R: Files + AllocGlobal>(
     rt: &R,
     to: Destination<'_>,
     skip: bool,
-    shared: &BTreeSet<&str>,
+    shared: &BTreeSet<String>,
     name: &str,
 ) -> bool
     ensures none { skip ≡ false → result ≡ false }
 {
-    skip && !is_shared(shared, name) && is_made(rt, to, name)
+    skip && !is_shared(rt.alloc(), to, shared, name) && is_made(rt, to, name)
 }
 
-// Whether this FILE's base name is one of these.
-fn is_shared(shared: &BTreeSet<&str>, name: &str) -> bool {
-    match last_name(name) {
-        Some(last) => shared.contains(last),
-        None => false,
+// Whether another FILE has this one's output. If memory is refused, it counts as shared.
+fn is_shared(alloc: Global, to: Destination<'_>, shared: &BTreeSet<String>, name: &str) -> bool {
+    if shared.is_empty() {
+        return false;
+    }
+    match key_of(alloc, to.target, name) {
+        Ok(Some(key)) => shared.contains(&key),
+        Ok(None) => false,
+        Err(_) => true,
     }
 }
 
@@ -124,8 +146,11 @@ fn is_made<R: Files + AllocGlobal>(rt: &R, to: Destination<'_>, name: &str) -> b
 
 // Whether there is a regular file at the path of the output of this name.
 fn is_there<R: Files + AllocGlobal>(rt: &R, to: Destination<'_>, output: &str) -> bool {
-    match path_of(rt.alloc(), to.names, to.into, output) {
-        Some(path) => matches!(fs::metadata(rt, path.as_str()), Ok(found) if found.is_file()),
+    match path_of(rt.alloc(), to.names, to.target, output) {
+        Some(path) => {
+            take_way(rt, to.target, path.as_str(), None).is_ok()
+                && matches!(fs::metadata(rt, path.as_str()), Ok(found) if found.is_file())
+        }
         None => false,
     }
 }

@@ -5,8 +5,11 @@
 pub(crate) mod blocks;
 pub mod cause;
 pub mod files;
+pub(crate) mod folders;
 pub mod input;
+pub mod journals;
 pub mod kept;
+pub mod lines;
 pub mod names;
 pub mod outputs;
 pub mod own;
@@ -15,13 +18,14 @@ pub mod spool;
 
 pub use crate::cause::{About, Cause, Step, cause_of, is_for_others};
 pub use crate::files::{
-    FileOptions, JournalFault, STREAM, SystemFiles, SystemReader, new_journal, open_unbuffered,
-    stand_ins,
+    FileOptions, STREAM, SystemFiles, SystemReader, open_unbuffered, stand_ins,
 };
 pub use crate::input::{FileInput, OneOf, can_reopen_input};
+pub use crate::journals::{JournalFault, JournalPlace, new_journal};
 pub use crate::kept::{Destination, Makes, Split, print_kept, split_names};
-pub use crate::names::Names;
+pub use crate::lines::{Lines, Style};
+pub use crate::names::{Names, Target, target_of};
 pub use crate::own::{OwnPaths, StandardInput};
 pub use crate::progress::{Progress, Told};
 pub use crate::spool::{FileSpool, is_folder, spool_folder};
-pub use path_core::{PlaceFault, are_apart, last_name};
+pub use path_core::{PlaceFault, are_apart, are_placed_apart, last_name};

@@ -6,6 +6,7 @@
 
 ghost use Rattle.std.specs.Prelude.{◌≡◌, ◌≢◌, Err};
 
+use crate::cause::Cause;
 use crate::own::FileId;
 use command_core::FolderFault;
 use std::alloc::Global;
@@ -31,13 +32,32 @@ pub struct Output<F: Read + Write + Drop> {
     is_named: bool,
     file: F,
     folder: Option<F>,
+    // The name of its FILE, if causes are printed, and why the output couldn't be written or finished.
+    name: Option<String>,
+    cause: Option<Cause>,
+}
+
+impl<F: Read + Write + Drop> Output<F> {
+    /// Returns the name of its FILE, if causes are printed, and why it couldn't be written or finished.
+    pub(crate) fn why(&self) -> Option<(&str, Cause)> {
+        match (&self.name, self.cause) {
+            (Some(name), Some(cause)) => Some((name.as_str(), cause)),
+            _ => None,
+        }
+    }
 }
 
 impl<F: Read + Write + Drop> Write for Output<F> {
     ghost contents = { λ output. F.contents output.file };
 
     fn write(&mut self, buf: &[u8]) -> io::Result<usize> {
-        self.file.write(buf)
+        let put = self.file.write(buf);
+        if let Err(error) = &put
+            && error.kind() != ErrorKind::Interrupted
+        {
+            self.cause = Some(Cause::of(error));
+        }
+        put
     }
 
     fn flush(&mut self) -> io::Result<()> {
@@ -63,20 +83,21 @@ impl Outputs {
         Outputs { begun, links: None }
     }
 
-    /// Creates an output of this mode, if there is no file of its name. With `sync` its folder is opened first. An output whose name
-    /// can't be synced then isn't made.
+    /// Creates an output of this mode, if there is no file of its name. With `sync` its folder is opened first. An output
+    /// whose name can't be synced then isn't made. `file` is the name of its FILE, if causes are printed.
     pub(crate) fn create<R: Files + AllocGlobal>(
         &mut self,
         rt: &R,
         path: String,
         sync: bool,
         mode: u32,
-    ) -> Result<Output<R::File>, FolderFault> {
+        file_name: &mut Option<String>,
+    ) -> Result<Output<R::File>, Cause> {
         let (folder, name) = folder_and_name(path.as_str());
         let opened = if sync {
             match File::open(rt, folder) {
                 Ok(opened) => Some(opened),
-                Err(_) => return Err(FolderFault::Failed),
+                Err(error) => return Err(Cause::of_making(&error)),
             }
         } else {
             None
@@ -89,6 +110,8 @@ impl Outputs {
                 is_named: false,
                 file,
                 folder: opened,
+                name: file_name.take(),
+                cause: None,
             }),
             None => {
                 let file = create_new(rt, path.as_str(), mode)?;
@@ -98,6 +121,8 @@ impl Outputs {
                     is_named: true,
                     file,
                     folder: opened,
+                    name: file_name.take(),
+                    cause: None,
                 })
             }
         }
@@ -111,7 +136,7 @@ impl Outputs {
         folder: &str,
         name: &str,
         mode: u32,
-    ) -> Result<Option<(String, R::File)>, FolderFault> {
+    ) -> Result<Option<(String, R::File)>, Cause> {
         let known = match &self.links {
             Some((last, links)) if last.as_str() == folder => Some(*links),
             _ => None,
@@ -125,10 +150,10 @@ impl Outputs {
             Err(error) => {
                 return match error.kind() {
                     // Another FILE of the run has an output of this name.
-                    ErrorKind::AlreadyExists => Err(FolderFault::Exists),
+                    ErrorKind::AlreadyExists => Err(Cause::OutputShared),
                     // The part's name may be longer than the output's.
                     ErrorKind::InvalidFilename => Ok(None),
-                    _ => Err(FolderFault::Failed),
+                    _ => Err(Cause::of_making(&error)),
                 };
             }
         };
@@ -143,7 +168,7 @@ impl Outputs {
         let _ = fs::remove_file(rt, part.as_str());
         match links {
             Ok(_) => Ok(None),
-            Err(fault) => Err(fault),
+            Err(cause) => Err(cause),
         }
     }
 
@@ -154,10 +179,10 @@ impl Outputs {
         folder: &str,
         name: &str,
         part: &str,
-    ) -> Result<bool, FolderFault> {
+    ) -> Result<bool, Cause> {
         let mut last = String::new(rt.alloc());
         if last.push_str(folder).is_err() {
-            return Err(FolderFault::Failed);
+            return Err(Cause::OutOfMemory);
         }
         let second = part_name(rt.alloc(), folder, self.begun, name, "2")?;
         let links = has_links(rt, part, second.as_str())?;
@@ -176,24 +201,24 @@ pub(crate) fn folder_and_name(path: &str) -> (&str, &str) {
 }
 
 // Checks that there is no file at this path, whose base name is `name`.
-fn is_free<R: Files>(rt: &R, path: &str, name: &str) -> Result<(), FolderFault> {
+fn is_free<R: Files>(rt: &R, path: &str, name: &str) -> Result<(), Cause> {
     if name.is_empty() {
-        return Err(FolderFault::Failed);
+        return Err(Cause::NoOutputName);
     }
     match fs::symlink_metadata(rt, path) {
-        Ok(_) => Err(FolderFault::Exists),
+        Ok(_) => Err(Cause::OutputThere),
         Err(error) if error.kind() == ErrorKind::NotFound => Ok(()),
-        Err(_) => Err(FolderFault::Failed),
+        Err(error) => Err(Cause::of(&error)),
     }
 }
 
 // Creates a file of this mode. The system makes it only if there is none of the name, so no other program's file is
 // ever replaced.
-fn create_new<R: Files>(rt: &R, path: &str, mode: u32) -> Result<R::File, FolderFault> {
+fn create_new<R: Files>(rt: &R, path: &str, mode: u32) -> Result<R::File, Cause> {
     match make_new(rt, path, mode) {
         Ok(file) => Ok(file),
-        Err(error) if error.kind() == ErrorKind::AlreadyExists => Err(FolderFault::Exists),
-        Err(_) => Err(FolderFault::Failed),
+        Err(error) if error.kind() == ErrorKind::AlreadyExists => Err(Cause::OutputTaken),
+        Err(error) => Err(Cause::of_making(&error)),
     }
 }
 
@@ -215,11 +240,11 @@ fn part_name(
     begun: u64,
     name: &str,
     mark: &str,
-) -> Result<String, FolderFault> {
+) -> Result<String, Cause> {
     let number = number_of(name);
     match format!(in alloc; "{folder}/.{begun:016x}{number:016x}{mark}.part") {
         Ok(part) => Ok(part),
-        Err(_) => Err(FolderFault::Failed),
+        Err(_) => Err(Cause::OutOfMemory),
     }
 }
 
@@ -234,7 +259,7 @@ fn number_of(name: &str) -> u64 {
 
 // Whether a file can have a second name. The name is removed again. It can't if the file system has no links, or the
 // folder doesn't let a name be removed.
-fn has_links<R: Files>(rt: &R, name: &str, second: &str) -> Result<bool, FolderFault> {
+fn has_links<R: Files>(rt: &R, name: &str, second: &str) -> Result<bool, Cause> {
     match fs::hard_link(rt, name, second) {
         Ok(()) if fs::remove_file(rt, second).is_ok() => Ok(true),
         Ok(()) => {
@@ -246,13 +271,27 @@ fn has_links<R: Files>(rt: &R, name: &str, second: &str) -> Result<bool, FolderF
             ErrorKind::PermissionDenied | ErrorKind::Unsupported | ErrorKind::TooManyLinks => {
                 Ok(false)
             }
-            _ => Err(FolderFault::Failed),
+            _ => Err(Cause::of(&error)),
         },
     }
 }
 
-/// Gives a whole output its name. If `output.folder` is there, the file is synced first and its folder last.
+/// Gives a whole output its name. If `output.folder` is there, the file is synced first and its folder last. On failure
+/// the output keeps the cause.
 pub(crate) fn finish<R: Files>(rt: &R, output: &mut Output<R::File>) -> io::Result<()>
+    ensures file { output.new.file ≡ output.old.file }
+{
+    match name_whole(rt, output) {
+        Ok(()) => Ok(()),
+        Err(error) => {
+            output.cause = Some(Cause::of_naming(&error));
+            Err(error)
+        }
+    }
+}
+
+// The same, without the cause.
+fn name_whole<R: Files>(rt: &R, output: &mut Output<R::File>) -> io::Result<()>
     ensures file { output.new.file ≡ output.old.file }
 {
     if output.folder.is_some() {
@@ -298,6 +337,7 @@ pub(crate) fn discard<R: Files>(rt: &R, output: Output<R::File>) -> Result<(), F
         is_named,
         file,
         folder,
+        ..
     } = output;
     let path = if is_named { Some(path) } else { None };
     let is_own_path = is_own(rt, &file, &path);

@@ -6,6 +6,7 @@
 //! It changes nothing else, and if the clock fails there is no line.
 ghost use Rattle.std.specs.Prelude.{◌≡◌};
 
+use crate::cause::Cause;
 use crate::files::STREAM;
 use crate::names::{Names, found_at};
 use std::cell::Cell;
@@ -175,6 +176,59 @@ fn bytes_of<R: Files + AllocGlobal>(
         }
     }
     Some(bytes.saturating_mul(readings))
+}
+
+/// Prints on standard error why the file of this name failed. The progress line is cleared before that and drawn again
+/// after it. If standard error fails, nothing is printed.
+pub(crate) fn explain_file<R: Clock + Eprint>(
+    rt: &R,
+    progress: Option<&Progress<'_, R>>,
+    name: &str,
+    cause: Cause,
+) {
+    let was_drawn = cleared(progress);
+    let _ = eprintln!(rt; "cause: {name}: {cause}");
+    show_again(progress, was_drawn);
+}
+
+// Clears the progress line. Returns whether it was drawn.
+fn cleared<R: Clock + Eprint>(progress: Option<&Progress<'_, R>>) -> bool {
+    match progress {
+        Some(progress) => progress.clear(),
+        None => false,
+    }
+}
+
+// Draws the progress line again, if it was drawn.
+fn show_again<R: Clock + Eprint>(progress: Option<&Progress<'_, R>>, was_drawn: bool) {
+    if let Some(progress) = progress
+        && was_drawn
+    {
+        progress.show();
+    }
+}
+
+/// The name of a FILE, and where the cause of its fault is printed.
+#[derive(Drop)]
+pub(crate) struct Named<'p, 'r, R: Clock + Eprint> {
+    pub(crate) rt: &'r R,
+    pub(crate) progress: Option<&'p Progress<'r, R>>,
+    pub(crate) name: String,
+}
+
+impl<R: Clock + Eprint> Named<'_, '_, R> {
+    /// Prints why this FILE failed.
+    pub(crate) fn explain(&self, cause: Cause) {
+        explain_file(self.rt, self.progress, self.name.as_str(), cause);
+    }
+
+    /// Warns that this FILE changed while it was read.
+    pub(crate) fn warn_of_change(&self) {
+        let (rt, name) = (self.rt, self.name.as_str());
+        let was_drawn = cleared(self.progress);
+        let _ = eprintln!(rt; "warning: {name} changed while it was sealed");
+        show_again(self.progress, was_drawn);
+    }
 }
 
 /// A stream on which a run prints lines. The progress line is cleared before each of them and drawn again after it.

@@ -8,6 +8,7 @@ ghost use Rattle.std.specs.Prelude.{◌≡◌, IfSome, IfOk, IsOk, IsErr, is_err
 ghost use Rattle.std.specs.Io.{ReadsAtMost};
 
 use crate::blocks::Blocks;
+use crate::cause::Cause;
 use crate::outputs::{PRIVATE, make_new};
 use folder_core::{FileReader, Spool};
 use io_core::{Failed, FromRead, Source};
@@ -72,8 +73,10 @@ impl<F: Read + Write + Seek + Drop> Spilled<F> {
         }
     }
 
-    fn append(&mut self, bytes: &[u8]) -> Result<(), Failed> {
-        self.go_to(self.length)?;
+    fn append(&mut self, bytes: &[u8]) -> Result<(), Cause> {
+        if self.go_to(self.length).is_err() {
+            return Err(Cause::SystemError);
+        }
         self.place = None;
         match self.file.0.write_all(bytes) {
             Ok(()) => {
@@ -81,7 +84,7 @@ impl<F: Read + Write + Seek + Drop> Spilled<F> {
                 self.place = Some(self.length);
                 Ok(())
             }
-            Err(_) => Err(Failed),
+            Err(error) => Err(Cause::of(&error)),
         }
     }
 
@@ -115,6 +118,8 @@ impl<F: Read + Write + Seek + Drop> Spilled<F> {
 pub struct FileSpool<'r, R: Files + AllocGlobal + Clock> {
     /// Whether bytes couldn't be appended. From then on it holds nothing, and each call fails.
     pub failed: bool,
+    /// Why they couldn't.
+    pub cause: Option<Cause>,
     rt: &'r R,
     folder: &'r str,
     // All bytes, until there is a file.
@@ -131,6 +136,7 @@ impl<'r, R: Files + AllocGlobal + Clock> FileSpool<'r, R> {
     {
         FileSpool {
             failed: false,
+            cause: None,
             rt,
             folder,
             blocks: Blocks::new(rt.alloc()),
@@ -147,8 +153,9 @@ impl<'r, R: Files + AllocGlobal + Clock> FileSpool<'r, R> {
         if self.failed {
             return Err(Failed);
         }
-        if self.append_all(bytes).is_err() {
+        if let Err(cause) = self.append_all(bytes) {
             self.failed = true;
+            self.cause = Some(cause);
             self.blocks = Blocks::new(self.rt.alloc());
             self.file = None;
             return Err(Failed);
@@ -157,7 +164,7 @@ impl<'r, R: Files + AllocGlobal + Clock> FileSpool<'r, R> {
     }
 
     // The same, and what couldn't be appended whole is left so.
-    fn append_all(&mut self, bytes: &[u8]) -> Result<(), Failed>
+    fn append_all(&mut self, bytes: &[u8]) -> Result<(), Cause>
         ensures failed { self.new.failed ≡ self.old.failed }
     {
         let mut rest = bytes;
@@ -171,12 +178,12 @@ impl<'r, R: Files + AllocGlobal + Clock> FileSpool<'r, R> {
         }
         match &mut self.file {
             Some(file) => file.append(rest),
-            None => Err(Failed),
+            None => Err(Cause::SystemError),
         }
     }
 
     // Creates the file, and moves all bytes there.
-    fn move_to_file(&mut self) -> Result<(), Failed>
+    fn move_to_file(&mut self) -> Result<(), Cause>
         ensures failed { self.new.failed ≡ self.old.failed }
     {
         let mut file = Spilled::of(unlinked_file(self.rt, self.folder)?);
@@ -220,9 +227,9 @@ impl<'r, R: Files + AllocGlobal + Clock> FileSpool<'r, R> {
 }
 
 // Creates a file in this folder, and unlinks it. If it can't be unlinked, it isn't used.
-fn unlinked_file<R: Files + AllocGlobal + Clock>(rt: &R, folder: &str) -> Result<R::File, Failed> {
+fn unlinked_file<R: Files + AllocGlobal + Clock>(rt: &R, folder: &str) -> Result<R::File, Cause> {
     if folder.is_empty() {
-        return Err(Failed);
+        return Err(Cause::NoFolder);
     }
     let begun = match rt.since_1970() {
         Ok(time) => u64::try_from(time.as_nanos()).unwrap_or(0),
@@ -231,20 +238,20 @@ fn unlinked_file<R: Files + AllocGlobal + Clock>(rt: &R, folder: &str) -> Result
     for i in 0..TRIES {
         let number = begun.wrapping_add(i);
         let Ok(path) = format!(in rt.alloc(); "{folder}/.sealer-{number:016x}") else {
-            return Err(Failed);
+            return Err(Cause::OutOfMemory);
         };
         match make_new(rt, path.as_str(), PRIVATE) {
             Ok(file) => {
                 return match fs::remove_file(rt, path.as_str()) {
                     Ok(()) => Ok(file),
-                    Err(_) => Err(Failed),
+                    Err(error) => Err(Cause::of(&error)),
                 };
             }
             Err(error) if error.kind() == ErrorKind::AlreadyExists => {}
-            Err(_) => return Err(Failed),
+            Err(error) => return Err(Cause::of_making(&error)),
         }
     }
-    Err(Failed)
+    Err(Cause::Exists)
 }
 
 impl<R: Files + AllocGlobal + Clock> Source for FileSpool<'_, R> {
