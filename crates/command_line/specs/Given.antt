@@ -1,5 +1,5 @@
 -- What was given on the command line: what a parse found under the name of an option.
-use Rattle.std.specs.Prelude.{◌≡◌, ◌≢◌, ◌≤◌, ◌⊎◌, ℕ, Bool, List, [], Option, Some, None, codes, true, false, option_map, unwrap_or}
+use Rattle.std.specs.Prelude.{◌≡◌, ◌≢◌, ◌≤◌, ◌⊎◌, ℕ, Bool, List, [], Option, Some, None, codes, true, false, ◌||◌, is_some, option_map, unwrap_or}
 use Rattle.std.specs.Bool.{⊤}
 use Rattle.std.specs.Str.Parse.{IsNumeral, digits_value, without_leading_plus}
 use Rattle.clap.specs.Matches.{first_value, found_of, matched_of, one_text, raw_values}
@@ -24,6 +24,14 @@ pub record IsFlag (matches : ArgMatches) (flag : List ℕ) (value : Bool) : Type
   pub given : one_text (found_of matches) flag ≡ Some (codes "true") → value ≡ true
   pub other : one_text (found_of matches) flag ≡ Some (codes "false") → value ≡ false
   pub without : one_text (found_of matches) flag ≡ None → value ≡ false
+
+-- The facts of good containers are asked for: by `--show`, or by an option that needs them, `--json` or `--against`.
+pub record AreFactsAsked (matches : ArgMatches) (value : Bool) : Type 0 where
+  pub show : Bool
+  pub json : Bool
+  pub shown : IsFlag matches (codes "show") show
+  pub objects : IsFlag matches (codes "json") json
+  pub any : value ≡ (show || (json || is_some (first_value (found_of matches) (codes "against"))))
 
 -- the files that were given
 abbrev pub files_given : ArgMatches → List (List ℕ)

@@ -1,8 +1,8 @@
 //! The commands, with the texts of their help.
 use crate::options::{
-    FILE_ROWS, HOLDINGS_ROWS, KEY_ROWS, LABEL_ROWS, LEDGER_ROWS, OPEN_ROWS, OUTPUT_ROWS, PIPE_ROWS,
-    PROGRESS_ROWS, SEAL_ROWS, SHAPE_ROWS, SHOW_ROWS, TERMINAL_ROWS, TO_ROWS, UNPIPE_ROWS,
-    with_rows,
+    AGAINST_ROWS, FILE_ROWS, HOLDINGS_ROWS, JSON_ROWS, KEY_ROWS, LABEL_ROWS, LEDGER_ROWS,
+    LOOK_ROWS, OPEN_ROWS, OUTPUT_ROWS, PIPE_ROWS, PROGRESS_ROWS, QUIET_ROWS, SEAL_ROWS, SHAPE_ROWS,
+    SHOW_ROWS, TERMINAL_ROWS, TO_ROWS, UNPIPE_ROWS, with_rows,
 };
 use crate::version::VERSION;
 use clap::{Command, Error};
@@ -44,17 +44,29 @@ const UNPIPE_HELP: &str =
 file. Prints one line on standard error. Exit status: 0 if all plaintext was written, 1 if not, 2 if
 standard error says why.";
 
+/// The end of the help of `show`.
+const SHOW_HELP: &str =
+    "Prints a line for each FILE: version, chunk size, the first bytes of its key's SHA-256, device,
+number, plaintext bytes by its length, label. No key is needed, and the rest of FILE is not read. So
+anybody can have written what is shown; verify checks it. Exit status: 0 if none failed, 1 if some
+did, 2 if standard error says why, or a line could not be written.";
+
 /// The end of the help of `audit`.
 const AUDIT_HELP: &str =
-    "Exit status: 0 if the journal is legal, 1 if it is not, 2 if it could not be read, or the verdict
-not be written.";
+    "With --against, if the journal is legal, it also prints a line for each FILE whose device and number
+the journal has not as sealed, and for each number sealed that no FILE has. Exit status: 0 if the
+journal is legal and no such line was printed, 1 if not, 2 if it could not be read, or a line not be
+written.";
 
 /// The end of the help of `ledger`.
 const LEDGER_HELP: &str =
     "Prints a line for each key, by the first bytes of its SHA-256, and device: ranges, numbers given,
-numbers left. Exit status: 0 if all were printed, 2 if standard error says why not.";
+numbers left. With --against it also prints a line for each FILE that shows that the ledger was put
+back: of a key and device of the ledger, with a number that it has not given. Exit status: 0 if all
+lines were printed, 1 if the ledger is older than a FILE or a FILE failed, 2 if standard error says
+why not.";
 
-/// The program's command: `seal`, `pipe`, `unpipe`, `open`, `verify`, `audit` and `ledger`.
+/// The program's command: `seal`, `pipe`, `unpipe`, `open`, `verify`, `show`, `audit` and `ledger`.
 pub fn command<'a>(alloc: Global) -> Result<Command<'a>, Error> {
     let sealer = Command::new(alloc, "sealer")
         .version(VERSION)
@@ -66,7 +78,8 @@ pub fn command<'a>(alloc: Global) -> Result<Command<'a>, Error> {
     let sealer = with_command(sealer, unpipe_command(alloc));
     let sealer = with_command(sealer, opening_command(alloc));
     let sealer = with_command(sealer, verifying_command(alloc));
-    let sealer = with_command(sealer, Ok(audit_command(alloc)));
+    let sealer = with_command(sealer, show_command(alloc));
+    let sealer = with_command(sealer, audit_command(alloc));
     with_command(sealer, ledger_command(alloc))
 }
 
@@ -90,27 +103,44 @@ fn verifying_command<'a>(alloc: Global) -> Result<Command<'a>, Error> {
     with_rows(alloc, open_command(alloc, "verify", about)?, &SHOW_ROWS)
 }
 
-fn audit_command<'a>(alloc: Global) -> Command<'a> {
-    Command::new(alloc, "audit")
+fn show_command<'a>(alloc: Global) -> Result<Command<'a>, Error> {
+    let command = Command::new(alloc, "show")
+        .about("Prints what the header of each FILE says, without a key, unchecked")
+        .after_help(SHOW_HELP);
+    let command = with_rows(alloc, command, &JSON_ROWS)?;
+    let command = with_rows(alloc, command, &LOOK_ROWS)?;
+    with_rows(alloc, command, &FILE_ROWS)
+}
+
+fn audit_command<'a>(alloc: Global) -> Result<Command<'a>, Error> {
+    let command = Command::new(alloc, "audit")
         .about("Audits the journal on standard input and prints the verdict")
-        .after_help(AUDIT_HELP)
+        .after_help(AUDIT_HELP);
+    let command = with_rows(alloc, command, &JSON_ROWS)?;
+    let command = with_rows(alloc, command, &AGAINST_ROWS)?;
+    with_rows(alloc, command, &FILE_ROWS)
 }
 
 fn ledger_command<'a>(alloc: Global) -> Result<Command<'a>, Error> {
     let command = Command::new(alloc, "ledger")
         .about("Prints what a ledger file holds, and changes nothing")
         .after_help(LEDGER_HELP);
-    with_rows(alloc, command, &HOLDINGS_ROWS)
+    let command = with_rows(alloc, command, &HOLDINGS_ROWS)?;
+    let command = with_rows(alloc, command, &JSON_ROWS)?;
+    let command = with_rows(alloc, command, &AGAINST_ROWS)?;
+    with_rows(alloc, command, &FILE_ROWS)
 }
 
 // A command that takes a key.
 fn key_command<'a>(alloc: Global, name: &'a str, about: &'a str) -> Result<Command<'a>, Error> {
-    with_rows(alloc, Command::new(alloc, name).about(about), &KEY_ROWS)
+    let command = with_rows(alloc, Command::new(alloc, name).about(about), &KEY_ROWS)?;
+    with_rows(alloc, command, &JSON_ROWS)
 }
 
 // A command over files.
 fn file_command<'a>(alloc: Global, name: &'a str, about: &'a str) -> Result<Command<'a>, Error> {
     let command = with_rows(alloc, key_command(alloc, name, about)?, &FILE_ROWS)?;
+    let command = with_rows(alloc, command, &QUIET_ROWS)?;
     with_rows(alloc, command, &PROGRESS_ROWS)
 }
 

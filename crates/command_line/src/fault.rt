@@ -13,6 +13,9 @@ pub enum UsageFault {
     /// More than one lane, and more than one worker.
     #[error("lanes and workers cannot both be above 1")]
     LanesAndWorkers,
+    /// A journal at a path, and one in a folder.
+    #[error("--journal excludes --journal-in")]
+    TwoJournals,
     /// A name for the output, and several files.
     #[error("--to takes one file")]
     ToForMany,
@@ -37,6 +40,12 @@ pub enum UsageFault {
     /// There are no files on the command line or in the list.
     #[error("no files")]
     NoFiles,
+    /// Files, or a list of them, and no option that says what for.
+    #[error("FILEs need --against")]
+    FilesAlone,
+    /// The list of the files and the journal are both to be standard input.
+    #[error("standard input is the journal")]
+    InputIsJournal,
     /// A name in the list of files is empty.
     #[error("a name in the list is empty")]
     EmptyName,

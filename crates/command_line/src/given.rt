@@ -19,11 +19,16 @@ pub const DEFAULT_DEPTH: u32 = 16;
 pub const DEFAULT_WORKERS: u32 = 1;
 /// Lanes, if no number is given.
 pub const DEFAULT_LANES: u32 = 1;
+/// Seconds that a run waits for a ledger file that another run holds, if no number is given.
+pub const DEFAULT_WAIT: u32 = 0;
+/// The most of these seconds: a day.
+pub const MAX_WAIT: u32 = 86400;
 
 /// The numbers of `seal`.
 #[derive(Clone, Copy)]
 pub(crate) struct SealNumbers {
     pub(crate) device: Device,
+    pub(crate) wait: u32,
     pub(crate) workers: u32,
     pub(crate) lanes: u32,
     pub(crate) window: Option<u32>,
@@ -35,6 +40,7 @@ pub(crate) struct SealNumbers {
 #[derive(Clone, Copy)]
 pub(crate) struct PipeNumbers {
     pub(crate) device: Device,
+    pub(crate) wait: u32,
     pub(crate) workers: u32,
     pub(crate) depth: u32,
     pub(crate) max_chunks: u32,
@@ -51,6 +57,8 @@ pub(crate) struct OpenNumbers {
 /// Returns the numbers given to `seal`.
 pub(crate) fn seal_numbers(matches: &ArgMatches<'_>) -> Result<SealNumbers, UsageFault>
     ensures device { IfOk result (λ n. number_given matches.now (codes "device") ≡ Some n.device) }
+    ensures wait { IfOk result (λ n. n.wait ≡ unwrap_or (number_given matches.now (codes "wait")) DEFAULT_WAIT) }
+    ensures short_wait { IfOk result (λ n. n.wait ≤ MAX_WAIT) }
     ensures workers { IfOk result (λ n. n.workers ≡ unwrap_or (number_given matches.now (codes "workers")) DEFAULT_WORKERS) }
     ensures few_workers { IfOk result (λ n. (0 < n.workers) × (n.workers ≤ MAX_WORKERS)) }
     ensures lanes { IfOk result (λ n. n.lanes ≡ unwrap_or (number_given matches.now (codes "lanes")) DEFAULT_LANES) }
@@ -63,9 +71,11 @@ pub(crate) fn seal_numbers(matches: &ArgMatches<'_>) -> Result<SealNumbers, Usag
     ensures exponent { IfOk result (λ n. n.exponent ≡ number_given matches.now (codes "exponent")) }
     ensures lawful_exponent { IfOk result (λ n. IfSome n.exponent (λ e. (MIN_EXPONENT ≤ e) × (e ≤ MAX_EXPONENT))) }
     ensures fault { IfErr result (λ fault. fault ≢ UsageFault.LabelTooLong) }
+    ensures no_journal { IfErr result (λ fault. fault ≢ UsageFault.TwoJournals) }
 {
     Ok(SealNumbers {
         device: device(matches)?,
+        wait: number_or(matches, "wait", 0, MAX_WAIT, DEFAULT_WAIT)?,
         workers: number_or(matches, "workers", 1, MAX_WORKERS, DEFAULT_WORKERS)?,
         lanes: number_or(matches, "lanes", 1, MAX_LANES, DEFAULT_LANES)?,
         window: number_in(matches, "window", 1, MAX_WINDOW)?,
@@ -77,6 +87,8 @@ pub(crate) fn seal_numbers(matches: &ArgMatches<'_>) -> Result<SealNumbers, Usag
 /// Returns the numbers given to `pipe`.
 pub(crate) fn pipe_numbers(matches: &ArgMatches<'_>) -> Result<PipeNumbers, UsageFault>
     ensures device { IfOk result (λ n. number_given matches.now (codes "device") ≡ Some n.device) }
+    ensures wait { IfOk result (λ n. n.wait ≡ unwrap_or (number_given matches.now (codes "wait")) DEFAULT_WAIT) }
+    ensures short_wait { IfOk result (λ n. n.wait ≤ MAX_WAIT) }
     ensures workers { IfOk result (λ n. n.workers ≡ unwrap_or (number_given matches.now (codes "workers")) DEFAULT_WORKERS) }
     ensures few_workers { IfOk result (λ n. (0 < n.workers) × (n.workers ≤ MAX_WORKERS)) }
     ensures depth { IfOk result (λ n. n.depth ≡ unwrap_or (number_given matches.now (codes "depth")) DEFAULT_DEPTH) }
@@ -87,9 +99,11 @@ pub(crate) fn pipe_numbers(matches: &ArgMatches<'_>) -> Result<PipeNumbers, Usag
     ensures exponent { IfOk result (λ n. n.exponent ≡ number_given matches.now (codes "exponent")) }
     ensures lawful_exponent { IfOk result (λ n. IfSome n.exponent (λ e. (MIN_EXPONENT ≤ e) × (e ≤ MAX_EXPONENT))) }
     ensures fault { IfErr result (λ fault. fault ≢ UsageFault.LabelTooLong) }
+    ensures no_journal { IfErr result (λ fault. fault ≢ UsageFault.TwoJournals) }
 {
     Ok(PipeNumbers {
         device: device(matches)?,
+        wait: number_or(matches, "wait", 0, MAX_WAIT, DEFAULT_WAIT)?,
         workers: number_or(matches, "workers", 1, MAX_WORKERS, DEFAULT_WORKERS)?,
         depth: number_or(matches, "depth", 1, MAX_DEPTH, DEFAULT_DEPTH)?,
         max_chunks: number_or(matches, "max-chunks", 1, u32::MAX, DEFAULT_MAX_CHUNKS)?,
@@ -115,10 +129,21 @@ pub(crate) fn open_numbers(matches: &ArgMatches<'_>, usual: u64) -> Result<OpenN
     })
 }
 
+/// Returns the number of the device, if one was given.
+pub fn device_asked(matches: &ArgMatches<'_>) -> Option<u32>
+    ensures { IfSome result (λ device. number_given matches.now (codes "device") ≡ Some device) }
+{
+    match number_in(matches, "device", 0, Device::MAX) {
+        Ok(device) => device,
+        Err(_) => None,
+    }
+}
+
 // The device, which the parser requires.
 fn device(matches: &ArgMatches<'_>) -> Result<Device, UsageFault>
     ensures given { IfOk result (λ device. number_given matches.now (codes "device") ≡ Some device) }
     ensures fault { IfErr result (λ fault. fault ≢ UsageFault.LabelTooLong) }
+    ensures no_journal { IfErr result (λ fault. fault ≢ UsageFault.TwoJournals) }
 {
     let Some(number) = number_in(matches, "device", 0, Device::MAX)? else {
         return Err(UsageFault::Missing);

@@ -17,15 +17,17 @@ pub mod words;
 pub use crate::arguments::command;
 pub use crate::fault::UsageFault;
 pub use crate::given::{
-    DEFAULT_DEPTH, DEFAULT_LANES, DEFAULT_MAX_BYTES, DEFAULT_MAX_CHUNKS, DEFAULT_WORKERS,
+    DEFAULT_DEPTH, DEFAULT_LANES, DEFAULT_MAX_BYTES, DEFAULT_MAX_CHUNKS, DEFAULT_WAIT,
+    DEFAULT_WORKERS, MAX_WAIT, device_asked,
 };
 pub use crate::names::{
     ListRequest, Naming, borrowed, files_of, list_request, names_in, naming_asked, quoted_files_of,
     quoted_names,
 };
 pub use crate::requests::{
-    DEFAULT_EXPONENT, OpenRequest, PipeRequest, Reading, SealRequest, Showing, UnpipeRequest,
-    open_request, pipe_request, seal_request, showing_asked, unpipe_request, verbose_asked,
+    DEFAULT_EXPONENT, OpenRequest, PipeRequest, Printing, Reading, SealRequest, Showing,
+    UnpipeRequest, against_asked, open_request, pipe_request, printing_asked, seal_request,
+    showing_asked, unpipe_request, verbose_asked,
 };
 pub use crate::version::VERSION;
 pub use crate::words::{asks_for_processors, write_out};

@@ -1,5 +1,6 @@
 //! What the commands take, a row for each option: its name, its possible values, and its line in the help.
 
+use crate::given::MAX_WAIT;
 use clap::{Arg, ArgAction, Command, Error, value_parser};
 use container_core::{MAX_EXPONENT, MAX_OPENED, MAX_PLAIN, MIN_EXPONENT};
 use gate_core::{MAX_DEPTH, MAX_LANES, MAX_WINDOW, MAX_WORKERS};
@@ -16,6 +17,8 @@ enum Takes {
     Name,
     // The path of a folder. It is optional.
     Folder,
+    // The path of a folder. It may be given only with this other option.
+    FolderWith(&'static str),
     // A text. It is optional.
     Text,
     // A number in a range, and its value if none is given.
@@ -40,6 +43,8 @@ enum Takes {
     NothingWithout(&'static str),
     // The files of a command, at least one unless this option is given. Its name is no option's.
     FilesUnless(&'static str),
+    // The files of a command, which may be none. Its name is no option's.
+    OptionalFiles,
     // The only file of a command. It is optional, and its name is no option's.
     OptionalFile,
 }
@@ -81,9 +86,8 @@ pub(crate) static KEY_ROWS: [Row; 3] = [
     Row {
         name: "verbose",
         takes: Takes::Nothing,
-        help: "Print the cause of a fault of key, list, journal, ledger or witness, and\n\
-            warn of a key file that is open to others; done anyway if standard error\n\
-            is a terminal",
+        help: "Print the cause of a fault, of a FILE too, and warn of a key file that is\n\
+            open to others; done anyway if standard error is a terminal",
     },
 ];
 
@@ -126,12 +130,18 @@ pub(crate) static PROGRESS_ROWS: [Row; 1] = [Row {
 }];
 
 /// What `seal` and `open` take in addition, for their outputs.
-pub(crate) static OUTPUT_ROWS: [Row; 4] = [
+pub(crate) static OUTPUT_ROWS: [Row; 5] = [
     Row {
         name: "into",
         takes: Takes::Folder,
         help: "Put the outputs into this folder, each under the base name of its FILE;\n\
             no two may be the same",
+    },
+    Row {
+        name: "parents",
+        takes: Takes::NothingWithout("into"),
+        help: "Keep the folders of each FILE's path below the folder of --into, and make\n\
+            them as needed",
     },
     Row {
         name: "skip-existing",
@@ -211,8 +221,23 @@ pub(crate) static TO_ROWS: [Row; 2] = [
     },
 ];
 
+/// What every command takes in addition that prints lines.
+pub(crate) static JSON_ROWS: [Row; 1] = [Row {
+    name: "json",
+    takes: Takes::Nothing,
+    help: "Print a JSON object in place of each line, and one with the totals at the\n\
+        end",
+}];
+
+/// What every command over files takes in addition, to print less.
+pub(crate) static QUIET_ROWS: [Row; 1] = [Row {
+    name: "quiet",
+    takes: Takes::Nothing,
+    help: "Print only the lines of FILEs that failed, and a last one with the totals",
+}];
+
 /// What only `verify` takes in addition to these.
-pub(crate) static SHOW_ROWS: [Row; 2] = [
+pub(crate) static SHOW_ROWS: [Row; 5] = [
     Row {
         name: "FILE",
         takes: Takes::FilesUnless("files-from"),
@@ -224,14 +249,59 @@ pub(crate) static SHOW_ROWS: [Row; 2] = [
         help: "After the line of a good FILE print its version, chunk size, device,\n\
             number and label",
     },
+    Row {
+        name: "against",
+        takes: Takes::Path { is_required: false },
+        help: "Compare the FILEs with the lines that seal printed, kept in this file:\n\
+            outputs that are missing, have another number or are not listed",
+    },
+    Row {
+        name: "into",
+        takes: Takes::FolderWith("against"),
+        help: "The lines of --against are of outputs in this folder, as --into of seal\n\
+            put them there",
+    },
+    Row {
+        name: "parents",
+        takes: Takes::NothingWithout("into"),
+        help: "The outputs have the folders of their FILEs' paths below that of --into,\n\
+            as with --parents of seal",
+    },
+];
+
+/// What only `show` takes in addition.
+pub(crate) static LOOK_ROWS: [Row; 1] = [Row {
+    name: "FILE",
+    takes: Takes::FilesUnless("files-from"),
+    help: "The sealed files, all of them regular; their lines are printed in this order",
+}];
+
+/// What every command takes in addition that can compare something with containers.
+pub(crate) static AGAINST_ROWS: [Row; 2] = [
+    Row {
+        name: "FILE",
+        takes: Takes::OptionalFiles,
+        help: "The sealed files of --against, all of them regular",
+    },
+    Row {
+        name: "against",
+        takes: Takes::Nothing,
+        help: "Compare with the headers of the FILEs, which are read without a key and\n\
+            not checked",
+    },
 ];
 
 /// What the command takes that prints the contents of a ledger file.
-pub(crate) static HOLDINGS_ROWS: [Row; 2] = [
+pub(crate) static HOLDINGS_ROWS: [Row; 3] = [
     Row {
         name: "ledger",
         takes: Takes::Path { is_required: true },
         help: "The ledger file; it is not changed",
+    },
+    Row {
+        name: "key",
+        takes: Takes::Path { is_required: false },
+        help: "Print the lines of the key in this file alone, or its ID if there are none",
     },
     Row {
         name: "verbose",
@@ -241,7 +311,7 @@ pub(crate) static HOLDINGS_ROWS: [Row; 2] = [
 ];
 
 /// What a command that seals takes in addition: its numbers.
-pub(crate) static LEDGER_ROWS: [Row; 5] = [
+pub(crate) static LEDGER_ROWS: [Row; 6] = [
     Row {
         name: "ledger",
         takes: Takes::Path { is_required: true },
@@ -251,6 +321,16 @@ pub(crate) static LEDGER_ROWS: [Row; 5] = [
         name: "no-new-ledger",
         takes: Takes::Nothing,
         help: "Create no ledger file: for every run but the first",
+    },
+    Row {
+        name: "wait",
+        takes: Takes::Number {
+            least: 0,
+            most: MAX_WAIT,
+            absent: Absent::Default("0"),
+        },
+        help: "If another run holds the ledger, try again for so many seconds,\n\
+            0 to 86400",
     },
     Row {
         name: "device",
@@ -324,7 +404,8 @@ pub(crate) static PIPE_ROWS: [Row; 2] = [
             most: MAX_DEPTH,
             absent: Absent::Default("16"),
         },
-        help: "At most this many chunks are read and not yet written, 1 to 64",
+        help: "At most this many chunks are read and not yet written,\n\
+            1 to 64",
     },
     Row {
         name: "max-chunks",
@@ -347,7 +428,7 @@ pub(crate) static TERMINAL_ROWS: [Row; 1] = [Row {
 }];
 
 /// What a command that seals takes in addition: the containers' shape, and the journal.
-pub(crate) static SHAPE_ROWS: [Row; 3] = [
+pub(crate) static SHAPE_ROWS: [Row; 4] = [
     Row {
         name: "exponent",
         takes: Takes::Number {
@@ -367,6 +448,12 @@ pub(crate) static SHAPE_ROWS: [Row; 3] = [
         name: "journal",
         takes: Takes::Path { is_required: false },
         help: "A new file for the run's journal",
+    },
+    Row {
+        name: "journal-in",
+        takes: Takes::Folder,
+        help: "Put the run's journal into this folder, under a new name:\n\
+            device-DEVICE-SECOND-COUNT.journal; not with --journal",
     },
 ];
 
@@ -419,6 +506,7 @@ fn arg_of<'a>(alloc: Global, row: &Row) -> Result<Arg<'a>, Error> {
     let arg = Arg::new(alloc, row.name).help(row.help);
     let arg = match &row.takes {
         Takes::FilesUnless(list) => files(arg, list)?,
+        Takes::OptionalFiles => arg.num_args(1..).action(ArgAction::Append),
         Takes::OptionalFile => arg,
         Takes::Nothing => flag(arg, row.name),
         Takes::NothingWithout(other) => flag(arg, row.name).requires_arg(other)?,
@@ -426,6 +514,7 @@ fn arg_of<'a>(alloc: Global, row: &Row) -> Result<Arg<'a>, Error> {
         Takes::Name => valued(arg, row.name, "NAME"),
         Takes::Words { words, absent } => words_of(valued(arg, row.name, "WHEN"), words, absent),
         Takes::Folder => valued(arg, row.name, "DIR"),
+        Takes::FolderWith(other) => valued(arg, row.name, "DIR").requires_arg(other)?,
         Takes::Text => valued(arg, row.name, "TEXT"),
         Takes::Number {
             least,

@@ -5,12 +5,12 @@ ghost use Rattle.clap.specs.Matches.{first_value, found_of, one_text};
 ghost use Rattle.container_core.specs.Shape.{IsShape, IsShort, size_of};
 ghost use Rattle.gate_core.specs.Window.{usual};
 ghost use Rattle.command_line.specs.Asked.{IsOfOpening, dashes, inputs_asked, shape_asked};
-ghost use Rattle.command_line.specs.Given.{IsFlag, IsForMany, IsWithin, number_given};
+ghost use Rattle.command_line.specs.Given.{AreFactsAsked, IsFlag, IsForMany, IsWithin, number_given};
 
 use crate::fault::UsageFault;
 use crate::given::{
-    DEFAULT_DEPTH, DEFAULT_LANES, DEFAULT_MAX_BYTES, DEFAULT_MAX_CHUNKS, DEFAULT_WORKERS,
-    open_numbers, pipe_numbers, seal_numbers,
+    DEFAULT_DEPTH, DEFAULT_LANES, DEFAULT_MAX_BYTES, DEFAULT_MAX_CHUNKS, DEFAULT_WAIT,
+    DEFAULT_WORKERS, MAX_WAIT, open_numbers, pipe_numbers, seal_numbers,
 };
 use crate::names::inputs_in;
 use clap::ArgMatches;
@@ -54,6 +54,63 @@ pub fn verbose_asked(matches: &ArgMatches<'_>) -> bool
     matches.get_flag("verbose")
 }
 
+/// Returns whether a command was asked to compare something with containers. `FilesAlone` if it wasn't, and there are
+/// files or a list of them.
+pub fn against_asked(matches: &ArgMatches<'_>) -> Result<bool, UsageFault>
+    ensures asked { IfOk result (IsFlag matches.now (codes "against")) }
+    ensures no_list { IfOk result (λ asked. asked ≡ false
+        → first_value (found_of matches.now) (codes "files-from") ≡ None) }
+    ensures alone { IfErr result (λ fault. fault ≡ UsageFault.FilesAlone) }
+    ensures not_asked { OnErr result (IsFlag matches.now (codes "against") false) }
+{
+    let is_asked = matches.get_flag("against");
+    let has_files = !matches.get_strs("FILE").unwrap_or(&[]).is_empty();
+    if !is_asked && (has_files || matches.get_str("files-from").is_some()) {
+        return Err(UsageFault::FilesAlone);
+    }
+    Ok(is_asked)
+}
+
+/// How a command prints its lines.
+#[derive(Clone, Copy, PartialEq, Eq, Debug)]
+pub struct Printing<'a> {
+    /// Whether each line is a JSON object, and the last one has the totals.
+    pub json: bool,
+    /// Whether only the lines of files that failed are printed, and a last one with the totals.
+    pub quiet: bool,
+    /// The path of the lines against which containers are compared, if they are.
+    pub against: Option<&'a str>,
+    /// Whether the facts of good containers are printed in lines.
+    pub show: bool,
+    /// The folder of the outputs, if one is given.
+    pub into: Option<&'a str>,
+    /// Whether outputs keep the folders of their paths there.
+    pub parents: bool,
+    /// The name of the output, if one is given.
+    pub to: Option<&'a str>,
+}
+
+/// Returns how a command is to print its lines.
+pub fn printing_asked<'a>(matches: &ArgMatches<'a>) -> Printing<'a>
+    ensures json { IsFlag matches.now (codes "json") result.json }
+    ensures quiet { IsFlag matches.now (codes "quiet") result.quiet }
+    ensures against { option_map (λ path. path.now) result.against ≡ first_value (found_of matches.now) (codes "against") }
+    ensures show { IsFlag matches.now (codes "show") result.show }
+    ensures into { option_map (λ into. into.now) result.into ≡ first_value (found_of matches.now) (codes "into") }
+    ensures parents { IsFlag matches.now (codes "parents") result.parents }
+    ensures to { option_map (λ to. to.now) result.to ≡ first_value (found_of matches.now) (codes "to") }
+{
+    Printing {
+        json: matches.get_flag("json"),
+        quiet: matches.get_flag("quiet"),
+        against: matches.get_str("against"),
+        show: matches.get_flag("show"),
+        into: matches.get_str("into"),
+        parents: matches.get_flag("parents"),
+        to: matches.get_str("to"),
+    }
+}
+
 /// A request of `seal`.
 #[derive(Drop)]
 pub struct SealRequest<'m, 'a> {
@@ -61,6 +118,8 @@ pub struct SealRequest<'m, 'a> {
     pub ledger: &'a str,
     /// Whether a ledger file is made if there is none.
     pub may_make: bool,
+    /// For how many seconds a run waits if another run holds the ledger file.
+    pub wait: u32,
     pub device: Device,
     /// The path of the ledger's witness, if there is to be one.
     pub witness: Option<&'a str>,
@@ -74,10 +133,14 @@ pub struct SealRequest<'m, 'a> {
     /// The most plaintext bytes of a file.
     pub max_bytes: u64,
     pub journal: Option<&'a str>,
+    /// The folder in which the journal gets a name of its own, if one is given.
+    pub journal_in: Option<&'a str>,
     /// The shape of the containers: version, chunk size, label.
     pub shape: Shape,
     /// The folder into which the outputs go, if one is given.
     pub into: Option<&'a str>,
+    /// Whether they keep the folders of their paths there.
+    pub parents: bool,
     /// Whether files whose outputs exist are kept.
     pub skip: bool,
     /// Whether an output and its name are synced to the disk before its line is printed.
@@ -87,7 +150,8 @@ pub struct SealRequest<'m, 'a> {
 }
 
 /// Returns the request of `seal` for these files. Errors, in this order: `NoFiles` if there are none, `LanesAndWorkers`
-/// if both are above 1, `LabelTooLong` if the label has more than 255 bytes.
+/// if both are above 1, `TwoJournals` if a path and a folder are given for the journal, `LabelTooLong` if the label has
+/// more than 255 bytes.
 pub fn seal_request<'m, 'a>(
     matches: &ArgMatches<'a>,
     files: &'m [&'m str],
@@ -96,12 +160,18 @@ pub fn seal_request<'m, 'a>(
     ensures ledger { IfOk result (λ request. Some request.ledger.now
         ≡ first_value (found_of matches.now) (codes "ledger")) }
     ensures may_make { IfOk result (λ request. IsFlag matches.now (codes "no-new-ledger") (not request.may_make)) }
+    ensures wait { IfOk result (λ request. request.wait ≤ MAX_WAIT) }
+    ensures wait_given { IfOk result (λ request. request.wait
+        ≡ unwrap_or (number_given matches.now (codes "wait")) DEFAULT_WAIT) }
     ensures device { IfOk result (λ request. number_given matches.now (codes "device") ≡ Some request.device) }
     ensures witness { IfOk result (λ request. option_map (λ witness. witness.now) request.witness
         ≡ first_value (found_of matches.now) (codes "witness")) }
     ensures new_witness { IfOk result (λ request. IsFlag matches.now (codes "new-witness") request.new_witness) }
     ensures journal { IfOk result (λ request. option_map (λ journal. journal.now) request.journal
         ≡ first_value (found_of matches.now) (codes "journal")) }
+    ensures journal_in { IfOk result (λ request. option_map (λ folder. folder.now) request.journal_in
+        ≡ first_value (found_of matches.now) (codes "journal-in")) }
+    ensures one_journal { IfOk result (λ request. (request.journal ≡ None) ⊎ (request.journal_in ≡ None)) }
     ensures files { IfOk result (λ request. (request.files.now ≡ files.now) × (0 < length request.files.now)) }
     ensures workers { IfOk result (λ request. (0 < request.workers) × (request.workers ≤ MAX_WORKERS)) }
     ensures workers_given { IfOk result (λ request. request.workers
@@ -118,6 +188,7 @@ pub fn seal_request<'m, 'a>(
         ≡ unwrap_or (number_given matches.now (codes "max-bytes")) DEFAULT_MAX_BYTES) }
     ensures into { IfOk result (λ request. option_map (λ into. into.now) request.into
         ≡ first_value (found_of matches.now) (codes "into")) }
+    ensures parents { IfOk result (λ request. IsFlag matches.now (codes "parents") request.parents) }
     ensures skip { IfOk result (λ request. IsFlag matches.now (codes "skip-existing") request.skip) }
     ensures sync { IfOk result (λ request. IsFlag matches.now (codes "sync") request.sync) }
     ensures private { IfOk result (λ request. IsFlag matches.now (codes "private") request.private) }
@@ -128,6 +199,10 @@ pub fn seal_request<'m, 'a>(
     ensures short { IfOk result (λ request. IsShort request.shape.label) }
     ensures too_long { result ≡ Err UsageFault.LabelTooLong
         → IfSome (first_value (found_of matches.now) (codes "label")) (λ label. MAX_LABEL < length label) }
+    ensures journals { result ≡ Err UsageFault.TwoJournals
+        → first_value (found_of matches.now) (codes "journal") ≢ None }
+    ensures journals_in { result ≡ Err UsageFault.TwoJournals
+        → first_value (found_of matches.now) (codes "journal-in") ≢ None }
 {
     let (Some(key), Some(ledger)) = (matches.get_str("key"), matches.get_str("ledger")) else {
         return Err(UsageFault::Missing);
@@ -143,6 +218,10 @@ pub fn seal_request<'m, 'a>(
     if workers > 1 && lanes > 1 {
         return Err(UsageFault::LanesAndWorkers);
     }
+    let (journal, journal_in) = (matches.get_str("journal"), matches.get_str("journal-in"));
+    if journal.is_some() && journal_in.is_some() {
+        return Err(UsageFault::TwoJournals);
+    }
     let shape = match shape_of(numbers.exponent, matches.get_str("label")) {
         Ok(shape) => shape,
         Err(fault) => return Err(fault),
@@ -151,6 +230,7 @@ pub fn seal_request<'m, 'a>(
         key,
         ledger,
         may_make: !matches.get_flag("no-new-ledger"),
+        wait: numbers.wait,
         device: numbers.device,
         witness: matches.get_str("witness"),
         new_witness: matches.get_flag("new-witness"),
@@ -161,9 +241,11 @@ pub fn seal_request<'m, 'a>(
             .window
             .unwrap_or(usual_window(shape.chunk(), workers)),
         max_bytes: numbers.max_bytes,
-        journal: matches.get_str("journal"),
+        journal,
+        journal_in,
         shape,
         into: matches.get_str("into"),
+        parents: matches.get_flag("parents"),
         skip: matches.get_flag("skip-existing"),
         sync: matches.get_flag("sync"),
         private: matches.get_flag("private"),
@@ -177,6 +259,8 @@ pub struct PipeRequest<'a> {
     pub ledger: &'a str,
     /// Whether a ledger file is made if there is none.
     pub may_make: bool,
+    /// For how many seconds a run waits if another run holds the ledger file.
+    pub wait: u32,
     pub device: Device,
     /// The path of the ledger's witness, if there is to be one.
     pub witness: Option<&'a str>,
@@ -188,24 +272,33 @@ pub struct PipeRequest<'a> {
     /// The most chunks of the stream.
     pub max_chunks: u32,
     pub journal: Option<&'a str>,
+    /// The folder in which the journal gets a name of its own, if one is given.
+    pub journal_in: Option<&'a str>,
     /// The shape of the container: version, chunk size, label.
     pub shape: Shape,
     /// Whether the container may be written to a terminal.
     pub to_terminal: bool,
 }
 
-/// Returns the request of `pipe`. `LabelTooLong` if the label has more than 255 bytes.
+/// Returns the request of `pipe`. Errors, in this order: `TwoJournals` if a path and a folder are given for the journal,
+/// `LabelTooLong` if the label has more than 255 bytes.
 pub fn pipe_request<'a>(matches: &ArgMatches<'a>) -> Result<PipeRequest<'a>, UsageFault>
     ensures key { IfOk result (λ request. Some request.key.now ≡ first_value (found_of matches.now) (codes "key")) }
     ensures ledger { IfOk result (λ request. Some request.ledger.now
         ≡ first_value (found_of matches.now) (codes "ledger")) }
     ensures may_make { IfOk result (λ request. IsFlag matches.now (codes "no-new-ledger") (not request.may_make)) }
+    ensures wait { IfOk result (λ request. request.wait ≤ MAX_WAIT) }
+    ensures wait_given { IfOk result (λ request. request.wait
+        ≡ unwrap_or (number_given matches.now (codes "wait")) DEFAULT_WAIT) }
     ensures device { IfOk result (λ request. number_given matches.now (codes "device") ≡ Some request.device) }
     ensures witness { IfOk result (λ request. option_map (λ witness. witness.now) request.witness
         ≡ first_value (found_of matches.now) (codes "witness")) }
     ensures new_witness { IfOk result (λ request. IsFlag matches.now (codes "new-witness") request.new_witness) }
     ensures journal { IfOk result (λ request. option_map (λ journal. journal.now) request.journal
         ≡ first_value (found_of matches.now) (codes "journal")) }
+    ensures journal_in { IfOk result (λ request. option_map (λ folder. folder.now) request.journal_in
+        ≡ first_value (found_of matches.now) (codes "journal-in")) }
+    ensures one_journal { IfOk result (λ request. (request.journal ≡ None) ⊎ (request.journal_in ≡ None)) }
     ensures workers { IfOk result (λ request. (0 < request.workers) × (request.workers ≤ MAX_WORKERS)) }
     ensures workers_given { IfOk result (λ request. request.workers
         ≡ unwrap_or (number_given matches.now (codes "workers")) DEFAULT_WORKERS) }
@@ -223,6 +316,10 @@ pub fn pipe_request<'a>(matches: &ArgMatches<'a>) -> Result<PipeRequest<'a>, Usa
     ensures terminal { IfOk result (λ request. IsFlag matches.now (codes "force-terminal") request.to_terminal) }
     ensures too_long { result ≡ Err UsageFault.LabelTooLong
         → IfSome (first_value (found_of matches.now) (codes "label")) (λ label. MAX_LABEL < length label) }
+    ensures journals { result ≡ Err UsageFault.TwoJournals
+        → first_value (found_of matches.now) (codes "journal") ≢ None }
+    ensures journals_in { result ≡ Err UsageFault.TwoJournals
+        → first_value (found_of matches.now) (codes "journal-in") ≢ None }
 {
     let (Some(key), Some(ledger)) = (matches.get_str("key"), matches.get_str("ledger")) else {
         return Err(UsageFault::Missing);
@@ -231,6 +328,10 @@ pub fn pipe_request<'a>(matches: &ArgMatches<'a>) -> Result<PipeRequest<'a>, Usa
         Ok(numbers) => numbers,
         Err(fault) => return Err(fault),
     };
+    let (journal, journal_in) = (matches.get_str("journal"), matches.get_str("journal-in"));
+    if journal.is_some() && journal_in.is_some() {
+        return Err(UsageFault::TwoJournals);
+    }
     let shape = match shape_of(numbers.exponent, matches.get_str("label")) {
         Ok(shape) => shape,
         Err(fault) => return Err(fault),
@@ -239,13 +340,15 @@ pub fn pipe_request<'a>(matches: &ArgMatches<'a>) -> Result<PipeRequest<'a>, Usa
         key,
         ledger,
         may_make: !matches.get_flag("no-new-ledger"),
+        wait: numbers.wait,
         device: numbers.device,
         witness: matches.get_str("witness"),
         new_witness: matches.get_flag("new-witness"),
         workers: numbers.workers,
         depth: numbers.depth,
         max_chunks: numbers.max_chunks,
-        journal: matches.get_str("journal"),
+        journal,
+        journal_in,
         shape,
         to_terminal: matches.get_flag("force-terminal"),
     })
@@ -270,12 +373,14 @@ pub struct OpenRequest<'m, 'a> {
     pub max_bytes: u64,
     /// The bytes of the label that each container must have, if one was given.
     pub label: Option<&'a [u8]>,
-    /// Whether the facts of each good container are printed. `open` has no such option.
+    /// Whether the facts of each good container are printed: with `--show`, `--json` or `--against`. `open` prints none.
     pub show: bool,
     /// The name of the output, if one is given. `verify` has no such option.
     pub to: Option<&'a str>,
     /// The folder into which the outputs go, if one is given. `verify` has no such option.
     pub into: Option<&'a str>,
+    /// Whether they keep the folders of their paths there. `verify` has no such option.
+    pub parents: bool,
     /// Whether files whose outputs exist are kept. `verify` has no such option.
     pub skip: bool,
     /// Whether an output and its name are synced to the disk before its line is printed. `verify` has no such option.
@@ -307,7 +412,7 @@ pub fn open_request<'m, 'a>(
     ensures label { IfOk result (λ request. option_map (λ label. label.now) request.label
         ≡ first_value (found_of matches.now) (codes "label")) }
     ensures short { IfOk result (λ request. IfSome request.label (λ label. length label.now ≤ MAX_LABEL)) }
-    ensures show { IfOk result (λ request. IsFlag matches.now (codes "show") request.show) }
+    ensures show { IfOk result (λ request. AreFactsAsked matches.now request.show) }
     ensures to { IfOk result (λ request. option_map (λ to. to.now) request.to
         ≡ first_value (found_of matches.now) (codes "to")) }
     ensures one { IfOk result (λ request. IfSome request.to (λ _. length request.files.now ≡ 1)) }
@@ -317,6 +422,7 @@ pub fn open_request<'m, 'a>(
         first_value (found_of matches.now) (codes "files-from") ≡ None)) }
     ensures into { IfOk result (λ request. option_map (λ into. into.now) request.into
         ≡ first_value (found_of matches.now) (codes "into")) }
+    ensures parents { IfOk result (λ request. IsFlag matches.now (codes "parents") request.parents) }
     ensures skip { IfOk result (λ request. IsFlag matches.now (codes "skip-existing") request.skip) }
     ensures sync { IfOk result (λ request. IsFlag matches.now (codes "sync") request.sync) }
     ensures private { IfOk result (λ request. IsFlag matches.now (codes "private") request.private) }
@@ -384,13 +490,23 @@ pub fn open_request<'m, 'a>(
         workers: numbers.workers,
         max_bytes: numbers.max_bytes,
         label,
-        show: matches.get_flag("show"),
+        show: are_facts_asked(matches),
         to,
         into,
+        parents: matches.get_flag("parents"),
         skip,
         sync: matches.get_flag("sync"),
         private: matches.get_flag("private"),
     })
+}
+
+// Whether the facts of good containers are asked for, or needed.
+fn are_facts_asked(matches: &ArgMatches<'_>) -> bool
+    ensures { AreFactsAsked matches.now result }
+{
+    let show = matches.get_flag("show");
+    let json = matches.get_flag("json");
+    show || json || matches.get_str("against").is_some()
 }
 
 // Checks that standard input, if `open` reads it, has a name for its output, and that it is read at most once.
