@@ -6,13 +6,13 @@ use io_core::{Failed, Source, fill};
 use std::io::{ErrorKind, Read};
 use std::rt::{Clock, Files};
 use std::{fs, io};
-use system_files::{FileOptions, Names, STREAM, SystemFiles, can_reopen_input};
+use system_files::{FileOptions, Names, STREAM, SystemFiles, Target, can_reopen_input};
 
 // Files that are to be read again.
 const AGAIN: FileOptions<'static> = FileOptions {
     names: Names::Plain,
     outputs: Names::Plain,
-    into: None,
+    target: Target::AsNamed,
     sync: false,
     private: false,
     own: None,
@@ -20,6 +20,8 @@ const AGAIN: FileOptions<'static> = FileOptions {
     reads_again: true,
     reopens_input: false,
     spool: None,
+    causes: false,
+    warns_of_changes: false,
 };
 
 // The files of the system, and this standard input.
