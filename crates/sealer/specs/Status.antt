@@ -11,7 +11,7 @@ use Rattle.command_core.specs.declared.line.FileOutcome.{FileOutcome}
 use Rattle.command_core.specs.declared.line.FileOutcome.TheVariants.{Sealed, Opened, Failed}
 use Rattle.command_core.specs.Lines.{FileLine, lines_text, status_of_lines}
 use Rattle.command_core.specs.Work.{IsOfOpening, IsOfVerifying}
-use Rattle.command_line.specs.Given.{IsFlag}
+use Rattle.command_line.specs.Given.{AreFactsAsked, IsFlag}
 use Rattle.sealer_core.specs.Sealing.{IsOfSealing}
 use Rattle.sealer.specs.declared.OverFiles.{OverFiles}
 use Rattle.sealer.specs.declared.OverFiles.TheVariants.{Seal, Read}
@@ -53,7 +53,7 @@ IsOfReading Verify show to name outcome = IsOfVerifying show outcome
 abbrev pub IsOfCommand : OverFiles → ArgMatches → List ℕ → FileOutcome → Type 0
 IsOfCommand Seal matches name outcome = IsOfSealing outcome
 IsOfCommand (Read reading) matches name outcome =
-    (show : Bool) × IsFlag matches (codes "show") show
+    (show : Bool) × AreFactsAsked matches show
     × IsOfReading reading show (first_value (found_of matches) (codes "to")) name outcome
 
 -- an outcome that `pipe` can have

@@ -1,38 +1,40 @@
 //! The program `sealer`: the commands of `sealer_core`, as the command line asks for them, over real files and the
 //! standard streams.
 //!
-//! Exit status: 0 all well; 1 some file failed, or the journal isn't legal; 2 a fault of usage, of the key file, the
-//! ledger or the journal file, or of the program's own reading and writing.
+//! Exit status: 0 all well; 1 some file failed, the journal isn't legal, or ledger or journal don't fit the files; 2 a
+//! fault of usage, of the key file, the ledger or the journal file, or of the program's own reading and writing.
 #![tactic(auto)]
 
-ghost use Rattle.std.specs.Prelude.{◌≡◌, ◌⊎◌, ◌∷◌, ◌++◌, IfSome, Some, [], codes, map, string_bytes, unwrap_or};
+ghost use Rattle.std.specs.Prelude.{◌≡◌, ◌∷◌, Some, [], codes, map, string_bytes, unwrap_or};
 ghost use Rattle.clap.specs.Matches.{first_value, found_of, subcommand_name_of};
-ghost use Rattle.io_core.specs.Streams.{Appends};
-ghost use Rattle.journal_core.specs.declared.verdict.Verdict.{Verdict};
-ghost use Rattle.ledger_core.specs.Verdict.{IsVerdict, verdict_text};
-ghost use Rattle.engine_core.specs.Status.{status_of};
 ghost use Rattle.clap.specs.declared.parser.matches.ArgMatches.{ArgMatches};
 ghost use Rattle.command_core.specs.Unpiping.{IsOfUnpiping};
+ghost use Rattle.sealer.specs.Audit.{IsAudited};
 ghost use Rattle.sealer.specs.Status.{AreAsked, IsOfCommand, IsOfPiping, IsStatusOf, IsStatusOfRun, IsStatusOver};
 
+mod auditing;
 mod files;
 mod kept;
 mod ledger;
 mod opening;
 mod sealing;
+mod showing;
+mod styles;
 mod unpiping;
 
+use crate::auditing::audit;
 use crate::files::{about_list, names_of, pieces_of, quotes_of, read_list};
 use crate::ledger::tell_ledger;
 use crate::opening::open;
 use crate::sealing::{pipe, seal};
+use crate::showing::show;
+use crate::styles::asked_of;
 use crate::unpiping::unpipe;
 use clap::{ArgMatches, Error};
 use command_line::{
     Naming, Reading, asks_for_processors, borrowed, command, naming_asked, verbose_asked, write_out,
 };
-use ledger_core::{FromRead, ToWrite};
-use sealer_core::run_audit;
+use ledger_core::ToWrite;
 use std::alloc::Global;
 use std::fmt::Display;
 use std::io::{IsTerminal, Read, Write};
@@ -41,7 +43,7 @@ use std::rt::{Clock, Env, Files};
 use std::sync::Wait;
 use std::thread;
 use std::thread::Threads;
-use system_files::{About, cause_of, stand_ins};
+use system_files::{About, Lines, Style, cause_of, stand_ins};
 
 /// The status of a fault of usage, of the list of names, of the key file, the ledger or the journal file, or of the
 /// program's own reading and writing.
@@ -53,21 +55,50 @@ fn main(rt: HostRuntime) -> ExitCode {
         return ExitCode::from(FAULT);
     };
     let status = match parse(rt.alloc(), words.as_slice()) {
-        Ok(matches) => {
-            let streams = Streams {
-                output: ToWrite(rt.stdout()),
-                errors: ToWrite(rt.stderr()),
-                terminals: Terminals {
-                    output: rt.stdout().is_terminal(),
-                    errors: rt.stderr().is_terminal(),
-                    causes: rt.stderr().is_terminal() || is_verbose(&matches),
-                },
-            };
-            run(&rt, &rt, &matches, rt.stdin(), streams).0
-        }
+        Ok(matches) => run_styled(&rt, &rt, &matches),
         Err(error) => told(&rt, &error),
     };
     ExitCode::from(status)
+}
+
+/// Runs the command that was asked for over the standard streams, on which it prints in the style asked for. Returns the
+/// status.
+fn run_styled<R: Files + AllocGlobal + Clock + Env + Eprint + Threads + Wait + Sync>(
+    rt: &R,
+    host: &HostRuntime,
+    matches: &ArgMatches<'_>,
+) -> u8 {
+    let causes = host.stderr().is_terminal() || is_verbose(matches);
+    let asked = match asked_of(rt, matches) {
+        Ok(asked) => asked,
+        Err(status) => return status,
+    };
+    let listed = match asked.listed(rt, causes) {
+        Ok(listed) => listed,
+        Err(status) => return status,
+    };
+    let style = asked.style();
+    let plain = Style {
+        is_plain: true,
+        ..style
+    };
+    let (output, errors) = if asked.is_on_errors() {
+        (plain, style)
+    } else {
+        (style, plain)
+    };
+    let streams = Streams {
+        output: ToWrite(Lines::new(rt.alloc(), host.stdout(), output, listed)),
+        errors: ToWrite(Lines::new(rt.alloc(), host.stderr(), errors, None)),
+        terminals: Terminals {
+            output: host.stdout().is_terminal(),
+            errors: host.stderr().is_terminal(),
+            causes,
+        },
+    };
+    let (status, streams) = run(rt, host, matches, host.stdin(), streams);
+    let (ToWrite(lines), ToWrite(errors)) = (streams.output, streams.errors);
+    errors.end(lines.end(status))
 }
 
 /// The streams that a run writes.
@@ -210,10 +241,9 @@ fn run<
         (λ name. IsOfUnpiping (O.contents streams.output.0) (O.contents result.1.output.0)) result.0
         (unwrap_or (first_value (found_of asked) (codes "FILE")) (codes "-") ∷ [])
         (E.contents streams.errors.0) (E.contents result.1.errors.0) }
-    ensures verdict { subcommand_name_of matches.now ≡ Some (codes "audit")
-        → (result.0 ≡ FAULT) ⊎ ((verdict : Verdict) × (result.0 ≡ status_of verdict)
-        × IfSome (I.remaining input) (λ journal. IsVerdict journal verdict)
-        × Appends (O.contents streams.output.0) (O.contents result.1.output.0) (verdict_text verdict ++ 10 ∷ [])) }
+    ensures audit { subcommand_name_of matches.now ≡ Some (codes "audit") → (asked : ArgMatches)
+        × AreAsked matches.now asked × IsAudited asked (I.remaining input) result.0
+        (O.contents streams.output.0) (O.contents result.1.output.0) }
 {
     match matches.subcommand() {
         Some(("seal", asked)) => over_files(rt, host, OverFiles::Seal, asked, input, streams),
@@ -227,8 +257,9 @@ fn run<
             let verify = OverFiles::Read(Reading::Verify);
             over_files(rt, host, verify, asked, input, streams)
         }
-        Some(("ledger", asked)) => tell_ledger(rt, asked, streams),
-        Some(("audit", _)) => audit_input(rt, input, streams),
+        Some(("show", asked)) => show(rt, asked, input, streams),
+        Some(("ledger", asked)) => tell_ledger(rt, asked, input, streams),
+        Some(("audit", asked)) => audit(rt, asked, input, streams),
         _ => (FAULT, streams),
     }
 }
@@ -321,22 +352,4 @@ fn over_names<
         OverFiles::Seal => seal(rt, host, matches, names, streams),
         OverFiles::Read(reading) => open(rt, reading, matches, names, input, streams),
     }
-}
-
-/// Audits an input. A fault is printed on standard error, with status 2. Returns the status, with the streams.
-fn audit_input<R: AllocGlobal + Eprint, I: Read + Drop, O: Write + Drop, E: Write + Drop>(
-    rt: &R,
-    input: I,
-    streams: Streams<O, E>,
-) -> (u8, Streams<O, E>)
-    ensures verdict { (result.0 ≡ FAULT) ⊎ ((verdict : Verdict) × (result.0 ≡ status_of verdict)
-        × IfSome (I.remaining input) (λ journal. IsVerdict journal verdict)
-        × Appends (O.contents streams.output.0) (O.contents result.1.output.0) (verdict_text verdict ++ 10 ∷ [])) }
-{
-    let mut streams = streams;
-    let status = match run_audit(rt.alloc(), &mut FromRead(input), &mut streams.output) {
-        Ok(status) => status,
-        Err(fault) => complain(rt, "audit", fault),
-    };
-    (status, streams)
 }

@@ -15,7 +15,9 @@ use sealer_core::{
 use std::io::{Read, Write};
 use std::rt::{Clock, Files};
 use std::thread::Threads;
-use system_files::{Destination, FileOptions, Makes, Names, SystemFiles, can_reopen_input};
+use system_files::{
+    Destination, FileOptions, Makes, Names, SystemFiles, can_reopen_input, target_of,
+};
 
 /// Opens or verifies the files of these names, of which `-` is the input. Returns the status, with the streams.
 pub(crate) fn open<
@@ -42,7 +44,7 @@ pub(crate) fn open<
     let naming = naming_asked(matches);
     let to = Destination {
         makes: Makes::Plaintext,
-        into: request.into,
+        target: target_of(folder_of(reading, request.into), request.parents),
         names: names_for(naming),
         may_share: naming == Naming::KeepGoing,
     };
@@ -64,7 +66,7 @@ pub(crate) fn open<
     let options = FileOptions {
         names: to.names,
         outputs: names_of_outputs(to.names, request.to),
-        into: request.into,
+        target: to.target,
         sync: request.sync,
         private: request.private,
         own: None,
@@ -73,9 +75,19 @@ pub(crate) fn open<
         // Standard input is opened only under another name.
         reopens_input: request.to.is_some() && can_reopen_input(rt),
         spool: None,
+        causes: streams.terminals.causes,
+        warns_of_changes: false,
     };
     let folder = SystemFiles::new(rt, Some(input), progress.as_ref(), options);
     open_to(rt, reading, &request, folder, streams)
+}
+
+// The folder of the outputs, if one is given. `verify` has no outputs: its folder is that of the run whose lines it reads.
+fn folder_of(reading: Reading, into: Option<&str>) -> Option<&str> {
+    match reading {
+        Reading::Open => into,
+        Reading::Verify => None,
+    }
 }
 
 // How the names of outputs denote paths. The name of --to is its path.
@@ -106,7 +118,6 @@ fn open_to<
         (IsOfReading reading request.now.show (option_map (λ to. to.now) request.now.to)) result.0
         (map (λ name. name.now) request.now.files.now) (O.contents streams.output.0) (O.contents result.1.output.0) }
 {
-    let mut folder = folder;
     let progress = folder.progress;
     let terminals = streams.terminals;
     let key = match key_at(rt, request.key, terminals.causes) {
@@ -114,12 +125,38 @@ fn open_to<
         Err(status) => return (status, streams),
     };
     let mut out = outs_of(streams, progress, None);
-    let status = match reading {
-        Reading::Open => open_files(rt, &key, &mut folder, request, &mut out),
-        Reading::Verify => verify_files(rt, &key, &mut folder, request, &mut out),
-    };
+    let status = read_files(rt, reading, &key, folder, request, &mut out);
     clear(progress);
     (status, streams_of(out, terminals))
+}
+
+// Opens or verifies the files that are asked for. Returns the status.
+fn read_files<
+    R: Files + AllocGlobal + Clock + Eprint + Threads + Sync,
+    I: Read + Drop,
+    L: Report + Drop,
+    E: Report + Drop,
+    J: Report + Drop,
+>(
+    rt: &R,
+    reading: Reading,
+    key: &Key,
+    folder: SystemFiles<'_, '_, R, I>,
+    request: &OpenRequest<'_, '_>,
+    out: &mut Outs<L, E, J>,
+) -> u8
+    requires files { 0 < length request.now.files.now }
+    requires workers { (0 < request.now.workers) × (request.now.workers ≤ MAX_WORKERS) }
+    requires max_bytes { request.now.max_bytes ≤ MAX_OPENED }
+    ensures status { IsStatusOf
+        (IsOfReading reading request.now.show (option_map (λ to. to.now) request.now.to)) result
+        (map (λ name. name.now) request.now.files.now) (L.taken out.old.lines) (L.taken out.new.lines) }
+{
+    let mut folder = folder;
+    match reading {
+        Reading::Open => open_files(rt, key, &mut folder, request, out),
+        Reading::Verify => verify_files(rt, key, &mut folder, request, out),
+    }
 }
 
 // Opens the files that are asked for.

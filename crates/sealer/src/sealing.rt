@@ -1,6 +1,6 @@
 //! The commands that seal: what a run begins with, and the ledger file over which it seals.
 ghost use Rattle.std.specs.Prelude.{◌≡◌, ◌⊎◌, ◌<◌, ◌≤◌, ℕ, Bool, List, Option, length, map, true, ◌≢◌, IfOk, IfSome};
-ghost use Rattle.std.specs.Prelude.{[], ◌∷◌, codes, false, IfErr, OnErr, if◌then◌else◌, option_map};
+ghost use Rattle.std.specs.Prelude.{[], ◌∷◌, codes, false, IfErr, None, OnErr, Some, if◌then◌else◌, option_map, string_bytes};
 ghost use Rattle.sha2.specs.Sha256.{sha256};
 ghost use Rattle.journal_core.specs.declared.entry.Entry.{Entry};
 ghost use Rattle.journal_core.specs.Journal.{terms_of};
@@ -35,78 +35,144 @@ use std::rt::{Clock, Files};
 use std::sync::Wait;
 use std::thread::Threads;
 use system_files::{
-    About, Cause, Destination, FileOptions, Makes, OwnPaths, StandardInput, Step, SystemFiles,
-    new_journal,
+    About, Cause, Destination, FileOptions, JournalPlace, Makes, OwnPaths, StandardInput, Step,
+    SystemFiles, new_journal, target_of,
 };
 use system_ledger::{
-    FileWitness, LedgerFault, LedgerPath, WitnessFault, WitnessPath, WitnessRefusal, close_ledger,
-    may_open, open_ledger,
+    FileWitness, LedgerFault, LedgerPath, MAX_TRIES, Turn, WitnessFault, WitnessPath,
+    WitnessRefusal, close_ledger, may_open, open_ledger,
 };
 
-/// Begins a run that seals: reads the key file, creates the journal, then checks whether the ledger file may be opened.
-/// A fault is printed, with `causes` its cause too, and the error is its status.
-fn begin<R: Files + AllocGlobal + Eprint>(
+/// What a run that seals begins with: its key, and its journal.
+#[derive(Drop)]
+struct Begun<J: Drop> {
+    key: Key,
+    journal: Option<J>,
+    // The path of the journal, if it isn't the one that was given.
+    path: Option<String>,
+}
+
+/// Begins a run that seals: reads the key file, and creates the journal, at the path that was given or in this folder. A
+/// fault is printed, with `causes` its cause too, and the error is its status.
+fn begin<R: Files + AllocGlobal + Clock + Eprint>(
     rt: &R,
     key: &str,
-    ledger: &LedgerPath<'_>,
-    journal: Option<&str>,
+    ledger: &str,
+    given: Option<&str>,
+    folder: Option<&str>,
+    device: Device,
     causes: bool,
-) -> Result<(Key, Option<ToWrite<R::File>>), u8>
+) -> Result<Begun<ToWrite<R::File>>, u8>
     ensures status { IfErr result (λ status. status ≡ FAULT) }
 {
     let key = match key_at(rt, key, causes) {
         Ok(key) => key,
         Err(status) => return Err(status),
     };
-    let journal = match new_journal(rt, journal, ledger.path) {
-        Ok(journal) => journal,
+    let place = journal_place(given, folder, device);
+    match new_journal(rt, place, ledger) {
+        Ok((journal, path)) => Ok(Begun { key, journal, path }),
         Err(fault) => {
             let about = About::Known(fault.cause());
-            return Err(explain(rt, "journal", fault, causes, about));
-        }
-    };
-    match may_open(rt, ledger) {
-        Ok(()) => Ok((key, journal)),
-        Err(fault) => {
-            let about = about_ledger(ledger.path, fault, Step::Check);
-            Err(explain(rt, "ledger", fault, causes, about))
+            Err(explain(rt, "journal", fault, causes, about))
         }
     }
 }
 
-// Reads the witness that is asked for. A fault is printed, with `causes` its cause too, and the error is its status.
-fn witness_at<'r, R: Files + AllocGlobal + Eprint>(
+// Where the journal is made: at this path, or in this folder for this device.
+fn journal_place<'a>(
+    path: Option<&'a str>,
+    folder: Option<&'a str>,
+    device: Device,
+) -> JournalPlace<'a>
+    ensures at { IfSome path.entry (λ path. result ≡ JournalPlace.At path) }
+    ensures within { path.entry ≡ None → IfSome folder.entry (λ folder. result ≡ JournalPlace.In folder device) }
+    ensures nowhere { path.entry ≡ None → folder.entry ≡ None → result ≡ JournalPlace.Nowhere }
+{
+    match (path, folder) {
+        (Some(path), _) => JournalPlace::At(path),
+        (None, Some(folder)) => JournalPlace::In(folder, device),
+        (None, None) => JournalPlace::Nowhere,
+    }
+}
+
+// The path of the journal that was made: this one, if it was chosen here, or else the given one.
+fn journal_path<'a>(chosen: &'a Option<String>, given: Option<&'a str>) -> Option<&'a str>
+    ensures chosen { IfSome chosen.now (λ path. option_map (λ path. path.now) result ≡ Some (string_bytes path)) }
+    ensures given { chosen.now ≡ None → result ≡ given.entry }
+{
+    match chosen {
+        Some(path) => Some(path.as_str()),
+        None => given,
+    }
+}
+
+/// Why a run can't begin over its ledger file.
+#[derive(Clone, Copy)]
+enum Refusal {
+    /// The ledger file, at this step.
+    Ledger(LedgerFault, Step),
+    /// The witness.
+    Witness(WitnessFault),
+}
+
+// Checks whether the ledger file may be opened, then reads the witness that is asked for.
+fn look<'r, R: Files + AllocGlobal>(
     rt: &'r R,
+    ledger: &LedgerPath<'r>,
     asked: WitnessPath<'_>,
-    ledger: &'r str,
     key: &Key,
     device: Device,
-    causes: bool,
-) -> Result<FileWitness<'r, R>, u8>
-    ensures status { IfErr result (λ status. status ≡ FAULT) }
-{
-    match FileWitness::open(rt, asked, ledger, &key.id(), device) {
+) -> Result<FileWitness<'r, R>, Refusal> {
+    match may_open(rt, ledger) {
+        Ok(()) => {}
+        Err(fault) => return Err(Refusal::Ledger(fault, Step::Check)),
+    }
+    match FileWitness::open(rt, asked, ledger.path, &key.id(), device) {
         Ok(witness) => Ok(witness),
-        Err(WitnessRefusal::Ledger(fault)) => {
-            let about = about_ledger(ledger, fault, Step::Check);
-            Err(explain(rt, "ledger", fault, causes, about))
+        Err(WitnessRefusal::Ledger(fault)) => Err(Refusal::Ledger(fault, Step::Check)),
+        Err(WitnessRefusal::Witness(fault)) => Err(Refusal::Witness(fault)),
+    }
+}
+
+// Whether a run that was refused tries again. If another process holds the ledger file, it waits before.
+fn comes_again(turn: &mut Turn<'_>, refusal: Refusal) -> bool {
+    match refusal {
+        Refusal::Ledger(fault, _) => turn.comes_again(fault),
+        Refusal::Witness(_) => false,
+    }
+}
+
+// Prints why a run can't begin, with `causes` the cause too. Returns the status.
+fn refuse<R: Files + AllocGlobal + Eprint>(
+    rt: &R,
+    refusal: Refusal,
+    ledger: &str,
+    witness: Option<&str>,
+    causes: bool,
+) -> u8
+    ensures status { result ≡ FAULT }
+{
+    match refusal {
+        Refusal::Ledger(fault, step) => {
+            let about = About::Ledger {
+                path: ledger,
+                fault,
+                step,
+            };
+            explain(rt, "ledger", fault, causes, about)
         }
-        Err(WitnessRefusal::Witness(fault)) => {
+        Refusal::Witness(fault) => {
             let about = match fault {
                 WitnessFault::NotWitness => About::Known(Cause::NoWitness),
                 WitnessFault::NoLine => About::Known(Cause::NoLine),
                 WitnessFault::OutOfMemory => About::Known(Cause::OutOfMemory),
                 WitnessFault::CannotCreate => About::Known(Cause::NoPlace),
-                _ => About::Input(asked.path.unwrap_or("")),
+                _ => About::Input(witness.unwrap_or("")),
             };
-            Err(explain(rt, "witness", fault, causes, about))
+            explain(rt, "witness", fault, causes, about)
         }
     }
-}
-
-// What a fault of this ledger file is about.
-fn about_ledger(path: &str, fault: LedgerFault, step: Step) -> About<'_> {
-    About::Ledger { path, fault, step }
 }
 
 /// Seals the files of these names. Returns the status, with the streams.
@@ -132,7 +198,7 @@ pub(crate) fn seal<
     let naming = naming_asked(matches);
     let to = Destination {
         makes: Makes::Container,
-        into: request.into,
+        target: target_of(request.into, request.parents),
         names: names_for(naming),
         may_share: naming == Naming::KeepGoing,
     };
@@ -152,7 +218,7 @@ pub(crate) fn seal<
     let options = FileOptions {
         names: to.names,
         outputs: to.names,
-        into: request.into,
+        target: to.target,
         sync: request.sync,
         private: request.private,
         // Sealing a ledger would make a copy of it.
@@ -166,6 +232,8 @@ pub(crate) fn seal<
         reads_again: false,
         reopens_input: false,
         spool: None,
+        causes: streams.terminals.causes,
+        warns_of_changes: true,
     };
     let folder = SystemFiles::new(rt, None, progress.as_ref(), options);
     seal_to(rt, host, &request, folder, streams)
@@ -195,51 +263,114 @@ fn seal_to<
     let mut folder = folder;
     let progress = folder.progress;
     let terminals = streams.terminals;
-    let (key, journal) = match begin(
+    let causes = terminals.causes;
+    let Begun { key, journal, path } = match begin(
         rt,
         request.key,
-        &ledger_of(request.ledger, request.may_make),
+        request.ledger,
         request.journal,
-        terminals.causes,
+        request.journal_in,
+        request.device,
+        causes,
     ) {
         Ok(begun) => begun,
         Err(status) => return (status, streams),
     };
-    let asked = witness_asked(request.witness, request.new_witness);
-    let (ledger, device, causes) = (request.ledger, request.device, terminals.causes);
-    let mut witness = match witness_at(rt, asked, ledger, &key, device, causes) {
-        Ok(witness) => witness,
-        Err(status) => return (status, streams),
-    };
-    let witness = &mut witness;
+    if let Some(path) = &path {
+        folder.keep_out(path.as_str());
+    }
     let mut out = outs_of(streams, progress, journal);
-    let status = match seal_from(
-        rt,
-        host,
-        &key,
-        request,
-        Wary,
-        witness,
-        &mut folder,
-        &mut out,
-    ) {
-        Ok((status, file)) => {
-            close_ledger(file);
-            clear(progress);
-            status
-        }
-        Err(fault) => {
-            let about = about_ledger(request.ledger, fault, Step::Open);
-            explain(rt, "ledger", fault, terminals.causes, about)
-        }
-    };
+    let status = seal_in_turn(rt, host, &key, request, &mut folder, &mut out, causes);
+    clear(progress);
     (status, streams_of(out, terminals))
+}
+
+// Seals the files once the ledger file can be opened. If another process holds it, the run waits as long as it is asked
+// to. Returns the status.
+fn seal_in_turn<
+    'r,
+    R: Files + AllocGlobal + Eprint + Threads + Wait + Sync,
+    F: SealingFolder,
+    L: Report + Drop,
+    E: Report + Drop,
+    J: Report + Drop,
+>(
+    rt: &'r R,
+    host: &HostRuntime,
+    key: &Key,
+    request: &SealRequest<'_, 'r>,
+    folder: &mut F,
+    out: &mut Outs<L, E, J>,
+    causes: bool,
+) -> u8
+    requires files { 0 < length request.now.files.now }
+    requires workers { (0 < request.now.workers) × (request.now.workers ≤ MAX_WORKERS) }
+    requires window { (0 < request.now.window) × (request.now.window ≤ MAX_WINDOW) }
+    requires lanes { (0 < request.now.lanes) × (request.now.lanes ≤ MAX_LANES) }
+    requires max_bytes { request.now.max_bytes ≤ MAX_BYTES }
+    requires idle { IfSome (F.session folder.old) (λ session. session.begun ≡ []) }
+    ensures status { IsStatusOf (λ name. IsOfSealing) result (map (λ name. name.now) request.now.files.now)
+        (L.taken out.old.lines) (L.taken out.new.lines) }
+{
+    let mut turn = Turn::new(host, request.ledger, request.wait);
+    for _ in 0..MAX_TRIES {
+        match seal_once(rt, host, key, request, folder, out) {
+            Ok(status) => return status,
+            Err(refusal) => {
+                if !comes_again(&mut turn, refusal) {
+                    return refuse(rt, refusal, request.ledger, request.witness, causes);
+                }
+            }
+        }
+    }
+    let refusal = Refusal::Ledger(LedgerFault::Held, Step::Open);
+    refuse(rt, refusal, request.ledger, request.witness, causes)
+}
+
+// Seals the files if the ledger file can be opened now. Else nothing was touched or printed.
+fn seal_once<
+    'r,
+    R: Files + AllocGlobal + Threads + Wait + Sync,
+    F: SealingFolder,
+    L: Report + Drop,
+    E: Report + Drop,
+    J: Report + Drop,
+>(
+    rt: &'r R,
+    host: &HostRuntime,
+    key: &Key,
+    request: &SealRequest<'_, 'r>,
+    folder: &mut F,
+    out: &mut Outs<L, E, J>,
+) -> Result<u8, Refusal>
+    requires files { 0 < length request.now.files.now }
+    requires workers { (0 < request.now.workers) × (request.now.workers ≤ MAX_WORKERS) }
+    requires window { (0 < request.now.window) × (request.now.window ≤ MAX_WINDOW) }
+    requires lanes { (0 < request.now.lanes) × (request.now.lanes ≤ MAX_LANES) }
+    requires max_bytes { request.now.max_bytes ≤ MAX_BYTES }
+    requires idle { IfSome (F.session folder.old) (λ session. session.begun ≡ []) }
+    ensures status { IfOk result (λ status. IsStatusOf (λ name. IsOfSealing) status
+        (map (λ name. name.now) request.now.files.now) (L.taken out.old.lines) (L.taken out.new.lines)) }
+    ensures refused { OnErr result ((folder.new ≡ folder.old) × (out.new ≡ out.old)) }
+{
+    let ledger = ledger_of(request.ledger, request.may_make);
+    let asked = witness_asked(request.witness, request.new_witness);
+    let mut witness = match look(rt, &ledger, asked, key, request.device) {
+        Ok(witness) => witness,
+        Err(refusal) => return Err(refusal),
+    };
+    let (status, file) = match seal_from(rt, host, key, request, Wary, &mut witness, folder, out) {
+        Ok(sealed) => sealed,
+        Err(fault) => return Err(Refusal::Ledger(fault, Step::Open)),
+    };
+    close_ledger(file);
+    Ok(status)
 }
 
 /// Seals the input and writes the container to the output. A terminal is refused as output, unless it was asked for.
 /// Returns the status, with the streams.
 pub(crate) fn pipe<
-    R: Files + AllocGlobal + Eprint + Threads + Wait + Sync,
+    R: Files + AllocGlobal + Clock + Eprint + Threads + Wait + Sync,
     I: Read + Drop,
     O: Write + Drop,
     E: Write + Drop,
@@ -265,7 +396,7 @@ pub(crate) fn pipe<
 
 // Seals the input as it is asked for.
 fn pipe_to<
-    R: Files + AllocGlobal + Eprint + Threads + Wait + Sync,
+    R: Files + AllocGlobal + Clock + Eprint + Threads + Wait + Sync,
     I: Read + Drop,
     O: Write + Drop,
     E: Write + Drop,
@@ -282,21 +413,23 @@ fn pipe_to<
     ensures status { IsStatusOf (λ name. IsOfPiping) result.0 (codes "-" ∷ []) (E.contents streams.errors.0)
         (E.contents result.1.errors.0) }
 {
-    let ledger = ledger_of(request.ledger, request.may_make);
     let causes = streams.terminals.causes;
-    let (key, journal) = match begin(rt, request.key, &ledger, request.journal, causes) {
+    let Begun { key, journal, path } = match begin(
+        rt,
+        request.key,
+        request.ledger,
+        request.journal,
+        request.journal_in,
+        request.device,
+        causes,
+    ) {
         Ok(begun) => begun,
-        Err(status) => return (status, streams),
-    };
-    let asked = witness_asked(request.witness, request.new_witness);
-    let mut witness = match witness_at(rt, asked, request.ledger, &key, request.device, causes) {
-        Ok(witness) => witness,
         Err(status) => return (status, streams),
     };
     let own = OwnPaths {
         ledger: request.ledger,
         key: request.key,
-        journal: request.journal,
+        journal: journal_path(&path, request.journal),
         witness: request.witness,
     };
     let Streams {
@@ -311,32 +444,112 @@ fn pipe_to<
         journal,
     };
     let mut input = FromRead(StandardInput::new(rt, input, own));
-    let status = match pipe_from(
+    let status = pipe_in_turn(
         rt,
         host,
         &key,
         request,
-        Wary,
-        &mut witness,
         &mut input,
         &mut output,
         &mut out,
-    ) {
-        Ok((status, file)) => {
-            close_ledger(file);
-            status
-        }
-        Err(fault) => {
-            let about = about_ledger(request.ledger, fault, Step::Open);
-            explain(rt, "ledger", fault, causes, about)
-        }
-    };
+        causes,
+    );
     let streams = Streams {
         output,
         errors: out.faults,
         terminals,
     };
     (status, streams)
+}
+
+// Seals the input once the ledger file can be opened. If another process holds it, the run waits as long as it is asked
+// to. Returns the status.
+fn pipe_in_turn<
+    'r,
+    T: Files + AllocGlobal + Eprint + Threads + Wait + Sync,
+    R: Source,
+    W: Sink,
+    L: Report + Drop,
+    E: Report + Drop,
+    J: Report + Drop,
+>(
+    rt: &'r T,
+    host: &HostRuntime,
+    key: &Key,
+    request: &PipeRequest<'r>,
+    reader: &mut R,
+    writer: &mut W,
+    out: &mut Outs<L, E, J>,
+    causes: bool,
+) -> u8
+    requires workers { (0 < request.now.workers) × (request.now.workers ≤ MAX_WORKERS) }
+    requires depth { (0 < request.now.depth) × (request.now.depth ≤ MAX_DEPTH) }
+    requires most { 0 < request.now.max_chunks }
+    ensures status { IsStatusOf (λ name. IsOfPiping) result (codes "-" ∷ []) (E.taken out.old.faults)
+        (E.taken out.new.faults) }
+{
+    let mut turn = Turn::new(host, request.ledger, request.wait);
+    for _ in 0..MAX_TRIES {
+        match pipe_once(rt, host, key, request, reader, writer, out) {
+            Ok(status) => return status,
+            Err(refusal) => {
+                if !comes_again(&mut turn, refusal) {
+                    return refuse(rt, refusal, request.ledger, request.witness, causes);
+                }
+            }
+        }
+    }
+    let refusal = Refusal::Ledger(LedgerFault::Held, Step::Open);
+    refuse(rt, refusal, request.ledger, request.witness, causes)
+}
+
+// Seals the input if the ledger file can be opened now. Else nothing was read, written or printed.
+fn pipe_once<
+    'r,
+    T: Files + AllocGlobal + Threads + Wait + Sync,
+    R: Source,
+    W: Sink,
+    L: Report + Drop,
+    E: Report + Drop,
+    J: Report + Drop,
+>(
+    rt: &'r T,
+    host: &HostRuntime,
+    key: &Key,
+    request: &PipeRequest<'r>,
+    reader: &mut R,
+    writer: &mut W,
+    out: &mut Outs<L, E, J>,
+) -> Result<u8, Refusal>
+    requires workers { (0 < request.now.workers) × (request.now.workers ≤ MAX_WORKERS) }
+    requires depth { (0 < request.now.depth) × (request.now.depth ≤ MAX_DEPTH) }
+    requires most { 0 < request.now.max_chunks }
+    ensures status { IfOk result (λ status. IsStatusOf (λ name. IsOfPiping) status (codes "-" ∷ [])
+        (E.taken out.old.faults) (E.taken out.new.faults)) }
+    ensures refused { OnErr result ((reader.new ≡ reader.old) × (writer.new ≡ writer.old) × (out.new ≡ out.old)) }
+{
+    let ledger = ledger_of(request.ledger, request.may_make);
+    let asked = witness_asked(request.witness, request.new_witness);
+    let mut witness = match look(rt, &ledger, asked, key, request.device) {
+        Ok(witness) => witness,
+        Err(refusal) => return Err(refusal),
+    };
+    let (status, file) = match pipe_from(
+        rt,
+        host,
+        key,
+        request,
+        Wary,
+        &mut witness,
+        reader,
+        writer,
+        out,
+    ) {
+        Ok(sealed) => sealed,
+        Err(fault) => return Err(Refusal::Ledger(fault, Step::Open)),
+    };
+    close_ledger(file);
+    Ok(status)
 }
 
 // The witness at this path, if one is given.

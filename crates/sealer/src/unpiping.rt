@@ -17,7 +17,8 @@ use std::io::{Read, Write};
 use std::rt::{Clock, Env, Files};
 use std::thread::Threads;
 use system_files::{
-    FileOptions, Names, STREAM, SystemFiles, Told, can_reopen_input, is_folder, spool_folder,
+    FileOptions, Names, STREAM, SystemFiles, Target, Told, can_reopen_input, is_folder,
+    spool_folder,
 };
 
 /// Opens one container and writes its plaintext to the output. A terminal is refused as output, unless it was asked
@@ -51,7 +52,7 @@ pub(crate) fn unpipe<
     let options = FileOptions {
         names: Names::Plain,
         outputs: Names::Plain,
-        into: None,
+        target: Target::AsNamed,
         sync: false,
         private: false,
         own: None,
@@ -59,6 +60,8 @@ pub(crate) fn unpipe<
         reads_again: true,
         reopens_input,
         spool: Some(spool.as_str()),
+        causes: streams.terminals.causes,
+        warns_of_changes: false,
     };
     let (files, terminal) = ([request.file], streams.terminals.errors);
     let progress = progress_of(rt, matches, Names::Plain, &files, 2, terminal);

@@ -1,0 +1,14 @@
+use Rattle.std.proofs.Common.{inl, ⊎_elim, refl}
+use Rattle.sealer_core.specs.Sealing.{IsOfSealing}
+use Rattle.sealer.proofs.Statuses.{moved, of_written}
+use Rattle.sealer.proofs.sealing.seal_once.Goals as goal
+
+pub returns-clause-status : goal.returns-clause-status
+returns-clause-status g c =
+    let (keeper, found, once, ended) = c.in-Ok-seal_from.ensures.run in
+    ⊎_elim (λ none. inl none.0)
+    (λ all.
+    let (range, history, told, written, folds, lawful, witnessed, sealed, journal, is) = all in
+    moved (λ name. IsOfSealing) _ _ _ _ _ _ _ sealed.worked.named refl refl
+    (of_written (λ name. IsOfSealing) _ told written sealed.worked.lines _ _ _ _ _ sealed.worked.fitting sealed.worked.told (λ yes. refl) is))
+    ended
