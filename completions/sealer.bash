@@ -23,11 +23,11 @@ _sealer() {
             --progress1) _sealer_words 'terminal always' "$current"; return ;;
         esac
         case $before in
-            --key | --files-from | --to | --ledger | --witness | --journal) _sealer_files "$current"; return ;;
+            --key | --files-from | --to | --against | --ledger | --witness | --journal) _sealer_files "$current"; return ;;
             --workers | --lanes) _sealer_words 'auto 1 2 4 8 16' "$current"; return ;;
-            --into | --spool) _sealer_folders "$current"; return ;;
+            --into | --spool | --journal-in) _sealer_folders "$current"; return ;;
             --max-bytes | --max-chunks) _sealer_words 'max' "$current"; return ;;
-            --label | --device) return ;;
+            --label | --wait | --device) return ;;
             --window) _sealer_words '1 2 4 8 16 32 64 128 256' "$current"; return ;;
             --depth) _sealer_words '1 2 4 8 16 32 64' "$current"; return ;;
             --exponent) _sealer_words '12 13 14 15 16 17 18 19 20' "$current"; return ;;
@@ -36,20 +36,21 @@ _sealer() {
     fi
     case $command in
         # make_options.py writes from here: words
-        '') words='seal pipe unpipe open verify audit ledger help --help -h --version -V' ;;
-        seal) words='--key --workers --verbose --files-from --null --quote --keep-going --progress --ledger --no-new-ledger
-                    --device --witness --new-witness --max-bytes --lanes --window --into --skip-existing --sync --private
-                    --exponent --label --journal --help -h' ;;
-        pipe) words='--key --workers --verbose --ledger --no-new-ledger --device --witness --new-witness --depth --max-chunks
-                    --force-terminal --exponent --label --journal --help -h' ;;
-        unpipe) words='--key --workers --verbose --progress --max-bytes --spool --label --force-terminal --help -h' ;;
-        open) words='--key --workers --verbose --files-from --null --quote --keep-going --progress --max-bytes --label --to --into
-                    --skip-existing --sync --private --help -h' ;;
-        verify) words='--key --workers --verbose --files-from --null --quote --keep-going --progress --max-bytes --label --show
-                    --help -h' ;;
-        audit) words='--help -h' ;;
-        ledger) words='--ledger --verbose --help -h' ;;
-        help) words='seal pipe unpipe open verify audit ledger help' ;;
+        '') words='seal pipe unpipe open verify show audit ledger help --help -h --version -V' ;;
+        seal) words='--key --workers --verbose --json --files-from --null --quote --keep-going --quiet --progress --ledger
+                    --no-new-ledger --wait --device --witness --new-witness --max-bytes --lanes --window --into --parents
+                    --skip-existing --sync --private --exponent --label --journal --journal-in --help -h' ;;
+        pipe) words='--key --workers --verbose --json --ledger --no-new-ledger --wait --device --witness --new-witness --depth
+                    --max-chunks --force-terminal --exponent --label --journal --journal-in --help -h' ;;
+        unpipe) words='--key --workers --verbose --json --progress --max-bytes --spool --label --force-terminal --help -h' ;;
+        open) words='--key --workers --verbose --json --files-from --null --quote --keep-going --quiet --progress --max-bytes
+                    --label --to --into --parents --skip-existing --sync --private --help -h' ;;
+        verify) words='--key --workers --verbose --json --files-from --null --quote --keep-going --quiet --progress --max-bytes
+                    --label --show --against --into --parents --help -h' ;;
+        show) words='--json --files-from --null --quote --keep-going --help -h' ;;
+        audit) words='--json --against --files-from --null --quote --keep-going --help -h' ;;
+        ledger) words='--ledger --key --verbose --json --against --files-from --null --quote --keep-going --help -h' ;;
+        help) words='seal pipe unpipe open verify show audit ledger help' ;;
         # make_options.py writes to here
         *) return ;;
     esac
@@ -60,6 +61,9 @@ _sealer() {
         *:unpipe) _sealer_files "$current" ;;
         *:open) _sealer_files "$current" .stm ;;
         *:verify) _sealer_files "$current" ;;
+        *:show) _sealer_files "$current" ;;
+        *:audit) _sealer_files "$current" ;;
+        *:ledger) _sealer_files "$current" ;;
         # make_options.py writes to here
     esac
 }

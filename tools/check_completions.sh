@@ -129,12 +129,12 @@ try:
             pattern = r"(?:one\.stm|words\.stm|plain)\b"
             # fish has those with the end first, and then the others
             asked += [("sealer open ", all_names if kind == "fish" else stm, pattern)]
-            asked += [(f"sealer {it} ", all_names, pattern) for it in ("verify --key", "open --to", "seal", "unpipe")]
+            asked += [(f"sealer {it} ", all_names, pattern) for it in ("verify --key", "open --to", "seal", "unpipe", "audit")]
             # these options take a folder
             asked += [(f"sealer {it} ", {"below"}, r"(?:one\.stm|words\.stm|plain|below)\b") for it in ("seal --into", "unpipe --spool")]
             # in a folder after a tilde, folders too
             asked += [("sealer open ~/", {"below"} | (all_names if kind == "fish" else stm), r"(?:one\.stm|words\.stm|plain|below)\b")]
-            asked += [("sealer audit ", set(), pattern), ("sealer pipe ", set(), pattern), ("sealer seal --label ", set(), pattern)]
+            asked += [("sealer pipe ", set(), pattern), ("sealer seal --label ", set(), pattern)]
             asked += [(f"sealer {it} --exponent ", {str(it) for it in range(12, 21)}, r"\b\d\d\b") for it in ("seal", "pipe")]
             asked += [("sealer seal --progress=", {"terminal", "always"}, r"\b(?:terminal|always)\b")]
             asked += [("sealer pipe --depth ", {str(1 << it) for it in range(7)}, r"\b\d\d?\b")]

@@ -18,9 +18,12 @@ sys.dont_write_bytecode = True
 from option_rows import TOP, die, read, rows_of
 
 # The FILEs that a command takes: what they are, and how their names end.
-FILES = {"seal": ("file", ""), "unpipe": ("sealed file", ""), "open": ("sealed file", ".stm"), "verify": ("sealed file", "")}
+FILES = {
+    "seal": ("file", ""), "unpipe": ("sealed file", ""), "open": ("sealed file", ".stm"),
+    **{it: ("sealed file", "") for it in ("verify", "show", "audit", "ledger")},
+}
 # The kinds of rows that aren't options: several FILEs, and one.
-SEVERAL, ONE = "FilesUnless", "OptionalFile"
+SEVERAL, ONE = ("FilesUnless", "OptionalFiles"), ("OptionalFile",)
 # What the page's synopsis of a command has besides options.
 SYNOPSIS = {"audit": [".No < Ar JOURNAL"]}
 # What completes a value that is neither a number nor a word, in zsh, bash and fish.
@@ -28,6 +31,7 @@ KINDS = {
     "Path": ("file:_files", '_sealer_files "$current"; ', "-rF"),
     "Name": ("file:_files", '_sealer_files "$current"; ', "-rF"),
     "Folder": ("folder:_files -/", '_sealer_folders "$current"; ', "-xa '(__fish_complete_directories)'"),
+    "FolderWith": ("folder:_files -/", '_sealer_folders "$current"; ', "-xa '(__fish_complete_directories)'"),
     "Text": ("text: ", "", "-x"),
 }
 # The parser's own command and options, with their texts.
@@ -43,13 +47,13 @@ BEGIN, END = "make_options.py writes from here: ", "make_options.py writes to he
 
 
 def is_option(row):
-    return row.kind not in (SEVERAL, ONE)
+    return row.kind not in SEVERAL + ONE
 
 
 def named(row):
     """A row as the help has it, with the word for its value."""
     if not is_option(row):
-        return f"[{row.name}]" + ("..." if row.kind == SEVERAL else "")
+        return f"[{row.name}]" + ("..." if row.kind in SEVERAL else "")
     return f"--{row.name}" + (f"[=<{row.value}>]" if row.words else f" <{row.value}>" if row.value else "")
 
 
@@ -132,7 +136,7 @@ def mdoc(text, names, literals=()):
 def item(row):
     """A row as the page has it, after its macro."""
     if not is_option(row):
-        return f"Ar {row.name}" + (" ..." if row.kind == SEVERAL else "")
+        return f"Ar {row.name}" + (" ..." if row.kind in SEVERAL else "")
     return f"Fl Fl {row.name}" + (f" Ns Op = Ns Ar {row.value}" if row.words else f" Ar {row.value}" if row.value else "")
 
 
@@ -223,7 +227,7 @@ def zsh(options):
         words = ["_arguments", "$own", *(f"${arrays[name]}" for name in it.lists)]
         if it.name in FILES:
             what, end = FILES[it.name]
-            place = "1" if any(row.kind == ONE for row in rows_of(options, it)) else "*"
+            place = "1" if any(row.kind in ONE for row in rows_of(options, it)) else "*"
             words.append(quoted(f"{place}:{what}:_files" + (f' -g "*{end}"' if end else "")))
         arms.append(f"{it.name}) {' '.join(words)} ;;")
     arms.append(f"{HELP}) _arguments '1:command:({' '.join(name for name, _ in pairs)})' ;;")

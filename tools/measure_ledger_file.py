@@ -1,28 +1,29 @@
 #!/usr/bin/env python3
-"""measure_ledger_file.py FOLDER [ROUNDS]: what a ledger file of many ranges costs a run of the built program.
+"""measure_ledger_file.py FOLDER [ROUNDS [GREATEST]]: what a ledger file of many ranges costs a run of the built program.
 
-Makes ledger files of 10, 1,000 and 10,000 ranges of one number, with Python's sqlite3 and the statements of docs/FORMATS.md. The ranges belong
-to one other device, to as many other devices, or to the device that reserves. Seals one empty file over each in turn, ROUNDS times (21).
-Prints for each the least and the median milliseconds of a whole run, and the least minus that over a ledger of one range. FOLDER is empty.
+Makes ledger files of 1 to 1,000,000 ranges of one number, with Python's sqlite3 and the statements of docs/FORMATS.md; GREATEST leaves out
+those of more. The ranges belong to the device that reserves, to seven other devices, or to as many other devices. Seals one empty file over
+each, and prints each with `sealer ledger`, ROUNDS times (3). Prints for each the least processor time in ms and the greatest peak memory in
+MiB, and what each range adds to a ledger of one. $SEALER is another program. FOLDER is empty, best in memory-backed storage. Needs time(1).
 """
 import hashlib
 import os
 import re
 import shutil
 import sqlite3
-import statistics
 import subprocess
 import sys
-import time
 
 top = os.path.join(os.path.dirname(os.path.abspath(__file__)), "..")
-sealer = os.path.abspath(os.path.join(top, "crates/sealer/out/sealer"))
+sealer = os.path.abspath(os.environ.get("SEALER", os.path.join(top, "crates/sealer/out/sealer")))
 formats = open(os.path.join(top, "docs/FORMATS.md"), encoding="utf-8").read()
 tables = re.findall(r"^    (CREATE TABLE \w+ \(.*?4294967296\)\))$", formats, re.M | re.S)
 assert len(tables) == 2, "docs/FORMATS.md has no longer two tables"
 os.chdir(sys.argv[1])
-rounds = int(sys.argv[2]) if len(sys.argv) > 2 else 21
+rounds = int(sys.argv[2]) if len(sys.argv) > 2 else 3
+greatest = int(sys.argv[3]) if len(sys.argv) > 3 else 1_000_000
 DEVICE = 1
+COUNTS = (1, 1_000, 10_000, 87_600, 438_000, 1_000_000)
 
 with open("key", "w", encoding="ascii") as file:
     file.write("07" * 32)
@@ -41,35 +42,52 @@ def make(path, owners):
     base.close()
 
 
-def run(ledger):
-    """Milliseconds of a sealing of one empty file over a fresh copy of the ledger file."""
+def run(words):
+    """Processor milliseconds of a run, and its peak memory in MiB. A child of this process would count this one's memory too."""
+    began = os.times()
+    done = subprocess.run(["/usr/bin/time", "-f", "%M", "-o", "peak", *words], stdout=subprocess.DEVNULL, check=False)
+    ended = os.times()
+    if done.returncode != 0:
+        sys.exit(f"{words}: status {done.returncode}")
+    took = ended.children_user + ended.children_system - began.children_user - began.children_system
+    with open("peak", encoding="ascii") as file:
+        return 1000 * took, int(file.read()) / 1024
+
+
+def seal(ledger):
+    """A sealing of one empty file over a fresh copy of the ledger file."""
     for name in ("copy", "copy-wal", "empty.stm"):
         if os.path.exists(name):
             os.remove(name)
     shutil.copy(ledger, "copy")
-    words = [sealer, "seal", "--key", "key", "--ledger", "copy", "--device", str(DEVICE), "empty"]
-    began = time.perf_counter()
-    status = subprocess.run(words, stdout=subprocess.DEVNULL, check=False).returncode
-    took = 1000 * (time.perf_counter() - began)
-    if status != 0:
-        sys.exit(f"{ledger}: status {status}")
-    return took
+    return run([sealer, "seal", "--key", "key", "--ledger", "copy", "--device", str(DEVICE), "empty"])
+
+
+def told(ledger):
+    """The listing of a ledger file."""
+    return run([sealer, "ledger", "--ledger", ledger])
+
+
+def spread(count, devices):
+    """The counts of so many devices."""
+    return [(9 + i, count // devices + (i < count % devices)) for i in range(min(count, devices))]
 
 
 open("empty", "wb").close()
-make("one", [(9, 1)])
-kinds = {"one other device's": lambda n: [(9, n)], "as many other devices'": lambda n: [(9 + i, 1) for i in range(n)], "its own": lambda n: [(DEVICE, n)]}
-names = {}
+kinds = {"its own": lambda n: [(DEVICE, n)], "seven others'": lambda n: spread(n, 7), "as many others'": lambda n: spread(n, n)}
+print("ranges   whose             seal: ms      MiB  us, bytes a range   ledger: ms      MiB  us, bytes a range")
 for whose, owners in kinds.items():
-    for count in (10, 1000, 10000):
-        names[f"{count}-{len(names)}"] = (count, whose)
-        make([*names][-1], owners(count))
-figures = {name: [] for name in ["one", *names]}
-for _ in range(rounds):
-    for name, found in figures.items():
-        found.append(run(name))
-least = {name: min(found) for name, found in figures.items()}
-middle = {name: statistics.median(found) for name, found in figures.items()}
-print("ranges  whose                     least  middle  least less that of one range")
-for name, (count, whose) in {"one": (1, "one other device's"), **names}.items():
-    print(f"{count:6}  {whose:24}  {least[name]:5.1f}   {middle[name]:5.1f}  {least[name] - least['one']:28.1f}")
+    first = {}
+    for count in COUNTS:
+        if count > greatest:
+            continue
+        make("ledger", owners(count))
+        row = f"{count:9,}  {whose:15}"
+        for command in (seal, told):
+            found = [command("ledger") for _ in range(rounds)]
+            took, peak = min(ms for ms, _ in found), max(mib for _, mib in found)
+            began = first.setdefault(command, (took, peak))
+            more = max(count - 1, 1)
+            row += f"  {took:9.1f}  {peak:7.1f}  {1000 * (took - began[0]) / more:8.2f} {1048576 * (peak - began[1]) / more:8.0f}"
+        print(row, flush=True)
+        os.remove("ledger")

@@ -15,6 +15,7 @@ FIELDS = {
     "Path": r"is_required: (?P<required>true|false)",
     "Name": "",
     "Folder": "",
+    "FolderWith": r'"(?P<other>[\w-]+)"',
     "Text": "",
     "Number": r'least: (?P<least>\S+),\s*most: (?P<most>\S+),\s*absent: Absent::(?:Default\("(?P<default>\d+)"\)|Nothing|(?P<required>Fault))',
     "Bytes": r'most: (?P<most>\S+) as i64,\s*default: "(?P<default>\d+)"',
@@ -22,6 +23,7 @@ FIELDS = {
     "Nothing": "",
     "NothingWithout": r'"(?P<other>[\w-]+)"',
     "FilesUnless": r'"(?P<other>[\w-]+)"',
+    "OptionalFiles": "",
     "OptionalFile": "",
 }
 STRING = r'"((?:[^"\\]|\\.)*)"'

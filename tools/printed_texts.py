@@ -16,14 +16,19 @@ FAULTS = {
     "pipe": {**RUN, "failed": ["FileFault"], "usage": ["UsageFault"]},
     "unpipe": {"failed": ["FileFault"], "key": ["KeyFault"], "usage": ["UsageFault"], **CAUSE},
     "open": {"failed": ["FileFault"], "key": ["KeyFault"], "usage": ["UsageFault", "PlaceFault"], **CAUSE},
-    "verify": {"failed": ["FileFault"], "key": ["KeyFault"], "usage": ["UsageFault"], **CAUSE},
-    "audit": {"audit": ["AuditFault"]},
-    "ledger": {"ledger": ["LedgerFault", "TellFault"], **CAUSE},
+    "verify": {"failed": ["FileFault"], "key": ["KeyFault"], "against": ["AgainstFault"], "usage": ["UsageFault"], **CAUSE},
+    "show": {"failed": ["FileFault"], "show": ["TellFault"], "usage": ["UsageFault"], **CAUSE},
+    "audit": {"audit": ["AuditFault", "TellFault"], "failed": ["FileFault"], "usage": ["UsageFault"], **CAUSE},
+    "ledger": {"failed": ["FileFault"], "key": ["KeyFault"], "ledger": ["LedgerFault", "TellFault"], "usage": ["UsageFault"], **CAUSE},
 }
-# The causes that only a ledger file has, and those that only a journal has.
+# The line with the cause of a FILE: its texts are those of the others, after the FILE's name.
+OF_A_FILE = "cause: {name}: {cause}"
+# The causes that only a ledger file has, those that only a journal has, and those that only a FILE has, or its output or spool.
 OF_LEDGER = "NoPath LostLedger EmptyLedger AnotherLog UnusableLog HardLink LeftJournal CannotMake Empty NoDatabase NoTables SomethingElse Damaged Held"
 OF_JOURNAL = "Exists OfLedger"
 OF_WITNESS = "AnotherFile NoLine NoWitness NoPlace"
+OF_OUTPUT = "NoOutputName LinkOnWay OutputThere OutputShared OutputTaken PartGone"
+OF_FILE = f"{OF_OUTPUT} OwnFile NoText TooLarge"
 # The faults that can't come at these commands, and why.
 NEVER = (
     ("seal", "FileFault", "NoSuffix AnotherLabel Changed SpoolFailed Unopened", "IsOfSealing leaves them out"),
@@ -34,8 +39,16 @@ NEVER = (
     ("open", "FileFault", "OutOfMemory NoNumber SpoolFailed Unsealed", "IsOfOpening leaves them out"),
     ("verify", "FileFault", "NoSuffix OutputExists CannotCreate OutOfMemory NoNumber Changed SpoolFailed Unsealed", "IsOfVerifying leaves them out"),
     ("verify", "OpenFault", "Write", "IsOfVerifying leaves it out"),
+    ("show audit ledger", "FileFault", "NoSuffix OutputExists CannotCreate OutOfMemory NoNumber AnotherLabel Changed SpoolFailed Unsealed", "IsOfLooking leaves them out"),
+    ("show audit ledger", "OpenFault", "TooLong KeyMismatch BadLength Forged OutOfMemory Write", "IsOfLooking leaves them out"),
+    ("show audit ledger", "UsageFault", "Missing OutOfRange LanesAndWorkers LabelTooLong InputTwice NoSpoolFolder Terminal", "there is no such option, and - is the name of a file"),
+    ("show audit ledger", "UsageFault", "ToForMany ToAndOthers ToNoFile InputNeedsName", "there is no --to"),
+    ("show", "UsageFault", "FilesAlone", "there is no --against"),
+    ("seal pipe unpipe open verify", "UsageFault", "FilesAlone", "there is no --against"),
+    ("seal pipe unpipe open verify show ledger", "UsageFault", "InputIsJournal", "there is no journal on standard input"),
     ("seal pipe unpipe open verify", "UsageFault", "Missing OutOfRange", "the parser takes no words without these arguments, and no other numbers"),
     ("pipe unpipe open verify", "UsageFault", "LanesAndWorkers", "there is no --lanes"),
+    ("unpipe open verify show audit ledger", "UsageFault", "TwoJournals", "there is no option for a journal"),
     ("seal pipe unpipe verify", "UsageFault", "ToForMany ToAndOthers ToNoFile InputNeedsName", "there is no --to"),
     ("seal pipe open verify", "UsageFault", "NoSpoolFolder", "there is no spool"),
     ("seal pipe unpipe", "UsageFault", "InputTwice", "- is the name of a file, or there is no list of FILEs"),
@@ -46,12 +59,20 @@ NEVER = (
     ("pipe", "ReserveFault", "TooMany", "it reserves one number"),
     ("ledger", "LedgerFault", "NotSeen", "there is no witness"),
     ("unpipe open verify", "Cause", f"{OF_LEDGER} {OF_JOURNAL} {OF_WITNESS}", "there is no ledger, and no journal"),
-    ("ledger", "Cause", f"NoDigits Passed Input CannotMake {OF_JOURNAL} {OF_WITNESS}", "there is no key, no list, no journal and no witness"),
-    ("pipe unpipe", "Cause", "Input", "there is no list"),
+    ("ledger", "Cause", f"Passed CannotMake {OF_JOURNAL} {OF_WITNESS}", "there is no journal and no witness"),
+    ("show audit", "Cause", f"NoDigits Passed {OF_LEDGER} {OF_JOURNAL} {OF_WITNESS}", "there is no key, no ledger, and no journal file"),
+    ("pipe", "Cause", "Input", "there is no list"),
+    ("pipe ledger show audit", "Cause", OF_FILE, "there is no FILE with a cause"),
+    ("unpipe verify", "Cause", OF_OUTPUT, "there is no output with a name"),
+    ("open verify", "Cause", "OwnFile", "a FILE can be any file"),
+    ("verify", "Cause", "TooLarge", "nothing is written to a file"),
+    ("unpipe", "Cause", "NoText Input", "its name is a path, and standard input is opened once"),
 )
 # The line about a key file that others can read, and its commands.
 WARNING = r'eprintln!\(rt; "(warning: \{path\} can be read by others)"\)'
-WARNED = ("seal", "pipe", "unpipe", "open", "verify")
+WARNED = ("seal", "pipe", "unpipe", "open", "verify", "ledger")
+# The line about a FILE that changes while it is sealed.
+CHANGED = r'eprintln!\(rt; "(warning: \{name\} changed while it was sealed)"\)'
 # The types of faults that are never printed themselves, and what becomes of them.
 UNPRINTED = {
     "Failed": "a stream's: read failed, or write failed",
@@ -71,8 +92,15 @@ LINES = {
     "unpipe": ["FileOutcome::Opened", "FileOutcome::Failed"],
     "open": ["FileOutcome::Opened", "FileOutcome::Failed"],
     "verify": ["FileOutcome::Good", "FileOutcome::Shown", "FileOutcome::Failed"],
-    "audit": ["Verdict::Legal", "Verdict::Malformed", "Verdict::Illegal"],
-    "ledger": ["Holding::"],
+    "show": ["Shown::", "FileOutcome::Failed"],
+    "audit": ["Verdict::Legal", "Verdict::Malformed", "Verdict::Illegal", "FileOutcome::Failed"],
+    "ledger": ["Holding::", "KeyAlone::", "FileOutcome::Failed"],
+}
+# The lines of --against, each with its command, and how the sources print it.
+AGAINST = {
+    "verify": [r'=> b"(missing )"', r'=> b"(other number )"', r'=> b"(not listed )"'],
+    "ledger": [r'"(ledger: older than \{name\})\\n"'],
+    "audit": [r'"(not sealed \{name\})\\n"', r'"(missing file \{number\})\\n"'],
 }
 # The line of a FILE that is kept, which print_kept writes.
 KEPT = r'"(kept \{name\})\\n"'
@@ -102,6 +130,7 @@ def only(pattern, what):
 
 def written(code):
     """The text that a piece of code writes, with its holes."""
+    code = re.sub(r"\bwrite_(?!str|char)\w+\(f, ", 'write_str("{it}"), (', code)
     return "".join(re.findall(r'write(?:!\(\s*f,|_str\()\s*"((?:[^"\\]|\\.)*)"', code))
 
 
@@ -143,7 +172,8 @@ def texts(name, never):
 def everywhere():
     """The texts that the program prints itself, before it knows its command."""
     printed = re.findall(r'\beprintln!\(\s*\w+;\s*"([^"]*)"', SOURCES)
-    apart = {"{subject}: {fault}", "cause: {cause}", only(WARNING, "the warning about a key file")}
+    warnings = {only(WARNING, "the warning about a key file"), only(CHANGED, "the warning about a FILE")}
+    apart = {"{subject}: {fault}", "cause: {cause}", OF_A_FILE, *warnings}
     if not apart <= set(printed):
         raise SystemExit("where are faults and causes printed?")
     return frozenset(printed) - apart
@@ -155,6 +185,8 @@ def faults(command):
     failed, errors = set(), set(everywhere())
     if command in WARNED:
         errors.add(only(WARNING, "the warning about a key file").replace("{path}", "F"))
+    if command == "seal":
+        errors.add(only(CHANGED, "the warning about a FILE").replace("{name}", "FILE"))
     for subject, names in FAULTS[command].items():
         for name in names:
             for text in texts(name, never):
@@ -169,10 +201,13 @@ def lines(command):
     """The lines of a command, with X for what varies."""
     if command in ("seal", "open"):
         yield only(KEPT, "the line of a FILE that is kept").replace("{name}", "X")
+    for it in AGAINST.get(command, []):
+        line = re.sub(r"\{[\w:]+\}", "X", only(it, f"a line of {command} --against"))
+        yield line + "X" if line.endswith(" ") else line
     for it in LINES[command]:
         name, variant = it.split("::")
         for line in texts_by_variant(name)[variant].split("\\n"):
-            line = texts_by_variant("Facts")[""] if line == "{facts}" else line
+            line = texts_by_variant("Facts")[""] if line == "{facts}" else line.replace("{end}", " label {label}")
             line = line.replace("{name}", "-") if command == "pipe" else line
             yield re.sub(r"\{[\w:]+\}", "X", line).strip()
 

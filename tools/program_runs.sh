@@ -106,7 +106,7 @@ wants nothing 2 '' "begins error: 'sealer' requires a subcommand"
 run pack < /dev/null
 wants unknown 2 '' "begins error: unrecognized subcommand 'pack'"
 run audit more < /dev/null
-wants more 2 '' "begins error: unexpected argument 'more' found"
+wants more 2 '' 'usage: FILEs need --against'
 run $'\xff' < /dev/null
 wants no-text 2 '' 'usage: an argument is no text'
 
@@ -233,7 +233,8 @@ for folder in files/none files/numbers.stm ''; do
 done
 is nothing-at-the-root no test -e /numbers
 run verify --key "$key" --into files/into files/numbers.stm
-wants verify-has-no-into 2 '' "begins error: unexpected argument '--into' found"
+wants verify-puts-nothing-into-a-folder 2 '' 'begins error: the following required arguments were not provided:
+  --against <F>'
 
 # FILEs whose outputs exist are kept, and take no number: so a run that was cut short is repaired by the same command.
 fresh
@@ -405,6 +406,144 @@ wants open-keeps-going 1 'opened files/into/a.stm bytes 1
 failed : name does not end in .stm
 failed files/\xff.stm: cannot open' ''
 
+# With --parents outputs keep the folders of their FILEs' paths below the folder of --into, which are made as needed.
+fresh
+rm files/numbers.stm
+mkdir -p tree/x/deep tree/y files/vault files/back
+printf 1 > tree/x/index.html
+printf 22 > tree/y/index.html
+printf 333 > tree/x/deep/z
+find tree -type f | LC_ALL=C sort > list
+seals --into files/vault --parents --files-from list
+wants parents-seal 0 'sealed tree/x/deep/z file 0 bytes 3
+sealed tree/x/index.html file 1 bytes 1
+sealed tree/y/index.html file 2 bytes 2' ''
+is parents-are-made test "$(cd files/vault && find . -type f | LC_ALL=C sort | tr '\n' ' ')" \
+    = './tree/x/deep/z.stm ./tree/x/index.html.stm ./tree/y/index.html.stm '
+(cd files/vault && find . -type f | LC_ALL=C sort) > list
+(cd files/vault && exec "$sealer" open --key "$key" --into ../back --parents --files-from ../../list) > out 2> err
+status=$?
+wants parents-open 0 'opened ./tree/x/deep/z.stm bytes 3
+opened ./tree/x/index.html.stm bytes 1
+opened ./tree/y/index.html.stm bytes 2' ''
+is parents-give-the-tree-back diff -r tree files/back/tree
+seals --into files/vault --parents --skip-existing tree/x/index.html tree/y/index.html tree//x/./deep/z
+wants parents-keep 0 'kept tree/x/index.html
+kept tree/y/index.html
+kept tree//x/./deep/z' ''
+seals --into files/vault tree/x/index.html tree/y/index.html
+wants without-parents-one-name 2 '' 'usage: two FILEs have one last name'
+# Which paths have a place below the folder, and which have one place.
+mkdir files/in
+printf 1 > files/a
+printf 4444 > files/d
+seals --into files/in --parents files/../files/a .. files/a/ files/. files/d "$PWD/files/a"
+unnumbered
+wants parents-refuse-up 1 "failed files/../files/a: cannot create
+failed ..: cannot open
+failed files/a/: cannot open
+failed files/.: cannot open
+sealed files/d bytes 4
+sealed $PWD/files/a bytes 1" ''
+is absolute-paths-are-below test "$(cd files/in && find . -type f | LC_ALL=C sort | tr '\n' ' ')" = "$(printf '%s\n' \
+    ".$PWD/files/a.stm" ./files/d.stm | LC_ALL=C sort | tr '\n' ' ')"
+for same in files/d ./files/d files//d files/./d .//./files/d; do
+    run seal --key none --ledger none --device 1 --into files/in --parents files/d "$same"
+    wants "parents-one-output $same" 2 '' 'usage: two FILEs have one output'
+done
+seals --into files/in --parents --keep-going files/d ./files/d files/../files/d
+wants parents-keep-going 1 'failed files/d: output exists
+failed ./files/d: output exists
+failed files/../files/d: cannot create' ''
+# From which of the two it was made isn't known, so neither is kept.
+seals --into files/in --parents --keep-going --skip-existing files/d ./files/d
+wants parents-keep-none-of-two 1 'failed files/d: output exists
+failed ./files/d: output exists' ''
+seals --into files/in --parents --keep-going --skip-existing files/d files/none
+wants parents-keep-one 1 'kept files/d
+failed files/none: cannot open' ''
+for name in .. . .stm; do
+    cp files/in/files/d.stm "files/$name.stm"
+    run open --key "$key" --into files/in --parents "files/$name.stm"
+    wants "parents-no-output '$name'" 1 "failed files/$name.stm: $([ "$name" = .stm ] && echo 'output exists' || echo 'cannot create')" ''
+    rm -f "files/$name.stm"
+    [ "$name" != . ] || : > files/in/files/.stm
+done
+# A link, or a file, where a folder is needed.
+mkdir -p outside files/in/real link/sub inner dangling plain
+for folder in link link/sub inner dangling plain; do printf 1 > $folder/a; done
+ln -s "$PWD/outside" files/in/link
+ln -s real files/in/inner
+ln -s nowhere files/in/dangling
+: > files/in/plain
+seals --into files/in --parents link/a link/sub/a inner/a dangling/a plain/a
+wants parents-through-links 1 'failed link/a: cannot create
+failed link/sub/a: cannot create
+failed inner/a: cannot create
+failed dangling/a: cannot create
+failed plain/a: cannot create' ''
+is nothing-is-made-elsewhere test -z "$(ls -A outside)$(ls -A files/in/real)$(ls -d files/in/nowhere 2>/dev/null)"
+printf x > outside/a.stm
+seals --into files/in --parents --skip-existing link/a
+wants parents-keep-nothing-behind-a-link 1 'failed link/a: cannot create' ''
+seals --into files/none --parents files/d
+wants parents-need-the-folder 1 'failed files/d: cannot create' ''
+seals --into '' --parents files/d
+wants parents-of-no-folder 1 'failed files/d: cannot create' ''
+run seal --key "$key" --ledger files/ledger --device 1 --parents files/d
+wants parents-without-into 2 '' 'begins error: the following required arguments were not provided:
+  --into <DIR>'
+run verify --key "$key" --parents files/d
+wants verify-makes-no-folders 2 '' 'begins error: the following required arguments were not provided:
+  --against <F>
+  --into <DIR>'
+# Many FILEs into one new folder, by lanes; and the modes of new folders.
+mkdir many files/modes
+for n in $(seq 1 40); do seq 1 "$n" > many/$n; done
+seals --into files/in --parents --lanes 4 many/*
+is parents-by-lanes test "$status $(grep -c '^sealed ' out) $(ls files/in/many | wc -l)" = '0 40 40'
+(cd files/in && exec "$sealer" open --key "$key" --into ../back --parents many/*) > out 2> err
+is parents-by-lanes-are-whole diff -r many files/back/many
+modes_of() { stat -c %a "$@" | tr '\n' ' '; }
+(umask 027; exec "$sealer" seal --key "$key" --ledger files/ledger --device 1 --into files/modes --parents tree/x/deep/z) > out 2> err
+is modes-of-new-folders test "$(modes_of files/modes/tree files/modes/tree/x files/modes/tree/x/deep files/modes/tree/x/deep/z.stm)" = '750 750 750 640 '
+(umask 022; exec "$sealer" seal --key "$key" --ledger files/ledger --device 1 --into files/modes --private --parents many/1) > out 2> err
+is modes-of-private-folders test "$(modes_of files/modes/many files/modes/many/1.stm)" = '700 600 '
+# A folder that may not be written.
+mkdir -p shut/in/open
+cp "$sealer" shut/sealer
+cp "$key" shut/key
+cp -r files/vault/tree shut/tree
+chmod -R a+rX shut
+chmod 555 shut/in
+(umask 0; chmod 777 shut/in/open)
+chmod 755 "$room"
+(cd shut && as_user ./sealer open --key key --into in --parents tree/x/index.html.stm tree/y/index.html.stm) > out 2> err
+status=$?
+wants parents-in-a-shut-folder 1 'failed tree/x/index.html.stm: cannot create
+failed tree/y/index.html.stm: cannot create' ''
+is nothing-is-in-the-shut-folder test "$(ls -A shut/in)" = open
+(cd shut && as_user ./sealer open --key key --into in/open --parents tree/x/index.html.stm) > out 2> err
+status=$?
+wants parents-in-an-open-folder 0 'opened tree/x/index.html.stm bytes 1' ''
+# With --sync a new folder's name is on the disk before the output's line; if it can't be, the folder is removed.
+if command -v strace >/dev/null; then
+    mkdir files/synced
+    strace -f -y -e trace=mkdir,mkdirat,fsync,link,write -o calls "$sealer" seal --key "$key" --ledger files/ledger --device 1 \
+        --sync --into files/synced --parents tree/x/index.html tree/x/deep/z > out 2> err
+    is parents-are-synced test "$(sed -n 's|.*mkdir.*"files/synced/\(.*\)", 0777) *= 0|made \1|p
+        s|.*fsync([0-9]*<.*/files/synced>) *= 0|synced .|p; s|.*fsync([0-9]*<.*/files/synced/\([a-z/]*\)>) *= 0|synced \1|p
+        s|.* link(.*, "files/synced/\(.*\.stm\)") *= 0|named \1|p; s|.*write(1<.*|told|p' calls | tr '\n' ';')" = 'made tree;synced .;made tree/x;synced tree;named tree/x/index.html.stm;synced tree/x;told;made tree/x/deep;synced tree/x;named tree/x/deep/z.stm;synced tree/x/deep;told;'
+    rm -r files/synced/tree
+    strace -f -P "$PWD/files/synced" -e trace=fsync -e inject=fsync:error=EIO:when=1 -o calls "$sealer" seal --key "$key" --ledger files/ledger \
+        --device 1 --sync --into files/synced --parents tree/x/index.html tree/y/index.html > out 2> err
+    status=$?
+    unnumbered
+    wants parents-sync-fails 1 'failed tree/x/index.html: cannot create
+sealed tree/y/index.html bytes 2' ''
+fi
+rm -rf tree outside link inner dangling plain many shut
+
 # Outputs on the disk: the calls, in their order, and what a failing one leaves.
 fresh
 if command -v strace >/dev/null; then
@@ -562,6 +701,69 @@ timeout 60 bash -c 'name_is_taken > files/late' & run seal --key "$key" --ledger
 wait
 wants name-is-taken 1 'failed files/late: write failed' ''
 is the-name-stays-anothers test "$(cat files/late.stm) $(parts files)" = 'theirs '
+# With causes the loser of the race is told so, however many lanes it has.
+for lanes in 1 2; do
+    rm files/late.stm
+    install -m 600 "$key" files/key
+    timeout 60 bash -c 'name_is_taken > files/late' &
+    run seal --verbose --key files/key --ledger files/ledger --device 1 --lanes $lanes files/late
+    wait
+    wants "name-is-taken-cause $lanes" 1 'failed files/late: write failed' "cause: files/late: another file got the output's name meanwhile"
+done
+
+# A FILE that is too long costs nothing: its length is asked before it is read, and before it has a number. A pipe's length isn't known.
+fresh
+truncate -s 3G files/long
+cp numbers.plain files/a
+for lanes in 1 2; do
+    run seal --key "$key" --ledger files/ledger --device $lanes --lanes $lanes --journal files/journal$lanes files/long files/a
+    wants "too-long-at-once $lanes" 1 'failed files/long: too long
+sealed files/a file 0 bytes 1492' ''
+    is "too-long-has-no-number $lanes" test "$(cat files/journal$lanes)" = "range $lanes 0 2 $lanes
+0 issue 0
+0 sealed 0"
+    is "too-long-leaves-none $lanes" test "$(ls -A files | grep -c 'long.')" = 0
+    if command -v strace >/dev/null; then
+        strace -f -y -o calls -e trace=read,pread64,readv,preadv "$sealer" seal --key "$key" --ledger files/ledger --device $lanes --lanes $lanes files/long > out 2> err
+        status=$?
+        wants "too-long-traced $lanes" 1 'failed files/long: too long' ''
+        is "too-long-is-not-read $lanes" test "$(grep -c 'files/long>' calls) $(grep -c 'files/ledger>\|key>' calls | sed 's/[1-9][0-9]*/some/')" = '0 some'
+    fi
+    rm files/a.stm
+    run seal --key "$key" --ledger files/ledger --device $lanes --lanes $lanes --max-bytes 3G --journal files/journal$lanes.2 files/a
+    wants "too-long-after $lanes" 0 "sealed files/a file $(command -v strace >/dev/null && echo 3 || echo 2) bytes 1492" ''
+    rm files/a.stm
+done
+mkfifo files/pipe
+timeout 60 cp numbers.plain files/pipe &
+run seal --key "$key" --ledger files/ledger --device 3 --max-bytes 1491 --journal files/journal3 files/a files/pipe
+wait
+wants too-long-of-a-pipe 1 'failed files/a: too long
+failed files/pipe: too long' ''
+is too-long-of-a-pipe-has-a-number test "$(cat files/journal3)" = 'range 3 0 2 1
+0 issue 0
+0 void 0'
+# A FILE that is written to while it is sealed is warned of, with causes alone: its reads are slow, and its writer is not.
+if command -v strace >/dev/null; then
+    (umask 077; cp "$key" files/key)
+    for how in --verbose --sync; do
+        head -c 4000000 /dev/zero > files/grows
+        (while [ ! -e files/ended ]; do printf x >> files/grows; sleep 0.02; done) &
+        strace -f -qq -o /dev/null -e trace=read -e inject=read:delay_enter=20000:when=20+1 \
+            "$sealer" seal $how --key files/key --ledger files/ledger --device 4 files/grows > out 2> err
+        status=$?
+        touch files/ended
+        wait
+        sed -i 's/bytes [0-9]*$/bytes N/; s/file [0-9]*/file N/' out
+        [ $how = --verbose ] && warning='warning: files/grows changed while it was sealed' || warning=
+        wants "a-file-that-grows $how" 0 'sealed files/grows file N bytes N' "$warning"
+        rm files/grows files/grows.stm files/ended
+    done
+fi
+touch files/long.stm
+run seal --key "$key" --ledger files/ledger --device 3 files/long
+wants too-long-after-the-output 1 'failed files/long: output exists' ''
+rm files/long
 
 # A folder from which no name can be removed, found out at once, or as an output is whole: it is named, and a part's name stays.
 fresh
@@ -649,10 +851,10 @@ except OSError:
     pass
 # what a terminal shows: a line is overwritten from its beginning, and erased after that
 shown = [part.split(b"\x1b[K")[-1] for part in text.replace(b"\r\n", b"\n").split(b"\n")]
-sys.stdout.write(f"{run.returncode} {1 <= text.count(b' of 2 files') <= 8} {shown}\n")
+sys.stdout.write(f"{run.returncode} {1 <= text.count(b' of 2 files') <= 9} {shown}\n")
 END
 install -m 600 "$key" own-key
-is progress-on-a-terminal test "$(python3 terminal.py "$sealer" verify --key own-key --progress)" = "1 True [b'good files/slow.stm bytes 1492', b'failed files/none: cannot open', b'']"
+is progress-on-a-terminal test "$(python3 terminal.py "$sealer" verify --key own-key --progress)" = "1 True [b'good files/slow.stm bytes 1492', b'cause: files/none: there is no such file', b'failed files/none: cannot open', b'']"
 
 # Key files.
 digits=$(cat "$key")
@@ -820,6 +1022,77 @@ is journal-text test "$(cat life/journal)" = 'range 1 0 4 1
 run audit < life/journal
 wants journal-is-legal 0 'legal: 2 granted, 2 sealed, 0 void, 0 open, 0 refused' ''
 is no-output-of-what-is-not-there no test -e life/none.stm
+# With --journal-in each run's journal has a name of its own in a folder, so that the same command can run again.
+mkdir journals journals/kept
+printf 1 > life/again
+names_in() { (cd "$1" && ls | sed 's/-[0-9]*-\([0-9]*\)\.journal$/-SECOND-\1.journal/' | tr '\n' ' '); }
+before=$(date +%s)
+for night in 1 2; do
+    run seal --key "$key" --ledger journals/kept/ledger --device 7 --journal-in journals --into journals/kept life/again
+    [ $night = 1 ] && wants journal-in 0 'sealed life/again file 0 bytes 1' '' || wants journal-in-again 1 'failed life/again: output exists' ''
+done
+after=$(date +%s)
+is two-journals test "$(ls journals | grep -c '^device-7-[0-9]*-[0-9]*\.journal$')" = 2
+for journal in journals/*.journal; do
+    second=$(sed 's/.*device-7-\([0-9]*\)-[0-9]*\.journal/\1/' <<< "$journal")
+    is journal-has-its-second test "$before" -le "$second" -a "$second" -le "$after"
+    run audit < "$journal"
+    wants "audit of $journal" 0 'begins legal: ' ''
+done
+is journals-of-both test "$(cat journals/*.journal | LC_ALL=C sort | tr '\n' ';')" = '0 issue 0;0 sealed 0;range 7 0 1 1;range 7 1 1 1;'
+for night in 1 2; do
+    "$sealer" pipe --key "$key" --ledger journals/kept/ledger --device 7 --journal-in journals/ < life/again > journals/kept/stream 2> err
+    status=$?
+    : > out
+    wants "stream-journal-in $night" 0 '' "sealed - file $((night + 1)) bytes 1"
+done
+is four-journals test "$(ls journals | grep -c '^device-7-[0-9]*-[0-9]*\.journal$')" = 4
+for journal in journals/*.journal; do
+    run audit < "$journal"
+    wants "audit of a stream's $journal" 0 'begins legal: ' ''
+done
+# Runs at once, of two ledgers and one device, that share the folder.
+for n in 1 2 3 4 5 6; do
+    printf 1 > journals/kept/f$n
+    "$sealer" seal --key "$key" --ledger journals/kept/l$n --device 8 --journal-in journals journals/kept/f$n > journals/kept/out$n 2>&1 &
+done
+wait
+is journals-at-once test "$(ls journals | grep -c '^device-8-') $(cat journals/device-8-* | grep -c '^0 sealed 0$')" = '6 6'
+# Its faults come before anything is reserved.
+for folder in journals/none '' life/again "$(printf 'journals/%0250d' 0)/x" "$(head -c 4090 /dev/zero | tr '\0' j)"; do
+    run seal --key "$key" --ledger journals/kept/no-ledger --device 7 --journal-in "$folder" life/again
+    wants "journal-in '${folder:0:20}'" 2 '' 'journal: cannot create'
+    "$sealer" pipe --key "$key" --ledger journals/kept/no-ledger --device 7 --journal-in "$folder" < life/again > out 2> err
+    status=$?
+    wants "stream-journal-in '${folder:0:20}'" 2 '' 'journal: cannot create'
+done
+cp "$key" journals/kept/key
+chmod 600 journals/kept/key
+run seal --key journals/kept/key --ledger journals/kept/no-ledger --device 7 --verbose --journal-in journals/none life/again
+wants journal-in-cause 2 '' 'journal: cannot create
+cause: the folder is missing'
+run seal --key journals/kept/key --ledger journals/kept/no-ledger --device 7 --verbose --journal-in '' life/again
+wants journal-in-no-folder 2 '' 'journal: cannot create
+cause: the folder is missing'
+is no-ledger-was-made no test -e journals/kept/no-ledger
+run seal --key none --ledger none --device 7 --journal x --journal-in journals life/again
+wants journal-and-journal-in 2 '' 'usage: --journal excludes --journal-in'
+run pipe --key none --ledger none --device 7 --journal x --journal-in journals < life/again
+wants stream-journal-and-journal-in 2 '' 'usage: --journal excludes --journal-in'
+# A journal there is one of the run's own files. Its name is known only once it is made, so a FILE links to each that may come.
+mkdir journals/own
+now=$(date +%s)
+for n in $(seq 0 9); do ln -s "device-7-$((now + n))-0.journal" journals/own/link$n; done
+run seal --key "$key" --ledger journals/kept/ledger --device 7 --journal-in journals/own journals/own/link*
+is own-journal-is-no-file test "$status $(grep -c '^failed journals/own/link[0-9]: cannot open$' out)" = '1 10'
+# All names of the seconds to come are taken.
+mkdir journals/full
+(cd journals/full && now=$(date +%s) && for s in $(seq 0 20); do for n in $(seq 0 999); do printf 'device-7-%s-%s.journal\n' $((now + s)) "$n"; done; done | xargs touch)
+run seal --key "$key" --ledger journals/kept/no-ledger --device 7 --journal-in journals/full life/again
+wants journal-in-full 2 '' 'journal: output exists'
+is no-ledger-was-made-there-either no test -e journals/kept/no-ledger
+rm -r journals life/again
+
 run verify --key "$key" life/numbers.stm life/empty.stm
 wants verify-sealed 0 'good life/numbers.stm bytes 1492
 good life/empty.stm bytes 0' ''
@@ -1411,6 +1684,187 @@ rm life/slow
 run ledger
 wants ledger-of-none 2 '' 'begins error: the following required arguments were not provided:
   --ledger <F>'
+
+# Headers, which are read without a key. What a line shows is what Python reads of the bytes by docs/FORMATS.md.
+mkdir life/heads
+cat > shown_by_python.py <<'END'
+import os
+import sys
+
+for name in sys.argv[1:]:
+    head = open(name, "rb").read(280)
+    version, chunk, device, number = head[8], 2 ** head[9], int.from_bytes(head[10:13], "big"), int.from_bytes(head[13:17], "big")
+    begin = 25 + head[24] if version == 2 else 24
+    body = os.stat(name).st_size - begin
+    fits = [n for n in (body - 16 * k for k in {1, -(-body // (chunk + 16))}) if n >= 0 and n + 16 * max(1, -(-n // chunk)) == body]
+    plain = "".join(chr(it) if 31 < it < 127 and it not in b'"\\' else f"\\x{it:02x}" for it in head[25:begin])
+    label = f' label "{plain}"' if version == 2 else ""
+    print(f"unchecked {name} version {version} chunk {chunk} key {head[17:24].hex()} device {device} file {number} bytes {(fits or ['?'])[0]}{label}")
+END
+heads() { run seal --key "$key" --ledger life/heads/l --device "$@"; } # DEVICE .. FILES
+: > life/heads/empty
+cp life/more life/heads/more
+head -c 8193 life/more > life/heads/chunks
+head -c 8192 life/more > life/heads/full
+heads 1 --journal life/heads/first life/heads/empty life/heads/more
+heads 1 --exponent 12 life/heads/chunks
+heads 16777215 --label "$(printf 'a"\\\t\303\244')" --exponent 20 life/heads/full
+cp life/heads/l life/heads/before
+cp life/more life/heads/late
+heads 1 --label '' life/heads/late
+cp life/heads/l life/heads/after
+run seal --key other-key --ledger life/heads/l --device 1 --exponent 12 --into "$room" life/heads/full
+mv full.stm life/heads/other.stm
+run seal --key "$key" --ledger life/heads/machine --device 2 --into "$room" life/heads/more
+mv more.stm life/heads/machine.stm
+all=(life/heads/{empty,more,chunks,full,late,other,machine}.stm)
+run show "${all[@]}"
+wants show 0 "$(python3 shown_by_python.py "${all[@]}")" ''
+is show-of-version-one grep -Fxq "unchecked life/heads/more.stm version 1 chunk 65536 key $hint device 1 file 1 bytes $(wc -c < life/more)" out
+is show-a-label grep -Fxq "unchecked life/heads/full.stm version 2 chunk 1048576 key $hint device 16777215 file 0 bytes 8192 label \"a\\x22\\x5c\\x09\\xc3\\xa4\"" out
+# of each length one more, one less, and the header alone
+for cut in -1 24 25 40 41 42; do
+    head -c "$cut" life/heads/more.stm > life/heads/cut.stm
+    run show life/heads/cut.stm
+    wants "show-of $cut" 0 "$(python3 shown_by_python.py life/heads/cut.stm)" ''
+done
+is show-of-no-length grep -q ' bytes 2$' out
+head -c 23 life/heads/more.stm > life/heads/short.stm
+head -c 24 life/heads/full.stm > life/heads/headless.stm
+head -c 29 life/heads/full.stm > life/heads/labelless.stm
+for it in 8:3:version 9:17:exponent 0:0:magic; do
+    python3 -c 'import sys; n, at, by = sys.argv[1:]; b = bytearray(open(n, "rb").read()); b[int(at)] = int(by); sys.stdout.buffer.write(b)' \
+        life/heads/more.stm $(cut -d : -f 1,2 --output-delimiter ' ' <<< $it) > "life/heads/${it##*:}.stm"
+done
+mkfifo life/heads/fifo
+bad_heads='failed life/heads/short.stm: header cut short
+failed life/heads/headless.stm: header cut short
+failed life/heads/labelless.stm: header cut short
+failed life/heads/version.stm: unknown version
+failed life/heads/exponent.stm: unknown chunk size
+failed life/heads/magic.stm: not a sealed file
+failed life/heads/more: not a sealed file
+failed /dev/zero: cannot open
+failed life/heads/fifo: cannot open
+failed life/heads: cannot open
+failed life/heads/none: cannot open
+failed -: cannot open'
+foreign=(life/heads/{short,headless,labelless,version,exponent,magic}.stm life/heads/more /dev/zero life/heads/fifo life/heads life/heads/none -)
+timeout 20 "$sealer" show "${foreign[@]}" < /dev/null > out 2> err; status=$?
+wants show-of-foreign-files 1 "$bad_heads" ''
+printf 'life/heads/empty.stm\0life/heads/none\0' > names
+run show --files-from - --null life/heads/machine.stm < names
+wants show-a-list 1 "$(python3 shown_by_python.py life/heads/machine.stm life/heads/empty.stm)
+failed life/heads/none: cannot open" ''
+cp life/heads/empty.stm "$(printf 'life/heads/two\nlines.stm')"
+run show --quote "$(printf 'life/heads/two\nlines.stm')"
+wants show-a-quoted-name 0 "$(python3 shown_by_python.py life/heads/empty.stm | sed 's/empty\.stm/two\\nlines.stm/')" ''
+printf 'life/heads/empty.stm\n\nlife/heads/\377\n' > names
+run show --keep-going --files-from names
+wants show-goes-on 1 "$(python3 shown_by_python.py life/heads/empty.stm)
+failed : cannot open
+failed life/heads/\\xff: cannot open" ''
+run show --files-from names
+wants show-of-no-text 2 '' 'usage: the list is no text'
+run show --files-from /dev/null
+wants show-of-nothing 2 '' 'usage: no files'
+run show
+is show-without-files grep -q 'required arguments were not provided' err
+"$sealer" show life/heads/empty.stm > /dev/full 2> err; status=$?; : > out
+wants show-is-not-printed 2 '' 'show: write failed'
+
+# A ledger that was put back is older than a container. Another machine's, and a key without a line, aren't its own.
+held_there() { run ledger --ledger "$1"; cp out lines; }
+held_there life/heads/l
+run ledger --ledger life/heads/l --against "${all[@]}"
+wants against-all-of-its-own 0 "$(cat lines)" ''
+held_there life/heads/before
+run ledger --ledger life/heads/before --against "${all[@]}"
+wants against-a-later-one 1 "$(cat lines)
+ledger: older than life/heads/late.stm" ''
+held_there life/heads/after
+run ledger --ledger life/heads/after --against "${all[@]}"
+wants against-a-key-without-a-line 0 "$(cat lines)" ''
+# the recipe of docs/MANUAL.md: found before a number is used twice, and what is sealed then shows no more of it
+cp life/heads/before life/heads/l
+rm -f life/heads/l-wal
+printf '%s\n' "${all[@]}" > names
+held_there life/heads/l
+run ledger --ledger life/heads/l --against --files-from names
+wants against-a-ledger-put-back 1 "$(cat lines)
+ledger: older than life/heads/late.stm" ''
+run ledger --ledger life/heads/l --against --files-from - life/heads/empty.stm < names
+wants against-a-list-of-the-input 1 "$(cat lines)
+ledger: older than life/heads/late.stm" ''
+timeout 20 "$sealer" ledger --ledger life/heads/l --against "${foreign[@]}" life/heads/late.stm < /dev/null > out 2> err; status=$?
+wants against-foreign-files 1 "$(cat lines)
+$bad_heads
+ledger: older than life/heads/late.stm" ''
+run ledger --ledger life/heads/l --against --quote "$(printf 'life/heads/two\nlines.stm')"
+wants against-a-quoted-name 0 "$(cat lines)" ''
+for _ in $(seq 5000); do echo life/heads/late.stm; echo life/heads/machine.stm; done > names
+run ledger --ledger life/heads/l --against --files-from names
+is against-ten-thousand test "$status $(grep -c '^ledger: older than life/heads/late.stm$' out) $(wc -l < out)" = "1 5000 $((5000 + $(wc -l < lines)))"
+run ledger --ledger life/heads/l --key "$key" --against life/heads/late.stm
+wants against-and-one-key 1 "$(grep "$hint" lines)
+ledger: older than life/heads/late.stm" ''
+run ledger --ledger life/held/l --key other-key
+wants held-of-one-key 0 "key $other device 7 ranges 1 given 1 left 4294967295" ''
+run ledger --ledger life/heads/machine --key other-key
+wants held-of-no-range 0 "key $other no ranges" ''
+run ledger --ledger life/heads/machine --key life/heads/late.stm
+wants held-of-no-key 2 '' 'key: not a key file'
+run ledger --ledger life/heads/machine --key life/heads/none
+wants held-of-a-missing-key 2 '' 'key: cannot open'
+run ledger --ledger life/heads/machine life/heads/late.stm
+wants files-alone 2 '' 'usage: FILEs need --against'
+run ledger --ledger life/heads/machine --files-from names
+wants a-list-alone 2 '' 'usage: FILEs need --against'
+run ledger --ledger life/heads/machine --against
+wants against-nothing 2 '' 'usage: no files'
+run ledger --ledger life/heads/none --against life/heads/late.stm
+wants against-no-ledger 2 '' 'ledger: not there'
+
+# A journal and the containers of its run: one deleted, one exchanged, one extra.
+legal='legal: 2 granted, 2 sealed, 0 void, 0 open, 0 refused'
+audits() { run audit --against "$@" < life/heads/first; }
+audits life/heads/empty.stm life/heads/more.stm
+wants audit-against-its-own 0 "$legal" ''
+audits life/heads/more.stm life/heads/empty.stm life/heads/more.stm
+wants audit-against-its-own-twice 0 "$legal" ''
+audits life/heads/empty.stm
+wants audit-one-deleted 1 "$legal
+missing file 1" ''
+audits life/heads/empty.stm life/heads/chunks.stm
+wants audit-one-exchanged 1 "$legal
+not sealed life/heads/chunks.stm
+missing file 1" ''
+audits life/heads/empty.stm life/heads/more.stm life/heads/full.stm life/heads/machine.stm
+wants audit-two-extra 1 "$legal
+not sealed life/heads/full.stm
+not sealed life/heads/machine.stm" ''
+timeout 20 "$sealer" audit --against life/heads/empty.stm life/heads/more.stm /dev/zero < life/heads/first > out 2> err; status=$?
+wants audit-an-endless-one 1 "$legal
+failed /dev/zero: cannot open" ''
+printf 'range 1 0 3 2\n0 issue 0\n1 issue 1\n0 void 0\n1 sealed 1\n0 issue 2\n' > names
+run audit --against life/heads/more.stm < names
+wants audit-void-and-open 0 'legal: 3 granted, 1 sealed, 1 void, 1 open, 0 refused' ''
+run audit --against life/heads/more.stm life/heads/empty.stm life/heads/chunks.stm < names
+wants audit-void-and-open-are-not-sealed 1 'legal: 3 granted, 1 sealed, 1 void, 1 open, 0 refused
+not sealed life/heads/empty.stm
+not sealed life/heads/chunks.stm' ''
+printf 'range 1 4294901761 65535 64\n' > names
+for k in $(seq 4294901761 4294967295); do printf '63 issue %s\n63 sealed %s\n' $k $k; done >> names
+run audit --against life/heads/more.stm < names
+is audit-the-greatest-range test "$status $(wc -l < out) $(tail -n 1 out)" = '1 65537 missing file 4294967295'
+run audit --against life/heads/more.stm < /dev/null
+wants audit-against-no-journal 1 'malformed line 1' ''
+run audit --against --files-from - < life/heads/first
+wants audit-no-input-left 2 '' 'usage: standard input is the journal'
+run audit life/heads/more.stm < life/heads/first
+wants audit-files-alone 2 '' 'usage: FILEs need --against'
+run audit --against < life/heads/first
+wants audit-against-nothing 2 '' 'usage: no files'
 
 # Keys and usage of seal.
 run seal --key none --ledger life/new --device 1 life/waits
@@ -2228,6 +2682,142 @@ good life/second.stm bytes 1492' ''
 is killed-left-a-part test "$(parts life | wc -l)" = 1
 rm "$(parts life)"
 
+# A run that waits for a ledger which another run holds gets its turn once that ends, or is refused once its seconds have passed.
+fresh
+for n in 1 2 3 4 5 6 7 8 9 10 11 12; do echo "$n" > "files/f$n"; done
+# open to nobody else, so that --verbose warns of nothing
+install -m 600 "$key" files/key
+# holds ARGS..: a run of pipe that holds the ledger until descriptor 8 is closed
+holds() {
+    mkfifo files/held
+    "$sealer" pipe --key "$key" --ledger files/ledger "$@" < files/held > files/held.stm 2> held.err &
+    holder=$!
+    exec 8> files/held
+    for _ in $(seq 200); do [ -s files/held.stm ] && break; sleep 0.05; done
+}
+# ends: that run ends. No other process may have its input open.
+ends() {
+    exec 8>&-
+    wait "$holder"
+    rm files/held
+}
+# in_time NAME LEAST MOST COMMAND..: what a command takes, in milliseconds
+in_time() {
+    local began took
+    began=$(date +%s%3N)
+    "${@:4}"
+    took=$(($(date +%s%3N) - began))
+    is "$1: $took ms" test "$took" -ge "$2" -a "$took" -lt "$3"
+}
+holds --device 1
+in_time waits-not 0 20000 run seal --key files/key --ledger files/ledger --device 1 --verbose files/f1
+wants waits-not 2 '' 'ledger: cannot open
+cause: another run holds it'
+in_time waits-for-nothing 0 20000 run pipe --key "$key" --ledger files/ledger --device 1 --wait 0 < files/f1
+wants waits-for-nothing 2 '' 'ledger: cannot open'
+in_time waits-a-second 1000 20000 run seal --key files/key --ledger files/ledger --device 1 --wait 1 --verbose --journal files/journal files/f1
+wants waits-a-second 2 '' 'ledger: cannot open
+cause: another run holds it'
+is waits-makes-nothing test "$(echo files/*.stm) $(wc -c < files/journal)" = 'files/held.stm files/numbers.stm 0'
+in_time pipe-waits-a-second 1000 20000 run pipe --key "$key" --ledger files/ledger --device 1 --wait 1 < files/f1
+wants pipe-waits-a-second 2 '' 'ledger: cannot open'
+"$sealer" seal --key "$key" --ledger files/ledger --device 1 --wait 60 --no-new-ledger files/f1 > seal.out 2>&1 8>&- &
+waiter=$!
+"$sealer" pipe --key "$key" --ledger files/ledger --device 1 --wait 60 < files/f2 2> pipe.err > files/f2.stm 8>&- &
+other=$!
+sleep 0.5
+is waits-until-then test ! -s seal.out -a ! -s files/f2.stm
+ends
+wait "$waiter"; status=$?
+wait "$other"; status="$status $?"
+is waited test "$status $(sort seal.out pipe.err held.err | sed 's/ file [12] / file N /')" = '0 0 sealed - file 0 bytes 0
+sealed - file N bytes 2
+sealed files/f1 file N bytes 2'
+is waited-for-two-numbers test "$(sed 's/.* file \([0-9]*\) .*/\1/' seal.out pipe.err | sort | tr '\n' ' ')" = '1 2 '
+# what isn't another run's to end: nothing is waited for
+in_time waits-for-no-ledger 0 20000 run seal --key "$key" --ledger files/none --device 1 --wait 60 --no-new-ledger files/f3
+wants waits-for-no-ledger 2 '' 'ledger: not there'
+cp files/ledger-wal files/lost-wal
+in_time waits-for-no-lost-ledger 0 20000 run seal --key "$key" --ledger files/lost --device 1 --wait 60 files/f3
+wants waits-for-no-lost-ledger 2 '' 'ledger: cannot open'
+in_time waits-for-no-other-file 0 20000 run seal --key "$key" --ledger files/f4 --device 1 --wait 60 files/f3
+wants waits-for-no-other-file 2 '' 'ledger: cannot open'
+if has sqlite3; then
+    sqlite3 files/foreign 'CREATE TABLE t(x)'
+    mkfifo files/sql
+    sqlite3 files/foreign < files/sql > held.out 2>&1 &
+    holder=$!
+    exec 8> files/sql
+    echo "BEGIN EXCLUSIVE; SELECT 'held';" >&8
+    for _ in $(seq 200); do [ -s held.out ] && break; sleep 0.05; done
+    in_time waits-for-no-other-database 0 20000 run seal --key "$key" --ledger files/foreign --device 1 --wait 60 files/f3
+    wants waits-for-no-other-database 2 '' 'ledger: not a ledger'
+    exec 8>&-
+    wait "$holder"
+fi
+in_time waits-for-no-option 0 20000 run seal --key "$key" --ledger files/ledger --device 1 --wait 86401 files/f3
+wants waits-for-no-option 2 '' 'begins error: '
+# many runs at once, of two devices with one witness: each gets a number of its own, and no line of the witness has a lower one than before
+run seal --key "$key" --ledger files/ledger --device 1 --witness files/w --new-witness files/f3
+is waits-witness test "$status" = 0
+run seal --key "$key" --ledger files/ledger --device 2 --witness files/w --new-witness files/f4
+is waits-witness-of-two test "$status" = 0
+(while [ ! -e files/done ]; do sed 's/^key [0-9a-f]* \(.*\) file .*/\1/' files/w | tr '\n' ' '; echo; done > files/seen) &
+watcher=$!
+many=
+for n in 5 6 7 8 9 10 11 12; do
+    "$sealer" seal --key files/key --ledger files/ledger --device $((n % 2 + 1)) --witness files/w --wait 60 --verbose "files/f$n" > "many$n" 2>&1 &
+    many="$many $!"
+done
+failed=0
+for one in $many; do wait "$one" || failed=1; done
+touch files/done
+wait "$watcher"
+is waits-all test "$failed" = 0
+is waits-all-numbers test "$(for n in 5 7 9 11; do sed 's/.* file \([0-9]*\) .*/\1/' "many$n"; done | sort -n | tr '\n' ' ')" = '1 2 3 4 '
+is waits-all-numbers-of-another test "$(for n in 6 8 10 12; do sed 's/.* file \([0-9]*\) .*/\1/' "many$n"; done | sort -n | tr '\n' ' ')" = '4 5 6 7 '
+is waits-witness-at-last test "$(sed 's/^key [0-9a-f]* \(.*\) file .*/\1/' files/w | tr '\n' ,)" = 'device 1 next 8,device 2 next 5,'
+is waits-witness-never-lower awk '{ if ($4 + 0 < one || $8 + 0 < two) bad = 1; one = $4 + 0; two = $8 + 0 } END { exit bad }' files/seen
+rm -f files/f*.stm many[0-9]*
+
+# A log whose mode or owner can't be set, as on exFAT: the database refuses it as it is made, and the run tries again.
+if command -v strace >/dev/null; then
+    for refused in fchmod:error=EPERM fchown:error=EINVAL; do
+        for old in '' old; do
+            for more in '' --no-new-ledger; do
+                rm -f files/no-mode* files/f3.stm
+                [ -z "$old" ] || cp files/ledger files/no-mode
+                strace -f -o calls -e "trace=${refused%:*}" -e "inject=$refused" "$sealer" seal --key files/key --ledger files/no-mode --device 1 --verbose $more \
+                    files/f3 > out 2> err
+                status=$?
+                if [ -z "$old" ] && [ -n "$more" ]; then
+                    wants "no-mode $refused $more" 2 '' 'ledger: not there
+cause: there is no such file'
+                    is "no-mode-nothing-made $refused" test ! -e files/no-mode -a ! -e files/no-mode-wal
+                else
+                    wants "no-mode $refused $old $more" 0 "sealed files/f3 file $([ -z "$old" ] && echo 0 || echo 8) bytes 2" ''
+                    is "no-mode-was-refused $refused $old $more" grep -q INJECTED calls
+                fi
+            done
+        done
+    done
+fi
+
+# A ledger that was put back beside the log of later runs: those two files are what its own run could have left, so its numbers come again. Only
+# a witness tells.
+fresh
+for n in 1 2 3 4 5; do echo "$n" > "files/f$n"; done
+run seal --key "$key" --ledger files/ledger --device 1 --witness files/w --new-witness files/f1
+run seal --key "$key" --ledger files/ledger --device 1 --witness files/w files/f2
+cp files/ledger files/older
+run seal --key "$key" --ledger files/ledger --device 1 --witness files/w files/f3
+wants later-run 0 'sealed files/f3 file 2 bytes 2' ''
+cat files/older > files/ledger
+run seal --key "$key" --ledger files/ledger --device 1 --witness files/w --no-new-ledger files/f4
+wants put-back-with-a-witness 2 '' 'ledger: older than its witness'
+run seal --key "$key" --ledger files/ledger --device 1 --no-new-ledger files/f4
+wants put-back-without-one 0 'sealed files/f4 file 2 bytes 2' ''
+
 # A run's own files are no FILEs, by whatever name, and no number is issued for them.
 fresh
 mkdir files/own
@@ -2596,7 +3186,74 @@ printf '\n' > files/list
 run verify --verbose --key none --files-from files/list
 wants 'no-cause: what a list holds' 2 '' 'usage: a name in the list is empty'
 run verify --verbose --key files/key files/none
-wants 'no-cause: a FILE' 1 'failed files/none: cannot open' ''
+wants 'cause: a FILE' 1 'failed files/none: cannot open' 'cause: files/none: there is no such file'
+# Of a FILE the cause has its name, since its line is on standard output. Without --verbose there is none.
+file_caused() { # NAME FAULT CAUSE ARGS.., of which the last is FILE
+    run "${@:4}" --verbose --key files/key "$file"
+    wants "file-cause: $1" 1 "failed $file: $2" "cause: $file: $3"
+    run "${@:4}" --key files/key "$file"
+    wants "no-file-cause: $1" 1 "failed $file: $2" ''
+}
+mkdir files/x.stm
+cp files/numbers.stm files/y.stm
+: > files/y
+file=none/f file_caused no-folder 'cannot open' 'the folder is missing' verify
+file=files/key/f file_caused below-a-file 'cannot open' 'a part of the path is no folder' verify
+file=files/x.stm file_caused folder 'cannot open' 'it is a folder' open
+file=files/circle file_caused circle 'cannot open' 'symbolic links lead in a circle' verify
+file=$long file_caused long 'cannot open' 'the name is too long' verify
+file=files/y.stm file_caused exists 'output exists' "there is a file of the output's name" open
+file=files/numbers.stm file_caused no-output-folder 'cannot create' 'the folder is missing' open --into none
+file=files/numbers.stm file_caused no-output-folder-synced 'cannot create' 'the folder is missing' open --sync --into none
+file=files/numbers.stm file_caused to-no-folder 'cannot create' 'the folder is missing' open --to none/a
+file=files/numbers.stm file_caused output-below-a-file 'cannot create' 'a part of the path is no folder' open --to files/key/a
+file=files/numbers.stm file_caused output-long 'cannot create' 'the name is too long' open --to "files/$long"
+file=/proc/self/mem file_caused read-failed 'read failed' 'the system reports an error' verify
+file=/proc/self/mem file_caused sealed-read-failed 'read failed' 'the system reports an error' seal --ledger files/f --device 1 --into files
+file=/proc/self/mem file_caused lanes-read-failed 'read failed' 'the system reports an error' seal --ledger files/f --device 1 --into files --lanes 2
+file=files/key file_caused own-key 'cannot open' "it is one of the run's own files" seal --ledger files/f --device 1
+file=files/f-wal file_caused own-log 'cannot open' "it is one of the run's own files" seal --ledger files/f --device 1
+# A name is shown as in the line.
+file='files/no\nne' && run verify --verbose --key files/key --keep-going "$(printf 'files/no\nne')"
+wants 'file-cause: quoted' 1 "failed $file: cannot open" "cause: $file: there is no such file"
+run seal --verbose --key files/key --ledger files/f --device 1 --keep-going --into files numbers.plain ./numbers.plain
+wants 'file-cause: shared' 1 "sealed numbers.plain file 8 bytes 1492
+failed ./numbers.plain: output exists" "cause: ./numbers.plain: there is a file of the output's name"
+run seal --verbose --key files/key --ledger files/f --device 2 --keep-going --into files/d --lanes 2 numbers.plain ./numbers.plain
+wants 'file-cause: shared-by-lanes' 1 'sealed numbers.plain file 0 bytes 1492
+failed ./numbers.plain: output exists' 'cause: ./numbers.plain: another FILE of the run has this output'
+(trap '' XFSZ; ulimit -f 1; exec "$sealer" open --verbose --key files/key files/numbers.stm) > out 2> err; status=$?
+wants 'file-cause: write' 1 'failed files/numbers.stm: write failed' 'cause: files/numbers.stm: no larger file is allowed, by its file system or a limit'
+if command -v strace >/dev/null; then
+    for fault in 'ENOSPC the disk is full, or a quota is reached' 'EDQUOT the disk is full, or a quota is reached' 'EIO the system reports an error'; do
+        strace -f -o calls -e trace=fsync -e inject=fsync:error=${fault%% *} "$sealer" open --sync --verbose --key files/key files/numbers.stm > out 2> err
+        status=$?
+        wants "file-cause: sync ${fault%% *}" 1 'failed files/numbers.stm: write failed' "cause: files/numbers.stm: ${fault#* }"
+    done
+    strace -f -o calls -e trace=link -e inject=link:error=ENOENT:when=2 "$sealer" open --verbose --key files/key files/numbers.stm > out 2> err
+    status=$?
+    wants 'file-cause: part' 1 'failed files/numbers.stm: write failed' "cause: files/numbers.stm: the output's part is gone: another program removed or moved it"
+fi
+# Standard error fails: the run is as it would be without.
+"$sealer" verify --verbose --key files/key files/none files/numbers.stm > out 2> /dev/full; status=$?; : > err
+wants 'file-cause: full' 1 'failed files/none: cannot open
+good files/numbers.stm bytes 1492' ''
+"$sealer" verify --verbose --key files/key files/none files/numbers.stm > out 2>&-; status=$?; : > err
+wants 'file-cause: closed' 1 'failed files/none: cannot open
+good files/numbers.stm bytes 1492' ''
+# Of unpipe the line is on standard error too. What can't be kept is told.
+run unpipe --verbose --key files/key files/none
+wants 'file-cause: unpipe' 1 '' 'cause: files/none: there is no such file
+failed files/none: cannot open'
+head -c 20000000 /dev/zero > files/kept
+run seal --key files/key --ledger files/f --device 3 files/kept
+wants 'file-cause: to-be-kept' 0 'sealed files/kept file 0 bytes 20000000' ''
+(trap '' XFSZ; ulimit -f 1; exec "$sealer" unpipe --verbose --key files/key --spool files) < <(cat files/kept.stm) > out 2> err; status=$?
+wants 'file-cause: spool' 1 '' 'cause: -: no larger file is allowed, by its file system or a limit
+failed -: spool failed'
+rm files/kept files/kept.stm
+rmdir files/x.stm
+rm -f files/y files/y.stm files/f files/f-wal files/numbers.plain.stm files/d/*
 sealing() { caused "$1" "$2" "$3" seal --verbose --key files/key --device 1 --ledger "${@:4}" files/numbers.stm; }
 : > files/j
 sealing journal-exists 'journal: output exists' 'there is a file of this name' files/l --journal files/j
@@ -2655,15 +3312,23 @@ exec 8<> files/waits
 "$sealer" seal --key files/key --ledger files/l --device 1 files/waits > first 2> first.err &
 first=$!
 for _ in $(seq 200); do [ -n "$(parts files)" ] && break; sleep 0.05; done
-sealing ledger-held 'ledger: cannot open' 'another run holds it, or this one may not open as many files' files/l
+sealing ledger-held 'ledger: cannot open' 'another run holds it' files/l
 run seal --key files/key --ledger files/l --device 1 files/numbers.stm
 wants no-cause-unasked 2 '' 'ledger: cannot open'
 run pipe --verbose --key files/key --ledger files/l --device 1 < numbers.plain
 wants 'cause: held-of-a-stream' 2 '' 'ledger: cannot open
-cause: another run holds it, or this one may not open as many files'
+cause: another run holds it'
 kill -9 "$first"
 wait "$first" 2>/dev/null
 exec 8>&-
+# nobody holds it, and the system refuses a call of its opening
+if command -v strace >/dev/null; then
+    strace -f -o calls -P "$PWD/files/l" -e trace=fsync -e inject=fsync:error=EIO "$sealer" seal --verbose --key files/key --ledger files/l --device 1 \
+        files/numbers.stm > out 2> err
+    status=$?
+    wants 'cause: ledger-that-cannot-be-synced' 2 '' 'ledger: cannot open
+cause: the system reports an error'
+fi
 # modes
 mkdir locked/mine locked/blind
 chmod 333 locked/blind
@@ -2733,6 +3398,340 @@ is cause-of-a-ledger-on-a-terminal test "$(python3 on_terminal.py "$sealer" ledg
 chmod 644 files/key
 is warning-on-a-terminal test "$(python3 on_terminal.py "$sealer" verify --key files/key files/numbers.stm)" = '0;warning: files/key can be read by others'
 fresh
+
+# Lines as JSON: one object a line, which Python reads. Written again by the rules of docs/MANUAL.md they are the lines of the same run
+# without --json, and the last one counts them.
+cat > objects.py <<'END'
+import json, os, sys
+
+def label(o):
+    if "label_hex" in o:
+        found = bytes.fromhex(o["label_hex"])
+        assert "label" not in o
+    elif "label" in o:
+        found = o["label"].encode()
+    else:
+        return ""
+    shown = "".join(chr(b) if 32 <= b < 127 and b not in b'"\\' else f"\\x{b:02x}" for b in found)
+    return f' label "{shown}"'
+
+def line(o):
+    match o["status"]:
+        case "sealed":
+            return f"sealed {o['file']} file {o['number']} bytes {o['bytes']}"
+        case "kept":
+            return f"kept {o['file']}"
+        case "opened":
+            return f"opened {o['file']} bytes {o['bytes']}"
+        case "failed":
+            return f"failed {o['file']}: {o['fault']}"
+        case "good":
+            return (f"good {o['file']} bytes {o['bytes']}\n  version {o['version']} chunk {o['chunk']} device {o['device']}"
+                    f" file {o['number']}{label(o)}")
+        case "unchecked":
+            return (f"unchecked {o['file']} version {o['version']} chunk {o['chunk']} key {o['key']} device {o['device']}"
+                    f" file {o['number']} bytes {o.get('bytes', '?')}{label(o)}")
+        case "ledger" if "device" not in o:
+            assert o["ranges"] == o["given"] == 0
+            return f"key {o['key']} no ranges"
+        case "older":
+            return f"ledger: older than {o['file']}"
+        case "not_sealed":
+            return f"not sealed {o['file']}"
+        case "missing":
+            return f"missing file {o['number']}"
+        case "ledger":
+            return f"key {o['key']} device {o['device']} ranges {o['ranges']} given {o['given']} left {o['left']}"
+        case "audit" if o["verdict"] == "legal":
+            return (f"legal: {o['granted']} granted, {o['sealed']} sealed, {o['void']} void, {o['open']} open,"
+                    f" {o['refused']} refused")
+        case "audit":
+            return f"{o['verdict']} line {o['line']}"
+
+def counted(objects, total):
+    for name, count in total.items():
+        if name == "bytes" or name in ("ranges", "given"):
+            assert count == sum(o.get(name, 0) for o in objects), name
+        elif name == "lines":
+            assert count == sum(o["status"] == "ledger" for o in objects)
+        elif name in ("legal", "malformed", "illegal"):
+            assert count == sum(o.get("verdict") == name for o in objects), name
+        elif name != "status":
+            assert count == sum(o["status"] == name for o in objects), name
+
+# objects.py TEXT OBJECTS TOTALS..: the lines of a run, the objects of another, and what the last object counts
+with open(sys.argv[1], encoding="utf-8", newline="\n") as it:
+    text = it.read()
+with open(sys.argv[2], encoding="utf-8", newline="\n") as it:
+    objects = [json.loads(row) for row in it]
+*objects, total = objects
+assert total["status"] == "total" and list(total)[1:] == sys.argv[3:], total
+assert "".join(line(o) + "\n" for o in objects) == text, (text, objects)
+counted(objects, total)
+for o in objects:
+    if o["status"] in ("sealed", "opened", "kept"):
+        assert os.path.isfile(o["output"]), o
+    if o["status"] == "sealed":
+        assert o["device"] == 1
+END
+# alike NAME STATUS STREAM TOTALS..: the last run had this status, and its objects are the lines of the run before, which are in $room/text
+alike() {
+    is "$1" python3 objects.py text "$3" "${@:4}"
+    is "$1-status" test "$status" = "$2"
+}
+mkdir json json/texts json/objects
+# the names, each a file of its own number of bytes: grammar, quotes, backslashes, controls, ends of line, and letters outside the first plane
+odd=(json/plain 'json/x file 3 bytes 4' 'json/a: b' $'json/"q\\u"' $'json/two\nlines' $'json/\x01\x1b\x7f\t\r' $'json/\xf0\x9f\x94\x92\xe2\x80\xa8'
+    $'json/good x bytes 3\n  version 1 chunk 65536 device 1 file 3')
+for i in "${!odd[@]}"; do seq 1 "$i" > "${odd[$i]}"; done
+sealed() { run seal --key "$key" --device 1 "$@" -- "${odd[@]}" 'json/no: ne'; }
+sealed --ledger json/one --into json/texts
+cp out text
+sealed --ledger json/two --into json/objects --json
+alike json-seal 1 out sealed kept failed bytes
+cp out json/sealed
+is json-seal-says-no-more test ! -s err
+sealed --ledger json/one --into json/texts --skip-existing
+cp out text
+sealed --ledger json/two --into json/objects --json --skip-existing
+alike json-kept 1 out sealed kept failed bytes
+sealed --ledger json/one --into json/texts --quote
+cp out text
+run seal --key "$key" --device 1 --ledger json/two --into json/objects --quote --json -- "${odd[@]}" 'json/no: ne'
+alike json-quote 1 out sealed kept failed bytes
+run seal --key "$key" --device 1 --ledger json/two --into json/objects --quiet -- json/plain json/none
+wants quiet-failed 1 'failed json/plain: output exists
+failed json/none: cannot open
+total: 0 sealed, 0 kept, 2 failed, 0 bytes' ''
+run seal --key "$key" --device 1 --ledger json/two --into json/objects --quiet -- json/plain year/plain
+wants quiet-usage 2 '' 'usage: two FILEs have one last name'
+run seal --key "$key" --device 1 --ledger json/two --quiet --label $'l\x01"\\' -- json/plain 'json/no: ne'
+wants quiet-seal 1 'failed json/no: ne: cannot open
+total: 1 sealed, 0 kept, 1 failed, 0 bytes' ''
+containers=(json/texts/*.stm json/plain.stm files/numbers.stm none.stm)
+run verify --key "$key" --show -- "${containers[@]}"
+cp out text
+run verify --key "$key" --json -- "${containers[@]}"
+alike json-verify 1 out good failed bytes
+run verify --key "$key" --quiet --show -- "${containers[@]}"
+wants quiet-verify 1 "failed none.stm: cannot open
+total: 10 good, 1 failed, 1548 bytes" ''
+run verify --key "$key" --quiet --json none.stm
+wants quiet-json 1 '{"status":"failed","file":"none.stm","fault":"cannot open"}
+{"status":"total","good":0,"failed":1,"bytes":0}' ''
+mkdir json/back json/again
+run open --key "$key" --into json/back -- json/texts/*.stm none.stm
+cp out text
+run open --key "$key" --into json/again --json -- json/texts/*.stm none.stm
+alike json-open 1 out opened kept failed bytes
+is json-open-opens diff -r json/back json/again
+run open --key "$key" --to json/named --json files/numbers.stm
+wants json-to 0 '{"status":"opened","file":"files/numbers.stm","output":"json/named","bytes":1492}
+{"status":"total","opened":1,"kept":0,"failed":0,"bytes":1492}' ''
+run open --key "$key" --into json/back --quiet -- json/texts/plain.stm
+wants quiet-open 1 'failed json/texts/plain.stm: output exists
+total: 0 opened, 0 kept, 1 failed, 0 bytes' ''
+run ledger --ledger json/one
+cp out text
+run ledger --ledger json/one --json
+alike json-ledger 0 out lines ranges given
+run ledger --ledger none --json
+wants json-no-ledger 2 '' 'ledger: not there'
+for journal in life/journal /dev/null; do
+    run audit < $journal
+    cp out text
+    code=$status
+    run audit --json < $journal
+    alike "json-audit $journal" $code out legal malformed illegal
+done
+run pipe --key "$key" --ledger json/three --device 1 --json < numbers.plain
+cp out json/stream.stm
+: > out
+wants json-pipe 0 '' '{"status":"sealed","file":"-","number":0,"device":1,"bytes":1492}
+{"status":"total","sealed":1,"failed":0,"bytes":1492}'
+run unpipe --key "$key" --json < json/stream.stm
+wants json-unpipe 0 "$(cat numbers.plain)" '{"status":"opened","file":"-","bytes":1492}
+{"status":"total","opened":1,"failed":0,"bytes":1492}'
+run unpipe --key "$key" --json < numbers.plain
+wants json-unpipe-failed 1 '' '{"status":"failed","file":"-","fault":"not a sealed file"}
+{"status":"total","opened":0,"failed":1,"bytes":0}'
+run unpipe --key none --json < json/stream.stm
+wants json-complaint 2 '' 'key: cannot open'
+run pipe --key "$key" --ledger json/three --device 1 --journal /dev/full --json < numbers.plain
+wants json-journal 2 '' 'journal: output exists'
+# A line that can't be written, or only the totals'.
+"$sealer" verify --key "$key" --json files/numbers.stm > /dev/full 2> err; status=$?; : > out
+wants json-full 2 '' ''
+"$sealer" verify --key "$key" --quiet files/numbers.stm > /dev/full 2> err; status=$?; : > out
+wants quiet-full 2 '' ''
+"$sealer" verify --key "$key" --json files/numbers.stm 2> err >&-; status=$?; : > out
+wants json-closed 2 '' ''
+"$sealer" unpipe --key "$key" --json files/numbers.stm > out 2> /dev/full; status=$?; : > err
+wants json-full-errors 2 "$(cat numbers.plain)" ''
+
+# Headers without a key. A name has the grammar of their lines, and labels have bytes that are no text.
+mkdir json/heads
+: > 'json/heads/a version 1 chunk 8 key b device 1 file 2 bytes ? label "l"'
+seq 1 9 > $'json/heads/two\nlines'
+looked=(json/heads/*)
+run seal --key "$key" --ledger json/heads/l --device 1 --journal json/heads/journal -- "${looked[@]}"
+cp json/heads/l json/before
+seq 1 3 | tee json/heads/late > json/bare
+run seal --key "$key" --ledger json/heads/l --device 1 --label "$(printf 'a"\\\t\303\244')" -- json/heads/late
+run seal --key "$key" --ledger json/heads/l --device 2 --label '' -- json/bare
+python3 - json/heads/late.stm json/heads/foul.stm <<'END'
+import sys
+octets = open(sys.argv[1], "rb").read()
+at = octets.index(b'a"')
+open(sys.argv[2], "wb").write(octets[:at] + b"\xff" + octets[at + 1:])
+END
+head -c 25 "${looked[0]}.stm" > json/heads/short.stm
+looked=(json/heads/*.stm json/bare.stm json/none.stm $'json/heads/two\nlines')
+run show -- "${looked[@]}"
+cp out text
+is show-has-unknown-bytes grep -q ' bytes ?$' out
+run show --json -- "${looked[@]}"
+alike json-show 1 out unchecked failed
+is json-show-label-hex grep -q '"label_hex":"ff' out
+is json-show-label grep -q '"label":""' out
+run show --quote -- "${looked[@]}"
+cp out text
+run show --quote --json -- "${looked[@]}"
+alike json-show-quote 1 out unchecked failed
+run show --json json/bare.stm
+is json-show-good test "$status" = 0
+printf '%064x' 7 > json/other-key
+run ledger --ledger json/heads/l --key json/other-key
+cp out text
+is held-of-no-range grep -q '^key [0-9a-f]* no ranges$' out
+run ledger --ledger json/heads/l --key json/other-key --json
+alike json-no-ranges 0 out lines ranges given
+run ledger --ledger json/before --against -- "${looked[@]}"
+cp out text
+is older-than-one grep -q '^ledger: older than json/heads/late.stm$' out
+run ledger --ledger json/before --against --json -- "${looked[@]}"
+alike json-older 1 out lines ranges given failed older
+run ledger --ledger json/heads/l --against json/bare.stm
+cp out text
+run ledger --ledger json/heads/l --against --json json/bare.stm
+alike json-not-older 0 out lines ranges given failed older
+run audit --against $'json/heads/two\nlines.stm' json/bare.stm json/none.stm < json/heads/journal
+cp out text
+is one-is-missing grep -q '^missing file 0$' out
+is one-is-not-sealed grep -q '^not sealed json/bare.stm$' out
+run audit --against --json $'json/heads/two\nlines.stm' json/bare.stm json/none.stm < json/heads/journal
+alike json-audit-against 1 out legal malformed illegal failed not_sealed missing
+"$sealer" show --json json/bare.stm > /dev/full 2> err; status=$?; : > out
+wants json-show-full 2 '' 'show: write failed'
+# The containers of a year, against the lines of the runs that made them: what is missing, exchanged, older, unknown or cut.
+mkdir year year/old
+for i in 1 2 3 4 5 6; do seq 1 $i > "year/$i"; done
+yearly() { run seal --key "$key" --ledger year/ledger --device 1 "$@"; cat out >> year/lines; }
+yearly year/1 year/2 year/3
+cp year/3.stm year/old
+mv year/3.stm year/third
+yearly year/3 year/4 year/5 year/6 year/none
+against() { run verify --key "$key" --against year/lines "$@"; }
+against year/[1-6].stm
+wants against 0 "$(for i in 1 2 3 4 5 6; do echo "good year/$i.stm bytes $((2 * i))"; done)" ''
+against --show year/1.stm year/[2-6].stm
+is against-shows test "$(grep -c '^  version 1 chunk 65536 device 1 file ' out)" = 6
+against --quiet year/[1-6].stm
+wants against-quiet 0 'total: 6 good, 0 failed, 0 missing, 0 other number, 0 not listed, 42 bytes' ''
+rm year/1.stm
+mv year/2.stm year/swap; mv year/4.stm year/2.stm; mv year/swap year/4.stm
+cp year/old/3.stm year/3.stm
+cp year/5.stm year/seven.stm
+truncate -s 30 year/6.stm
+against year/*.stm
+wants against-damages 1 'good year/2.stm bytes 8
+good year/3.stm bytes 6
+good year/4.stm bytes 4
+good year/5.stm bytes 10
+failed year/6.stm: wrong length
+good year/seven.stm bytes 10
+other number year/2.stm
+other number year/3.stm
+other number year/4.stm
+not listed year/seven.stm
+missing year/1.stm' ''
+against --quiet year/*.stm
+wants against-quiet-damages 1 'failed year/6.stm: wrong length
+other number year/2.stm
+other number year/3.stm
+other number year/4.stm
+not listed year/seven.stm
+missing year/1.stm
+total: 5 good, 1 failed, 1 missing, 3 other number, 1 not listed, 38 bytes' ''
+against --json --quiet year/5.stm year/2.stm year/seven.stm year/3.stm year/4.stm year/6.stm
+wants against-json 1 '{"status":"failed","file":"year/6.stm","fault":"wrong length"}
+{"status":"other_number","file":"year/2.stm","number":4,"listed":1}
+{"status":"not_listed","file":"year/seven.stm","number":5}
+{"status":"other_number","file":"year/3.stm","number":2,"listed":3}
+{"status":"other_number","file":"year/4.stm","number":1,"listed":4}
+{"status":"missing","file":"year/1.stm","listed":0}
+{"status":"total","good":5,"failed":1,"missing":1,"other_number":3,"not_listed":1,"bytes":38}' ''
+# In a folder: the same words as for seal. A name that --quote shows is one in the lines too.
+mkdir year/in year/'b\c'
+seq 1 3 > $'year/a\nb'
+run seal --key "$key" --ledger year/ledger --device 1 --into year/in --quote year/5 $'year/a\nb'
+cp out year/lines
+against --into year/in --quote year/in/*.stm
+wants against-into 0 'good year/in/5.stm bytes 10
+good year/in/a\nb.stm bytes 6' ''
+against --quote year/in/*.stm
+wants against-not-into 1 'good year/in/5.stm bytes 10
+good year/in/a\nb.stm bytes 6
+not listed year/in/5.stm
+not listed year/in/a\nb.stm
+missing year/5.stm
+missing year/a\nb.stm' ''
+mv year/in/*.stm 'year/b\c'
+against --into 'year/b\c' --quote year/b*/*.stm
+wants against-quoted-folder 0 'good year/b\\c/5.stm bytes 10
+good year/b\\c/a\nb.stm bytes 6' ''
+# With the folders of their paths, as with --parents of seal.
+mkdir year/p year/p/q year/below
+seq 1 4 > year/p/q/5
+seq 1 4 > $'year/p/a\nb'
+run seal --key "$key" --ledger year/ledger --device 1 --into year/below --parents --quote year/5 ./year//p/./q/5 "$PWD"/year/p/a*
+cp out year/lines
+mapfile -d '' -t below < <(find year/below -name '*.stm' -print0 | sort -z)
+against --into year/below --parents --quiet --quote "${below[@]}"
+wants against-parents 0 'total: 3 good, 0 failed, 0 missing, 0 other number, 0 not listed, 26 bytes' ''
+against --into year/below --parents --quote --json "${below[@]}"
+is against-parents-json python3 -c 'import json, sys
+*objects, total = [json.loads(row) for row in open(sys.argv[1])]
+assert len(objects) == total["good"] == 3 and total["missing"] == total["not_listed"] == total["other_number"] == 0' out
+mv year/below/year/5.stm year/swap; mv year/below/year/p/q/5.stm year/below/year/5.stm; mv year/swap year/below/year/p/q/5.stm
+rm year/below"$PWD"/year/p/a*.stm
+against --into year/below --parents --quiet --quote year/below/year/5.stm year/below/year/p/q/5.stm
+wants against-parents-damages 1 "other number year/below/year/5.stm
+other number year/below/year/p/q/5.stm
+missing year/below$PWD/year/p/a\\nb.stm
+total: 2 good, 0 failed, 1 missing, 2 other number, 0 not listed, 18 bytes" ''
+against --into year/below --quiet --quote year/below/year/5.stm
+is against-without-parents test "$status $(grep -c '^missing year/below/[^/]*$' out)" = '1 2'
+run verify --key "$key" --against year/lines --parents year/5.stm
+wants parents-without-into 2 '' 'begins error: the following required arguments were not provided:
+  --into <DIR>'
+# Lines: none, of two for one output the last, and bytes that are no text.
+: > year/lines
+against 'year/b\c/5.stm'
+wants against-nothing 1 'good year/b\c/5.stm bytes 10
+not listed year/b\c/5.stm' ''
+printf 'sealed year/5 file 4 bytes 10\nsealed \xff file 1 bytes 1\nkept year/9\nfailed year/8: cannot open\nsealed year/5 file 99999999999 bytes 1\nsealed year/5 file 5 bytes 10' > year/lines
+against year/5.stm
+wants against-last-line 0 'good year/5.stm bytes 10' ''
+run verify --key "$key" --against year/none year/5.stm
+wants against-no-file 2 '' 'against: cannot open'
+run verify --key "$key" --against year year/5.stm
+wants against-a-folder 2 '' 'against: cannot open'
+run verify --key "$key" --verbose --against year/none year/5.stm
+wants against-cause 2 '' 'against: cannot open
+cause: there is no such file'
+"$sealer" verify --key "$key" --against year/lines year/1.stm > /dev/full 2> err; status=$?; : > out
+wants against-full 2 '' ''
 
 # Three chunks and more, sealed by Python's `cryptography`, if it is installed.
 if has cryptography; then

@@ -5,14 +5,14 @@ from fuzz.run import Ask
 KEY, PLAIN = bytes(range(32)), bytes(range(200)) * 100
 # The least and the greatest value of the options that take a number: of `unpipe`, `open` and `verify`, of `seal`, of `pipe`, and for version 2.
 BOUNDS = {"--workers": (1, 16), "--max-bytes": (0, 2**52 - 2**20)}
-SEAL_BOUNDS = {"--workers": (1, 16), "--max-bytes": (0, MOST), "--device": (0, 2**24 - 1), "--lanes": (1, 16), "--window": (1, 256)}
-PIPE_BOUNDS = {"--workers": (1, 16), "--device": (0, 2**24 - 1), "--depth": (1, 64), "--max-chunks": (1, 2**32 - 1)}
+SEAL_BOUNDS = {"--workers": (1, 16), "--max-bytes": (0, MOST), "--device": (0, 2**24 - 1), "--lanes": (1, 16), "--window": (1, 256), "--wait": (0, 86400)}
+PIPE_BOUNDS = {"--workers": (1, 16), "--device": (0, 2**24 - 1), "--depth": (1, 64), "--max-chunks": (1, 2**32 - 1), "--wait": (0, 86400)}
 SECOND_BOUNDS = {"--exponent": (12, 20)}
 LABELS = ("", "a", "two words", "\u00e4" * 127 + "b", "x" * 255, "\n")
 NO_NUMBERS = ("", " ", "x", "1x", "1.0", "0x1", "1e1", "1,0", "--", "99999999999999999999", "\uff11", "one", "1 1")
 # Options of other commands.
-NOT_OF_PIPE = ("--lanes=2", "--window=2", "--max-bytes=1", "--show", "--max-chunk=1", "--private", "--quote")
-NOT_OF_UNPIPE = ("--lanes=2", "--window=2", "--depth=2", "--max-chunks=1", "--show", "--private", "--into=.", "--skip-existing", "--files-from=key")
+NOT_OF_PIPE = ("--lanes=2", "--window=2", "--max-bytes=1", "--show", "--max-chunk=1", "--private", "--quote", "--parents")
+NOT_OF_UNPIPE = ("--lanes=2", "--window=2", "--depth=2", "--max-chunks=1", "--show", "--private", "--into=.", "--skip-existing", "--files-from=key", "--parents", "--journal-in=.")
 UNKNOWN = ("--worker", "--Workers", "--keys", "--key-file=key", "-k", "-w1", "--dry-run", "--max_bytes=1", "-1")
 # The commands that seal; `pipe` takes no file, and `unpipe` at most one.
 SEALS = ("seal", "pipe")
