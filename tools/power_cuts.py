@@ -184,7 +184,7 @@ def record(words):
         if call in UNKNOWN.split(","):
             differs(f"a call that the model doesn't know: {call}")
         elif call == "openat":
-            flags = int(re.search(rb", (0x[0-9a-f]+)", words)[1], 16)
+            flags = int(re.search(rb", (0x[0-9a-f]+|0)(?:,|$)", words)[1], 16)
             if flags & O_CREAT and is_mine(paths[0]) and paths[0] not in disk.names:
                 disk.make(paths[0])
         elif call in ("fsync", "fdatasync"):
