@@ -1,6 +1,9 @@
 -- What a list of names is.
-use Rattle.std.specs.Prelude.{◌≡◌, ◌≢◌, ◌⊎◌, ℕ, List, [], ◌∷◌, ◌++◌, Option, None, Some}
+use Rattle.std.specs.Prelude.{◌≡◌, ◌≢◌, ◌⊎◌, ℕ, ◌+◌, List, [], ◌∷◌, ◌++◌, Option, None, Some, if◌then◌else◌, option_map, option_to_list}
 use Rattle.std.specs.List.{All}
+use Rattle.std.specs.Str.{is_utf8}
+use Rattle.command_line.specs.declared.lists.PieceFault.{PieceFault}
+use Rattle.command_line.specs.declared.lists.PieceFault.TheVariants.{Empty, NotText}
 
 -- names one after the other, each with the separator after it
 abbrev pub ended : ℕ → List (List ℕ) → List ℕ
@@ -31,3 +34,14 @@ ArePiecesOf separator list pieces = All (λ piece. All (λ byte. byte ≢ separa
 abbrev pub ArePieces : ℕ → Option (List ℕ) → List (List ℕ) → Type 0
 ArePieces separator None pieces = pieces ≡ []
 ArePieces separator (Some list) pieces = ArePiecesOf separator list pieces
+
+-- why a piece is no name, if it is none
+unfoldable pub fault_of_piece : List ℕ → Option PieceFault
+fault_of_piece [] = Some Empty
+fault_of_piece (byte ∷ piece) = if is_utf8 (byte ∷ piece) then None else Some NotText
+
+-- those of these pieces that are no names: the number of each, counted from this one on, why it is none, and its bytes
+abbrev pub bad_pieces : ℕ → List (List ℕ) → List (ℕ × PieceFault × List ℕ)
+bad_pieces number [] = []
+bad_pieces number (piece ∷ pieces) =
+    option_to_list (option_map (λ fault. (number, fault, piece)) (fault_of_piece piece)) ++ bad_pieces (number + 1) pieces

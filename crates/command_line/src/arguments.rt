@@ -1,8 +1,8 @@
 //! The commands, with the texts of their help.
 use crate::options::{
-    AGAINST_ROWS, FILE_ROWS, HOLDINGS_ROWS, JSON_ROWS, KEY_ROWS, LABEL_ROWS, LEDGER_ROWS,
-    LOOK_ROWS, OPEN_ROWS, OUTPUT_ROWS, PIPE_ROWS, PROGRESS_ROWS, QUIET_ROWS, SEAL_ROWS, SHAPE_ROWS,
-    SHOW_ROWS, TERMINAL_ROWS, TO_ROWS, UNPIPE_ROWS, with_rows,
+    AGAINST_ROWS, CAUSE_ROWS, FILE_ROWS, HOLDINGS_ROWS, JSON_ROWS, KEY_ROWS, LABEL_ROWS,
+    LEDGER_ROWS, LOOK_ROWS, OPEN_ROWS, OUTPUT_ROWS, PIPE_ROWS, PROGRESS_ROWS, QUIET_ROWS,
+    SEAL_ROWS, SHAPE_ROWS, SHOW_ROWS, TERMINAL_ROWS, TO_ROWS, UNPIPE_ROWS, with_rows,
 };
 use crate::version::VERSION;
 use clap::{Command, Error};
@@ -107,6 +107,7 @@ fn show_command<'a>(alloc: Global) -> Result<Command<'a>, Error> {
     let command = Command::new(alloc, "show")
         .about("Prints what the header of each FILE says, without a key, unchecked")
         .after_help(SHOW_HELP);
+    let command = with_rows(alloc, command, &CAUSE_ROWS)?;
     let command = with_rows(alloc, command, &JSON_ROWS)?;
     let command = with_rows(alloc, command, &LOOK_ROWS)?;
     with_rows(alloc, command, &FILE_ROWS)
@@ -116,6 +117,7 @@ fn audit_command<'a>(alloc: Global) -> Result<Command<'a>, Error> {
     let command = Command::new(alloc, "audit")
         .about("Audits the journal on standard input and prints the verdict")
         .after_help(AUDIT_HELP);
+    let command = with_rows(alloc, command, &CAUSE_ROWS)?;
     let command = with_rows(alloc, command, &JSON_ROWS)?;
     let command = with_rows(alloc, command, &AGAINST_ROWS)?;
     with_rows(alloc, command, &FILE_ROWS)
@@ -126,6 +128,7 @@ fn ledger_command<'a>(alloc: Global) -> Result<Command<'a>, Error> {
         .about("Prints what a ledger file holds, and changes nothing")
         .after_help(LEDGER_HELP);
     let command = with_rows(alloc, command, &HOLDINGS_ROWS)?;
+    let command = with_rows(alloc, command, &CAUSE_ROWS)?;
     let command = with_rows(alloc, command, &JSON_ROWS)?;
     let command = with_rows(alloc, command, &AGAINST_ROWS)?;
     with_rows(alloc, command, &FILE_ROWS)

@@ -8,6 +8,7 @@ pub mod arguments;
 pub mod fault;
 pub mod given;
 pub mod laws;
+pub mod lists;
 pub mod names;
 mod options;
 pub mod requests;
@@ -20,6 +21,7 @@ pub use crate::given::{
     DEFAULT_DEPTH, DEFAULT_LANES, DEFAULT_MAX_BYTES, DEFAULT_MAX_CHUNKS, DEFAULT_WAIT,
     DEFAULT_WORKERS, MAX_WAIT, device_asked,
 };
+pub use crate::lists::{BadPiece, PieceFault, bad_pieces};
 pub use crate::names::{
     ListRequest, Naming, borrowed, files_of, list_request, names_in, naming_asked, quoted_files_of,
     quoted_names,

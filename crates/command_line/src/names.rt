@@ -217,8 +217,8 @@ fn push_quoted(alloc: Global, shown: &mut Vec<String>, name: &[u8]) -> Result<()
     }
 }
 
-// The bytes before the first separator, and those after it.
-fn cut_bytes(bytes: &[u8], separator: u8) -> Option<(&[u8], &[u8])>
+/// Returns the bytes before the first separator, and those after it.
+pub(crate) fn cut_bytes(bytes: &[u8], separator: u8) -> Option<(&[u8], &[u8])>
     ensures whole { IfSome result (λ parts. bytes.now ≡ parts.0.now ++ separator ∷ parts.1.now) }
     ensures apart { IfSome result (λ parts. All (λ byte. byte ≢ separator) parts.0.now) }
     ensures shorter { IfSome result (λ parts. length parts.1.now < length bytes.now) }

@@ -291,8 +291,16 @@ pub(crate) static AGAINST_ROWS: [Row; 2] = [
     },
 ];
 
+/// What every command takes in addition that only looks at headers.
+pub(crate) static CAUSE_ROWS: [Row; 1] = [Row {
+    name: "verbose",
+    takes: Takes::Nothing,
+    help: "Print the cause of a fault, of a FILE too; done anyway if standard error\n\
+        is a terminal",
+}];
+
 /// What the command takes that prints the contents of a ledger file.
-pub(crate) static HOLDINGS_ROWS: [Row; 3] = [
+pub(crate) static HOLDINGS_ROWS: [Row; 2] = [
     Row {
         name: "ledger",
         takes: Takes::Path { is_required: true },
@@ -302,11 +310,6 @@ pub(crate) static HOLDINGS_ROWS: [Row; 3] = [
         name: "key",
         takes: Takes::Path { is_required: false },
         help: "Print the lines of the key in this file alone, or its ID if there are none",
-    },
-    Row {
-        name: "verbose",
-        takes: Takes::Nothing,
-        help: "Print why it cannot be used; done anyway if standard error is a terminal",
     },
 ];
 
