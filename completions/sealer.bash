@@ -47,8 +47,8 @@ _sealer() {
                     --label --to --into --parents --skip-existing --sync --private --help -h' ;;
         verify) words='--key --workers --verbose --json --files-from --null --quote --keep-going --quiet --progress --max-bytes
                     --label --show --against --into --parents --help -h' ;;
-        show) words='--json --files-from --null --quote --keep-going --help -h' ;;
-        audit) words='--json --against --files-from --null --quote --keep-going --help -h' ;;
+        show) words='--verbose --json --files-from --null --quote --keep-going --help -h' ;;
+        audit) words='--verbose --json --against --files-from --null --quote --keep-going --help -h' ;;
         ledger) words='--ledger --key --verbose --json --against --files-from --null --quote --keep-going --help -h' ;;
         help) words='seal pipe unpipe open verify show audit ledger help' ;;
         # make_options.py writes to here

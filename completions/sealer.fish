@@ -66,9 +66,10 @@ complete -c sealer -n '__sealer_command verify' -l parents -d "The outputs have 
 
 complete -c sealer -n '__sealer_command audit ledger' -l against -d 'Compare with the headers of the FILEs, which are read without a key and not checked'
 
+complete -c sealer -n '__sealer_command show audit ledger' -l verbose -d 'Print the cause of a fault, of a FILE too'
+
 complete -c sealer -n '__sealer_command ledger' -l ledger -rF -d 'The ledger file'
 complete -c sealer -n '__sealer_command ledger' -l key -rF -d 'Print the lines of the key in this file alone, or its ID if there are none'
-complete -c sealer -n '__sealer_command ledger' -l verbose -d 'Print why it cannot be used'
 
 complete -c sealer -n '__sealer_command seal pipe' -l ledger -rF -d 'The ledger file, created if there is none'
 complete -c sealer -n '__sealer_command seal pipe' -l no-new-ledger -d 'Create no ledger file: for every run but the first'

@@ -59,10 +59,11 @@ NEVER = (
     ("pipe", "ReserveFault", "TooMany", "it reserves one number"),
     ("ledger", "LedgerFault", "NotSeen", "there is no witness"),
     ("unpipe open verify", "Cause", f"{OF_LEDGER} {OF_JOURNAL} {OF_WITNESS}", "there is no ledger, and no journal"),
-    ("ledger", "Cause", f"Passed CannotMake {OF_JOURNAL} {OF_WITNESS}", "there is no journal and no witness"),
-    ("show audit", "Cause", f"NoDigits Passed {OF_LEDGER} {OF_JOURNAL} {OF_WITNESS}", "there is no key, no ledger, and no journal file"),
+    ("ledger", "Cause", f"CannotMake {OF_JOURNAL} {OF_WITNESS}", "there is no journal and no witness"),
+    ("show audit", "Cause", f"NoDigits {OF_LEDGER} {OF_JOURNAL} {OF_WITNESS}", "there is no key, no ledger, and no journal file"),
     ("pipe", "Cause", "Input", "there is no list"),
-    ("pipe ledger show audit", "Cause", OF_FILE, "there is no FILE with a cause"),
+    ("pipe", "Cause", OF_FILE, "there is no FILE with a cause"),
+    ("ledger show audit", "Cause", f"{OF_OUTPUT} OwnFile TooLarge", "a FILE is only read, and can be any file"),
     ("unpipe verify", "Cause", OF_OUTPUT, "there is no output with a name"),
     ("open verify", "Cause", "OwnFile", "a FILE can be any file"),
     ("verify", "Cause", "TooLarge", "nothing is written to a file"),
@@ -73,8 +74,22 @@ WARNING = r'eprintln!\(rt; "(warning: \{path\} can be read by others)"\)'
 WARNED = ("seal", "pipe", "unpipe", "open", "verify", "ledger")
 # The line about a FILE that changes while it is sealed.
 CHANGED = r'eprintln!\(rt; "(warning: \{name\} changed while it was sealed)"\)'
+# The lines about names that can't be used, as the sources print them: each with its text, and its commands. A fault is PieceFault's.
+OF_LISTS = "seal open verify show audit ledger"
+OF_OUTPUTS = "seal open"
+OF_NAMES = {
+    "cause: {unit} {number} of the list is {wanted}": ("cause: line N of the list is {fault}", ("Empty", "NotText"), OF_LISTS),
+    "list: {unit} {number}: {fault}": ("list: line N: {fault}", ("Empty",), OF_LISTS),
+    "list: {unit} {number}: {fault}: {name}": ("list: line N: {fault}: NAME", ("NotText",), OF_LISTS),
+    "list: {unit} {number}: no last name: {name}": ("list: line N: no last name: NAME", ("",), OF_OUTPUTS),
+    "list: {unit} {number}: its output is that of {unit} {other}": ("list: line N: its output is that of line N", ("",), OF_OUTPUTS),
+    "list: {unit} {number}: its output is that of '{name}'": ("list: line N: its output is that of 'NAME'", ("",), OF_OUTPUTS),
+    "cause: {file}": ("cause: 'NAME'", ("",), OF_OUTPUTS),
+    "cause: {first} and {file}": ("cause: 'NAME' and 'NAME'", ("",), OF_OUTPUTS),
+}
 # The types of faults that are never printed themselves, and what becomes of them.
 UNPRINTED = {
+    "PieceFault": "a part of the lines of OF_NAMES",
     "Failed": "a stream's: read failed, or write failed",
     "FolderFault": "an output's: output exists, or cannot create",
     "BookFault": "a Book's, which the program doesn't have",
@@ -173,7 +188,7 @@ def everywhere():
     """The texts that the program prints itself, before it knows its command."""
     printed = re.findall(r'\beprintln!\(\s*\w+;\s*"([^"]*)"', SOURCES)
     warnings = {only(WARNING, "the warning about a key file"), only(CHANGED, "the warning about a FILE")}
-    apart = {"{subject}: {fault}", "cause: {cause}", OF_A_FILE, *warnings}
+    apart = {"{subject}: {fault}", "cause: {cause}", OF_A_FILE, *OF_NAMES, *warnings}
     if not apart <= set(printed):
         raise SystemExit("where are faults and causes printed?")
     return frozenset(printed) - apart
@@ -187,6 +202,9 @@ def faults(command):
         errors.add(only(WARNING, "the warning about a key file").replace("{path}", "F"))
     if command == "seal":
         errors.add(only(CHANGED, "the warning about a FILE").replace("{name}", "FILE"))
+    for text, variants_of_it, commands in OF_NAMES.values():
+        if command in commands.split():
+            errors.update(text.replace("{fault}", texts_by_variant("PieceFault").get(it, "")) for it in variants_of_it)
     for subject, names in FAULTS[command].items():
         for name in names:
             for text in texts(name, never):

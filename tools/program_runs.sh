@@ -371,12 +371,15 @@ wants ended-by-one-last-name 2 '' 'usage: two FILEs have one last name'
 is nothing-was-made test -z "$(ls -A files/into)"
 is no-ledger-either no test -e files/ledger
 printf 'files/a\0\0files/d/a\0files/e\377\0files/b\nc\0' > list
+told='list: name 2: empty
+list: name 4: not UTF-8: files/e\xff
+list: name 3: its output is that of name 1'
 keeps --keep-going
 wants keeps-going 1 'sealed files/a file 0 bytes 1
 failed : cannot open
 failed files/d/a: output exists
 failed files/e\xff: cannot open
-sealed files/b\nc file 1 bytes 3' ''
+sealed files/b\nc file 1 bytes 3' "$told"
 is only-the-others-were-made test "$(find files/into -type f -printf x)" = xx
 run ledger --ledger files/ledger
 is numbers-for-all-of-them grep -q ' ranges 1 given 5 left ' out
@@ -386,7 +389,7 @@ wants keeps-going-and-keeps 1 'kept files/b\nc
 failed files/a: output exists
 failed : cannot open
 failed files/d/a: output exists
-failed files/e\xff: cannot open' ''
+failed files/e\xff: cannot open' "$told"
 rm -r files/into
 mkdir files/into
 keeps --keep-going --lanes 5
@@ -395,16 +398,83 @@ wants keeps-going-by-lanes 1 'sealed files/a bytes 1
 failed : cannot open
 failed files/d/a: output exists
 failed files/e\xff: cannot open
-sealed files/b\nc bytes 3' ''
+sealed files/b\nc bytes 3' "$told"
 printf 'files/into/a.stm\n\nfiles/\377.stm' > list
 run verify --key "$key" --keep-going --files-from list
 wants verify-keeps-going 1 'good files/into/a.stm bytes 1
 failed : cannot open
-failed files/\xff.stm: cannot open' ''
+failed files/\xff.stm: cannot open' 'list: line 2: empty
+list: line 3: not UTF-8: files/\xff.stm'
 run open --key "$key" --keep-going --files-from list
 wants open-keeps-going 1 'opened files/into/a.stm bytes 1
 failed : name does not end in .stm
-failed files/\xff.stm: cannot open' ''
+failed files/\xff.stm: cannot open' 'list: line 2: empty
+list: line 3: not UTF-8: files/\xff.stm'
+
+# Which name of a list it is: without --keep-going the first is the cause, by --verbose; with it each is told.
+fresh
+mkdir files/into files/x files/y
+printf 1 > files/x/a
+printf 22 > files/y/a
+which() { # NAME STATUS OUT ERR OPTIONS.., over the file list
+    run seal --key "$key" --ledger files/ledger --device 1 --files-from list "${@:5}"
+    wants "which-name: $1" "$2" "$3" "$4"
+}
+printf 'files/x/a\n\377\xfe\n\n\377\n' > list
+which not-text 2 '' 'usage: the list is no text
+cause: line 2 of the list is not UTF-8' --verbose
+which not-text-quoted 2 '' 'usage: the list is no text
+cause: line 2 of the list is not UTF-8' --verbose --quote
+which not-text-tersely 2 '' 'usage: the list is no text'
+printf 'files/x/a\0\n\0\0b' > list
+which empty-by-null 2 '' 'usage: a name in the list is empty
+cause: name 3 of the list is empty' --verbose --null
+printf 'files/x/a\nfiles/none\n\n\n' > list
+which empty 2 '' 'usage: a name in the list is empty
+cause: line 3 of the list is empty' --verbose
+for command in "verify --key $key" "open --key $key" show "ledger --ledger none --against" 'audit --against'; do
+    run $command --verbose --files-from list < /dev/null
+    wants "which-name: $command" 2 '' 'usage: a name in the list is empty
+cause: line 3 of the list is empty'
+done
+printf 'files/none\nfiles/x/a\nfiles/x\tb\nfiles/y/a\nfiles/x//a\n' > list
+which one-last-name 2 '' "usage: two FILEs have one last name
+cause: 'files/x/a' (line 2 of the list) and 'files/y/a' (line 4 of the list)" --verbose --into files/into
+which one-last-name-tersely 2 '' 'usage: two FILEs have one last name' --into files/into
+which one-last-name-given 2 '' "usage: two FILEs have one last name
+cause: './files/x/a' and 'files/x/a' (line 2 of the list)" --verbose --into files/into ./files/x/a
+which one-output 2 '' "usage: two FILEs have one output
+cause: 'files/x/a' (line 2 of the list) and 'files/x//a' (line 5 of the list)" --verbose --into files/into --parents
+printf 'files/x/a\nfi\tles/..\n' > list
+which no-last-name 2 '' "usage: a FILE has no last name
+cause: 'fi\\tles/..' (line 2 of the list)" --verbose --into files/into
+which no-last-name-quoted 2 '' "usage: a FILE has no last name
+cause: 'fi\\tles/..' (line 2 of the list)" --verbose --quote --into files/into
+is which-name-makes-nothing test -z "$(ls -A files/into)"
+printf 'files/x/a\n\n\377\nfiles/..\nfiles/y/a\n' > list
+which each 1 "sealed ./files/x/a file 0 bytes 1
+failed files/x/a: output exists
+failed : cannot open
+failed \\xff: cannot open
+failed files/..: cannot open
+failed files/y/a: output exists" "list: line 2: empty
+list: line 3: not UTF-8: \\xff
+list: line 1: its output is that of './files/x/a'
+list: line 4: no last name: files/..
+list: line 5: its output is that of './files/x/a'" --keep-going --into files/into ./files/x/a
+printf 'files/x/a\n\nfiles/y/a\nfiles//y/a\n../a\n' > list
+mkdir files/tree
+which each-of-a-tree 1 'sealed files/x/a file 4 bytes 1
+failed : cannot open
+sealed files/y/a file 6 bytes 2
+failed files//y/a: output exists
+failed ../a: cannot open' 'list: line 2: empty
+list: line 4: its output is that of line 3' --keep-going --into files/tree --parents
+# So of a hundred thousand names, each twice, in the time of one pass over them.
+python3 -c 'for name in range(50000): print(f"files/none/{name}\nnone/{name}")' > list
+run seal --key "$key" --ledger files/ledger --device 1 --verbose --into files/into --files-from list
+wants which-name-of-many 2 '' "usage: two FILEs have one last name
+cause: 'files/none/0' (line 1 of the list) and 'none/0' (line 2 of the list)"
 
 # With --parents outputs keep the folders of their FILEs' paths below the folder of --into, which are made as needed.
 fresh
@@ -1752,6 +1822,23 @@ failed -: cannot open'
 foreign=(life/heads/{short,headless,labelless,version,exponent,magic}.stm life/heads/more /dev/zero life/heads/fifo life/heads life/heads/none -)
 timeout 20 "$sealer" show "${foreign[@]}" < /dev/null > out 2> err; status=$?
 wants show-of-foreign-files 1 "$bad_heads" ''
+# Causes of what can't be opened or read; a header that isn't one has none.
+run show --verbose life/heads/{magic.stm,fifo,none} life/heads none/a
+wants show-causes 1 'failed life/heads/magic.stm: not a sealed file
+failed life/heads/fifo: cannot open
+failed life/heads/none: cannot open
+failed life/heads: cannot open
+failed none/a: cannot open' 'cause: life/heads/fifo: it is no regular file
+cause: life/heads/none: there is no such file
+cause: life/heads: it is a folder
+cause: none/a: the folder is missing'
+run show --verbose --keep-going --files-from <(printf '\377\nlife\t\n')
+wants show-causes-of-names 1 'failed \xff: cannot open
+failed life\t: cannot open' 'list: line 1: not UTF-8: \xff
+cause: \xff: its name is not UTF-8, or memory was refused
+cause: life\t: there is no such file'
+run show --verbose /proc/self/mem
+wants show-cause-of-reading 1 'failed /proc/self/mem: read failed' 'cause: /proc/self/mem: the system reports an error'
 printf 'life/heads/empty.stm\0life/heads/none\0' > names
 run show --files-from - --null life/heads/machine.stm < names
 wants show-a-list 1 "$(python3 shown_by_python.py life/heads/machine.stm life/heads/empty.stm)
@@ -1763,7 +1850,8 @@ printf 'life/heads/empty.stm\n\nlife/heads/\377\n' > names
 run show --keep-going --files-from names
 wants show-goes-on 1 "$(python3 shown_by_python.py life/heads/empty.stm)
 failed : cannot open
-failed life/heads/\\xff: cannot open" ''
+failed life/heads/\\xff: cannot open" 'list: line 2: empty
+list: line 3: not UTF-8: life/heads/\xff'
 run show --files-from names
 wants show-of-no-text 2 '' 'usage: the list is no text'
 run show --files-from /dev/null
@@ -1796,6 +1884,10 @@ ledger: older than life/heads/late.stm" ''
 run ledger --ledger life/heads/l --against --files-from - life/heads/empty.stm < names
 wants against-a-list-of-the-input 1 "$(cat lines)
 ledger: older than life/heads/late.stm" ''
+run ledger --verbose --ledger life/heads/l --against life/heads/late.stm life/heads/none
+wants against-causes 1 "$(cat lines)
+ledger: older than life/heads/late.stm
+failed life/heads/none: cannot open" 'cause: life/heads/none: there is no such file'
 timeout 20 "$sealer" ledger --ledger life/heads/l --against "${foreign[@]}" life/heads/late.stm < /dev/null > out 2> err; status=$?
 wants against-foreign-files 1 "$(cat lines)
 $bad_heads
@@ -1859,6 +1951,8 @@ run audit --against life/heads/more.stm < names
 is audit-the-greatest-range test "$status $(wc -l < out) $(tail -n 1 out)" = '1 65537 missing file 4294967295'
 run audit --against life/heads/more.stm < /dev/null
 wants audit-against-no-journal 1 'malformed line 1' ''
+run audit --verbose --against life/heads/none < life/heads/first
+is audit-against-causes test "$status $(cat err)" = '1 cause: life/heads/none: there is no such file'
 run audit --against --files-from - < life/heads/first
 wants audit-no-input-left 2 '' 'usage: standard input is the journal'
 run audit life/heads/more.stm < life/heads/first
@@ -3184,7 +3278,8 @@ wants 'cause: list-closed' 2 '' 'usage: cannot read the list
 cause: standard input cannot be read'
 printf '\n' > files/list
 run verify --verbose --key none --files-from files/list
-wants 'no-cause: what a list holds' 2 '' 'usage: a name in the list is empty'
+wants 'cause: what a list holds' 2 '' 'usage: a name in the list is empty
+cause: line 1 of the list is empty'
 run verify --verbose --key files/key files/none
 wants 'cause: a FILE' 1 'failed files/none: cannot open' 'cause: files/none: there is no such file'
 # Of a FILE the cause has its name, since its line is on standard output. Without --verbose there is none.

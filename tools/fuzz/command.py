@@ -18,8 +18,9 @@ UNKNOWN = ("--worker", "--Workers", "--keys", "--key-file=key", "-k", "-w1", "--
 SEALS = ("seal", "pipe")
 # What can't have the spool of standard input: there is no such folder, and it is a file.
 NO_FOLDERS = ("none", "", "key")
-# No command at all, or more than `audit` takes.
-NO_COMMANDS = ([], ["--key", "key"], ["audit", "a"], ["audit", "--key", "key"], ["audit", "audit"], ["audit", "-1"])
+# No command at all, or more than `audit` takes, or `show` without a file or with a value of its flag.
+NO_COMMANDS = ([], ["--key", "key"], ["audit", "a"], ["audit", "--verbose", "a"], ["audit", "--key", "key"], ["audit", "audit"], ["audit", "-1"],
+               ["show", "--verbose"], ["show", "--verbose=yes", "a"])
 
 
 def bounds_of(command, first_only):

@@ -94,7 +94,7 @@ fn compare<R: Files + AllocGlobal + Eprint, I: Read + Drop, O: Write + Drop>(
 }
 
 // Prints a line for each container that isn't among these numbers, then for each number that no container has.
-fn fitting<R: Files + AllocGlobal, O: Write + Drop>(
+fn fitting<R: Files + AllocGlobal + Eprint, O: Write + Drop>(
     rt: &R,
     sealed: &mut SealedNumbers,
     containers: &Containers,

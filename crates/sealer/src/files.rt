@@ -6,6 +6,7 @@ ghost use Rattle.command_line.specs.Names.{ArePieces, IsListed};
 ghost use Rattle.path_core.specs.Quotes.{quoted};
 ghost use Rattle.sealer.specs.Names.{IsListText};
 
+use crate::telling::tell_bad;
 use crate::{FAULT, Streams, Terminals, explain};
 use clap::ArgMatches;
 use command_line::{
@@ -55,8 +56,8 @@ fn key_of<R: Files + AllocGlobal>(rt: &R, path: &str) -> Result<Key, KeyFault> {
 /// A list of names that was read.
 #[derive(Drop)]
 pub(crate) struct NameList {
-    text: Vec<u8>,
-    separator: char,
+    pub(crate) text: Vec<u8>,
+    pub(crate) separator: char,
 }
 
 /// Reads the list of names, if one is given. `-` means standard input.
@@ -141,9 +142,10 @@ pub(crate) fn quotes_of(
     }
 }
 
-/// Returns the names of the command line, then all that the list has between its separators, as lines show them.
-pub(crate) fn pieces_of(
-    alloc: Global,
+/// Returns the names of the command line, then all that the list has between its separators, as lines show them. It
+/// prints a line for each of the latter that is no name.
+pub(crate) fn pieces_of<R: AllocGlobal + Eprint>(
+    rt: &R,
     matches: &ArgMatches<'_>,
     list: &Option<NameList>,
 ) -> Result<Vec<String>, UsageFault>
@@ -154,8 +156,12 @@ pub(crate) fn pieces_of(
         × (map string_bytes shown.items ≡ map quoted (files_given matches.now ++ listed))) }
 {
     let given = matches.get_strs("FILE").unwrap_or(&[]);
+    let alloc = rt.alloc();
     match list {
-        Some(list) => quoted_files_of(alloc, given, Some(list.text.as_slice()), list.separator),
+        Some(list) => {
+            tell_bad(rt, list);
+            quoted_files_of(alloc, given, Some(list.text.as_slice()), list.separator)
+        }
         None => quoted_files_of(alloc, given, None, '\n'),
     }
 }

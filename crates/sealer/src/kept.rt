@@ -7,7 +7,9 @@ ghost use Rattle.io_core.specs.Streams.{Appends};
 ghost use Rattle.system_files.specs.Kept.{IsSplit, kept_text};
 ghost use Rattle.system_files.specs.declared.names.Target.TheVariants.{Into, Tree};
 
+use crate::telling::{explain_clash, origin_of, tell_clashes};
 use crate::{FAULT, complain};
+use clap::ArgMatches;
 use command_line::UsageFault;
 use ledger_core::Sink;
 use std::alloc::Global;
@@ -18,13 +20,16 @@ use system_files::{
 
 /// Returns the FILEs that a run processes: all of these names, or with `skip` those whose output doesn't exist yet. It
 /// prints a line for each of the others. If outputs go into, or below, one folder, and none may be shared, no two of the
-/// FILEs may have the same. A fault is printed, and the error is its status.
+/// FILEs may have the same; if outputs may be shared, a line is printed for each name of the list that has no output of
+/// its own. A fault is printed, with `causes` its cause too, and the error is its status.
 pub(crate) fn worked_of<'n, R: Files + AllocGlobal + Eprint, W: Sink>(
     rt: &R,
+    matches: &ArgMatches<'_>,
     to: Destination<'_>,
     skip: bool,
     names: &[&'n str],
     lines: &mut W,
+    causes: bool,
 ) -> Result<Vec<&'n str>, u8>
     ensures kept { IfOk result (λ others. (kept : List (List ℕ))
         × IsSplit (map (λ name. name.now) names.now) kept (map (λ name. name.now) others.items)
@@ -32,11 +37,9 @@ pub(crate) fn worked_of<'n, R: Files + AllocGlobal + Eprint, W: Sink>(
         × Appends (W.taken lines.old) (W.taken lines.new) (kept_text kept)) }
     ensures status { IfErr result (λ status. status ≡ FAULT) }
 {
-    if !to.may_share {
-        match check_apart(rt.alloc(), to.target, names) {
-            Ok(()) => {}
-            Err(fault) => return Err(complain(rt, "usage", fault)),
-        }
+    match check_names(rt, matches, to, names, causes) {
+        Ok(()) => {}
+        Err(status) => return Err(status),
     }
     let split = match split_names(rt, to, skip, names) {
         Ok(split) => split,
@@ -46,6 +49,31 @@ pub(crate) fn worked_of<'n, R: Files + AllocGlobal + Eprint, W: Sink>(
         Ok(()) => Ok(split.others),
         Err(_) => Err(FAULT),
     }
+}
+
+// Checks that no two of these FILEs have one output, or if they may, prints a line for each name of the list without one
+// of its own. A fault is printed, with `causes` its cause too, and the error is its status.
+fn check_names<R: AllocGlobal + Eprint>(
+    rt: &R,
+    matches: &ArgMatches<'_>,
+    to: Destination<'_>,
+    names: &[&str],
+    causes: bool,
+) -> Result<(), u8>
+    ensures status { IfErr result (λ status. status ≡ FAULT) }
+{
+    if to.may_share {
+        tell_clashes(rt, origin_of(matches), to, names);
+        return Ok(());
+    }
+    let Err(fault) = check_apart(rt.alloc(), to.target, names) else {
+        return Ok(());
+    };
+    let status = complain(rt, "usage", fault);
+    if causes {
+        explain_clash(rt, origin_of(matches), to, names, fault);
+    }
+    Err(status)
 }
 
 // Checks that no two of these FILEs have one output in, or below, the folder into which outputs go.

@@ -97,7 +97,7 @@ fn hint_of(key: &Key) -> [u8; 7]
 }
 
 // Prints what a ledger file holds, of one key if a hint is given, and compares all of it with the containers.
-fn tell_held<R: Files + AllocGlobal, W: Sink>(
+fn tell_held<R: Files + AllocGlobal + Eprint, W: Sink>(
     rt: &R,
     held: &[Holding],
     hint: Option<[u8; 7]>,

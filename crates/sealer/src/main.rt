@@ -20,6 +20,7 @@ mod opening;
 mod sealing;
 mod showing;
 mod styles;
+mod telling;
 mod unpiping;
 
 use crate::auditing::audit;
@@ -29,6 +30,7 @@ use crate::opening::open;
 use crate::sealing::{pipe, seal};
 use crate::showing::show;
 use crate::styles::asked_of;
+use crate::telling::refuse_list;
 use crate::unpiping::unpipe;
 use clap::{ArgMatches, Error};
 use command_line::{
@@ -282,24 +284,25 @@ fn over_files<
         (O.contents streams.output.0) (O.contents result.1.output.0) }
 {
     let mut input = input;
+    let causes = streams.terminals.causes;
     let list = match read_list(rt, matches, &mut input) {
         Ok(list) => list,
         Err(fault) => {
             let about = about_list(matches, fault);
-            let status = explain(rt, "usage", fault, streams.terminals.causes, about);
+            let status = explain(rt, "usage", fault, causes, about);
             return (status, streams);
         }
     };
     match naming_asked(matches) {
         Naming::Plain => match names_of(rt.alloc(), matches, &list) {
             Ok(names) => over_names(rt, host, command, matches, names.as_slice(), input, streams),
-            Err(fault) => (complain(rt, "usage", fault), streams),
+            Err(fault) => (refuse_list(rt, &list, fault, causes), streams),
         },
         Naming::Quoted => match quotes_of(rt.alloc(), matches, &list) {
             Ok(shown) => over_shown(rt, host, command, matches, shown.as_slice(), input, streams),
-            Err(fault) => (complain(rt, "usage", fault), streams),
+            Err(fault) => (refuse_list(rt, &list, fault, causes), streams),
         },
-        Naming::KeepGoing => match pieces_of(rt.alloc(), matches, &list) {
+        Naming::KeepGoing => match pieces_of(rt, matches, &list) {
             Ok(shown) => over_shown(rt, host, command, matches, shown.as_slice(), input, streams),
             Err(fault) => (complain(rt, "usage", fault), streams),
         },

@@ -48,7 +48,9 @@ pub(crate) fn open<
         names: names_for(naming),
         may_share: naming == Naming::KeepGoing,
     };
-    let files = match worked_of(rt, to, request.skip, names, &mut streams.output) {
+    let causes = streams.terminals.causes;
+    let output = &mut streams.output;
+    let files = match worked_of(rt, matches, to, request.skip, names, output, causes) {
         Ok(files) => files,
         Err(status) => return (status, streams),
     };
@@ -75,7 +77,7 @@ pub(crate) fn open<
         // Standard input is opened only under another name.
         reopens_input: request.to.is_some() && can_reopen_input(rt),
         spool: None,
-        causes: streams.terminals.causes,
+        causes,
         warns_of_changes: false,
     };
     let folder = SystemFiles::new(rt, Some(input), progress.as_ref(), options);

@@ -202,7 +202,9 @@ pub(crate) fn seal<
         names: names_for(naming),
         may_share: naming == Naming::KeepGoing,
     };
-    let files = match worked_of(rt, to, request.skip, names, &mut streams.output) {
+    let causes = streams.terminals.causes;
+    let output = &mut streams.output;
+    let files = match worked_of(rt, matches, to, request.skip, names, output, causes) {
         Ok(files) => files,
         Err(status) => return (status, streams),
     };
@@ -232,7 +234,7 @@ pub(crate) fn seal<
         reads_again: false,
         reopens_input: false,
         spool: None,
-        causes: streams.terminals.causes,
+        causes,
         warns_of_changes: true,
     };
     let folder = SystemFiles::new(rt, None, progress.as_ref(), options);

@@ -1,15 +1,18 @@
 //! The commands that look at the headers of containers alone: `show`, and `ledger` and `audit` with `--against`.
 
 use crate::files::{about_list, names_of, pieces_of, quotes_of, read_list};
+use crate::telling::refuse_list;
 use crate::{Streams, complain, explain};
 use clap::ArgMatches;
 use command_line::{Naming, UsageFault, naming_asked};
+use container_core::OpenFault;
 use ledger_core::{Sink, write_all};
 use path_core::unquote;
 use sealer_core::{FileFault, FileOutcome, Line};
 use std::alloc::Global;
 use std::io::{Read, Write};
 use std::rt::Files;
+use system_files::{About, Cause, cause_of};
 use system_headers::{SealedNumbers, Seen, Shown, look_at};
 use system_ledger::{Holding, is_older};
 use thiserror::Error;
@@ -42,6 +45,8 @@ pub(crate) struct Containers {
     names: Vec<String>,
     /// Whether they are as lines show them.
     is_quoted: bool,
+    /// Whether the cause is printed if one can't be looked at.
+    causes: bool,
 }
 
 /// Prints a line about the header of each container.
@@ -84,15 +89,16 @@ pub(crate) fn containers_of<R: Files + AllocGlobal + Eprint, I: Read>(
             Err(fault) => Err(fault),
         },
         Naming::Quoted => quotes_of(rt.alloc(), matches, &list),
-        Naming::KeepGoing => pieces_of(rt.alloc(), matches, &list),
+        Naming::KeepGoing => pieces_of(rt, matches, &list),
     };
     match names {
         Ok(names) if names.is_empty() => Err(complain(rt, "usage", UsageFault::NoFiles)),
         Ok(names) => Ok(Containers {
             names,
             is_quoted: naming != Naming::Plain,
+            causes,
         }),
-        Err(fault) => Err(complain(rt, "usage", fault)),
+        Err(fault) => Err(refuse_list(rt, &list, fault, causes)),
     }
 }
 
@@ -112,7 +118,7 @@ fn owned(alloc: Global, names: &[&str]) -> Result<Vec<String>, UsageFault> {
 
 /// Looks at each of these containers, and prints what is to be said of it. Returns the status: 1 if something is wrong
 /// with one, else 0.
-pub(crate) fn look_over<R: Files + AllocGlobal, W: Sink>(
+pub(crate) fn look_over<R: Files + AllocGlobal + Eprint, W: Sink>(
     rt: &R,
     look: Look<'_>,
     containers: &Containers,
@@ -122,7 +128,7 @@ pub(crate) fn look_over<R: Files + AllocGlobal, W: Sink>(
     let mut status = 0;
     for name in &containers.names {
         let name = name.as_str();
-        let seen = look_at_name(rt, name, containers.is_quoted);
+        let seen = look_at_name(rt, name, containers);
         if !tell(rt.alloc(), &mut look, name, seen, output)? {
             status = 1;
         }
@@ -130,18 +136,52 @@ pub(crate) fn look_over<R: Files + AllocGlobal, W: Sink>(
     Ok(status)
 }
 
-// Looks at the container of this name.
-fn look_at_name<R: Files + AllocGlobal>(
+// Looks at the container of this name. If it can't be read, the cause is printed, if causes are.
+fn look_at_name<R: Files + AllocGlobal + Eprint>(
     rt: &R,
     name: &str,
-    is_quoted: bool,
+    containers: &Containers,
 ) -> Result<(Seen, Option<u64>), FileFault> {
-    if !is_quoted {
-        return look_at(rt, name);
+    let causes = containers.causes;
+    if !containers.is_quoted {
+        return look_at_path(rt, name, name, causes);
     }
     match unquote(rt.alloc(), name) {
-        Ok(Some(path)) => look_at(rt, path.as_str()),
-        _ => Err(FileFault::CannotOpen),
+        Ok(Some(path)) => look_at_path(rt, name, path.as_str(), causes),
+        _ => {
+            explain_container(rt, name, causes, About::Known(Cause::NoText));
+            Err(FileFault::CannotOpen)
+        }
+    }
+}
+
+// The same for the container of this name at this path.
+fn look_at_path<R: Files + AllocGlobal + Eprint>(
+    rt: &R,
+    name: &str,
+    path: &str,
+    causes: bool,
+) -> Result<(Seen, Option<u64>), FileFault> {
+    let seen = look_at(rt, path);
+    match seen {
+        Err(FileFault::CannotOpen | FileFault::Unopened(OpenFault::Read)) => {
+            explain_container(rt, name, causes, About::Input(path));
+        }
+        _ => {}
+    }
+    seen
+}
+
+// Prints why the container of this name can't be read, if causes are printed.
+fn explain_container<R: Files + AllocGlobal + Eprint>(
+    rt: &R,
+    name: &str,
+    causes: bool,
+    about: About<'_>,
+) {
+    if causes {
+        let cause = cause_of(rt, about);
+        let _ = eprintln!(rt; "cause: {name}: {cause}");
     }
 }
 
