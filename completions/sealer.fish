@@ -30,12 +30,12 @@ complete -c sealer -n 'not __sealer_command seal pipe unpipe open verify show au
 
 complete -c sealer -n '__sealer_command seal pipe unpipe open verify' -l key -rF -d 'The key file: 64 hex digits, then nothing or one end of line'
 complete -c sealer -n '__sealer_command seal pipe unpipe open verify' -l workers -x -a 'auto 1 2 4 8 16' -d 'Workers on one file or stream, side by side, 1 to 16, or auto: as many as there are processors for the run'
-complete -c sealer -n '__sealer_command seal pipe unpipe open verify' -l verbose -d 'Print the cause of a fault, of a FILE too, and warn of a key file that is open to others'
+complete -c sealer -n '__sealer_command seal pipe unpipe open verify' -l verbose -d 'Print the cause of a fault, and warn of a key file that is open to others'
 
 complete -c sealer -n '__sealer_command seal open verify show audit ledger' -l files-from -rF -d 'Read further FILEs from a list, one a line, after those of the command line'
 complete -c sealer -n '__sealer_command seal open verify show audit ledger' -l null -d 'FILEs in the list of --files-from end with a NUL byte, not a line feed'
 complete -c sealer -n '__sealer_command seal open verify show audit ledger' -l quote -d 'Print names with escapes for backslashes, control characters and marks of direction, so that no name adds a line'
-complete -c sealer -n '__sealer_command seal open verify show audit ledger' -l keep-going -d 'A name of the list that is empty or not UTF-8, or that --into refuses, is a FILE that failed, not a fault of usage'
+complete -c sealer -n '__sealer_command seal open verify show audit ledger' -l keep-going -d 'A name that cannot be used (of the list: empty or not UTF-8) is a FILE that failed, not a fault of usage'
 
 complete -c sealer -n '__sealer_command seal unpipe open verify' -l progress -a 'terminal always' -d 'Show progress on standard error if that is a terminal, or always'
 
@@ -56,7 +56,7 @@ complete -c sealer -n '__sealer_command open' -l to -rF -d 'Write the plaintext 
 
 complete -c sealer -n '__sealer_command seal pipe unpipe open verify show audit ledger' -l json -d 'Print a JSON object in place of each line, and one with the totals at the end'
 
-complete -c sealer -n '__sealer_command seal open verify' -l quiet -d 'Print only the lines of FILEs that failed, and a last one with the totals'
+complete -c sealer -n '__sealer_command seal open verify' -l quiet -d 'Leave out the lines of FILEs that are well'
 
 complete -c sealer -n '__sealer_command verify' -l show -d 'After the line of a good FILE print its version, chunk size, device, number and label'
 complete -c sealer -n '__sealer_command verify' -l against -rF -d 'Compare the FILEs with the lines that seal printed, kept in this file: outputs that are missing, have another number or are not listed'

@@ -10,14 +10,15 @@ use std::alloc::Global;
 
 /// The end of the program's help.
 const SEALER_HELP: &str =
-    "Exit status: 0 if all is well, 1 if some FILE failed or the journal is not legal, 2 at any other
-fault. COMMAND --help shows its options and what it prints.";
+    "Exit status: 0 if all is well, 1 if some FILE failed, the journal is not legal or --against found
+something, 2 at any other fault. COMMAND --help shows its options and what it prints.";
 
 /// The end of the help of `open` and `verify`.
 const FILES_HELP: &str =
-    "Prints a line for each FILE. Exit status: 0 if none failed, 1 if some did, 2 if nothing was done,
-or a line could not be written. Takes some megabytes of memory; open reads each regular FILE twice,
-and holds the plaintext of any other in memory. To standard output: sealer unpipe";
+    "Prints a line for each FILE. Exit status: 0 if none failed, 1 if some did or --against of verify
+found something, 2 if nothing was done, or a line could not be written. Takes some megabytes of
+memory; open reads each regular FILE twice, and holds the plaintext of any other in memory. To
+standard output: sealer unpipe";
 
 /// The end of the help of `seal`.
 const SEAL_HELP: &str =
@@ -54,9 +55,9 @@ did, 2 if standard error says why, or a line could not be written.";
 /// The end of the help of `audit`.
 const AUDIT_HELP: &str =
     "With --against, if the journal is legal, it also prints a line for each FILE whose device and number
-the journal has not as sealed, and for each number sealed that no FILE has. Exit status: 0 if the
-journal is legal and no such line was printed, 1 if not, 2 if it could not be read, or a line not be
-written.";
+the journal has not as sealed, each number sealed that no FILE has, and each FILE that failed. Exit
+status: 0 if the journal is legal and no such line was printed, 1 if not, 2 if it could not be read,
+or a line not be written.";
 
 /// The end of the help of `ledger`.
 const LEDGER_HELP: &str =

@@ -86,8 +86,8 @@ pub(crate) static KEY_ROWS: [Row; 3] = [
     Row {
         name: "verbose",
         takes: Takes::Nothing,
-        help: "Print the cause of a fault, of a FILE too, and warn of a key file that is\n\
-            open to others; done anyway if standard error is a terminal",
+        help: "Print the cause of a fault, and warn of a key file that is open to\n\
+            others; done anyway if standard error is a terminal",
     },
 ];
 
@@ -113,8 +113,8 @@ pub(crate) static FILE_ROWS: [Row; 4] = [
     Row {
         name: "keep-going",
         takes: Takes::Nothing,
-        help: "A name of the list that is empty or not UTF-8, or that --into refuses,\n\
-            is a FILE that failed, not a fault of usage; implies --quote",
+        help: "A name that cannot be used (of the list: empty or not UTF-8) is a FILE\n\
+            that failed, not a fault of usage; implies --quote",
     },
 ];
 
@@ -233,7 +233,8 @@ pub(crate) static JSON_ROWS: [Row; 1] = [Row {
 pub(crate) static QUIET_ROWS: [Row; 1] = [Row {
     name: "quiet",
     takes: Takes::Nothing,
-    help: "Print only the lines of FILEs that failed, and a last one with the totals",
+    help: "Leave out the lines of FILEs that are well; print a last one with the\n\
+        totals",
 }];
 
 /// What only `verify` takes in addition to these.
