@@ -1155,6 +1155,16 @@ now=$(date +%s)
 for n in $(seq 0 9); do ln -s "device-7-$((now + n))-0.journal" journals/own/link$n; done
 run seal --key "$key" --ledger journals/kept/ledger --device 7 --journal-in journals/own journals/own/link*
 is own-journal-is-no-file test "$status $(grep -c '^failed journals/own/link[0-9]: cannot open$' out)" = '1 10'
+# Where it can't be looked up, no FILE can be told from it.
+if command -v strace >/dev/null; then
+    strace -f -e trace=statx -o calls "$sealer" seal --key "$key" --ledger journals/kept/ledger --device 7 --journal-in journals/own life/again > out 2> err
+    rm life/again.stm
+    n=$(grep -n '\.journal", ' calls | head -n 1 | cut -d : -f 1)
+    strace -f -e trace=statx -e "inject=statx:error=EIO:when=$n" -o calls "$sealer" seal --key "$key" --ledger journals/kept/ledger --device 7 --journal-in journals/own \
+        life/again > out 2> err
+    status=$?
+    wants unknown-journal 1 'failed life/again: cannot open' ''
+fi
 # All names of the seconds to come are taken.
 mkdir journals/full
 (cd journals/full && now=$(date +%s) && for s in $(seq 0 20); do for n in $(seq 0 999); do printf 'device-7-%s-%s.journal\n' $((now + s)) "$n"; done; done | xargs touch)

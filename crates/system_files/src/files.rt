@@ -6,7 +6,9 @@ use crate::folders::{NewFolders, PRIVATE_FOLDER, SHARED_FOLDER, take_way};
 use crate::input::{FileInput, OneOf, Opened, open_known};
 use crate::names::{Names, Target, path_of, path_shown};
 use crate::outputs::{self, Output, Outputs, PRIVATE, SHARED};
-use crate::own::{FileId, OwnFiles, OwnPaths, STANDARD_INPUT, STANDARD_OUTPUT, regular_at};
+use crate::own::{
+    FileId, KeptOut, OwnFiles, OwnPaths, STANDARD_INPUT, STANDARD_OUTPUT, regular_at,
+};
 use crate::progress::{Named, Progress, explain_file};
 use crate::spool::FileSpool;
 use command_core::{Folder, FolderFault, OpeningFolder, Plaintext};
@@ -90,8 +92,8 @@ pub struct SystemFiles<'p, 'r, R: Files + AllocGlobal + Clock + Eprint, I: Read 
     spool: Option<&'r str>,
     // The regular file that standard output is, if it can't be opened.
     output: Option<FileId>,
-    // A file that was kept out later.
-    kept_out: Option<FileId>,
+    // The file that was kept out later.
+    kept_out: KeptOut,
     // The paths of the run's own files, and these files, once they were looked up.
     own_paths: Option<OwnPaths<'r>>,
     own: Option<OwnFiles>,
@@ -140,15 +142,16 @@ impl<'p, 'r, R: Files + AllocGlobal + Clock + Eprint, I: Read + Drop> SystemFile
             } else {
                 None
             },
-            kept_out: None,
+            kept_out: KeptOut::Nothing,
             own_paths: options.own,
             own: None,
         }
     }
 
-    /// Refuses the regular file at this path from now on, as one of the run's own.
+    /// Refuses the regular file at this path from now on, as one of the run's own. If it can't be looked up, every file is
+    /// refused.
     pub fn keep_out(&mut self, path: &str) {
-        self.kept_out = regular_at(self.rt, path);
+        self.kept_out = KeptOut::at(self.rt, path);
     }
 
     // What reads the file of this name, or standard input.
@@ -246,7 +249,7 @@ impl<'p, 'r, R: Files + AllocGlobal + Clock + Eprint, I: Read + Drop> SystemFile
 
     // Why a file can't be opened, if it is one of the run's own. If that can't be found out, it counts as one.
     fn why_own(&mut self, file: FileId) -> Option<Cause> {
-        if self.output == Some(file) || self.kept_out == Some(file) {
+        if self.output == Some(file) || self.kept_out.has(file) {
             return Some(Cause::OwnFile);
         }
         let Some(paths) = self.own_paths else {

@@ -1,7 +1,8 @@
 //! The files that a run has of its own: its ledger with what the database keeps beside it, its key file, its journal, its witness.
 //!
 //! None of them may be an input. Sealing a ledger makes a copy of it, and opening that copy gives its numbers again.
-ghost use Rattle.std.specs.Prelude.{◌≡◌, ◌⊎◌, Some, true};
+ghost use Rattle.std.specs.Prelude.{◌≡◌, ◌⊎◌, Some, false, true};
+ghost use Rattle.system_files.specs.declared.own.KeptOut.TheVariants.{Nothing, Unknown};
 
 use std::fs::{Metadata, OpenFile};
 use std::io::{ErrorKind, Read};
@@ -133,6 +134,41 @@ impl OwnFiles {
     {
         let own = Some(file);
         self.ledger.has(file) || self.key == own || self.journal == own || self.witness == own
+    }
+}
+
+/// A file that a run made, and that is no input either.
+#[derive(Clone, Copy, PartialEq, Eq, Debug)]
+pub enum KeptOut {
+    /// There is none.
+    Nothing,
+    /// This one.
+    File(FileId),
+    /// Which one can't be found out. So no file is an input.
+    Unknown,
+}
+
+impl KeptOut {
+    /// Looks up the regular file at this path.
+    pub(crate) fn at<R: Files>(rt: &R, path: &str) -> KeptOut {
+        match regular_at(rt, path) {
+            Some(file) => KeptOut::File(file),
+            None => KeptOut::Unknown,
+        }
+    }
+
+    /// Returns whether this file can't be an input.
+    pub fn has(self, file: FileId) -> bool
+        ensures nothing { self ≡ Nothing → result ≡ false }
+        ensures own { self ≡ KeptOut.File file → result ≡ true }
+        ensures unknown { self ≡ Unknown → result ≡ true }
+        ensures no_other { result ≡ true → (self ≡ KeptOut.File file) ⊎ (self ≡ Unknown) }
+    {
+        match self {
+            KeptOut::Nothing => false,
+            KeptOut::File(kept) => kept == file,
+            KeptOut::Unknown => true,
+        }
     }
 }
 
