@@ -7,6 +7,7 @@ use Rattle.line_core.specs.declared.message.Message.TheVariants.{Sealed, Kept, O
 use Rattle.line_core.specs.declared.message.Message.TheVariants.{Malformed, Illegal, Unchecked}
 use Rattle.line_core.specs.declared.message.Message.TheVariants.{Unused, Older, NotSealed, Missing}
 use Rattle.line_core.specs.Json.{number_member, text_member}
+use Rattle.line_core.specs.Labels.{HasSomeLabel}
 
 -- how an object begins: with its status
 abbrev pub head : List ℕ → List ℕ
@@ -62,9 +63,10 @@ facts_members bytes facts = number_member (codes "bytes") bytes ++ number_member
     ++ number_member (codes "chunk") facts.chunk.now ++ number_member (codes "device") facts.device.now
     ++ number_member (codes "number") facts.number.now
 
--- and with a label, or without one
+-- and with a label, if there is one
 pub record HasFacts (bytes : List ℕ) (facts : Facts) (members : List ℕ) : Type 0 where
   pub label : List ℕ
+  pub labelled : HasSomeLabel facts.label label
   pub whole : members ≡ facts_members bytes facts ++ label
 
 -- what a header says, but for its label
@@ -74,9 +76,10 @@ header_members key bytes facts = number_member (codes "version") facts.version.n
     ++ number_member (codes "device") facts.device.now ++ number_member (codes "number") facts.number.now
     ++ some_number (codes "bytes") bytes
 
--- and with a label, or without one
+-- and with a label, if there is one
 pub record HasHeader (key : List ℕ) (bytes : Option (Bor (List ℕ))) (facts : Facts) (members : List ℕ) : Type 0 where
   pub label : List ℕ
+  pub labelled : HasSomeLabel facts.label label
   pub whole : members ≡ header_members key bytes facts ++ label
 
 -- the counts of a legal journal

@@ -1,6 +1,8 @@
 //! The outputs that the lines of `seal` name, and how verified containers differ from them. A name is the same only if its
 //! text is. Lines of other kinds, and bytes that are no line, are passed over. Of two lines of one output the last counts.
-ghost use Rattle.std.specs.Prelude.{◌<◌, ◌≡◌, ◌∷◌, ℕ, IfOk, IfSome, List, length, string_bytes};
+ghost use Rattle.std.specs.Prelude.{if◌then◌else◌, ◌<◌, ◌≡◌, ◌∷◌, ◌++◌, [], ℕ, IfNone, IfOk, IfSome, List, OnErr, OnOk, length, map, string_bytes};
+ghost use Rattle.line_core.specs.Listed.{finding_front, finding_line, finding_numbers, finding_object, finding_status};
+ghost use Rattle.line_core.specs.Listed.{found_of, judged, line_words, listed_at, listings, missing_of, outputs_of, said, value_member, with_met};
 ghost use Rattle.path_core.specs.Places.{IsLastName};
 
 use crate::json::{push_number, push_text};
@@ -84,41 +86,42 @@ impl Listed {
         })
     }
 
-    /// Takes a container of this name as met. `good` is the number of a good one, and how many bytes it has.
-    pub fn meet(&mut self, name: &str, good: Option<(u32, u64)>) -> Result<(), AllocError> {
-        let listed = match self.outputs.get_mut(name) {
-            Some(output) => {
-                output.is_met = true;
-                Some((output.number, output.bytes))
+    /// Takes a container of this name as met, and notes what is found of it. `good` is the number of a good one, and how
+    /// many bytes it has; `None` if it isn't good. After refused memory nothing more was found, and it is met all the same.
+    pub fn meet(&mut self, name: &str, good: Option<(u32, u64)>) -> Result<(), AllocError>
+        ensures found { OnOk result (found_of self.new
+            ≡ found_of self.old ++ judged name.now good (listed_at name.now (outputs_of self.old))) }
+        ensures met { outputs_of self.new ≡ with_met name.now (outputs_of self.old) }
+        ensures err { OnErr result (found_of self.new ≡ found_of self.old) }
+    {
+        let listed = meet_in(&mut self.outputs, name);
+        match judged(good, listed) {
+            Some((what, number, listed)) => {
+                let finding = Finding {
+                    what,
+                    name: text_of(self.alloc, name)?,
+                    number: Some(number),
+                    listed,
+                };
+                self.found.push(finding)?;
+                Ok(())
             }
-            None => None,
-        };
-        let (what, number, listed) = match (good, listed) {
-            (None, _) => return Ok(()),
-            (Some(good), Some(listed)) if good == listed => return Ok(()),
-            (Some(good), Some(listed)) => (What::OtherNumber, good.0, Some(listed.0)),
-            (Some(good), None) => (What::NotListed, good.0, None),
-        };
-        let finding = Finding {
-            what,
-            name: text_of(self.alloc, name)?,
-            number: Some(number),
-            listed,
-        };
-        self.found.push(finding)?;
-        Ok(())
+            None => Ok(()),
+        }
     }
 
     /// Returns all that was found: first of the containers, in their order, then the outputs that weren't met, in the
     /// order of their names.
-    pub fn end(self) -> Result<Vec<Finding>, AllocError> {
+    pub fn end(self) -> Result<Vec<Finding>, AllocError>
+        ensures { IfOk result (λ found. map said found.items ≡ found_of self ++ missing_of (outputs_of self)) }
+    {
         let Listed {
             alloc: _,
             outputs,
             found,
         } = self;
         let mut found = found;
-        for (name, output) in outputs {
+        'outputs: for (name, output) in outputs {
             if !output.is_met {
                 found.push(Finding {
                     what: What::Missing,
@@ -129,6 +132,34 @@ impl Listed {
             }
         }
         Ok(found)
+    }
+}
+
+// Marks the output of this name, if it is listed, as met. Returns the number and the bytes of its line.
+fn meet_in(outputs: &mut BTreeMap<String, Output>, name: &str) -> Option<(u32, u64)>
+    ensures listed { result ≡ listed_at name.now (listings outputs.old.entries) }
+    ensures met { listings outputs.new.entries ≡ with_met name.now (listings outputs.old.entries) }
+{
+    match outputs.get_mut(name) {
+        Some(output) => {
+            output.is_met = true;
+            Some((output.number, output.bytes))
+        }
+        None => None,
+    }
+}
+
+// What is found of a container, with its number and that of its line. Of both there are the number and the bytes.
+fn judged(good: Option<(u32, u64)>, listed: Option<(u32, u64)>) -> Option<(What, u32, Option<u32>)>
+    ensures some { (name : List ℕ) → IfSome result (λ (what, number, line). judged name good listed
+        ≡ record { what = what; name = name; number = Some number; listed = line } ∷ []) }
+    ensures none { (name : List ℕ) → IfNone result (judged name good listed ≡ []) }
+{
+    match (good, listed) {
+        (None, _) => None,
+        (Some(good), Some(listed)) if good == listed => None,
+        (Some(good), Some(listed)) => Some((What::OtherNumber, good.0, Some(listed.0))),
+        (Some(good), None) => Some((What::NotListed, good.0, None)),
     }
 }
 
@@ -204,42 +235,95 @@ fn base_of(alloc: Global, path: &str) -> Result<Option<String>, AllocError>
 }
 
 // A copy of a text.
-fn text_of(alloc: Global, text: &str) -> Result<String, AllocError> {
+fn text_of(alloc: Global, text: &str) -> Result<String, AllocError>
+    ensures { IfOk result (λ copy. string_bytes copy ≡ text.now) }
+{
     let mut copy = String::new(alloc);
     copy.push_str(text)?;
     Ok(copy)
 }
 
-/// Appends what was found, as a line or as an object.
+/// Appends what was found, as a line or as an object, with a line feed.
 pub fn push_finding(
     alloc: Global,
     to: &mut Vec<u8>,
     finding: &Finding,
     is_json: bool,
-) -> Result<(), AllocError> {
-    let name = finding.name.as_str();
-    if !is_json {
-        let words: &[u8] = match finding.what {
-            What::Missing => b"missing ",
-            What::OtherNumber => b"other number ",
-            What::NotListed => b"not listed ",
-        };
-        to.extend_from_slice(words)?;
-        to.extend_from_slice(name.as_bytes())?;
-        to.push(b'\n')?;
-        return Ok(());
+) -> Result<(), AllocError>
+    ensures { OnOk result (to.new.items ≡ to.old.items
+        ++ (if is_json then finding_object (said finding.now) else finding_line (said finding.now))) }
+{
+    if is_json {
+        push_finding_object(alloc, to, finding)
+    } else {
+        push_finding_line(to, finding)
     }
-    let status = match finding.what {
+}
+
+// Appends what was found as a line.
+fn push_finding_line(to: &mut Vec<u8>, finding: &Finding) -> Result<(), AllocError>
+    ensures { OnOk result (to.new.items ≡ to.old.items ++ finding_line (said finding.now)) }
+{
+    to.extend_from_slice(words_of(finding.what))?;
+    to.extend_from_slice(finding.name.as_bytes())?;
+    to.push(b'\n')?;
+    Ok(())
+}
+
+// How the line of a finding begins.
+fn words_of(what: What) -> &'static [u8]
+    ensures { result.now ≡ line_words what }
+{
+    match what {
+        What::Missing => b"missing ",
+        What::OtherNumber => b"other number ",
+        What::NotListed => b"not listed ",
+    }
+}
+
+// Appends what was found as an object.
+fn push_finding_object(alloc: Global, to: &mut Vec<u8>, finding: &Finding) -> Result<(), AllocError>
+    ensures { OnOk result (to.new.items ≡ to.old.items ++ finding_object (said finding.now)) }
+{
+    push_finding_front(to, finding)?;
+    push_finding_numbers(alloc, to, finding)?;
+    to.extend_from_slice(b"}\n")?;
+    Ok(())
+}
+
+// Appends the beginning of the object: its status and its file.
+#[tactic(auto, unfolding(crate::specs::Listed::finding_front))]
+fn push_finding_front(to: &mut Vec<u8>, finding: &Finding) -> Result<(), AllocError>
+    ensures { OnOk result (to.new.items ≡ to.old.items ++ finding_front (said finding.now)) }
+{
+    push_head(to, status_of(finding.what))?;
+    push_text(to, "file", finding.name.as_str())?;
+    Ok(())
+}
+
+// Appends the numbers of the object that are known.
+#[tactic(auto, unfolding(crate::specs::Listed::finding_numbers))]
+fn push_finding_numbers(
+    alloc: Global,
+    to: &mut Vec<u8>,
+    finding: &Finding,
+) -> Result<(), AllocError>
+    ensures { OnOk result (to.new.items ≡ to.old.items ++ finding_numbers (said finding.now)) }
+{
+    push_value(alloc, to, "number", finding.number)?;
+    push_value(alloc, to, "listed", finding.listed)?;
+    Ok(())
+}
+
+// The status of the object of a finding.
+fn status_of(what: What) -> &'static str
+    ensures { result.now ≡ finding_status what }
+{
+    match what {
         What::Missing => "missing",
         What::OtherNumber => "other_number",
         What::NotListed => "not_listed",
-    };
-    push_head(to, status)?;
-    push_text(to, "file", name)?;
-    push_value(alloc, to, "number", finding.number)?;
-    push_value(alloc, to, "listed", finding.listed)?;
-    to.extend_from_slice(b"}\n")?;
-    Ok(())
+    }
 }
 
 // Appends a member with a number, if there is one.
@@ -248,7 +332,9 @@ fn push_value(
     to: &mut Vec<u8>,
     name: &str,
     value: Option<u32>,
-) -> Result<(), AllocError> {
+) -> Result<(), AllocError>
+    ensures { OnOk result (to.new.items ≡ to.old.items ++ value_member name.now value) }
+{
     let Some(value) = value else {
         return Ok(());
     };

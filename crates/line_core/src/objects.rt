@@ -1,6 +1,8 @@
 //! Lines as JSON objects, each in a line of its own. Every object begins with its status.
-ghost use Rattle.std.specs.Prelude.{◌<◌, ◌≡◌, ◌++◌, ℕ, List, OnOk, codes};
+ghost use Rattle.std.specs.Prelude.{◌<◌, ◌≤◌, ◌≡◌, ◌↔◌, ◌∷◌, ◌++◌, [], ℕ, IfNone, IfOk, IfSome, IsTrue, List, OnOk, codes, length};
+ghost use Rattle.std.specs.Prelude.{slice_index};
 ghost use Rattle.line_core.specs.Json.{number_member, text_member};
+ghost use Rattle.line_core.specs.Labels.{HasLabel, hex_digits, hex_member, hex_value, label_of};
 ghost use Rattle.line_core.specs.Objects.{HasFacts, HasHeader, HasNumbers, HasTally, IsObject, facts_members, front_text, head};
 ghost use Rattle.line_core.specs.Objects.{header_members, name_member, some_number, some_text, status_text};
 
@@ -295,52 +297,81 @@ fn push_unlabelled(
 
 // Appends a label: as text if its bytes are UTF-8, else the hexadecimal digits of its bytes.
 fn push_label(alloc: Global, to: &mut Vec<u8>, shown: &str) -> Result<(), AllocError>
-    ensures { OnOk result ((member : List ℕ) × (to.new.items ≡ to.old.items ++ member)) }
+    ensures { OnOk result ((member : List ℕ) × (to.new.items ≡ to.old.items ++ member) × HasLabel shown.now member) }
 {
     let label = label_bytes(alloc, shown)?;
     match from_utf8(label.as_slice()) {
         Ok(text) => push_text(to, "label", text)?,
-        Err(_) => push_hex(alloc, to, label.as_slice())?,
+        Err(_) => push_hex(to, label.as_slice())?,
     }
     Ok(())
 }
 
 // Appends the member of a label that is no text.
-fn push_hex(alloc: Global, to: &mut Vec<u8>, label: &[u8]) -> Result<(), AllocError>
-    ensures { OnOk result ((member : List ℕ) × (to.new.items ≡ to.old.items ++ member)) }
+fn push_hex(to: &mut Vec<u8>, label: &[u8]) -> Result<(), AllocError>
+    ensures { OnOk result (to.new.items ≡ to.old.items ++ hex_member label.now) }
 {
-    let mut digits = String::new(alloc);
-    'bytes: for at in 0..label.len() {
-        let byte = label[at];
-        digits.push(char::from(hex_digit(byte / 16)))?;
-        digits.push(char::from(hex_digit(byte % 16)))?;
+    to.extend_from_slice(b",\"label_hex\":\"")?;
+    let mut rest = label;
+    'bytes: while let Some((first, more)) = rest.split_first() {
+        push_digits(to, *first)?;
+        rest = more;
     }
-    push_text(to, "label_hex", digits.as_str())?;
+    to.push(b'"')?;
+    Ok(())
+}
+
+// Appends the two digits of a byte.
+#[tactic(auto, unfolding(crate::specs::Labels::hex_digits))]
+fn push_digits(to: &mut Vec<u8>, byte: u8) -> Result<(), AllocError>
+    ensures { OnOk result (to.new.items ≡ to.old.items ++ hex_digits byte) }
+{
+    to.push(hex_digit(byte / 16))?;
+    to.push(hex_digit(byte % 16))?;
     Ok(())
 }
 
 // The bytes of a label that a line shows like this: `\xHH` is the byte of these digits, and each other byte is itself.
-fn label_bytes(alloc: Global, shown: &str) -> Result<Vec<u8>, AllocError> {
+#[tactic(auto, unfolding(crate::specs::Labels::label_of))]
+fn label_bytes(alloc: Global, shown: &str) -> Result<Vec<u8>, AllocError>
+    ensures { IfOk result (λ label. label.items ≡ label_of shown.now) }
+{
     let mut label = Vec::new(alloc);
     let mut rest = shown.as_bytes();
-    'bytes: while let Some((first, more)) = rest.split_first() {
-        rest = match (*first, more) {
-            (b'\\', [b'x', high, low, after @ ..]) => {
-                label.push(hex_value(*high) * 16 + hex_value(*low))?;
-                after
-            }
-            (byte, _) => {
-                label.push(byte)?;
-                more
-            }
-        };
+    'bytes: while let Some((byte, more)) = first_in(rest) {
+        label.push(byte)?;
+        rest = more;
     }
     Ok(label)
 }
 
+// The first byte of a label of which a line shows these bytes, and what shows the others.
+fn first_in(shown: &[u8]) -> Option<(u8, &[u8])>
+    ensures none { IfNone result (shown.now ≡ []) }
+    ensures some { IfSome result (λ (byte, more). label_of shown.now ≡ byte ∷ label_of more.now) }
+    ensures less { IfSome result (λ (byte, more). length more.now < length shown.now) }
+{
+    if is_escape(shown) {
+        let byte = hex_value(shown[2]) * 16 + hex_value(shown[3]);
+        return Some((byte, &shown[4..]));
+    }
+    match shown {
+        [] => None,
+        [first, more @ ..] => Some((*first, more)),
+    }
+}
+
+// Whether the first bytes are a backslash, an x and two more.
+fn is_escape(shown: &[u8]) -> bool
+    ensures { IsTrue result ↔ ((4 ≤ length shown.now) × (slice_index shown.now 0 ≡ 92) × (slice_index shown.now 1 ≡ 120)) }
+{
+    shown.len() >= 4 && shown[0] == b'\\' && shown[1] == b'x'
+}
+
 // The value of a hexadecimal digit in small letters; 0 of another byte.
 fn hex_value(digit: u8) -> u8
-    ensures { result < 16 }
+    ensures value { result ≡ hex_value digit }
+    ensures small { result < 16 }
 {
     match digit {
         b'0'..=b'9' => digit - b'0',
