@@ -48,7 +48,7 @@ pub(crate) fn may_be_ledger<R: Files + AllocGlobal>(
     files: &Lengths,
 ) -> Result<(), LedgerFault> {
     let (path, log) = (ledger.path, files.log.as_str());
-    if !is_alone(rt, path, log) {
+    if !is_alone(rt, path, log)? {
         return Err(LedgerFault::CannotOpen);
     }
     let front = front_of(rt, path)?;
@@ -60,27 +60,20 @@ pub(crate) fn may_be_ledger<R: Files + AllocGlobal>(
             return Err(LedgerFault::NotLedger);
         }
     }
-    match read_both(rt, path, log) {
-        Some(read) => match opened(rt.alloc(), read.log.as_slice(), read.db.as_slice()) {
-            Ok(Some(connection)) => look_at(connection, ledger.may_make),
-            _ => Err(LedgerFault::CannotOpen),
-        },
-        None => Err(LedgerFault::CannotOpen),
+    let read = read_both(rt, path, log)?;
+    match opened(rt.alloc(), read.log.as_slice(), read.db.as_slice()) {
+        Ok(Some(connection)) => look_at(connection, ledger.may_make),
+        Ok(None) => Err(LedgerFault::CannotOpen),
+        Err(_) => Err(LedgerFault::OutOfMemory),
     }
 }
 
 // Reads what the first page of a file says. The file must be readable and writable.
 fn front_of<R: Files + AllocGlobal>(rt: &R, path: &str) -> Result<Front, LedgerFault> {
-    let Ok(file) = OpenOptions::new().read(true).write(true).open(rt, path) else {
-        return Err(LedgerFault::CannotOpen);
-    };
-    let Ok(mut front) = Vec::with_capacity(rt.alloc(), PAGE) else {
-        return Err(LedgerFault::CannotOpen);
-    };
-    match file.take(PAGE as u64).read_to_end(&mut front) {
-        Ok(_) => Ok(front_in(front.as_slice())),
-        Err(_) => Err(LedgerFault::CannotOpen),
-    }
+    let file = OpenOptions::new().read(true).write(true).open(rt, path)?;
+    let mut front = Vec::with_capacity(rt.alloc(), PAGE)?;
+    file.take(PAGE as u64).read_to_end(&mut front)?;
+    Ok(front_in(front.as_slice()))
 }
 
 // What these bytes at the beginning of a file say.

@@ -54,16 +54,12 @@ pub fn read_holdings<R: Files + AllocGlobal>(
         may_make: false,
     };
     goes_with_log(rt, &ledger)?;
-    match log_beside(rt, path) {
-        Ok(log) => match read_alike(rt, path, log.as_str()) {
-            Some(read) => held_by(
-                rt.alloc(),
-                opened(rt.alloc(), read.log.as_slice(), read.db.as_slice()),
-            ),
-            None => Err(LedgerFault::CannotOpen),
-        },
-        Err(_) => Err(LedgerFault::CannotOpen),
-    }
+    let log = log_beside(rt, path)?;
+    let read = read_alike(rt, path, log.as_str())?;
+    held_by(
+        rt.alloc(),
+        opened(rt.alloc(), read.log.as_slice(), read.db.as_slice()),
+    )
 }
 
 /// The bytes of the two files.
@@ -74,37 +70,37 @@ pub(crate) struct Both {
 }
 
 // The two files, if a run could open them and a second read gives the same bytes.
-fn read_alike<R: Files + AllocGlobal>(rt: &R, path: &str, log: &str) -> Option<Both> {
-    if !is_alone(rt, path, log) {
-        return None;
+fn read_alike<R: Files + AllocGlobal>(rt: &R, path: &str, log: &str) -> Result<Both, LedgerFault> {
+    if !is_alone(rt, path, log)? {
+        return Err(LedgerFault::CannotOpen);
     }
     let read = read_both(rt, path, log)?;
-    if is_still(rt, path, read.db.as_slice()) && is_still(rt, log, read.log.as_slice()) {
-        Some(read)
+    if is_still(rt, path, read.db.as_slice())? && is_still(rt, log, read.log.as_slice())? {
+        Ok(read)
     } else {
-        None
+        Err(LedgerFault::CannotOpen)
     }
 }
 
 /// Reads the two files. A file that is no database is refused before it is read whole. If the log has pages, the file's
 /// first page may be among them.
-pub(crate) fn read_both<R: Files + AllocGlobal>(rt: &R, path: &str, log: &str) -> Option<Both> {
-    let log = read_if_there(rt, log).ok()?;
+pub(crate) fn read_both<R: Files + AllocGlobal>(
+    rt: &R,
+    path: &str,
+    log: &str,
+) -> Result<Both, LedgerFault> {
+    let log = read_if_there(rt, log)?;
     if log.is_empty() && !begins_as_database(rt, path) {
-        return None;
+        return Err(LedgerFault::CannotOpen);
     }
-    match fs::read(rt, path) {
-        Ok(db) => Some(Both { log, db }),
-        Err(_) => None,
-    }
+    let db = fs::read(rt, path)?;
+    Ok(Both { log, db })
 }
 
 // Whether a file has these bytes. A missing file has none.
-fn is_still<R: Files + AllocGlobal>(rt: &R, path: &str, bytes: &[u8]) -> bool {
-    match read_if_there(rt, path) {
-        Ok(again) => again.as_slice() == bytes,
-        Err(_) => false,
-    }
+fn is_still<R: Files + AllocGlobal>(rt: &R, path: &str, bytes: &[u8]) -> io::Result<bool> {
+    let again = read_if_there(rt, path)?;
+    Ok(again.as_slice() == bytes)
 }
 
 // Whether a file begins as a database does.
@@ -118,15 +114,18 @@ fn begins_as_database<R: Files>(rt: &R, path: &str) -> bool {
 
 /// Returns whether a run could open these files: each has one name and is no folder or device, and no database left a
 /// journal beside them to play back.
-pub(crate) fn is_alone<R: Files + AllocGlobal>(rt: &R, path: &str, log: &str) -> bool {
+pub(crate) fn is_alone<R: Files + AllocGlobal>(
+    rt: &R,
+    path: &str,
+    log: &str,
+) -> Result<bool, AllocError> {
     let Some(base) = log.strip_suffix("-wal") else {
-        return false;
+        return Ok(false);
     };
-    let Ok(journal) = format!(in rt.alloc(); "{base}-journal") else {
-        return false;
-    };
+    let journal = format!(in rt.alloc(); "{base}-journal")?;
     let is_path = path != ":memory:" && !path.starts_with("file:");
-    is_path && has_one_name(rt, base) && has_one_name(rt, log) && !is_hot(rt, journal.as_str())
+    let have_one_name = has_one_name(rt, base) && has_one_name(rt, log);
+    Ok(is_path && have_one_name && !is_hot(rt, journal.as_str()))
 }
 
 // Whether a file has one name, or isn't there.
@@ -169,7 +168,8 @@ fn held_by<S: Alter + Drop>(
 ) -> Result<Vec<Holding>, LedgerFault> {
     match opened {
         Ok(Some(connection)) => holdings_of(alloc, connection),
-        _ => Err(LedgerFault::CannotOpen),
+        Ok(None) => Err(LedgerFault::CannotOpen),
+        Err(_) => Err(LedgerFault::OutOfMemory),
     }
 }
 
@@ -183,24 +183,25 @@ fn holdings_of<S: Alter + Drop>(
         "SELECT key_id, device, count(*), sum(size) FROM taken GROUP BY key_id, device ORDER BY key_id, device",
         &[],
     );
-    let Ok(rows) = rows else {
-        return Err(LedgerFault::CannotOpen);
+    let rows = match rows {
+        Ok(rows) => rows,
+        Err(error) => return Err(LedgerFault::from(error)),
     };
     let mut held = Vec::new(alloc);
     for row in &rows {
-        let Some(holding) = holding_of(row) else {
+        let id = row.get::<Vec<u8>>(0)?;
+        let Some(holding) = holding_of(id.as_slice(), row) else {
             return Err(LedgerFault::CannotOpen);
         };
         if held.push(holding).is_err() {
-            return Err(LedgerFault::CannotOpen);
+            return Err(LedgerFault::OutOfMemory);
         }
     }
     Ok(held)
 }
 
-// The holding in a row. The keeper has checked that each row is of a key, a device and numbers.
-fn holding_of(row: &Row) -> Option<Holding> {
-    let id = row.get::<Vec<u8>>(0).ok()?;
+// The holding of this key ID in a row. The keeper has checked that each row is of a key, a device and numbers.
+fn holding_of(id: &[u8], row: &Row) -> Option<Holding> {
     let mut key = [0; 7];
     key.copy_from_slice(id.get(..7)?);
     Some(Holding {

@@ -1,5 +1,6 @@
 //! The ledger file.
 ghost use Rattle.std.specs.Prelude.{◌≡◌, ◌≢◌, ◌≤◌, ◌⊎◌, false, [], length, IfOk, IsTrue};
+ghost use Rattle.std.specs.IoError.{error_kind};
 ghost use Rattle.sqlite_disk.specs.Disk.{MoreFaults};
 ghost use Rattle.sqlite_wal.specs.Files.{image_at};
 ghost use Rattle.sqlite_wal.specs.Reads.{IsClean};
@@ -17,9 +18,10 @@ use crate::foreign::may_be_ledger;
 use crate::holdings::begins_with_zero;
 use crate::log::{log_adds, log_beside, log_is_begun};
 use reserve_core::{Keeper, LedgerFile, ReserveFault};
-use sqlite::{Alter, Connection, FileFrom, FileStore, Options, Start};
+use sqlite::{Alter, Connection, Error, ErrorCode, FileFrom, FileStore, Options, Start};
 use sqlite_disk::{Disk, Files as DiskFiles};
 use sqlite_std_file::OpenError;
+use std::alloc::AllocError;
 use std::fs;
 use std::hash::{BuildHasher, RandomState};
 use std::io::{self, ErrorKind};
@@ -30,10 +32,13 @@ use thiserror::Error;
 #[derive(Clone, Copy, PartialEq, Eq, Debug, Error)]
 pub enum LedgerFault {
     /// The folder is missing, the file is no database or can't be read, its log doesn't go with it, its tables are
-    /// other than a ledger's or not alone, a file has more than one name, another database left a journal beside it, or
-    /// memory was refused.
+    /// other than a ledger's or not alone, a file has more than one name, or another database left a journal beside it.
+    /// Or memory was refused while the keeper looked at the tables and rows: `ReserveFault::Store` is both.
     #[error("cannot open")]
     CannotOpen,
+    /// Memory was refused, and no number was reserved.
+    #[error("out of memory")]
+    OutOfMemory,
     /// Another process holds it. The text doesn't tell this from the others.
     #[error("cannot open")]
     Held,
@@ -46,6 +51,42 @@ pub enum LedgerFault {
     /// The run has a witness, which saw another file as its ledger file, or there is no file any more.
     #[error("not the file its witness saw")]
     NotSeen,
+}
+
+impl LedgerFault {
+    /// The fault of a file for which a call of the system failed with this error.
+    pub fn of(error: &io::Error) -> LedgerFault
+        ensures memory { error_kind error.now ≡ ErrorKind.OutOfMemory → result ≡ LedgerFault.OutOfMemory }
+        ensures other { error_kind error.now ≢ ErrorKind.OutOfMemory → result ≡ LedgerFault.CannotOpen }
+    {
+        match error.kind() {
+            ErrorKind::OutOfMemory => LedgerFault::OutOfMemory,
+            _ => LedgerFault::CannotOpen,
+        }
+    }
+}
+
+impl From<io::Error> for LedgerFault {
+    fn from(error: io::Error) -> LedgerFault {
+        LedgerFault::of(&error)
+    }
+}
+
+impl From<AllocError> for LedgerFault {
+    fn from(_: AllocError) -> LedgerFault {
+        LedgerFault::OutOfMemory
+    }
+}
+
+/// The fault of a database that answered with this error. Over files in memory `SystemIoFailure` means the same as
+/// `OutOfMemory`; this takes it for a disk's.
+impl From<Error> for LedgerFault {
+    fn from(error: Error) -> LedgerFault {
+        match error {
+            Error::SqliteFailure(ErrorCode::OutOfMemory) => LedgerFault::OutOfMemory,
+            _ => LedgerFault::CannotOpen,
+        }
+    }
 }
 
 /// Which ledger file a run asks for.
@@ -64,7 +105,9 @@ pub struct LedgerPath<'a> {
 ///   number 0.
 /// - The file is empty, and the log was not only begun with it. The same holds.
 /// - The log has pages, and with it the file has fewer numbers of some key and device than without it. This is compared
-///   only if the file alone is a ledger. If memory for it is refused, that is `CannotOpen` too.
+///   only if the file alone is a ledger.
+///
+/// If memory is refused for that, or for any look at the files, it returns `OutOfMemory`.
 ///
 /// It returns `NotThere` if there is no file, or an empty one, and none may be made. A file of a single byte 0 counts
 /// as empty, since the database begins its file that way. Any other single byte is no database.
@@ -96,12 +139,9 @@ pub(crate) fn goes_with_log<R: Files + AllocGlobal>(
     ledger: &LedgerPath<'_>,
 ) -> Result<Option<Lengths>, LedgerFault> {
     let path = ledger.path;
-    let Ok(log) = log_beside(rt, path) else {
-        return Err(LedgerFault::CannotOpen);
-    };
-    let (Ok(file_bytes), Ok(log_bytes)) = (length_of(rt, path), length_of(rt, log.as_str())) else {
-        return Err(LedgerFault::CannotOpen);
-    };
+    let log = log_beside(rt, path)?;
+    let file_bytes = length_of(rt, path)?;
+    let log_bytes = length_of(rt, log.as_str())?;
     // The database takes any file of one byte for one that it only began, and would overwrite it.
     if file_bytes == Some(1) && !begins_with_zero(rt, path) {
         return Err(LedgerFault::CannotOpen);
@@ -110,9 +150,9 @@ pub(crate) fn goes_with_log<R: Files + AllocGlobal>(
     let goes_with_it = if file_bytes.is_none() {
         log_bytes.unwrap_or(0) == 0
     } else if is_new {
-        log_is_begun(rt, log.as_str(), log_bytes)
+        log_is_begun(rt, log.as_str(), log_bytes)?
     } else {
-        log_adds(rt, path, log.as_str(), log_bytes)
+        log_adds(rt, path, log.as_str(), log_bytes)?
     };
     if !goes_with_it {
         return Err(LedgerFault::CannotOpen);
@@ -142,7 +182,7 @@ fn length_of<R: Files + AllocGlobal>(rt: &R, path: &str) -> io::Result<Option<u6
 
 /// Opens this ledger file, with its keeper. The file is made if there is none. A path that names no file (an empty one,
 /// `:memory:` or a URI) is refused, since two runs must always share a file. A refusal keeps the pages of the log. It is
-/// `Held` if another process has the database open.
+/// `Held` if another process has the database open, and `OutOfMemory` if the database was refused memory to open it.
 ///
 /// If none may be made, a database without tables is `NotThere`, even one that this call began because the file was
 /// gone. `S` denotes what the files hold, as in the database's own way to open a path.
@@ -183,14 +223,16 @@ fn connect<S: Start>(
     let mut files = match sqlite_std_file::open(rt, path, start) {
         Ok(files) => files,
         Err(OpenError::Busy) => return Err(LedgerFault::Held),
-        Err(_error) => return Err(LedgerFault::CannotOpen),
+        Err(OpenError::OutOfMemory) => return Err(LedgerFault::OutOfMemory),
+        Err(OpenError::Io(error)) => return Err(LedgerFault::of(&error)),
+        Err(OpenError::HotJournal) => return Err(LedgerFault::CannotOpen),
     };
     if !is_still_begun(&mut files) {
         return Err(LedgerFault::CannotOpen);
     }
     match Connection::open_files_with(rt.alloc(), files, options, false) {
         Ok(connection) => Ok(connection),
-        Err(_left) => Err(LedgerFault::CannotOpen),
+        Err((error, _left)) => Err(LedgerFault::from(error)),
     }
 }
 
@@ -239,7 +281,8 @@ fn few_pages(rt: &HostRuntime) -> Option<Options> {
     Some(options)
 }
 
-// The keeper of a ledger that was opened. A database without tables is `NotThere` if none may be made.
+// The keeper of a ledger that was opened. A database without tables is `NotThere` if none may be made. If the keeper is
+// refused memory, that is `CannotOpen`: its fault doesn't tell that from other tables.
 pub(crate) fn keeper_over<S: Alter + Drop>(
     connection: Connection<S>,
     may_make: bool,

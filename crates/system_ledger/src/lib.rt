@@ -10,11 +10,12 @@ mod marks;
 pub mod older;
 pub mod turn;
 pub mod witness;
+pub mod witness_file;
+mod witness_text;
 
 pub use crate::holdings::{Holding, read_holdings};
 pub use crate::ledger::{LedgerFault, LedgerPath, close_ledger, is_beside, may_open, open_ledger};
 pub use crate::older::is_older;
 pub use crate::turn::{MAX_TRIES, Turn};
-pub use crate::witness::{
-    FileMark, FileWitness, Seen, WitnessFault, WitnessPath, WitnessRefusal, floor_by,
-};
+pub use crate::witness::{FileMark, Seen, WitnessFault, WitnessRefusal, floor_by};
+pub use crate::witness_file::{FileWitness, WitnessPath};

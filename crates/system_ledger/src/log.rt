@@ -1,65 +1,69 @@
 //! The log that a database keeps beside its file (PATH-wal), and whether it goes with the file.
 use crate::begun::{WITHOUT_PAGE, has_only_begun};
+use crate::ledger::LedgerFault;
 use crate::marks::{Mark, keeps_marks};
 use sqlite::{Alter, Connection, Error, ErrorCode, FileStore, Files as DiskFiles, Options, Row};
 use sqlite_disk::{Disk, Memory};
 use std::alloc::{AllocError, Global};
 use std::fs;
+use std::io::{self, ErrorKind};
 use std::rt::Files;
 
 // The path of the log. If `path` is a link, the log is beside the link's target.
 pub(crate) fn log_beside<R: Files + AllocGlobal>(rt: &R, path: &str) -> Result<String, AllocError> {
     match fs::canonicalize(rt, path) {
         Ok(real) => format!(in rt.alloc(); "{}-wal", real.as_str()),
+        Err(error) if error.kind() == ErrorKind::OutOfMemory => Err(AllocError),
         Err(_) => format!(in rt.alloc(); "{path}-wal"),
     }
 }
 
 // Whether there is no log, or one of this length that a run left when it was cut off while it made the file.
-pub(crate) fn log_is_begun<R: Files + AllocGlobal>(rt: &R, log: &str, bytes: Option<u64>) -> bool {
+pub(crate) fn log_is_begun<R: Files + AllocGlobal>(
+    rt: &R,
+    log: &str,
+    bytes: Option<u64>,
+) -> io::Result<bool> {
     match bytes {
-        None => true,
-        Some(bytes) if bytes > WITHOUT_PAGE as u64 => false,
-        Some(_) => match fs::read(rt, log) {
-            Ok(log) => has_only_begun(log.as_slice()),
-            Err(_) => false,
-        },
+        None => Ok(true),
+        Some(bytes) if bytes > WITHOUT_PAGE as u64 => Ok(false),
+        Some(_) => {
+            let log = fs::read(rt, log)?;
+            Ok(has_only_begun(log.as_slice()))
+        }
     }
 }
 
 // Whether a log of this length only adds to a ledger file: with it no key and device has fewer numbers than without.
 // The log of a run that was cut off does so. Another ledger's log may not. If the file alone is no ledger, as after a
-// run killed during a fold, there is nothing to compare. If memory is refused, the log doesn't count as one that only
-// adds. Databases are opened in memory only.
+// run killed during a fold, there is nothing to compare. Databases are opened in memory only.
 pub(crate) fn log_adds<R: Files + AllocGlobal>(
     rt: &R,
     path: &str,
     log: &str,
     bytes: Option<u64>,
-) -> bool {
+) -> Result<bool, LedgerFault> {
     match bytes {
         Some(bytes) if bytes > WITHOUT_PAGE as u64 => {}
-        _ => return true,
+        _ => return Ok(true),
     }
-    let (Ok(db), Ok(log)) = (fs::read(rt, path), fs::read(rt, log)) else {
-        return false;
-    };
+    let db = fs::read(rt, path)?;
+    let log = fs::read(rt, log)?;
     adds(rt.alloc(), db.as_slice(), log.as_slice())
 }
 
 // The same for the bytes of both files.
-fn adds(alloc: Global, db: &[u8], log: &[u8]) -> bool {
-    match marks_in(alloc, opened(alloc, &[], db)) {
-        Ok(Some(marks)) => match marks_in(alloc, opened(alloc, log, db)) {
-            Ok(Some(others)) => keeps_marks(marks.as_slice(), others.as_slice()),
-            _ => false,
-        },
-        Ok(None) => true,
-        Err(_) => false,
+fn adds(alloc: Global, db: &[u8], log: &[u8]) -> Result<bool, LedgerFault> {
+    let Some(marks) = marks_in(alloc, opened(alloc, &[], db))? else {
+        return Ok(true);
+    };
+    match marks_in(alloc, opened(alloc, log, db))? {
+        Some(others) => Ok(keeps_marks(marks.as_slice(), others.as_slice())),
+        None => Ok(false),
     }
 }
 
-// A database of these bytes, in memory, if they are one.
+// A database of these bytes, in memory, if they are one. The error means that memory was refused.
 pub(crate) fn opened(
     alloc: Global,
     log: &[u8],
@@ -94,43 +98,41 @@ fn copied(alloc: Global, bytes: &[u8]) -> Result<Memory, AllocError> {
     Ok(file)
 }
 
-// The marks of a database that was opened, if there is one and it has a table of them.
+// The marks of a database that was opened, if there is one and it has a table of them. It is `CannotOpen` if a row holds
+// something else.
 fn marks_in<S: Alter + Drop>(
     alloc: Global,
     opened: Result<Option<Connection<S>>, AllocError>,
-) -> Result<Option<Vec<Mark>>, Unread> {
+) -> Result<Option<Vec<Mark>>, LedgerFault> {
     let mut connection = match opened {
         Ok(Some(connection)) => connection,
         Ok(None) => return Ok(None),
-        Err(_) => return Err(Unread),
+        Err(_) => return Err(LedgerFault::OutOfMemory),
     };
     match connection.query_all("SELECT key_id, device, next FROM mark", &[]) {
         Ok(rows) => match read(alloc, rows.as_slice()) {
             Ok(marks) => Ok(Some(marks)),
-            Err(unread) => Err(unread),
+            Err(fault) => Err(fault),
         },
-        Err(error) if is_for_memory(&error) => Err(Unread),
+        Err(error) if is_for_memory(&error) => Err(LedgerFault::OutOfMemory),
         Err(_) => Ok(None),
     }
 }
 
-// Memory was refused, or a row holds something else.
-#[derive(Drop)]
-struct Unread;
-
-fn read(alloc: Global, rows: &[Row]) -> Result<Vec<Mark>, Unread> {
+fn read(alloc: Global, rows: &[Row]) -> Result<Vec<Mark>, LedgerFault> {
     let mut marks = Vec::new(alloc);
     for row in rows {
         if marks.push(mark_of(row)?).is_err() {
-            return Err(Unread);
+            return Err(LedgerFault::OutOfMemory);
         }
     }
     Ok(marks)
 }
 
-fn mark_of(row: &Row) -> Result<Mark, Unread> {
-    match (row.get(0), row.get(1), row.get(2)) {
-        (Ok(key), Ok(device), Ok(next)) => Ok(Mark { key, device, next }),
-        _ => Err(Unread),
-    }
+fn mark_of(row: &Row) -> Result<Mark, LedgerFault> {
+    Ok(Mark {
+        key: row.get(0)?,
+        device: row.get(1)?,
+        next: row.get(2)?,
+    })
 }
