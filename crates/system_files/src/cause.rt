@@ -227,12 +227,14 @@ fn ledger_cause<R: Files + AllocGlobal>(rt: &R, path: &str, fault: LedgerFault, 
     ensures other { fault ≡ LedgerFault.NotLedger → result ≡ Cause.SomethingElse }
     ensures another { fault ≡ LedgerFault.NotSeen → result ≡ Cause.AnotherFile }
     ensures held { fault ≡ LedgerFault.Held → result ≡ Cause.Held }
+    ensures memory { fault ≡ LedgerFault.OutOfMemory → result ≡ Cause.OutOfMemory }
 {
     match fault {
         LedgerFault::NotLedger => Cause::SomethingElse,
         LedgerFault::NotThere => not_there(rt, path),
         LedgerFault::NotSeen => Cause::AnotherFile,
         LedgerFault::Held => Cause::Held,
+        LedgerFault::OutOfMemory => Cause::OutOfMemory,
         LedgerFault::CannotOpen => not_opened(rt, path, step),
     }
 }
@@ -297,18 +299,11 @@ fn by_content<R: Files + AllocGlobal>(
         return Cause::NoDatabase;
     }
     // If it passes by now, another run wrote it meanwhile. The database itself says whether another run holds it.
-    let opens = match step {
-        Step::Check => may_open(
-            rt,
-            &LedgerPath {
-                path,
-                may_make: true,
-            },
-        )
-        .is_ok(),
-        Step::Open | Step::Read => read_holdings(rt, path).is_ok(),
-    };
-    if opens && step == Step::Open && log_bytes.is_none() {
+    let fault = fault_by_now(rt, path, step);
+    let opens = fault.is_none();
+    if fault == Some(LedgerFault::OutOfMemory) {
+        Cause::OutOfMemory
+    } else if opens && step == Step::Open && log_bytes.is_none() {
         Cause::CannotMake
     } else if opens && step == Step::Open {
         Cause::SystemError
@@ -318,6 +313,21 @@ fn by_content<R: Files + AllocGlobal>(
         Cause::AnotherLog
     } else {
         Cause::Damaged
+    }
+}
+
+// Why a ledger file can't be opened when it is looked at once more. `None` means that it can.
+fn fault_by_now<R: Files + AllocGlobal>(rt: &R, path: &str, step: Step) -> Option<LedgerFault> {
+    match step {
+        Step::Check => may_open(
+            rt,
+            &LedgerPath {
+                path,
+                may_make: true,
+            },
+        )
+        .err(),
+        Step::Open | Step::Read => read_holdings(rt, path).err(),
     }
 }
 
@@ -370,6 +380,7 @@ fn is_barred<R: Files>(rt: &R, folder: &str) -> bool {
 fn beside<R: Files + AllocGlobal>(rt: &R, path: &str) -> Option<(String, String)> {
     match fs::canonicalize(rt, path) {
         Ok(real) => both_beside(rt.alloc(), real.as_str()),
+        Err(error) if error.kind() == ErrorKind::OutOfMemory => None,
         Err(_) => both_beside(rt.alloc(), path),
     }
 }
